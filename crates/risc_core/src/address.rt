@@ -1,0 +1,12 @@
+//! What an address names. How it is found is in `locate`.
+
+/// What an address names: a word of RAM, a device word, or nothing.
+#[derive(Clone, Copy, Debug, PartialEq, Eq)]
+pub enum Place {
+    /// The word of RAM with that number, below 262,144.
+    Ram(u32),
+    /// The device word with that number, below 16.
+    Device(u8),
+    /// An address between RAM and the device words.
+    Nowhere,
+}

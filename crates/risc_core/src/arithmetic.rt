@@ -1,0 +1,242 @@
+//! The operations of formats F0 and F1 ("The RISC Architecture", N. Wirth): moves, shifts, logic, sums, products and
+//! quotients. Which registers they read and write is with the machine.
+ghost use Rattle.std.specs.Prelude.{◌≡◌, ◌<◌, ◌≤◌, ◌-◌, ◌^◌, pos, negsuc, ◌≤ℤ◌, ◌<ℤ◌, ◌↔◌, ◌≢◌};
+ghost use Rattle.risc_core.specs.Word.{signed, floor_div, floor_mod};
+ghost use Rattle.risc_core.specs.Arithmetic.{outcome_of, output_of, moved_value, shifted_right, rotated, carry_in, overflows, sum_of, difference_of, product, product_of, dividend, quotient_of, flags_word};
+
+use crate::flags::{Flags, written};
+use crate::stop::Stop;
+
+/// How many words there are.
+const WORDS: u64 = 1 << 32;
+
+/// The low 32 bits of a number of 64.
+const WORD_MASK: u64 = 0xFFFF_FFFF;
+
+/// What stands in bits 7 to 0 of the word that a move of the flags gives (this project's own choice).
+const FLAGS_MARK: u32 = 0x53;
+
+/// What an operation leaves.
+#[derive(Clone, Copy, Debug, PartialEq, Eq)]
+pub struct AluOut {
+    /// The value for the register R.a.
+    pub value: u32,
+    /// The auxiliary register H.
+    pub h: u32,
+    /// The flags in full; N and Z are those of the value.
+    pub flags: Flags,
+}
+
+/// The outcome of operation `op` on the word `b` and the operand `c`, with H and the flags as they are before it.
+///
+/// `u` and `v` are bits 29 and 28 of the instruction, and `imm` tells an immediate operand. The operations are MOV, LSL,
+/// ASR, ROR, AND, ANN, IOR, XOR, ADD, SUB, MUL and DIV ("The RISC Architecture", N. Wirth); the rules for C and V, DIV
+/// with `u`, and MOV of the flags are this project's own choice, as are the stops: `Float` comes exactly for operations 12
+/// to 15, and `Divisor` exactly for DIV by an operand whose signed value is below 1.
+#[inline(always)]
+#[tactic(auto, using(crate::proofs::BitLemmas::bitwise), unfolding(crate::specs::Arithmetic::outcome_of))]
+pub const fn alu(
+    op: u8,
+    u: bool,
+    imm: bool,
+    v: bool,
+    b: u32,
+    c: u32,
+    h: u32,
+    flags: Flags,
+) -> Result<AluOut, Stop>
+    requires { op < 16 }
+    ensures value { result ≡ outcome_of op u imm v b c h flags }
+    ensures float { (result ≡ Err Stop.Float) ↔ (12 ≤ op) }
+    ensures divisor { (result ≡ Err Stop.Divisor) ↔ ((op ≡ 11) × (signed c <ℤ pos 1)) }
+{
+    match op {
+        0 => Ok(output(moved(u, imm, v, c, h, flags), h, flags)),
+        1 => Ok(output(b << (c & 31), h, flags)),
+        2 => Ok(output(shift_right(b, c), h, flags)),
+        3 => Ok(output(rotate(b, c), h, flags)),
+        4 => Ok(output(b & c, h, flags)),
+        5 => Ok(output(b & !c, h, flags)),
+        6 => Ok(output(b | c, h, flags)),
+        7 => Ok(output(b ^ c, h, flags)),
+        8 => Ok(add(u, b, c, h, flags)),
+        9 => Ok(subtract(u, b, c, h, flags)),
+        10 => Ok(multiply(u, b, c, flags)),
+        11 => divide(u, b, c, flags),
+        _ => Err(Stop::Float),
+    }
+}
+
+/// What an operation leaves that gave `value`.
+#[inline(always)]
+const fn output(value: u32, h: u32, flags: Flags) -> AluOut
+    ensures { result ≡ output_of value h flags }
+{
+    AluOut {
+        value,
+        h,
+        flags: written(flags, value),
+    }
+}
+
+/// What MOV moves.
+#[inline(always)]
+const fn moved(u: bool, imm: bool, v: bool, c: u32, h: u32, flags: Flags) -> u32
+    ensures { result ≡ moved_value u imm v c h flags }
+{
+    if !u {
+        c
+    } else if imm {
+        c << 16
+    } else if v {
+        packed(flags)
+    } else {
+        h
+    }
+}
+
+/// The flags as a word.
+#[inline(always)]
+#[tactic(auto, using(crate::proofs::WordLemmas::packed_is))]
+const fn packed(flags: Flags) -> u32
+    ensures { result ≡ flags_word flags }
+{
+    (flags.n as u32) << 31
+        | (flags.z as u32) << 30
+        | (flags.c as u32) << 29
+        | (flags.v as u32) << 28
+        | FLAGS_MARK
+}
+
+/// `b` shifted right by the low five bits of `c`; the sign is repeated.
+#[inline(always)]
+const fn shift_right(b: u32, c: u32) -> u32
+    ensures { result ≡ shifted_right b c }
+{
+    (b.cast_signed() >> (c & 31)).cast_unsigned()
+}
+
+/// `b` rotated right by the low five bits of `c`.
+#[inline(always)]
+#[tactic(auto, using(crate::proofs::WordLemmas::rotated_is))]
+const fn rotate(b: u32, c: u32) -> u32
+    ensures { result ≡ rotated b c }
+{
+    b.rotate_right(c & 31)
+}
+
+/// The signed value of a word, with room for sums and products.
+#[inline(always)]
+const fn signed(word: u32) -> i64
+    ensures value { result ≡ signed word }
+    ensures lower_bound { negsuc (2 ^ 31 - 1) ≤ℤ result }
+    ensures upper_bound { result ≤ℤ pos (2 ^ 31 - 1) }
+{
+    word.cast_signed() as i64
+}
+
+/// The carry that takes part in a sum or a difference.
+#[inline(always)]
+const fn carry_in(u: bool, flags: Flags) -> u32
+    ensures value { result ≡ carry_in u flags }
+    ensures bound { result ≤ 1 }
+{
+    (u && flags.c) as u32
+}
+
+/// Whether a number is not the signed value of any word.
+#[inline(always)]
+#[tactic(auto, unfolding(crate::specs::Arithmetic::overflows))]
+const fn overflows(number: i64) -> bool
+    ensures { result ≡ overflows number }
+{
+    number < i32::MIN as i64 || number > i32::MAX as i64
+}
+
+/// ADD.
+#[inline(always)]
+const fn add(u: bool, b: u32, c: u32, h: u32, flags: Flags) -> AluOut
+    ensures { result ≡ sum_of u b c h flags }
+{
+    let carry = carry_in(u, flags);
+    let sum = b as u64 + c as u64 + carry as u64;
+    let signed_sum = signed(b) + signed(c) + carry as i64;
+    let after = Flags {
+        n: flags.n,
+        z: flags.z,
+        c: sum >= WORDS,
+        v: overflows(signed_sum),
+    };
+    output((sum & WORD_MASK) as u32, h, after)
+}
+
+/// SUB.
+#[inline(always)]
+const fn subtract(u: bool, b: u32, c: u32, h: u32, flags: Flags) -> AluOut
+    ensures { result ≡ difference_of u b c h flags }
+{
+    let borrow = carry_in(u, flags);
+    let signed_difference = signed(b) - signed(c) - borrow as i64;
+    let after = Flags {
+        n: flags.n,
+        z: flags.z,
+        c: (b as u64) < c as u64 + borrow as u64,
+        v: overflows(signed_difference),
+    };
+    output(b.wrapping_sub(c).wrapping_sub(borrow), h, after)
+}
+
+/// The 64 bits of the product.
+#[inline(always)]
+const fn full_product(u: bool, b: u32, c: u32) -> u64
+    ensures { result ≡ floor_mod (product u b c) (2 ^ 64) }
+{
+    if u {
+        b as u64 * c as u64
+    } else {
+        (signed(b) * signed(c)).cast_unsigned()
+    }
+}
+
+/// MUL.
+#[inline(always)]
+#[tactic(auto, using(crate::proofs::WordLemmas::product_is))]
+const fn multiply(u: bool, b: u32, c: u32, flags: Flags) -> AluOut
+    ensures { result ≡ product_of u b c flags }
+{
+    let product = full_product(u, b, c);
+    output((product & WORD_MASK) as u32, (product >> 32) as u32, flags)
+}
+
+/// The floor quotient by a positive divisor, and the remainder.
+#[inline(always)]
+const fn divide_down(u: bool, b: u32, c: u32) -> (u32, u32)
+    requires positive { 0 < c }
+    requires signed { c < 2 ^ 31 }
+    ensures quotient { result.0 ≡ floor_mod (floor_div (dividend u b) c) (2 ^ 32) }
+    ensures remainder { result.1 ≡ floor_mod (dividend u b) c }
+{
+    if u {
+        return (b / c, b % c);
+    }
+    let dividend = b.cast_signed();
+    let divisor = c.cast_signed();
+    (
+        dividend.div_euclid(divisor).cast_unsigned(),
+        dividend.rem_euclid(divisor).cast_unsigned(),
+    )
+}
+
+/// DIV.
+#[inline(always)]
+const fn divide(u: bool, b: u32, c: u32, flags: Flags) -> Result<AluOut, Stop>
+    ensures value { result ≡ quotient_of u b c flags }
+    ensures not_float { result ≢ Err Stop.Float }
+    ensures refused { (result ≡ Err Stop.Divisor) ↔ (signed c <ℤ pos 1) }
+{
+    if c.cast_signed() < 1 {
+        return Err(Stop::Divisor);
+    }
+    let (quotient, remainder) = divide_down(u, b, c);
+    Ok(output(quotient, remainder, flags))
+}

@@ -1,0 +1,12 @@
+//! The laws of this crate's definitions, each the contract of a function that does nothing.
+ghost use Rattle.risc_core.specs.Laws.{DivisionLaw, BitsLaw};
+
+/// Quotient and remainder are the one pair of their definition.
+pub const fn division_law()
+    ensures { DivisionLaw }
+{}
+
+/// A number given bit by bit has those bits.
+pub const fn bits_law()
+    ensures { BitsLaw }
+{}

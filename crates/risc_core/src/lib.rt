@@ -1,0 +1,32 @@
+//! The instructions of the RISC5 processor of Project Oberon, as functions on words: how a word is decoded, what an
+//! operation computes, when a branch is taken and where it goes, and what an address names.
+//!
+//! The rules are those of "The RISC Architecture" (N. Wirth) and of the hardware chapters of Project Oberon 2013; where
+//! they leave something open, this project's own choice is marked as such. Each function equals a definition in whole
+//! numbers, in `specs/`. Nothing here takes memory. The state of a machine, its memory and its devices live in the crates
+//! above.
+#![tactic(auto)]
+
+mod address;
+mod arithmetic;
+mod branch;
+mod decoding;
+mod flags;
+mod instruction;
+mod laws;
+mod locate;
+mod stop;
+mod word;
+
+pub use address::Place;
+pub use arithmetic::{AluOut, alu};
+pub use branch::{link, reg_target, taken, target};
+pub use decoding::decode;
+pub use flags::{Flags, written};
+pub use instruction::Instr;
+pub use laws::{bits_law, division_law};
+pub use locate::place;
+pub use stop::Stop;
+
+#[cfg(test)]
+mod tests;

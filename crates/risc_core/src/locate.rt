@@ -1,0 +1,37 @@
+//! From a base and an offset to the place that they name (Project Oberon 2013, hardware chapters).
+ghost use Rattle.std.specs.Prelude.{◌≡◌, ◌<◌};
+ghost use Rattle.risc_core.specs.Place.{address_of, place_of, lane_of, IsInside};
+
+use crate::address::Place;
+
+/// Addresses have 24 bits.
+const ADDRESS_MASK: u32 = 0xFF_FFFF;
+
+/// RAM lies below this address: 1 MB.
+const RAM_END: u32 = 0x10_0000;
+
+/// The device words lie from this address on.
+const DEVICES: u32 = 0xFF_FFC0;
+
+/// The place that the address `(base + off) mod 2^24` names, and the address's lane in its word, from 0 (bits 7 to 0)
+/// to 3.
+///
+/// Words of RAM are numbered from 0 to 262,143, and device words from 0 to 15 (Project Oberon 2013, hardware chapters).
+#[inline(always)]
+#[tactic(auto, unfolding(crate::specs::Place::address_of, crate::specs::Place::place_of, crate::specs::Place::lane_of))]
+pub const fn place(base: u32, off: i32) -> (Place, u8)
+    ensures place { result.0 ≡ place_of (address_of base off) }
+    ensures lane { result.1 ≡ lane_of (address_of base off) }
+    ensures place_inside { IsInside result.0 }
+    ensures lane_inside { result.1 < 4 }
+{
+    let address = base.wrapping_add(off.cast_unsigned()) & ADDRESS_MASK;
+    let lane = (address & 3) as u8;
+    if address < RAM_END {
+        (Place::Ram(address >> 2), lane)
+    } else if address >= DEVICES {
+        (Place::Device((address - DEVICES >> 2) as u8), lane)
+    } else {
+        (Place::Nowhere, lane)
+    }
+}
