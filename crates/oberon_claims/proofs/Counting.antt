@@ -1,0 +1,68 @@
+-- Where each number below n was taken once and no other was, n numbers were taken.
+use Rattle.std.proofs.Common.{◌≡◌, ℕ, zero, suc, ◌+◌, ◌<◌, ◌≤◌, List, [], ◌∷◌, length, sym, refl, ◌∙◌, arith, eqb, ltb}
+use Rattle.std.proofs.lemmas.Bool.Decides.{nat_tests}
+use Rattle.oberon_claims.specs.declared.book.View.{View}
+use Rattle.oberon_claims.specs.Counts.{one_if, times, once_below}
+use Rattle.oberon_claims.specs.Book.{times_taken, number_taken}
+
+-- what f is at each number below n, added up
+abbrev tally : ℕ → (ℕ → ℕ) → ℕ
+tally zero f = 0
+tally (suc n) f = tally n f + f n
+
+tally_none : (n : ℕ) → tally n (λ x. 0) ≡ 0
+tally_none zero = refl
+tally_none (suc n) = let e = tally_none n in omega arith
+
+tally_add : (n : ℕ) (f g : ℕ → ℕ) → tally n (λ x. f x + g x) ≡ tally n f + tally n g
+tally_add zero f g = refl
+tally_add (suc n) f g = let e = tally_add n f g in omega arith
+
+tally_once : (n m : ℕ) (f : ℕ → ℕ) → ((x : ℕ) → f x ≡ once_below x m) → n ≤ m → tally n f ≡ n
+tally_once zero m f once within = refl
+tally_once (suc n) m f once within =
+    let e = tally_once n m f once (omega arith) in
+    let o = once n in
+    let here = one_below n m (omega arith) in
+    omega arith
+  where
+    one_below : (x n : ℕ) → x < n → once_below x n ≡ 1
+    one_below x n below = grind (arith, nat_tests)
+
+-- one number, counted among those below n
+tally_one : (n y : ℕ) → tally n (λ x. one_if (eqb y x)) ≡ one_if (ltb y n)
+tally_one zero y = grind (arith, nat_tests)
+tally_one (suc n) y = let e = tally_one n y in let s = step n y in omega arith
+  where
+    step : (n y : ℕ) → one_if (ltb y (suc n)) ≡ one_if (ltb y n) + one_if (eqb y n)
+    step n y = grind (arith, nat_tests)
+
+is_one : (y n : ℕ) → y < n → one_if (ltb y n) ≡ 1
+is_one y n below = grind (arith, nat_tests)
+
+same_one : (y : ℕ) → one_if (eqb y y) ≡ 1
+same_one y = grind (arith, nat_tests)
+
+length_is : (n : ℕ) (xs : List ℕ) → ((x : ℕ) → 0 < times x xs → x < n) → length xs ≡ tally n (λ x. times x xs)
+length_is n [] below = sym (tally_none n)
+length_is n (y ∷ ys) below =
+    let rest = length_is n ys (λ x there. below x (omega arith)) in
+    let add = tally_add n (λ x. one_if (eqb y x)) (λ x. times x ys) in
+    let one = tally_one n y in
+    let is = is_one y n (below y (let s = same_one y in omega arith)) in
+    omega arith
+
+number_is : (n : ℕ) (views : List View) → ((x : ℕ) → 0 < times_taken x views → x < n) → number_taken views ≡ tally n (λ x. times_taken x views)
+number_is n [] below = sym (tally_none n)
+number_is n (v ∷ vs) below =
+    let here = length_is n v.taken (λ x there. below x (omega arith)) in
+    let rest = number_is n vs (λ x there. below x (omega arith)) in
+    let add = tally_add n (λ x. times x v.taken) (λ x. times_taken x vs) in
+    omega arith
+
+below_if : (x n : ℕ) → 0 < once_below x n → x < n
+below_if x n h = grind (arith, nat_tests)
+
+pub number_of_each_once : (n : ℕ) (views : List View) → ((x : ℕ) → times_taken x views ≡ once_below x n) → number_taken views ≡ n
+number_of_each_once n views once =
+    number_is n views (λ x there. below_if x n (let o = once x in omega arith)) ∙ tally_once n n (λ x. times_taken x views) once (omega arith)

@@ -1,0 +1,134 @@
+-- What the passes' seats come to once they are put together.
+use Rattle.std.proofs.Common.{◌≡◌, ℕ, zero, suc, ◌+◌, ◌<◌, ◌≤◌, List, [], ◌∷◌, ◌++◌, length, get_or, min, Bool, true, false, sym, refl, ap, ◌∙◌, subst, arith, ⊎_elim, length-append, append_assoc, append-nil, eqb, Option, None, Some}
+use Rattle.std.specs.Prelude.{All, Contains, MatchOption, HoldsAt}
+use Rattle.oberon_claims.specs.declared.book.View.{View}
+use Rattle.oberon_claims.specs.Counts.{one_if, times, once_below}
+use Rattle.oberon_claims.specs.Pass.{BookId, PassRecord}
+use Rattle.oberon_claims.specs.Ledger.{all_taken, all_told, all_shown, SomeEnded, IsLeastOf, IsNotBelow}
+use Rattle.oberon_claims.specs.Book.{nothing, times_told, IsLegal}
+use Rattle.oberon_claims.specs.Steps.{joined_view}
+use Rattle.oberon_claims.proofs.Counting.{number_of_each_once}
+use Rattle.oberon_claims.proofs.Sums.{times_here, one_is, empty_if}
+
+abbrev pub marks : List PassRecord → ℕ
+marks [] = 0
+marks (p ∷ ps) = one_if p.ended + marks ps
+
+abbrev pub gathered : BookId → List PassRecord → View
+gathered book ps = record { jobs = book.jobs; workers = book.workers; taken = all_taken ps; told = all_told ps; shown = all_shown ps; ends = marks ps; stands = length ps }
+
+taken_more : (ps : List PassRecord) (p : PassRecord) → all_taken ps ++ p.taken ≡ all_taken (ps ++ p ∷ [])
+taken_more [] p = sym (append-nil p.taken)
+taken_more (q ∷ ps) p = append_assoc q.taken (all_taken ps) p.taken ∙ ap (λ (l : List ℕ). q.taken ++ l) (taken_more ps p)
+
+told_more : (ps : List PassRecord) (p : PassRecord) → all_told ps ++ p.told ≡ all_told (ps ++ p ∷ [])
+told_more [] p = sym (append-nil p.told)
+told_more (q ∷ ps) p = append_assoc q.told (all_told ps) p.told ∙ ap (λ (l : List ℕ). q.told ++ l) (told_more ps p)
+
+shown_more : (ps : List PassRecord) (p : PassRecord) → all_shown ps ++ p.shown ≡ all_shown (ps ++ p ∷ [])
+shown_more [] p = sym (append-nil p.shown)
+shown_more (q ∷ ps) p = append_assoc q.shown (all_shown ps) p.shown ∙ ap (λ (l : List ℕ). q.shown ++ l) (shown_more ps p)
+
+marks_more : (ps : List PassRecord) (p : PassRecord) → marks ps + one_if p.ended ≡ marks (ps ++ p ∷ [])
+marks_more [] p = omega arith
+marks_more (q ∷ ps) p = let e = marks_more ps p in omega arith
+
+-- the seat of a pass
+pub record IsSeatOf (v : View) (p : PassRecord) : Type 0 where
+  pub taken : v.taken ≡ p.taken
+  pub told : v.told ≡ p.told
+  pub shown : v.shown ≡ p.shown
+  pub ends : v.ends ≡ one_if p.ended
+  pub stands : v.stands ≡ 1
+
+pub gathers : (book : BookId) (ps : List PassRecord) (p : PassRecord) (v : View) → IsSeatOf v p → joined_view (gathered book ps) v ≡ gathered book (ps ++ p ∷ [])
+gathers book ps p v is =
+    let taken = ap (λ (l : List ℕ). all_taken ps ++ l) is.taken ∙ taken_more ps p in
+    let told = ap (λ (l : List ℕ). all_told ps ++ l) is.told ∙ told_more ps p in
+    let shown = ap (λ (l : List ℕ). all_shown ps ++ l) is.shown ∙ shown_more ps p in
+    let ends = ap (λ (n : ℕ). marks ps + n) is.ends ∙ marks_more ps p in
+    let stands : length ps + v.stands ≡ length (ps ++ p ∷ []) = let e = is.stands in let l = length-append ps (p ∷ []) in omega arith in
+    λ i. record { jobs = book.jobs; workers = book.workers; taken = taken i; told = told i; shown = shown i; ends = ends i; stands = stands i }
+
+-- the next of the passes is of the book
+pub next_of : (P : PassRecord → Type 0) (all ys : List PassRecord) (p : PassRecord) (rest : List PassRecord) → ys ++ p ∷ rest ≡ all → All P all → P p
+next_of P all ys p rest is holds = go P ys p rest (λ k d in_range. subst (λ (l : List PassRecord). (i : ℕ) (e : PassRecord) → i < length l → P (get_or l i e)) (sym is) holds k d in_range)
+  where
+    go : (P : PassRecord → Type 0) (ys : List PassRecord) (p : PassRecord) (rest : List PassRecord) → All P (ys ++ p ∷ rest) → P p
+    go P [] p rest holds = holds 0 p (omega arith)
+    go P (y ∷ ys) p rest holds = go P ys p rest (λ k d in_range. holds (suc k) d (omega arith))
+
+marks_at : (ps : List PassRecord) (k : ℕ) → k < length ps → HoldsAt (λ (q : PassRecord). q.ended ≡ true) ps k → 0 < marks ps
+marks_at [] k in_range holds = absurd (omega arith)
+marks_at (p ∷ ps) zero in_range holds = let e : one_if p.ended ≡ 1 = ap one_if (holds p) in omega arith
+marks_at (p ∷ ps) (suc k) in_range holds = let r = marks_at ps k (omega arith) holds in omega arith
+
+some_marks : (ps : List PassRecord) → SomeEnded ps → 0 < marks ps
+some_marks ps m = marks_at ps m.0 m.1 m.2
+
+-- what stands in a list stands at some place
+pub found : (x : ℕ) (xs : List ℕ) → 0 < times x xs → Contains xs x
+found x [] there = absurd (omega arith)
+found x (y ∷ ys) there = go x y ys (eqb y x) refl there (λ t. found x ys t)
+  where
+    go : (x y : ℕ) (ys : List ℕ) (b : Bool) → eqb y x ≡ b → 0 < one_if (eqb y x) + times x ys → (0 < times x ys → Contains ys x) → Contains (y ∷ ys) x
+    go x y ys true e there next = (0, omega arith, one_is y x (let o : one_if (eqb y x) ≡ 1 = ap one_if e in omega arith))
+    go x y ys false e there next =
+        let o : one_if (eqb y x) ≡ 0 = ap one_if e in
+        let r = next (omega arith) in
+        (suc r.0, (let h = r.1 in omega arith), r.2)
+
+-- what a whole book says of the passes' lists
+module _ (book : BookId) (jobs next least : ℕ) (ps : List PassRecord) (legal : IsLegal jobs (length ps) next least (gathered book ps ∷ [])) where
+  pub taken_once : (x : ℕ) → times x (all_taken ps) ≡ once_below x (min next jobs)
+  taken_once x = (let n : times x (all_taken ps) ≡ times x (all_taken ps) + 0 = omega arith in n) ∙ legal.each_once x
+
+  pub all_gone : SomeEnded ps → min next jobs ≡ jobs
+  all_gone m = let s = some_marks ps m in let c : length (all_taken ps) + 0 ≡ min next jobs = number_of_each_once (min next jobs) (gathered book ps ∷ []) legal.each_once in let n = legal.next_is in omega arith
+
+  pub none_told : nothing ≤ least → all_told ps ≡ []
+  none_told none = empty_if (all_told ps) (λ x there. let t = legal.told_above x (omega arith) in omega arith)
+
+  pub least_is_told : least < nothing → Contains (all_told ps) least
+  least_is_told some_told = found least (all_told ps) (⊎_elim (λ (e : least ≡ nothing). absurd (omega arith)) (λ (t : 0 < times_told least (gathered book ps ∷ [])). omega arith) legal.least_told)
+
+  pub told_all_above : All (λ y. least ≤ y) (all_told ps)
+  told_all_above k d in_range =
+      let x = get_or (all_told ps) k d in
+      let here = times_here (all_told ps) k d in_range in
+      (legal.told_above x (omega arith)).0
+
+  pub shown_all_told : All (λ x. Contains (all_told ps) x) (all_shown ps)
+  shown_all_told k d in_range =
+      let x = get_or (all_shown ps) k d in
+      let here = times_here (all_shown ps) k d in_range in
+      let t = legal.shown_told x (omega arith) in
+      found x (all_told ps) (omega arith)
+
+  pub least_told_is : (o : Option ℕ) → MatchOption o (nothing ≤ least) (λ x. (x ≡ least) × (least < nothing))
+      → MatchOption o (all_told ps ≡ []) (λ x. Contains (all_told ps) x × All (λ y. x ≤ y) (all_told ps))
+  least_told_is None none = none_told none
+  least_told_is (Some x) is = subst (λ (y : ℕ). Contains (all_told ps) y × All (λ z. y ≤ z) (all_told ps)) (sym is.0) (least_is_told is.1, told_all_above)
+
+-- no value shown is below the least segment told
+pub shown_not_below : (told shown : List ℕ) (o : Option ℕ) → IsLeastOf told o → All (λ x. Contains told x) shown → IsNotBelow o shown
+shown_not_below told shown None none all = empty_if_none shown (λ k d in_range. let c = all k d in_range in let e = ap length none in let h = c.1 in absurd (omega arith))
+  where
+    empty_if_none : (xs : List ℕ) → ((k d : ℕ) → k < length xs → ⊥) → xs ≡ []
+    empty_if_none [] none = refl
+    empty_if_none (x ∷ xs) none = absurd (none 0 x (omega arith))
+shown_not_below told shown (Some x) is all = λ k d in_range. (let c = all k d in_range in subst (λ (y : ℕ). x ≤ y) (c.2) (is.1 c.0 (get_or shown k d) c.1))
+
+pub nil_if : (xs : List PassRecord) → length xs ≡ 0 → xs ≡ []
+nil_if [] e = refl
+nil_if (x ∷ xs) e = absurd (omega arith)
+
+-- the first pass alone
+pub gathers_one : (book : BookId) (p : PassRecord) (v : View) → v.jobs ≡ book.jobs → v.workers ≡ book.workers → IsSeatOf v p → v ≡ gathered book (p ∷ [])
+gathers_one book p v jobs workers is =
+    let taken = is.taken ∙ sym (append-nil p.taken) in
+    let told = is.told ∙ sym (append-nil p.told) in
+    let shown = is.shown ∙ sym (append-nil p.shown) in
+    let ends : v.ends ≡ one_if p.ended + 0 = let e = is.ends in omega arith in
+    let stands : v.stands ≡ 1 = is.stands in
+    λ i. record { jobs = jobs i; workers = workers i; taken = taken i; told = told i; shown = shown i; ends = ends i; stands = stands i }

@@ -1,0 +1,6 @@
+pub mod Counting
+pub mod Gathers
+pub mod Keeps
+pub mod Shares
+pub mod Steps
+pub mod Sums

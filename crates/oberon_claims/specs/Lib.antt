@@ -1,0 +1,5 @@
+pub mod Book
+pub mod Counts
+pub mod Ledger
+pub mod Pass
+pub mod Steps

@@ -1,0 +1,152 @@
+//! The book that workers share, and the calls that they make of it.
+//!
+//! Here live the book's making and closing and the three calls of a worker, each of which is one atomic step on a shared
+//! word. The rule that the steps keep lives in `book`, what the closed words say in `ledger`.
+ghost use Rattle.std.specs.Prelude.{◌≡◌, ◌<◌, ◌≤◌, false, true, [], None, IfSome, IfNone, IfOk, All, Contains, replicate, vec_len};
+ghost use Rattle.oberon_claims.specs.Counts.{IsEachOnceBelow};
+ghost use Rattle.oberon_claims.specs.Pass.{fresh_pass, pass_with_job, pass_with_end, pass_with_told, pass_with_shown};
+ghost use Rattle.oberon_claims.specs.Ledger.{all_taken, all_told, all_shown, SomeEnded, IsLeastOf, IsNotBelow};
+
+use crate::book::{HandOut, LEAST, Legal, Look, NEXT, NOTHING, Plan, Take, TakeIn, Tell, View};
+use crate::ledger::{Ledger, segment_of, taken_of};
+use crate::pass::Pass;
+use atomic_table::Table;
+use std::alloc::{AllocError, Global};
+use std::marker::Model;
+
+/// A book of jobs numbered from 0, which threads share by reference.
+///
+/// Contracts see it as which book it is, with its number of jobs and of passes.
+#[derive(Drop)]
+pub struct Claims {
+    table: Table<u8, View, Plan, Legal, Global>,
+    jobs: u32,
+}
+
+impl Model for Claims {
+    ghost use Rattle.std.specs.Prelude.{◌≡◌, ◌≤◌};
+    ghost use Rattle.oberon_claims.specs.Pass.{BookId};
+
+    ghost Value = { BookId };
+
+    ghost view = { λ c. record { table = c.table.shared.table_id; jobs = c.jobs; workers = c.table.shared.key.workers } };
+
+    ghost invariant = { λ c. (c.table.shared.key.jobs ≡ c.jobs) × (c.table.shared.table_id.words ≡ 2) × (c.table.shared.table_id.slots ≡ 0) × (1 ≤ c.table.shared.key.workers) };
+}
+
+impl Claims {
+    /// A new book of `jobs` jobs, at most 4,096, and `workers` fresh passes of it, 1 to 64.
+    ///
+    /// It is refused only where memory was.
+    pub fn new(alloc: Global, jobs: u32, workers: u32) -> Result<(Claims, Vec<Pass>), AllocError>
+        requires jobs { jobs ≤ 4096 }
+        requires workers { (1 ≤ workers) × (workers ≤ 64) }
+        ensures jobs { IfOk result (λ r. r.0.jobs ≡ jobs) }
+        ensures workers { IfOk result (λ r. r.0.workers ≡ workers) }
+        ensures passes { IfOk result (λ r. r.1.items ≡ replicate workers (fresh_pass r.0)) }
+    {
+        let plan = Plan { jobs, workers };
+        let (table, mut own) = Table::of_words(alloc, &[0, NOTHING], &plan)?;
+        let mut passes = Vec::new(alloc);
+        for _worker in 0..workers {
+            let seat = table.shared.split_seat::<HandOut>(&mut own);
+            passes.push(Pass {
+                seat,
+                answered_none: false,
+            })?;
+        }
+        Ok((Claims { table, jobs }, passes))
+    }
+
+    /// Takes the next job, which no pass has taken before, or answers `None` where all jobs are taken.
+    ///
+    /// It is one fetch_add on `next`, takes no memory and waits for nobody. A pass that was once answered `None` is
+    /// answered `None` from then on, without a step. That no other pass has the job is what `finish` says of all
+    /// passes.
+    pub fn claim(&self, pass: &mut Pass) -> Option<u32>
+        requires book { pass.old.book ≡ self.now }
+        ensures job { IfSome result (λ job. job < self.now.jobs) }
+        ensures above { IfSome result (λ job. All (λ x. x < job) pass.old.taken) }
+        ensures taken { IfSome result (λ job. pass.new ≡ pass_with_job pass.old job) }
+        ensures none { IfNone result (pass.new ≡ pass_with_end pass.old) }
+        ensures stays { pass.old.ended ≡ true → (result ≡ None) × (pass.new ≡ pass.old) }
+    {
+        if pass.answered_none {
+            return None;
+        }
+        let found = self.table.shared.fetch_add::<Take>(&mut pass.seat, NEXT, 1);
+        if found < u64::from(self.jobs) {
+            Some(found as u32)
+        } else {
+            pass.answered_none = true;
+            None
+        }
+    }
+
+    /// The least segment told so far by any pass, or `None` where none was told.
+    ///
+    /// It is one load of `least`, takes no memory and waits for nobody. That the value was told by some pass is what
+    /// `finish` says of all passes; that a look sees what another pass told before it is not promised by a contract.
+    pub fn look(&self, pass: &mut Pass) -> Option<u32>
+        requires book { pass.old.book ≡ self.now }
+        ensures told { IfSome result (λ x. All (λ y. x ≤ y) pass.old.told) }
+        ensures shown { IfSome result (λ x. All (λ y. x ≤ y) pass.old.shown) }
+        ensures joins { IfSome result (λ x. pass.new ≡ pass_with_shown pass.old x) }
+        ensures none { IfNone result ((pass.old.told ≡ []) × (pass.old.shown ≡ [])) }
+        ensures stays { IfNone result (pass.new ≡ pass.old) }
+    {
+        segment_of(self.table.shared.load::<Look>(&mut pass.seat, LEAST))
+    }
+
+    /// Tells a segment, so that later looks show none above it.
+    ///
+    /// It is one fetch_min on `least`, takes no memory and waits for nobody.
+    pub fn tell(&self, pass: &mut Pass, segment: u32)
+        requires book { pass.old.book ≡ self.now }
+        ensures { pass.new ≡ pass_with_told pass.old segment }
+    {
+        self.table
+            .shared
+            .fetch_min::<Tell>(&mut pass.seat, LEAST, u64::from(segment));
+    }
+
+    /// Closes the book on all its passes: how many jobs they took, and the least segment that any told.
+    ///
+    /// It takes no memory and always answers.
+    pub fn finish(self, passes: Vec<Pass>) -> Ledger
+        requires all { vec_len passes ≡ self.workers }
+        requires book { All (λ p. p.book ≡ self) passes.items }
+        ensures jobs { result.taken ≤ self.jobs }
+        // The jobs taken are together the numbers below `taken`, each once.
+        ensures taken { IsEachOnceBelow result.taken (all_taken passes.items) }
+        ensures whole { SomeEnded passes.items → result.taken ≡ self.jobs }
+        ensures least { IsLeastOf (all_told passes.items) result.least }
+        ensures shown { All (λ x. Contains (all_told passes.items) x) (all_shown passes.items) }
+        ensures not_below { IsNotBelow result.least (all_shown passes.items) }
+    {
+        let Claims { table, jobs } = self;
+        let mut rest = passes.into_iter();
+        let Some(first) = rest.next() else {
+            unreachable!()
+        };
+        let Pass {
+            seat: mut own,
+            answered_none: _,
+        } = first;
+        for pass in rest {
+            let Pass {
+                seat,
+                answered_none: _,
+            } = pass;
+            table.shared.join_seat::<TakeIn>(&mut own, seat);
+        }
+        let closed = table.close_with(own);
+        let next = closed.word(NEXT);
+        let least = closed.word(LEAST);
+        closed.free();
+        Ledger {
+            taken: taken_of(next, jobs),
+            least: segment_of(least),
+        }
+    }
+}
