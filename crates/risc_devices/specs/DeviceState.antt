@@ -1,0 +1,47 @@
+-- The state of the devices.
+use Rattle.std.specs.Prelude.{◌≡◌, ℕ, ◌+◌, ◌/◌, ◌%◌, ◌^◌, ◌<◌, ◌≤◌, Bool, ◌==◌, if◌then◌else◌, IsTrue, List, length, All}
+use Rattle.risc_devices.specs.InputKind.{is_mouse}
+
+-- What the devices hold. The buttons are bits 11 to 8 of `switches`, and the switches bits 7 to 0. `serial` is the byte that
+-- the serial line holds, and `received` whether it came since the last read. `keys` are the key codes that wait, oldest first.
+pub record DeviceState : Type 0 where
+  pub timer : ℕ
+  pub switches : ℕ
+  pub leds : ℕ
+  pub mouse : ℕ
+  pub serial : ℕ
+  pub received : Bool
+  pub keys : List ℕ
+
+-- Each part is in its range.
+pub record IsDeviceState (d : DeviceState) : Type 0 where
+  pub timer : d.timer < 2 ^ 32
+  pub switches : d.switches < 2 ^ 12
+  pub leds : d.leds < 2 ^ 8
+  pub mouse : IsTrue (is_mouse d.mouse)
+  pub serial : d.serial < 2 ^ 8
+  pub keys : length d.keys ≤ 16
+  pub codes : All (λ code. code < 2 ^ 8) d.keys
+
+-- The byte held and "received" as one number, whose bit 8 is "received".
+abbrev pub serial_number : DeviceState → ℕ
+serial_number d = d.serial + (if d.received then 2 ^ 8 else 0)
+
+-- The devices with these parts, the serial line's given as one number.
+abbrev pub state_of_parts : ℕ → ℕ → ℕ → ℕ → ℕ → List ℕ → DeviceState
+state_of_parts timer switches leds mouse serial keys = record {
+  timer = timer;
+  switches = switches;
+  leds = leds;
+  mouse = mouse;
+  serial = serial % 2 ^ 8;
+  received = serial / 2 ^ 8 == 1;
+  keys = keys;
+}
+
+-- The parts whose numbers can be out of their range in the words that bring them: these are in it.
+pub record AreParts (switches mouse serial : ℕ) (keys : List ℕ) : Type 0 where
+  pub switches_fit : switches < 2 ^ 12
+  pub mouse_fits : IsTrue (is_mouse mouse)
+  pub serial_fits : serial < 2 ^ 9
+  pub keys_fit : length keys ≤ 16

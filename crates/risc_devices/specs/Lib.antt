@@ -1,0 +1,6 @@
+pub mod InputKind
+pub mod KeyCodes
+pub mod DeviceState
+pub mod Input
+pub mod DeviceWords
+pub mod Shown

@@ -1,0 +1,18 @@
+//! The one refusal of this crate. What is refused, and when, stands with the calls that refuse.
+use thiserror::Error;
+
+/// A number that came from outside lies out of its range.
+#[derive(Clone, Copy, Debug, PartialEq, Eq, Error)]
+#[error("a number is out of its range")]
+pub struct RangeFault;
+
+impl RangeFault {
+    ghost use Rattle.std.specs.Prelude.{◌≡◌};
+
+    /// The refusal's number, which is 1.
+    pub fn number(self) -> u8
+        ensures { result ≡ 1 }
+    {
+        1
+    }
+}

@@ -1,0 +1,67 @@
+//! The kinds of inputs, and the values that each takes. What an input does stands in `devices`.
+
+ghost use Rattle.std.specs.Prelude.{◌≡◌, ℕ, false, MatchOption};
+ghost use Rattle.risc_devices.specs.InputKind.{kind_number, is_input, is_mouse};
+
+/// The kind of an input.
+#[derive(Clone, Copy, Debug, PartialEq, Eq)]
+pub(crate) enum Kind {
+    Timer,
+    Switches,
+    Mouse,
+    Key,
+    Serial,
+}
+
+impl Kind {
+    /// The kind of a number from 1 to 5.
+    #[tactic(auto, unfolding(crate::specs::InputKind::is_input))]
+    pub(crate) fn from_number(number: u8) -> Option<Kind>
+        ensures { MatchOption result ((value : ℕ) → is_input number value ≡ false) (λ kind. kind_number kind ≡ number) }
+    {
+        match number {
+            1 => Some(Kind::Timer),
+            2 => Some(Kind::Switches),
+            3 => Some(Kind::Mouse),
+            4 => Some(Kind::Key),
+            5 => Some(Kind::Serial),
+            _ => None,
+        }
+    }
+
+    #[inline]
+    pub(crate) fn number(self) -> u8
+        ensures { result ≡ kind_number self }
+    {
+        match self {
+            Kind::Timer => 1,
+            Kind::Switches => 2,
+            Kind::Mouse => 3,
+            Kind::Key => 4,
+            Kind::Serial => 5,
+        }
+    }
+
+    /// Whether an input of this kind may have the value.
+    #[tactic(auto, unfolding(crate::specs::InputKind::is_input))]
+    pub(crate) fn takes(self, value: u32) -> bool
+        ensures { result ≡ is_input (kind_number self) value }
+    {
+        match self {
+            Kind::Timer => true,
+            Kind::Switches => value < 1 << 12,
+            Kind::Mouse => is_mouse_word(value),
+            Kind::Key | Kind::Serial => value < 1 << 8,
+        }
+    }
+}
+
+/// Whether a word is a mouse word: x in bits 0 to 9, y in bits 12 to 21, the three keys in bits 24 to 26, and no other bit
+/// (this project's own choice).
+#[tactic(auto, unfolding(crate::specs::InputKind::is_mouse))]
+#[inline]
+pub fn is_mouse_word(word: u32) -> bool
+    ensures { result ≡ is_mouse word }
+{
+    word % (1 << 12) < 1 << 10 && (word >> 12) % (1 << 12) < 1 << 10 && word >> 24 < 1 << 3
+}

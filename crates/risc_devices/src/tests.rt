@@ -1,0 +1,141 @@
+//! Worked examples, and each call once.
+
+use super::*;
+use std::process::Abort;
+
+/// Devices that hold nothing, with this mouse word.
+fn idle(rt: &impl Abort, mouse: u32) -> Devices {
+    Devices::new(0, 0, 0, mouse, 0, &[]).expect(rt, "the parts are in range")
+}
+
+/// Takes an input of a kind's number and a value.
+fn feed(rt: &impl Abort, devices: &mut Devices, kind: u8, value: u32) {
+    let input = Input::new(kind, value).expect(rt, "the input is in range");
+    devices.take(input);
+}
+
+#[test]
+fn takes_inputs_in_their_ranges_alone(rt: HostRuntime) {
+    let rows = [
+        (0, 0, false),
+        (1, 0xFFFF_FFFF, true),
+        (2, 4095, true),
+        (2, 4096, false),
+        (3, 0x073F_F3FF, true),
+        (3, 0x0800_0000, false),
+        (3, 0x0000_0400, false),
+        (3, 0x0040_0000, false),
+        (4, 255, true),
+        (4, 256, false),
+        (5, 255, true),
+        (5, 256, false),
+        (6, 0, false),
+    ];
+    for (kind, value, want) in rows {
+        match Input::new(kind, value) {
+            Ok(input) => {
+                assert!(rt; want, "kind {kind} took {value}");
+                assert_eq!(rt; (input.kind(), input.value()), (kind, value));
+            }
+            Err(fault) => {
+                assert!(rt; !want, "kind {kind} refused {value}");
+                assert_eq!(rt; (fault, fault.number()), (RangeFault, 1));
+            }
+        }
+    }
+}
+
+#[test]
+fn reads_a_key_that_waits(rt: HostRuntime) {
+    let mut devices = idle(&rt, 0);
+    feed(&rt, &mut devices, 4, 0x41);
+    let rows = [(6, 0x1000_0000), (7, 0x41), (6, 0), (7, 0)];
+    for (word, want) in rows {
+        assert_eq!(rt; devices.read(word), want, "word {word}");
+    }
+}
+
+#[test]
+fn reads_a_byte_of_the_serial_line(rt: HostRuntime) {
+    let mut devices = idle(&rt, 0);
+    feed(&rt, &mut devices, 5, 0x55);
+    assert_eq!(rt; devices.serial(), 0x155);
+    let rows = [(3, 3), (2, 0x55), (3, 2), (2, 0x55)];
+    for (word, want) in rows {
+        assert_eq!(rt; devices.read(word), want, "word {word}");
+    }
+    assert_eq!(rt; devices.serial(), 0x55);
+}
+
+#[test]
+fn keeps_sixteen_keys_of_seventeen(rt: HostRuntime) {
+    let mut devices = idle(&rt, 0);
+    for code in 1..18 {
+        feed(&rt, &mut devices, 4, code);
+    }
+    let want = [1, 2, 3, 4, 5, 6, 7, 8, 9, 10, 11, 12, 13, 14, 15, 16];
+    assert_eq!(rt; devices.keys(), &want[..]);
+}
+
+#[test]
+fn reads_the_other_words(rt: HostRuntime) {
+    let mut devices = idle(&rt, 0);
+    feed(&rt, &mut devices, 3, 0x0712_3045);
+    feed(&rt, &mut devices, 1, 7);
+    feed(&rt, &mut devices, 2, 0xA5C);
+    let wants = [
+        7,
+        0xA5C,
+        0,
+        2,
+        255,
+        1,
+        0x0712_3045,
+        0,
+        0,
+        0,
+        0,
+        0,
+        0,
+        0,
+        0,
+        0,
+    ];
+    for word in 0..16 {
+        assert_eq!(rt; devices.read(word), wants[word as usize], "word {word}");
+    }
+}
+
+#[test]
+fn writes_leds_and_sends(rt: HostRuntime) {
+    let mut devices = idle(&rt, 0);
+    let rows = [
+        (0, 0xFFFF_FFFF, None, 0),
+        (1, 0x0000_01A5, None, 0xA5),
+        (2, 0x0000_0141, Some(0x41), 0xA5),
+        (6, 0x0712_3045, None, 0xA5),
+        (15, 1, None, 0xA5),
+    ];
+    for (word, value, sent, leds) in rows {
+        assert_eq!(rt; devices.write(word, value), sent, "word {word}");
+        assert_eq!(rt; devices.leds(), leds);
+    }
+    assert_eq!(rt; (devices.timer(), devices.mouse()), (0, 0));
+}
+
+#[test]
+fn makes_devices_of_parts_in_range(rt: HostRuntime) {
+    let keys = [9; 17];
+    assert!(rt; Devices::new(0, 4096, 0, 0, 0, &[]).is_err());
+    assert!(rt; Devices::new(0, 0, 0, 0x0800_0000, 0, &[]).is_err());
+    assert!(rt; Devices::new(0, 0, 0, 0, 512, &[]).is_err());
+    assert!(rt; Devices::new(0, 0, 0, 0, 0, &keys).is_err());
+    let made = Devices::new(0xFFFF_FFFF, 4095, 255, 0x073F_F3FF, 511, &keys[..16]);
+    let devices = made.expect(&rt, "the parts are in range").copy();
+    assert_eq!(rt; devices.timer(), 0xFFFF_FFFF);
+    assert_eq!(rt; devices.switches(), 4095);
+    assert_eq!(rt; devices.leds(), 255);
+    assert_eq!(rt; devices.mouse(), 0x073F_F3FF);
+    assert_eq!(rt; devices.serial(), 511);
+    assert_eq!(rt; devices.keys(), &keys[..16]);
+}
