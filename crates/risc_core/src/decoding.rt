@@ -1,5 +1,5 @@
 //! From a word to its instruction ("The RISC Architecture", N. Wirth; formats F0 to F3).
-ghost use Rattle.std.specs.Prelude.{◌≡◌};
+ghost use Rattle.std.specs.Prelude.{◌≡◌, ◌%◌, ◌^◌};
 ghost use Rattle.risc_core.specs.Word.{field};
 ghost use Rattle.risc_core.specs.Instruction.{extended, instruction_of, HasFields};
 
@@ -51,7 +51,8 @@ pub const fn decode(w: u32) -> Instr
 /// The low half of a word, extended upward by `v`.
 #[inline(always)]
 const fn immediate(w: u32, v: bool) -> u32
-    ensures { result ≡ extended (field w 0 16) v }
+    ensures value { result ≡ extended (field w 0 16) v }
+    ensures extended { result ≡ extended (result % 2 ^ 16) v }
 {
     let im = w & 0xFFFF;
     if v { im | 0xFFFF_0000 } else { im }

@@ -1,5 +1,5 @@
 //! The laws of this crate's definitions, each the contract of a function that does nothing.
-ghost use Rattle.risc_core.specs.Laws.{DivisionLaw, BitsLaw};
+ghost use Rattle.risc_core.specs.Laws.{DivisionLaw, BitsLaw, InstructionLaw};
 
 /// Quotient and remainder are the one pair of their definition.
 pub const fn division_law()
@@ -9,4 +9,9 @@ pub const fn division_law()
 /// A number given bit by bit has those bits.
 pub const fn bits_law()
     ensures { BitsLaw }
+{}
+
+/// Each word is a word of one instruction, its fields' sum, and of no other.
+pub const fn instruction_law()
+    ensures { InstructionLaw }
 {}

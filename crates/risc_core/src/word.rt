@@ -1,6 +1,6 @@
 //! Bits and fields of a word.
 ghost use Rattle.std.specs.Prelude.{◌≡◌, ◌<◌};
-ghost use Rattle.risc_core.specs.Word.{field, bit, signed_field};
+ghost use Rattle.risc_core.specs.Word.{field, bit, signed_field, IsSignedBelow};
 
 /// The four bits of `word` from bit `low` on.
 #[inline(always)]
@@ -23,7 +23,8 @@ pub(crate) const fn is_set(word: u32, place: u32) -> bool
 /// The low 20 bits of `word` as a signed number.
 #[inline(always)]
 pub(crate) const fn signed_20(word: u32) -> i32
-    ensures { result ≡ signed_field word 20 }
+    ensures value { result ≡ signed_field word 20 }
+    ensures range { IsSignedBelow 19 result }
 {
     (word << 12).cast_signed() >> 12
 }
@@ -31,7 +32,8 @@ pub(crate) const fn signed_20(word: u32) -> i32
 /// The low 22 bits of `word` as a signed number.
 #[inline(always)]
 pub(crate) const fn signed_22(word: u32) -> i32
-    ensures { result ≡ signed_field word 22 }
+    ensures value { result ≡ signed_field word 22 }
+    ensures range { IsSignedBelow 21 result }
 {
     (word << 10).cast_signed() >> 10
 }
