@@ -123,12 +123,10 @@ pub nil_if : (xs : List PassRecord) → length xs ≡ 0 → xs ≡ []
 nil_if [] e = refl
 nil_if (x ∷ xs) e = absurd (omega arith)
 
--- the first pass alone
-pub gathers_one : (book : BookId) (p : PassRecord) (v : View) → v.jobs ≡ book.jobs → v.workers ≡ book.workers → IsSeatOf v p → v ≡ gathered book (p ∷ [])
-gathers_one book p v jobs workers is =
-    let taken = is.taken ∙ sym (append-nil p.taken) in
-    let told = is.told ∙ sym (append-nil p.told) in
-    let shown = is.shown ∙ sym (append-nil p.shown) in
-    let ends : v.ends ≡ one_if p.ended + 0 = let e = is.ends in omega arith in
-    let stands : v.stands ≡ 1 = is.stands in
-    λ i. record { jobs = jobs i; workers = workers i; taken = taken i; told = told i; shown = shown i; ends = ends i; stands = stands i }
+-- the one view of a list of one
+pub first_of : {v w : View} → v ∷ [] ≡ w ∷ [] → v ≡ w
+first_of {v} {w} e = λ i. head w (e i)
+  where
+    head : View → List View → View
+    head d [] = d
+    head d (x ∷ xs) = x

@@ -8,7 +8,7 @@ use Rattle.atomic_table.proofs.Lists.{at_set}
 use Rattle.oberon_claims.specs.declared.book.View.{View}
 use Rattle.oberon_claims.specs.declared.book.Plan.{Plan}
 use Rattle.oberon_claims.specs.Counts.{times, once_below}
-use Rattle.oberon_claims.specs.Book.{total, nothing, times_told, IsSeat, IsLegal, Kept, own_seat}
+use Rattle.oberon_claims.specs.Book.{total, nothing, times_told, IsSeat, IsLegal, Kept, own_seat, own_view}
 use Rattle.oberon_claims.specs.Steps.{view_with_one_less, fresh_view, joined_view, spent_view}
 use Rattle.oberon_claims.proofs.Sums.{Each, each_set, each_snoc, total_set, total_snoc, total_only, times_append, none_below}
 
@@ -56,13 +56,9 @@ begins plan few_jobs few_workers = (
     one zero v e = subst IsSeat (some-injective _ _ e) record { ends_within = omega arith; idle_taken = λ _. refl; idle_told = λ _. refl; idle_shown = λ _. refl }
     one (suc id) v e = absurd (some-ne-none v (sym e))
 
--- the own seat, while it stands for n passes
-abbrev pub own_for : Plan → ℕ → View
-own_for plan n = record { jobs = plan.jobs; workers = plan.workers; taken = []; told = []; shown = []; ends = 0; stands = n }
-
-pub may_hand_out : (plan : Plan) (id n : ℕ) → 0 < n → Splits (Kept plan) id (own_for plan n) (view_with_one_less (own_for plan n)) (fresh_view (own_for plan n))
+pub may_hand_out : (plan : Plan) (id n : ℕ) → 0 < n → Splits (Kept plan) id (own_view plan n) (view_with_one_less (own_view plan n)) (fresh_view (own_view plan n))
 may_hand_out plan id n some_left s book at =
-    let v = own_for plan n in
+    let v = own_view plan n in
     let l = view_with_one_less v in
     let r = fresh_view v in
     let same : (f : View → ℕ) → f l + f r ≡ f v → total f (set s.views id l ++ r ∷ []) ≡ total f s.views =
@@ -139,13 +135,13 @@ alone jobs workers next least views id v at whole legal =
     one is (suc j) u e = absurd (some-ne-none u (sym e))
 
 -- the moves, at a view that is known
-pub may_hand_out_as : (key plan : Plan) (id : ℕ) (v : View) (n : ℕ) → key ≡ plan → v ≡ own_for plan n → 0 < n → Splits (Kept key) id v (view_with_one_less v) (fresh_view v)
+pub may_hand_out_as : (key plan : Plan) (id : ℕ) (v : View) (n : ℕ) → key ≡ plan → v ≡ own_view plan n → 0 < n → Splits (Kept key) id v (view_with_one_less v) (fresh_view v)
 may_hand_out_as key plan id v n same is some_left =
     subst (λ (k : Plan). Splits (Kept k) id v (view_with_one_less v) (fresh_view v)) (sym same)
     (subst (λ (u : View). Splits (Kept plan) id u (view_with_one_less u) (fresh_view u)) (sym is) (may_hand_out plan id n some_left))
 
-pub less_one : (plan : Plan) (m n : ℕ) → view_with_one_less (own_for plan (m - n)) ≡ own_for plan (m - (n + 1))
-less_one plan m n = let e : (m - n) - 1 ≡ m - (n + 1) = omega arith in λ i. own_for plan (e i)
+pub less_one : (plan : Plan) (m n : ℕ) → view_with_one_less (own_view plan (m - n)) ≡ own_view plan (m - (n + 1))
+less_one plan m n = let e : (m - n) - 1 ≡ m - (n + 1) = omega arith in λ i. own_view plan (e i)
 
 -- a closed table, in which one seat stands for all passes
 pub closes : (plan : Plan) (id : ℕ) (v : View) (words : List ℕ) (next least : ℕ) (s : State ℕ View) → Kept plan s → get_elem? s.views id ≡ some v → s.words ≡ words

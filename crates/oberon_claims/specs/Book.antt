@@ -72,6 +72,10 @@ pub record IsLegal (jobs workers next least : ℕ) (views : List View) : Type 0 
 abbrev pub Kept : Plan → State ℕ View → Type 0
 Kept plan s = (length s.words ≡ 2) × IsLegal plan.jobs plan.workers (slice_index s.words 0) (slice_index s.words 1) s.views
 
--- The book's own seat at the start: it stands for all passes, and no other seat is there.
+-- The book's own seat, with empty lists, while it stands for n passes.
+abbrev pub own_view : Plan → ℕ → View
+own_view plan n = record { jobs = plan.jobs; workers = plan.workers; taken = []; told = []; shown = []; ends = 0; stands = n }
+
+-- At the start it is alone, and stands for all passes.
 abbrev pub own_seat : Plan → View
-own_seat plan = record { jobs = plan.jobs; workers = plan.workers; taken = []; told = []; shown = []; ends = 0; stands = plan.workers }
+own_seat plan = own_view plan plan.workers

@@ -1,5 +1,6 @@
 pub mod Book
 pub mod Counts
 pub mod Ledger
+pub mod Own
 pub mod Pass
 pub mod Steps

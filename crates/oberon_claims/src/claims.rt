@@ -9,6 +9,7 @@ ghost use Rattle.oberon_claims.specs.Ledger.{all_taken, all_told, all_shown, Som
 
 use crate::book::{HandOut, LEAST, Legal, Look, NEXT, NOTHING, Plan, Take, TakeIn, Tell, View};
 use crate::ledger::{Ledger, segment_of, taken_of};
+use crate::own::OwnSeat;
 use crate::pass::Pass;
 use atomic_table::Table;
 use std::alloc::{AllocError, Global};
@@ -20,18 +21,20 @@ use std::marker::Model;
 #[derive(Drop)]
 pub struct Claims {
     table: Table<u8, View, Plan, Legal, Global>,
+    own: OwnSeat,
     jobs: u32,
 }
 
 impl Model for Claims {
-    ghost use Rattle.std.specs.Prelude.{◌≡◌, ◌≤◌};
+    ghost use Rattle.std.specs.Prelude.{◌≡◌, ◌∷◌, []};
+    ghost use Rattle.oberon_claims.specs.Book.{own_view};
     ghost use Rattle.oberon_claims.specs.Pass.{BookId};
 
     ghost Value = { BookId };
 
     ghost view = { λ c. record { table = c.table.shared.table_id; jobs = c.jobs; workers = c.table.shared.key.workers } };
 
-    ghost invariant = { λ c. (c.table.shared.key.jobs ≡ c.jobs) × (c.table.shared.table_id.words ≡ 2) × (c.table.shared.table_id.slots ≡ 0) × (1 ≤ c.table.shared.key.workers) };
+    ghost invariant = { λ c. (c.table.shared.key.jobs ≡ c.jobs) × (c.table.shared.table_id.words ≡ 2) × (c.table.shared.table_id.slots ≡ 0) × (c.own.table ≡ c.table.shared.table_id) × (c.own.views ≡ own_view c.table.shared.key 0 ∷ []) };
 }
 
 impl Claims {
@@ -55,7 +58,8 @@ impl Claims {
                 answered_none: false,
             })?;
         }
-        Ok((Claims { table, jobs }, passes))
+        let own = OwnSeat::new(alloc, own)?;
+        Ok((Claims { table, own, jobs }, passes))
     }
 
     /// Takes the next job, which no pass has taken before, or answers `None` where all jobs are taken.
@@ -124,16 +128,9 @@ impl Claims {
         ensures shown { All (λ x. Contains (all_told passes.items) x) (all_shown passes.items) }
         ensures not_below { IsNotBelow result.least (all_shown passes.items) }
     {
-        let Claims { table, jobs } = self;
-        let mut rest = passes.into_iter();
-        let Some(first) = rest.next() else {
-            unreachable!()
-        };
-        let Pass {
-            seat: mut own,
-            answered_none: _,
-        } = first;
-        for pass in rest {
+        let Claims { table, own, jobs } = self;
+        let mut own = own.into_seat();
+        for pass in passes {
             let Pass {
                 seat,
                 answered_none: _,

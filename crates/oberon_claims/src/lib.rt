@@ -10,6 +10,7 @@
 mod book;
 mod claims;
 mod ledger;
+mod own;
 mod pass;
 
 pub use claims::Claims;

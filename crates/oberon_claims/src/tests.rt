@@ -1,5 +1,9 @@
 //! The worked examples of the book, in one thread and in eight.
+ghost use Rattle.std.specs.Prelude.{◌≡◌};
+ghost use Rattle.oberon_claims.specs.Pass.{fresh_pass};
+
 use super::*;
+use std::alloc::Global;
 use std::test::Fail;
 use std::thread::map_vec;
 
@@ -39,5 +43,71 @@ fn no_jobs(rt: HostRuntime) -> Result<(), Fail> {
     let ledger = claims.finish(passes);
     assert_eq!(rt; ledger.taken, 0);
     assert_eq!(rt; ledger.least, None);
+    Ok(())
+}
+
+// What one worker did: its pass, the jobs that it took, and whether memory sufficed.
+#[derive(Drop)]
+struct Part {
+    pass: Pass,
+    jobs: Vec<u32>,
+    whole: bool,
+}
+
+// Claims to the end, and tells each job of its own that is a multiple of 7 and at least 700.
+fn work(alloc: Global, claims: &Claims, mut pass: Pass) -> Part
+    requires { pass.book ≡ claims.now }
+    ensures { result.pass.book ≡ claims.now }
+{
+    let mut jobs = Vec::new(alloc);
+    let mut whole = true;
+    for _claim in 0..=4096 {
+        let Some(job) = claims.claim(&mut pass) else {
+            break;
+        };
+        whole = whole && jobs.push(job).is_ok();
+        if job >= 700 && job % 7 == 0 {
+            claims.tell(&mut pass, job);
+        }
+    }
+    Part { pass, jobs, whole }
+}
+
+// Eight threads share 4,096 jobs: each is taken once, and the least told is known.
+#[test]
+fn eight_threads_share_all_jobs(rt: HostRuntime) -> Result<(), Fail> {
+    let (claims, passes) = Claims::new(rt.alloc(), 4096, 8)?;
+    let alloc = rt.alloc();
+    let shared = &claims;
+    let parts = map_vec(
+        &rt,
+        passes,
+        &|pass: Pass| -> Part
+            requires { pass ≡ fresh_pass shared.now }
+            ensures { result.pass.book ≡ shared.entry.now }
+        { work(alloc, shared, pass) },
+    )?;
+    let mut passes = Vec::new(rt.alloc());
+    let mut jobs = Vec::new(rt.alloc());
+    for part in parts {
+        let Part {
+            pass,
+            jobs: mine,
+            whole,
+        } = part;
+        assert!(rt; whole);
+        for job in mine.iter() {
+            jobs.push(*job)?;
+        }
+        passes.push(pass)?;
+    }
+    let ledger = claims.finish(passes);
+    assert_eq!(rt; ledger.taken, 4096);
+    assert_eq!(rt; ledger.least, Some(700));
+    jobs.sort()?;
+    assert_eq!(rt; jobs.len(), 4096);
+    for (place, job) in jobs.iter().enumerate() {
+        assert_eq!(rt; *job as usize, place);
+    }
     Ok(())
 }

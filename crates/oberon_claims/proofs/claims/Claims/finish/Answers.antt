@@ -5,61 +5,54 @@ use Rattle.oberon_claims.specs.declared.book.Plan.{Plan}
 use Rattle.oberon_claims.specs.Pass.{BookId, PassRecord}
 use Rattle.oberon_claims.specs.Counts.{one_if, once_below}
 use Rattle.oberon_claims.specs.Steps.{joined_view}
-use Rattle.oberon_claims.specs.Book.{IsLegal}
+use Rattle.oberon_claims.specs.Book.{own_view, IsLegal}
 use Rattle.oberon_claims.proofs.Shares.{may_take_in, closes}
-use Rattle.oberon_claims.proofs.Gathers.{gathered, gathers, gathers_one, next_of, nil_if, taken_once, all_gone, least_told_is, shown_all_told, shown_not_below}
+use Rattle.oberon_claims.proofs.Gathers.{gathered, gathers, first_of, next_of, nil_if, taken_once, all_gone, least_told_is, shown_all_told, shown_not_below}
 use Rattle.oberon_claims.proofs.claims.Claims.finish.Goals as goal
 
 pub loop-pass-init : goal.loop-pass-init
 loop-pass-init c =
-    let all = sym c.in-Some.ensures.items ∙ c.into_iter-rest.ensures.rest in
-    let book = next_of (λ (p : PassRecord). p.book ≡ c.args.self) c.args.passes.items [] c.in-Some.first c.next.new.self.rest.items all c.requires.book in
-    let is = c.first.view_is in
-    let p = c.first.invariant in
-    let same = ap (λ (h : PassRecord). h.book) is ∙ book in (
-      c.in-Some.first,
-      ap (λ (b : BookId). b.table) (same ∙ sym c.self.view_is),
-      gathers_one c.args.self c.in-Some.first c.first.inside.seat.me.0 (ap (λ (b : BookId). b.jobs) same) (ap (λ (b : BookId). b.workers) same) record {
-        taken = ap (λ (h : PassRecord). h.taken) is;
-        told = ap (λ (h : PassRecord). h.told) is;
-        shown = ap (λ (h : PassRecord). h.shown) is;
-        ends = p.2 ∙ ap (λ (h : PassRecord). one_if h.ended) is;
-        stands = p.1;
-      },
-      (λ k. c.in-Some.first ∷ (c.into_iter-pass-iterator.ensures.into_iter_gives k).rest.items) ∙ all,
+    let i = c.self.invariant in
+    let o = c.into_seat-own.ensures in
+    let is = c.self.view_is in
+    let jobs = i.0 ∙ ap (λ (b : BookId). b.jobs) is in
+    let workers = ap (λ (b : BookId). b.workers) is in
+    let views = sym o.view.0 ∙ i.4 in (
+      o.table ∙ i.3,
+      first_of views ∙ (λ k. own_view record { jobs = jobs k; workers = workers k } 0),
+      c.into_iter-pass-iterator.ensures.into_iter_gives.0,
     )
 
 pub join_seat-requires : goal.join_seat-requires
 join_seat-requires c =
     let i = c.loop-pass.invariant in
-    let step = c.in-Some-pass.ensures.steps in
-    let at = ap (λ (l : List PassRecord). (i.0 ∷ c.loop-pass.yielded) ++ l) (sym step.0) ∙ i.3 in
-    let book = next_of (λ (p : PassRecord). p.book ≡ c.args.self) c.args.passes.items (i.0 ∷ c.loop-pass.yielded) c.in-Some-pass.pass c.next-in-loop-pass.new.self.rest.items at c.requires.book in
-    let same = ap (λ (h : PassRecord). h.book) c.pass.view_is ∙ book ∙ sym c.self.view_is in
-    (i.1, ap (λ (b : BookId). b.table) same, c.pass.invariant.0, omega arith, may_take_in _ _ _ _ _)
+    let step = c.in-Some.ensures.steps in
+    let at = ap (λ (l : List PassRecord). c.loop-pass.yielded ++ l) (sym step.0) ∙ i.2 in
+    let book = next_of (λ (p : PassRecord). p.book ≡ c.args.self) c.args.passes.items c.loop-pass.yielded c.in-Some.pass c.next.new.self.rest.items at c.requires.book in
+    let same = ap (λ (p : PassRecord). p.book) c.pass.view_is ∙ book ∙ sym c.self.view_is in
+    (i.0, ap (λ (b : BookId). b.table) same, c.pass.invariant.0, omega arith, may_take_in _ _ _ _ _)
 
 pub loop-pass-preserved : goal.loop-pass-preserved
 loop-pass-preserved c =
     let i = c.loop-pass.invariant in
-    let step = c.in-Some-pass.ensures.steps in
+    let step = c.in-Some.ensures.steps in
     let j = c.join_seat.ensures in
     let p = c.pass.invariant in
     let is = c.pass.view_is in (
-      i.0,
-      j.0 ∙ i.1,
-      ap (λ (m : Me ℕ View). m.0) j.2 ∙ ap (λ (v : View). joined_view v c.pass.inside.seat.me.0) i.2
-          ∙ gathers c.args.self (i.0 ∷ c.loop-pass.yielded) c.in-Some-pass.pass c.pass.inside.seat.me.0 record {
+      j.0 ∙ i.0,
+      ap (λ (m : Me ℕ View). m.0) j.2 ∙ ap (λ (v : View). joined_view v c.pass.inside.seat.me.0) i.1
+          ∙ gathers c.args.self c.loop-pass.yielded c.in-Some.pass c.pass.inside.seat.me.0 record {
             taken = ap (λ (h : PassRecord). h.taken) is;
             told = ap (λ (h : PassRecord). h.told) is;
             shown = ap (λ (h : PassRecord). h.shown) is;
             ends = p.2 ∙ ap (λ (h : PassRecord). one_if h.ended) is;
             stands = p.1;
           },
-      append_assoc (i.0 ∷ c.loop-pass.yielded) (c.in-Some-pass.pass ∷ []) _ ∙ ap (λ (l : List PassRecord). (i.0 ∷ c.loop-pass.yielded) ++ l) (sym step.0) ∙ i.3,
+      append_assoc c.loop-pass.yielded (c.in-Some.pass ∷ []) _ ∙ ap (λ (l : List PassRecord). c.loop-pass.yielded ++ l) (sym step.0) ∙ i.2,
     )
 
 pub close_with-closed-requires : goal.close_with-closed-requires
-close_with-closed-requires c = c.loop-pass.invariant.1
+close_with-closed-requires c = c.loop-pass.invariant.0
 
 pub free-requires : goal.free-requires
 free-requires c = λ k in_range. (let n = c.close_with-closed.ensures.counts in let i = c.self.invariant in absurd (omega arith))
@@ -70,8 +63,8 @@ whole c =
     let e = c.close_with-closed.ensures.values.2 in
     let plan : Plan = c.self.inside.table.shared.key in
     let none = nil_if c.loop-pass.pass-iterator.rest.items (sym c.loop-pass.pass-iterator.rest.ok.0 ∙ c.in-None.ensures.steps.0) in
-    let all : (i.0 ∷ c.loop-pass.yielded) ≡ c.args.passes.items = sym (append-nil (i.0 ∷ c.loop-pass.yielded)) ∙ ap (λ (l : List PassRecord). (i.0 ∷ c.loop-pass.yielded) ++ l) (sym none) ∙ i.3 in
-    let view = i.2 ∙ ap (gathered c.args.self) all in
+    let all : c.loop-pass.yielded ≡ c.args.passes.items = sym (append-nil c.loop-pass.yielded) ∙ ap (λ (l : List PassRecord). c.loop-pass.yielded ++ l) (sym none) ∙ i.2 in
+    let view = i.1 ∙ ap (gathered c.args.self) all in
     let workers : length c.args.passes.items ≡ plan.workers = sym c.args.passes.ok.0 ∙ c.requires.all ∙ ap (λ (b : BookId). b.workers) (sym c.self.view_is) in
     subst (λ (p : ℕ × View). IsLegal plan.jobs p.0 c.word-next.result c.word-least.result (p.1 ∷ [])) (λ k. (sym workers k, view k))
     (closes plan _ _ _ c.word-next.result c.word-least.result e.0 e.1.0 e.1.1 e.2 c.word-next.ensures c.word-least.ensures (ap (λ (v : View). v.stands) view ∙ workers))

@@ -1,11 +1,10 @@
-use Rattle.std.proofs.Common.{◌≡◌, ◌++◌, ◌∷◌}
-use Rattle.oberon_claims.specs.Pass.{PassRecord}
+use Rattle.std.proofs.Common.{◌≡◌, ◌++◌}
 use Rattle.oberon_claims.proofs.Gathers.{gathered}
 use Rattle.oberon_claims.proofs.claims.Claims.finish.Given as goal
 
+-- the own seat has taken in the passes that came
 abbrev pub invariant-loop-pass : goal.invariant-loop-pass
 invariant-loop-pass l =
-    (first : PassRecord)
-    × (l.own.table_id ≡ l.table.shared.table_id)
-    × (l.own.me.0 ≡ gathered l.fn.self (first ∷ l.yielded))
-    × ((first ∷ l.yielded) ++ l.pass-iterator.rest.items ≡ l.fn.passes.items)
+    (l.own.table_id ≡ l.table.shared.table_id)
+    × (l.own.me.0 ≡ gathered l.fn.self l.yielded)
+    × (l.yielded ++ l.pass-iterator.rest.items ≡ l.fn.passes.items)
