@@ -1,0 +1,52 @@
+-- The pages of a pool, and the content of a table.
+use Rattle.std.proofs.Common.{◌≡◌, ℕ, ◌*◌, ◌-◌, ◌<◌, ◌≤◌, ◌^◌, List, length, get_or, map, refl, sym, subst, arith, true, false, inl, inr, ◌⊎◌, nat_eq, lit<}
+use Rattle.std.proofs.lemmas.Bool.{eq-eqb}
+use Rattle.std.proofs.lemmas.Bool.Decides.{eqb_tells}
+use Rattle.std.proofs.lemmas.List.Elements.{All-map, All-replicate, All-same}
+use Rattle.risc_pages.proofs.Paging.{take-drop-pages}
+use Rattle.risc_pages.specs.Content.{table_words, IsNamed}
+use Rattle.risc_pages.specs.declared.page.Page.{Page}
+use Rattle.risc_pages.specs.Pages.{ArePages, IsPage, page_at, page_of, zero_page}
+use Rattle.risc_pages.specs.PageWords.{page_words}
+
+pub IsPage-zero_page : IsPage zero_page
+unfolding zero_page
+IsPage-zero_page = record { whole = refl; fit = All-replicate (λ w. w < 2 ^ 32) 256 0 (lit< tt) }
+
+-- the words of a page are a page
+pub IsPage-page_words : (page : Page) → IsPage (page_words page)
+IsPage-page_words page = record { whole = page.whole; fit = page.fit }
+
+-- so are those of all pages of a pool
+pub ArePages-map : (pages : List Page) (pool : List (List ℕ)) → map page_words pages ≡ pool → ArePages pool
+ArePages-map pages pool view = All-same IsPage pool (map page_words pages) (sym view) (All-map IsPage page_words pages (λ k d h. IsPage-page_words (get_or pages k d)))
+
+not_equal_by : (a b : ℕ) → (a ≡ b → ⊥) → ((nat_eq a b ≡ true) × (a ≡ b)) ⊎ ((nat_eq a b ≡ false) × (a ≡ b → ⊥)) → nat_eq a b ≡ false
+not_equal_by a b ne (inl h) = absurd (ne h.1)
+not_equal_by a b ne (inr h) = h.0
+
+-- page number 0 is the page of zeros
+pub page_of-zero : (pool : List (List ℕ)) (n : ℕ) → n ≡ 0 → page_of pool n ≡ zero_page
+unfolding page_of
+page_of-zero pool n e = rw (eq-eqb n 0 e) refl
+
+-- another page number is that of the page before it in the pool
+pub page_of-shared : (pool : List (List ℕ)) (n : ℕ) → (n ≡ 0 → ⊥) → page_of pool n ≡ get_or pool (n - 1) zero_page
+unfolding page_of
+page_of-shared pool n ne = rw (not_equal_by n 0 ne (eqb_tells n 0)) refl
+
+IsPage-page_of_by : (pool : List (List ℕ)) (n : ℕ) → ArePages pool → n ≤ length pool → ((nat_eq n 0 ≡ true) × (n ≡ 0)) ⊎ ((nat_eq n 0 ≡ false) × (n ≡ 0 → ⊥)) → IsPage (page_of pool n)
+IsPage-page_of_by pool n all h (inl z) = subst IsPage (sym (page_of-zero pool n z.1)) IsPage-zero_page
+IsPage-page_of_by pool n all h (inr s) =
+    let ne : n ≡ 0 → ⊥ = s.1 in
+    subst IsPage (sym (page_of-shared pool n s.1)) (all (n - 1) zero_page (omega arith))
+
+-- each page number that is named is that of a page
+pub IsPage-page_of : (pool : List (List ℕ)) (n : ℕ) → ArePages pool → n ≤ length pool → IsPage (page_of pool n)
+IsPage-page_of pool n all h = IsPage-page_of_by pool n all h (eqb_tells n 0)
+
+-- page p of the content is the page that the table names at place p
+pub page_at-table_words : (pool : List (List ℕ)) (numbers : List ℕ) (p e : ℕ) → ArePages pool → IsNamed pool numbers → p < length numbers → page_at (table_words pool numbers) p ≡ page_of pool (get_or numbers p e)
+unfolding page_at
+page_at-table_words pool numbers p e all named h =
+    take-drop-pages (page_of pool) 256 numbers p (256 * p) e (λ k d l. (IsPage-page_of pool (get_or numbers k d) all (named k d l)).whole) h refl

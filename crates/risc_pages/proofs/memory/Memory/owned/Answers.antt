@@ -1,0 +1,8 @@
+use Rattle.risc_pages.proofs.PlaceLemmas.{IsMemory-contents_of}
+use Rattle.risc_pages.proofs.memory.Memory.owned.Goals as goal
+
+pub returns-in-Owned-clause-memory : goal.returns-in-Owned-clause-memory
+returns-in-Owned-clause-memory c = IsMemory-contents_of _ _ c.self.invariant c.self.view_is
+
+pub returns-in_default-clause-memory : goal.returns-in_default-clause-memory
+returns-in_default-clause-memory c = IsMemory-contents_of _ _ c.self.invariant c.self.view_is

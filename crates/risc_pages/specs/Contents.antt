@@ -1,0 +1,18 @@
+-- A memory, as contracts see it.
+use Rattle.std.specs.Prelude.{ℕ, ◌≡◌, ◌^◌, ◌<◌, Bool, List, All, length}
+
+-- what a memory holds
+pub record Contents : Type 0 where
+  -- its words, by word number
+  pub words : List ℕ
+  -- which of its places have a page of their own
+  pub owned : List Bool
+  -- the words that it was made with
+  pub base : List ℕ
+
+-- the size of a memory: 262,144 words, each below 2 ^ 32, in 1,024 places
+pub record IsMemory (m : Contents) : Type 0 where
+  pub words : length m.words ≡ 262144
+  pub fit : All (λ word. word < 2 ^ 32) m.words
+  pub owned : length m.owned ≡ 1024
+  pub base : length m.base ≡ 262144

@@ -1,0 +1,36 @@
+-- The places of a memory. No public contract cites these.
+use Rattle.std.specs.Prelude.{ℕ, ◌≡◌, List, Bool, true, false, map, slice_set}
+use Rattle.std.specs.List.{flat_map}
+use Rattle.risc_pages.specs.declared.place.Place.{Place}
+use Rattle.risc_pages.specs.declared.place.Place.TheVariants.{Zeros, Shared, Owned}
+use Rattle.risc_pages.specs.Contents.{Contents}
+
+-- the words of the page that stands at a place
+abbrev pub content : Place → List ℕ
+content (Zeros blank) = blank.now.page.words
+content (Shared page) = page.now.words
+content (Owned own) = own.value.page.words
+
+-- the words of the page that stood there first
+abbrev pub base_of : Place → List ℕ
+base_of (Zeros blank) = blank.now.page.words
+base_of (Shared page) = page.now.words
+base_of (Owned own) = own.value.base.now.words
+
+-- whether a place has a page of its own
+abbrev pub is_owned : Place → Bool
+is_owned (Zeros blank) = false
+is_owned (Shared page) = false
+is_owned (Owned own) = true
+
+-- what these places hold
+abbrev pub contents_of : List Place → Contents
+contents_of places = record { words = flat_map content places; owned = map is_owned places; base = flat_map base_of places }
+
+-- one place has a page of its own with these words, over the page that stood there first
+pub record TakesCopy (old new : List Place) (place : ℕ) (base words : List ℕ) : Type 0 where
+  pub own : Place
+  pub items : new ≡ slice_set old place own
+  pub owned : is_owned own ≡ true
+  pub content_is : content own ≡ words
+  pub base_is : base_of own ≡ base

@@ -1,0 +1,166 @@
+//! Memory: a map from word number to word, in pages that are shared with a pool until they are written.
+
+ghost use Rattle.std.specs.Prelude.{◌≡◌, ◌+◌, ◌/◌, ◌<◌, ◌≤◌, ℕ, All, OnOk, OnErr, IfOk, IfNone, IfSome, IsOk, Some, true, false, slice_get, slice_index, slice_range, slice_set};
+ghost use Rattle.risc_pages.specs.Content.{table_words, IsContent, IsNamed};
+ghost use Rattle.risc_pages.specs.Contents.{IsMemory};
+ghost use Rattle.risc_pages.specs.Delta.{IsDelta};
+ghost use Rattle.risc_pages.specs.Difference.{IsFirstDifference};
+
+use crate::delta::Delta;
+use crate::place::{Place, copy_on_write};
+use crate::pool::Pool;
+use crate::table::Table;
+use std::alloc::{AllocError, Global};
+use std::marker::Model;
+
+/// A memory of 262,144 words.
+///
+/// In contracts a memory is its `words`, in order; which of its places are `owned`; and its `base`, the words
+/// that it was made with. It borrows its pool, which it never changes.
+#[derive(Drop)]
+pub struct Memory<'a> {
+    places: Vec<Place<'a>>,
+    alloc: Global,
+}
+
+impl<'a> Model for Memory<'a> {
+    ghost use Rattle.risc_pages.specs.Contents.{Contents};
+
+    ghost Value = { Contents };
+
+    ghost use Rattle.std.specs.Prelude.{length, ◌≡◌};
+    ghost use Rattle.risc_pages.specs.Places.{contents_of};
+
+    ghost view = { λ m. contents_of m.places.items };
+
+    ghost invariant = { λ m. length m.places.items ≡ 1024 };
+}
+
+impl<'a> Memory<'a> {
+    /// The memory of a table, which shares all its pages with the pool. No page is copied.
+    pub fn from_table(alloc: Global, pool: &'a Pool, table: &Table) -> Result<Self, AllocError>
+        requires { IsNamed pool.now table.now }
+        ensures content { IfOk result (λ memory. IsContent memory.words pool.now table.now) }
+        ensures words { IfOk result (λ memory. memory.words ≡ table_words pool.now table.now) }
+        ensures base { IfOk result (λ memory. memory.base ≡ table_words pool.now table.now) }
+        ensures shared { IfOk result (λ memory. All (λ owned. owned ≡ false) memory.owned) }
+        ensures memory { IfOk result IsMemory }
+    {
+        let mut places = Vec::with_capacity(alloc, 1024)?;
+        let numbers = table.numbers();
+        for number in numbers {
+            places.push(pool.place(*number))?;
+        }
+        Ok(Memory { places, alloc })
+    }
+
+    /// The word of this number.
+    #[inline(always)]
+    pub fn read(&self, word_no: u32) -> u32
+        requires { word_no < 262144 }
+        ensures word { result ≡ slice_index self.now.words word_no }
+        ensures memory { IsMemory self.now }
+    {
+        let place = (word_no / 256) as usize;
+        let index = (word_no % 256) as usize;
+        match &self.places[place] {
+            Place::Zeros(blank) => blank.page.words[index],
+            Place::Shared(page) => page.words[index],
+            Place::Owned(own) => own.page.words[index],
+        }
+    }
+
+    /// Changes one word. The first write to a page that isn't owned makes a copy of it, which is owned from
+    /// then on, and is refused where there is no room for the copy; the memory is then unchanged. A write to an
+    /// owned page takes no memory.
+    #[inline(always)]
+    pub fn write(&mut self, word_no: u32, value: u32) -> Result<(), AllocError>
+        requires { word_no < 262144 }
+        ensures ok { OnOk result (self.new.words ≡ slice_set self.old.words word_no value) }
+        ensures owned { OnOk result (self.new.owned ≡ slice_set self.old.owned (word_no / 256) true) }
+        ensures base { self.new.base ≡ self.old.base }
+        ensures err { OnErr result (self.new ≡ self.old) }
+        ensures refused { OnErr result (slice_get self.old.owned (word_no / 256) ≡ Some false) }
+        ensures succeeds { slice_get self.old.owned (word_no / 256) ≡ Some true → IsOk result }
+    {
+        let place = (word_no / 256) as usize;
+        let index = (word_no % 256) as usize;
+        match &mut self.places[place] {
+            Place::Owned(own) => {
+                own.page.words[index] = value;
+                Ok(())
+            }
+            Place::Shared(page) => {
+                let base = *page;
+                copy_on_write(self.alloc, &mut self.places, place, base, index, value)?;
+                Ok(())
+            }
+            Place::Zeros(blank) => {
+                let zeros = *blank;
+                copy_on_write(
+                    self.alloc,
+                    &mut self.places,
+                    place,
+                    &zeros.page,
+                    index,
+                    value,
+                )?;
+                Ok(())
+            }
+        }
+    }
+
+    /// Whether a place has a page of its own.
+    pub fn owned(&self, place: u16) -> bool
+        requires { place < 1024 }
+        ensures owned { slice_get self.now.owned place ≡ Some result }
+        ensures memory { IsMemory self.now }
+    {
+        match &self.places[place as usize] {
+            Place::Owned(_) => true,
+            _ => false,
+        }
+    }
+
+    /// The `n` words from word number `from` on.
+    pub fn words(&self, alloc: Global, from: u32, n: u32) -> Result<Vec<u32>, AllocError>
+        requires { from + n ≤ 262144 }
+        ensures { IfOk result (λ words. words.items ≡ slice_range self.now.words from (from + n)) }
+    {
+        let mut words = Vec::with_capacity(alloc, n as usize)?;
+        for word_no in from..from + n {
+            words.push(self.read(word_no))?;
+        }
+        Ok(words)
+    }
+
+    /// The least place whose content isn't that of the table over the pool, which need not be the pool that
+    /// this memory borrows. Page numbers aren't compared. Takes no memory.
+    pub fn first_difference(&self, pool: &Pool, table: &Table) -> Option<u16>
+        requires { IsNamed pool.now table.now }
+        ensures none { IfNone result (self.now.words ≡ table_words pool.now table.now) }
+        ensures some { IfSome result (IsFirstDifference self.now.words (table_words pool.now table.now)) }
+    {
+        let numbers = table.numbers();
+        for place in 0..1024u16 {
+            if !self.places[place as usize].is_same(pool, numbers[place as usize]) {
+                return Some(place);
+            }
+        }
+        None
+    }
+
+    /// The places whose content differs from the table that the memory was made from, with their pages. The
+    /// memory is given up, also where there is no room for the answer.
+    pub fn close(self) -> Result<Delta, AllocError>
+        ensures { IfOk result (λ delta. IsDelta self.entry.base self.entry.words delta.changed.items) }
+    {
+        let mut changed = Vec::new(self.alloc);
+        for place in 0..1024u16 {
+            if let Some(page) = self.places[place as usize].change() {
+                changed.push((place, *page))?;
+            }
+        }
+        Ok(Delta { changed })
+    }
+}

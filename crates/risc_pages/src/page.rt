@@ -1,0 +1,27 @@
+//! A page, and the page of zeros. Pools and memories of pages live in modules of their own.
+
+ghost use Rattle.std.specs.Prelude.{◌≡◌, ◌<◌, ◌^◌, ℕ, All, length};
+ghost use Rattle.risc_pages.specs.Pages.{zero_page};
+
+/// A page of memory: 256 words.
+#[derive(Clone, Copy)]
+pub struct Page {
+    pub words: [u32; 256],
+    pub ghost whole: { length words ≡ 256 },
+    pub ghost fit: { All (λ word. word < 2 ^ 32) words },
+}
+
+/// The page of zeros, which each pool has under the number 0.
+#[derive(Clone, Copy)]
+pub(crate) struct Blank {
+    pub(crate) page: Page,
+    pub ghost blank: { page.words ≡ zero_page },
+}
+
+impl Blank {
+    pub(crate) fn new() -> Self {
+        Blank {
+            page: Page { words: [0; 256] },
+        }
+    }
+}

@@ -1,0 +1,96 @@
+//! A place of a memory: a page of the pool that is shared, or a page of the place's own. No contract that
+//! callers of this crate see speaks of these.
+
+ghost use Rattle.std.specs.Prelude.{◌≡◌, ◌≢◌, ◌↔◌, ◌<◌, ◌≤◌, ℕ, length, slice_set, IsTrue, IfNone, IfSome, OnOk, OnErr, true, false};
+ghost use Rattle.risc_pages.specs.Pages.{page_of, ArePages};
+ghost use Rattle.risc_pages.specs.Places.{content, base_of, TakesCopy};
+
+use crate::page::{Blank, Page};
+use crate::pool::Pool;
+use std::alloc::{AllocError, Global};
+
+/// The page at a place of a memory.
+#[derive(Drop)]
+pub(crate) enum Place<'a> {
+    /// The page of zeros, not yet written here.
+    Zeros(&'a Blank),
+    /// A page of the pool, not yet written here.
+    Shared(&'a Page),
+    /// A page that this place alone has.
+    Owned(Box<Copied<'a>>),
+}
+
+/// A page of a place's own, and the page that it was copied from.
+#[derive(Drop)]
+pub(crate) struct Copied<'a> {
+    pub(crate) page: Page,
+    pub(crate) base: &'a Page,
+}
+
+impl<'a> Place<'a> {
+    /// The page that stands here.
+    pub(crate) fn page(&self) -> &Page
+        ensures { result.now.words ≡ content self.now }
+    {
+        match self {
+            Place::Zeros(blank) => &blank.page,
+            Place::Shared(page) => page,
+            Place::Owned(own) => &own.page,
+        }
+    }
+
+    /// Whether the page that stands here has the words of the pool's page of this number.
+    pub(crate) fn is_same(&self, pool: &Pool, page_no: u32) -> bool
+        requires { page_no ≤ length pool.now }
+        ensures same { IsTrue result ↔ (content self.now ≡ page_of pool.now page_no) }
+        ensures pages { ArePages pool.now }
+    {
+        let theirs = pool.page(page_no);
+        match self {
+            Place::Zeros(_) if page_no == 0 => true,
+            _ => self.page().words == theirs.words,
+        }
+    }
+
+    /// The page that stands here, where it hasn't the words of the page that stood here first.
+    pub(crate) fn change(&self) -> Option<&Page>
+        ensures none { IfNone result (content self.now ≡ base_of self.now) }
+        ensures some { IfSome result (λ page. (page.now.words ≡ content self.now) × (content self.now ≢ base_of self.now)) }
+    {
+        match self {
+            Place::Owned(own) if own.page.words != own.base.words => Some(&own.page),
+            _ => None,
+        }
+    }
+}
+
+/// Gives a place a copy of this page, with one word changed. Nothing is changed where there is no room.
+#[cold]
+#[inline(never)]
+pub(crate) fn copy_on_write<'a>(
+    alloc: Global,
+    places: &mut Vec<Place<'a>>,
+    place: usize,
+    base: &'a Page,
+    index: usize,
+    value: u32,
+) -> Result<(), AllocError>
+    requires place_inside { place < length places.old.items }
+    requires index_inside { index < 256 }
+    ensures ok { OnOk result (TakesCopy places.old.items places.new.items place base.now.words (slice_set base.now.words index value)) }
+    ensures err { OnErr result (places.new ≡ places.old) }
+{
+    let mut page = *base;
+    page.words[index] = value;
+    let own = Box::new(alloc, Copied { page, base })?;
+    put(places, place, own);
+    Ok(())
+}
+
+// Puts a page of its own at a place.
+fn put<'a>(places: &mut Vec<Place<'a>>, place: usize, own: Box<Copied<'a>>)
+    requires { place < length places.old.items }
+    ensures { places.new.items ≡ slice_set places.old.items place (Place.Owned own.entry) }
+{
+    places[place] = Place::Owned(own);
+}

@@ -1,0 +1,115 @@
+//! The pool: the pages that memories share. Which page stands at which place, a table says.
+
+ghost use Rattle.std.specs.Prelude.{◌≡◌, ◌++◌, ◌∷◌, [], ◌<◌, ◌≤◌, ◌^◌, ◌↔◌, ℕ, false, IsTrue, length, slice_index, OnOk, OnErr, IfOk};
+ghost use Rattle.risc_pages.specs.Pages.{page_of, ArePages};
+ghost use Rattle.risc_pages.specs.Places.{content, is_owned};
+
+use crate::page::{Blank, Page};
+use crate::place::Place;
+use std::alloc::{AllocError, Global};
+use std::marker::Model;
+
+/// The pages that memories share. Page number 0 is the page of zeros, and page number i + 1 is the pool's page i.
+///
+/// In contracts a pool is the list of its pages, each the list of its words.
+#[derive(Drop)]
+pub struct Pool {
+    zeros: Blank,
+    pages: Vec<Page>,
+}
+
+impl Model for Pool {
+    ghost use Rattle.std.specs.Prelude.{List, ℕ};
+
+    ghost Value = { List (List ℕ) };
+
+    ghost use Rattle.std.specs.Prelude.{map, vec_len, ◌≤◌, ◌^◌};
+    ghost use Rattle.risc_pages.specs.PageWords.{page_words};
+
+    ghost view = { λ p. map page_words p.pages.items };
+
+    ghost invariant = { λ p. vec_len p.pages ≤ 2 ^ 31 };
+}
+
+impl Pool {
+    /// The pool with no pages. Takes no memory.
+    pub fn new(alloc: Global) -> Self
+        ensures { result ≡ [] }
+    {
+        Pool {
+            zeros: Blank::new(),
+            pages: Vec::new(alloc),
+        }
+    }
+
+    /// The pool with no pages that has taken room for `pages` pages, refused where there is no such room.
+    pub fn with_capacity(alloc: Global, pages: u32) -> Result<Self, AllocError>
+        ensures { IfOk result (λ pool. pool ≡ []) }
+    {
+        Ok(Pool {
+            zeros: Blank::new(),
+            pages: Vec::with_capacity(alloc, pages as usize)?,
+        })
+    }
+
+    /// The number of pages, which is also the largest page number.
+    pub fn len(&self) -> u32
+        ensures count { result ≡ length self.now }
+        ensures bounded { length self.now ≤ 2 ^ 31 }
+        ensures pages { ArePages self.now }
+    {
+        self.pages.len() as u32
+    }
+
+    /// Whether there is no page but that of zeros.
+    pub fn is_empty(&self) -> bool
+        ensures { IsTrue result ↔ (length self.now ≡ 0) }
+    {
+        self.pages.is_empty()
+    }
+
+    /// Puts a page at the end. The pool is unchanged where there is no room.
+    pub fn push(&mut self, page: Page) -> Result<(), AllocError>
+        requires { length self.old < 2 ^ 31 }
+        ensures ok { OnOk result (self.new ≡ self.old ++ page.words ∷ []) }
+        ensures err { OnErr result (self.new ≡ self.old) }
+    {
+        self.pages.push(page)?;
+        Ok(())
+    }
+
+    /// Word `i` of the page of this number.
+    pub fn word(&self, page_no: u32, i: u32) -> u32
+        requires named { page_no ≤ length self.now }
+        requires inside { i < 256 }
+        ensures { result ≡ slice_index (page_of self.now page_no) i }
+    {
+        self.page(page_no).words[i as usize]
+    }
+
+    /// The page of this number.
+    pub fn page(&self, page_no: u32) -> &Page
+        requires { page_no ≤ length self.now }
+        ensures words { result.now.words ≡ page_of self.now page_no }
+        ensures pages { ArePages self.now }
+    {
+        if page_no == 0 {
+            &self.zeros.page
+        } else {
+            &self.pages[(page_no - 1) as usize]
+        }
+    }
+
+    /// A place that shares the page of this number.
+    pub(crate) fn place(&self, page_no: u32) -> Place<'_>
+        requires { page_no ≤ length self.now }
+        ensures words { content result ≡ page_of self.now page_no }
+        ensures shared { is_owned result ≡ false }
+    {
+        if page_no == 0 {
+            Place::Zeros(&self.zeros)
+        } else {
+            Place::Shared(self.page(page_no))
+        }
+    }
+}
