@@ -1,11 +1,12 @@
 //! The worked examples of the book, in one thread and in eight.
-ghost use Rattle.std.specs.Prelude.{◌≡◌};
+ghost use Rattle.std.specs.Prelude.{◌≡◌, All, IfOk, vec_len};
 ghost use Rattle.oberon_claims.specs.Pass.{fresh_pass};
 
 use super::*;
-use std::alloc::Global;
+use std::alloc::AllocError;
+use std::sync::atomic::{AtomicU64, Ordering};
 use std::test::Fail;
-use std::thread::map_vec;
+use std::thread::{Threads, map_vec};
 
 // Two passes share three jobs: claims past the end, and looks that see what the other pass told.
 #[test]
@@ -46,68 +47,60 @@ fn no_jobs(rt: HostRuntime) -> Result<(), Fail> {
     Ok(())
 }
 
-// What one worker did: its pass, the jobs that it took, and whether memory sufficed.
-#[derive(Drop)]
-struct Part {
-    pass: Pass,
-    jobs: Vec<u32>,
-    whole: bool,
-}
-
-// Claims to the end, and tells each job of its own that is a multiple of 7 and at least 700.
-fn work(alloc: Global, claims: &Claims, mut pass: Pass) -> Part
+// Claims to the end, marks each job taken, and tells each that is a multiple of 7 and at least 700.
+fn work(claims: &Claims, mut pass: Pass, marks: &[AtomicU64]) -> Pass
     requires { pass.book ≡ claims.now }
-    ensures { result.pass.book ≡ claims.now }
+    ensures { result.book ≡ claims.now }
 {
-    let mut jobs = Vec::new(alloc);
-    let mut whole = true;
-    for _claim in 0..=4096 {
+    for _claim in 0..=marks.len() {
         let Some(job) = claims.claim(&mut pass) else {
             break;
         };
-        whole = whole && jobs.push(job).is_ok();
+        if let Some(mark) = marks.get(job as usize) {
+            mark.fetch_add(1, Ordering::SeqCst);
+        }
         if job >= 700 && job % 7 == 0 {
             claims.tell(&mut pass, job);
         }
     }
-    Part { pass, jobs, whole }
+    pass
 }
 
-// Eight threads share 4,096 jobs: each is taken once, and the least told is known.
+// Each pass in a thread of its own.
+fn work_all<R: Threads + Sync>(
+    rt: &R,
+    claims: &Claims,
+    passes: Vec<Pass>,
+    marks: &[AtomicU64],
+) -> Result<Vec<Pass>, AllocError>
+    requires { All (λ p. p ≡ fresh_pass claims.now) passes.items }
+    ensures len { IfOk result (λ v. vec_len v ≡ vec_len passes) }
+    ensures book { IfOk result (λ v. All (λ p. p.book ≡ claims.now) v.items) }
+{
+    map_vec(
+        rt,
+        passes,
+        &|pass: Pass| -> Pass
+            requires { pass ≡ fresh_pass claims.now }
+            ensures { result.book ≡ claims.entry.now }
+        { work(claims, pass, marks) },
+    )
+}
+
+// Eight threads share 4,096 jobs: each job is taken once, and the least segment told is known.
 #[test]
 fn eight_threads_share_all_jobs(rt: HostRuntime) -> Result<(), Fail> {
-    let (claims, passes) = Claims::new(rt.alloc(), 4096, 8)?;
-    let alloc = rt.alloc();
-    let shared = &claims;
-    let parts = map_vec(
-        &rt,
-        passes,
-        &|pass: Pass| -> Part
-            requires { pass ≡ fresh_pass shared.now }
-            ensures { result.pass.book ≡ shared.entry.now }
-        { work(alloc, shared, pass) },
-    )?;
-    let mut passes = Vec::new(rt.alloc());
-    let mut jobs = Vec::new(rt.alloc());
-    for part in parts {
-        let Part {
-            pass,
-            jobs: mine,
-            whole,
-        } = part;
-        assert!(rt; whole);
-        for job in mine.iter() {
-            jobs.push(*job)?;
-        }
-        passes.push(pass)?;
+    let mut marks = Vec::new(rt.alloc());
+    for _job in 0..4096 {
+        marks.push(AtomicU64::new(0))?;
     }
+    let (claims, passes) = Claims::new(rt.alloc(), 4096, 8)?;
+    let passes = work_all(&rt, &claims, passes, marks.as_slice())?;
     let ledger = claims.finish(passes);
     assert_eq!(rt; ledger.taken, 4096);
     assert_eq!(rt; ledger.least, Some(700));
-    jobs.sort()?;
-    assert_eq!(rt; jobs.len(), 4096);
-    for (place, job) in jobs.iter().enumerate() {
-        assert_eq!(rt; *job as usize, place);
+    for (job, mark) in marks.iter().enumerate() {
+        assert_eq!(rt; mark.load(Ordering::SeqCst), 1, "job {job}");
     }
     Ok(())
 }

@@ -1,4 +1,4 @@
-use Rattle.std.proofs.Common.{◌≡◌, ◌∷◌, [], List, sym, ap, ◌∙◌}
+use Rattle.std.proofs.Common.{◌≡◌, List, sym, ap, ◌∙◌}
 use mathlib.Core.Option.{Option, some-injective}
 use lib.ListN.{get_elem?}
 use Rattle.atomic_table.specs.declared.badge.Badge.{Badge}
