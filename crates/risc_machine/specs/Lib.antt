@@ -1,0 +1,2 @@
+pub mod InputOrder
+pub mod MachineState
