@@ -4,3 +4,4 @@ pub mod DeviceState
 pub mod Input
 pub mod DeviceWords
 pub mod Shown
+pub mod Picture

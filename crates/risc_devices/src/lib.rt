@@ -5,12 +5,14 @@
 #![tactic(auto)]
 
 mod devices;
+mod display;
 mod fault;
 mod input;
 mod key_queue;
 mod kind;
 
 pub use devices::Devices;
+pub use display::picture;
 pub use fault::RangeFault;
 pub use input::Input;
 pub use kind::is_mouse_word;

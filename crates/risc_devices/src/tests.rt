@@ -1,6 +1,7 @@
 //! Worked examples, and each call once.
 
 use super::*;
+use std::alloc::AllocError;
 use std::process::Abort;
 
 /// Devices that hold nothing, with this mouse word.
@@ -138,4 +139,21 @@ fn makes_devices_of_parts_in_range(rt: HostRuntime) {
     assert_eq!(rt; devices.mouse(), 0x073F_F3FF);
     assert_eq!(rt; devices.serial(), 511);
     assert_eq!(rt; devices.keys(), &keys[..16]);
+}
+
+#[test]
+fn draws_a_dot_in_each_corner(rt: HostRuntime) -> Result<(), AllocError> {
+    let rows = [(0, 1, 98_188, 0x80), (24_575, 0x8000_0000, 139, 0x01)];
+    for (place, word, at, byte) in rows {
+        let mut words = [0; 24_576];
+        words[place] = word;
+        let bytes = picture(rt.alloc(), &words)?;
+        assert_eq!(rt; bytes.len(), 98_316);
+        assert_eq!(rt; &bytes[..12], &b"P4\n1024 768\n"[..]);
+        for (k, dots) in bytes[12..].iter().enumerate() {
+            let want = if k + 12 == at { byte } else { 0 };
+            assert_eq!(rt; *dots, want, "byte {k}");
+        }
+    }
+    Ok(())
 }
