@@ -7,6 +7,9 @@ use crate::instruction::Instr;
 use crate::word::{is_set, nibble, signed_20, signed_22};
 
 /// The one instruction of a word. Every word has one; bits that its format does not name have no effect.
+///
+/// Bits 31 and 30 choose the format, and in F2 and F3 bit 29 chooses between load and store, and between a branch to a
+/// register and one by an offset.
 #[inline(always)]
 pub const fn decode(w: u32) -> Instr
     ensures value { result ≡ instruction_of w }

@@ -2,7 +2,8 @@
 
 /// An instruction with its fields ("The RISC Architecture", N. Wirth; formats F0 to F3).
 ///
-/// Registers `a`, `b`, `c` and operations `op` are below 16.
+/// Registers `a`, `b` and `c`, operations `op` and conditions `cond` are below 16; `u` and `v` are bits 29 and 28 of the
+/// word. `byte` tells a byte from a word, and `link` whether a branch that is taken writes its link to R15.
 #[derive(Clone, Copy, Debug, PartialEq, Eq)]
 pub enum Instr {
     /// F0: operation `op` on R.b and R.c, the result to R.a.
@@ -37,13 +38,13 @@ pub enum Instr {
         b: u8,
         off: i32,
     },
-    /// F3 with u = 0: a branch to the address in R.c under the condition `cond`, below 16.
+    /// F3 with u = 0: a branch to the address in R.c under the condition `cond`.
     BranchReg {
         cond: u8,
         link: bool,
         c: u8,
     },
-    /// F3 with u = 1: a branch by `off` words, from -2,097,152 to 2,097,151, under the condition `cond`, below 16.
+    /// F3 with u = 1: a branch by `off` words, from -2,097,152 to 2,097,151, under the condition `cond`.
     BranchOff {
         cond: u8,
         link: bool,
