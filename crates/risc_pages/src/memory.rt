@@ -3,7 +3,7 @@
 ghost use Rattle.std.specs.Prelude.{◌≡◌, ◌+◌, ◌/◌, ◌<◌, ◌≤◌, ℕ, All, OnOk, OnErr, IfOk, IfNone, IfSome, IsOk, Some, true, false, slice_get, slice_index, slice_range, slice_set};
 ghost use Rattle.risc_pages.specs.Content.{table_words, IsContent, IsNamed};
 ghost use Rattle.risc_pages.specs.Contents.{IsMemory};
-ghost use Rattle.risc_pages.specs.Delta.{IsDelta};
+ghost use Rattle.risc_pages.specs.Delta.{places_of, AreDifferences, IsDelta};
 ghost use Rattle.risc_pages.specs.Difference.{IsFirstDifference};
 
 use crate::delta::Delta;
@@ -153,7 +153,8 @@ impl<'a> Memory<'a> {
     /// The places whose content differs from the table that the memory was made from, with their pages. The
     /// memory is given up, also where there is no room for the answer.
     pub fn close(self) -> Result<Delta, AllocError>
-        ensures { IfOk result (λ delta. IsDelta self.entry.base self.entry.words delta.changed.items) }
+        ensures delta { IfOk result (λ delta. IsDelta self.entry.base self.entry.words delta.changed.items) }
+        ensures differences { IfOk result (λ delta. AreDifferences self.entry.base self.entry.words (places_of delta.changed.items)) }
     {
         let mut changed = Vec::new(self.alloc);
         for place in 0..1024u16 {

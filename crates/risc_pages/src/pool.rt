@@ -53,6 +53,7 @@ impl Pool {
     }
 
     /// The number of pages, which is also the largest page number.
+    #[inline]
     pub fn len(&self) -> u32
         ensures count { result ≡ length self.now }
         ensures bounded { length self.now ≤ 2 ^ 31 }
@@ -62,6 +63,7 @@ impl Pool {
     }
 
     /// Whether there is no page but that of zeros.
+    #[inline]
     pub fn is_empty(&self) -> bool
         ensures { IsTrue result ↔ (length self.now ≡ 0) }
     {
@@ -79,6 +81,7 @@ impl Pool {
     }
 
     /// Word `i` of the page of this number.
+    #[inline]
     pub fn word(&self, page_no: u32, i: u32) -> u32
         requires named { page_no ≤ length self.now }
         requires inside { i < 256 }
@@ -88,6 +91,7 @@ impl Pool {
     }
 
     /// The page of this number.
+    #[inline]
     pub fn page(&self, page_no: u32) -> &Page
         requires { page_no ≤ length self.now }
         ensures words { result.now.words ≡ page_of self.now page_no }
@@ -101,6 +105,7 @@ impl Pool {
     }
 
     /// A place that shares the page of this number.
+    #[inline]
     pub(crate) fn place(&self, page_no: u32) -> Place<'_>
         requires { page_no ≤ length self.now }
         ensures words { content result ≡ page_of self.now page_no }

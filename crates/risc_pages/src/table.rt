@@ -43,15 +43,17 @@ impl Table {
     }
 
     /// The page number at a place.
+    #[inline]
     pub fn entry(&self, place: u16) -> u32
         requires { place < 1024 }
         ensures number { result ≡ slice_index self.now place }
         ensures table { IsTable self.now }
     {
-        self.numbers[place as usize]
+        self.numbers()[place as usize]
     }
 
     /// Puts a page number at a place.
+    #[inline]
     pub fn set(&mut self, place: u16, page_no: u32)
         requires { place < 1024 }
         ensures { self.new ≡ slice_set self.old place page_no }
@@ -60,6 +62,7 @@ impl Table {
     }
 
     /// The page numbers of all places, in order.
+    #[inline]
     pub fn numbers(&self) -> &[u32]
         ensures numbers { result.now ≡ self.now }
         ensures table { IsTable self.now }

@@ -1,9 +1,11 @@
 use Rattle.std.proofs.Common.{◌≡◌, ℕ, List, ◌++◌, ◌∷◌, [], length, Vec, Global, map, refl, ap, sym, ◌∙◌, arith}
 use Rattle.std.proofs.lemmas.List.Elements.{All-nil, All-push, All-same}
 use Rattle.std.specs.List.{flat_map}
-use Rattle.risc_pages.proofs.DeltaLemmas.{changed_below-zero, places_more, places_same}
+use Rattle.risc_pages.proofs.DeltaLemmas.{changed_below-zero, places_more, places_same, AreDifferences-changed_below}
 use Rattle.risc_pages.proofs.PlaceLemmas.{page_at-base_of, page_at-content}
+use Rattle.risc_pages.specs.Contents.{Contents}
 use Rattle.risc_pages.specs.declared.page.Page.{Page}
+use Rattle.risc_pages.specs.Delta.{changed_below}
 use Rattle.risc_pages.specs.declared.place.Place.{Place}
 use Rattle.risc_pages.specs.Pages.{page_at}
 use Rattle.risc_pages.specs.Places.{base_of, content}
@@ -46,3 +48,14 @@ loop-place-preserved c =
             pages = All-same P _ _ items c.loop-place.invariant.pages;
           }
     ]
+
+pub returns-clause-differences : goal.returns-clause-differences
+returns-clause-differences c =
+    let base : flat_map base_of c.self.inside.places.items ≡ c.args.self.base = ap (λ (m : Contents). m.base) c.self.view_is in
+    let words : flat_map content c.self.inside.places.items ≡ c.args.self.words = ap (λ (m : Contents). m.words) c.self.view_is in
+    let all : c.loop-place.place ≡ 1024 = omega arith in
+    AreDifferences-changed_below _ _ _
+    (c.loop-place.invariant.places
+    ∙ ap (λ (n : ℕ). changed_below n (flat_map base_of c.self.inside.places.items) (flat_map content c.self.inside.places.items)) all
+    ∙ ap (λ (b : List ℕ). changed_below 1024 b (flat_map content c.self.inside.places.items)) base
+    ∙ ap (λ (w : List ℕ). changed_below 1024 c.args.self.base w) words)
