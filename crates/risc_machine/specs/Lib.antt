@@ -1,2 +1,10 @@
 pub mod InputOrder
 pub mod MachineState
+pub mod Lane
+pub mod Exec
+pub mod Replay
+pub mod Refusal
+pub mod Due
+pub mod Boards
+pub mod Matched
+pub mod Laws

@@ -5,11 +5,22 @@
 //! `specs/`, are one machine of whole numbers over a flat map of words; each contract cites them.
 #![tactic(auto)]
 
+mod board;
 mod cpu;
+mod due;
 mod event;
 mod inputs;
+mod lane;
+mod laws;
+mod machine;
+mod operate;
+mod replay;
+mod sink;
 
 pub use cpu::Cpu;
 pub use event::Event;
 pub use inputs::{Inputs, Unordered};
+pub use laws::{run_law, stop_law, stopped_law};
+pub use machine::Machine;
+pub use replay::RunFault;
 pub use risc_core::Flags;

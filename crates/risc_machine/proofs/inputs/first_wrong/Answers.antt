@@ -1,4 +1,4 @@
-use Rattle.std.proofs.Common.{◌≡◌, ◌+◌, ℕ, List, ap, sym, ◌∙◌, arith, below_more}
+use Rattle.std.proofs.Common.{◌≡◌, ap, sym, ◌∙◌, arith, below_more}
 use Rattle.risc_machine.specs.declared.event.Event.{Event}
 use Rattle.risc_machine.specs.InputOrder.{IsRightPlace, count_at}
 use Rattle.risc_machine.proofs.OrderLemmas.{count_at-is, count_before-next}

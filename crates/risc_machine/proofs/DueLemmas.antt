@@ -1,0 +1,120 @@
+-- Which inputs are due, and what taking them does.
+use Rattle.std.proofs.Common.{◌≡◌, ◌≢◌, ℕ, zero, suc, ◌+◌, ◌-◌, ◌<◌, ◌≤◌, ◌^◌, Bool, true, false, List, [], ◌∷◌, length, get_or, drop, map, nat_eq, nat_lt, add-zero, add-one, drop-cons, cond, refl, ap, sym, ◌∙◌, arith, length-drop}
+use Rattle.std.proofs.lemmas.List.{get_or-drop, drop-map}
+use Rattle.std.proofs.lemmas.Bool.{ne_eqb, eq-eqb}
+use Rattle.std.specs.List.Sorted.{IsNonDecreasingBy, IsPartitionPoint}
+use borrow.Author.Tests.{ltb-true, ltb-false}
+use Rattle.risc_devices.specs.DeviceState.{DeviceState}
+use Rattle.risc_devices.specs.Input.{taken_input}
+use Rattle.risc_machine.specs.declared.event.Event.{Event}
+use Rattle.risc_machine.specs.InputOrder.{AreOrdered, count_at}
+use Rattle.risc_machine.specs.Replay.{fed}
+use Rattle.risc_machine.specs.Due.{IsNextAt, IsDue}
+use Rattle.risc_machine.proofs.OrderLemmas.{count_at-is, count_before-next}
+
+-- the counts of inputs in order rise
+counts-up : (es : List Event) → AreOrdered es → (j m : ℕ) → j + m < length es → count_at es j ≤ count_at es (j + m)
+counts-up es ordered j zero inside = rw add-zero (omega arith)
+counts-up es ordered j (suc m) inside =
+    let e : j + suc m ≡ j + m + 1 = omega arith in
+    let so_far = counts-up es ordered j m (omega arith) in
+    let up = (ordered (j + m + 1) (omega arith)).0 in
+    let step = count_before-next es (j + m) in
+    rw e (omega arith)
+
+pub counts-order : (es : List Event) → AreOrdered es → (j k : ℕ) → j ≤ k → k < length es → count_at es j ≤ count_at es k
+counts-order es ordered j k h inside =
+    let up = counts-up es ordered j (k - j) (omega arith) in
+    let same : j + (k - j) ≡ k = omega arith in
+    rw same at up
+
+pub counts-rise : (es : List Event) → AreOrdered es → IsNonDecreasingBy (λ (e : Event). e.count) es
+counts-rise es ordered = λ j k d h inside.
+    let first = count_at-is es j d (omega arith) in
+    let last = count_at-is es k d inside in
+    let up = counts-order es ordered j k h inside in
+    omega arith
+
+-- a list that is not empty has an event
+some_event : (es : List Event) → 0 < length es → Event
+some_event [] h = absurd (omega arith)
+some_event (x ∷ es) h = x
+
+-- the place that a binary search finds
+pub found-next : (es : List Event) (next at : ℕ) → AreOrdered es → next ≤ length es → IsPartitionPoint (λ (e : Event). nat_lt e.count at ≡ true) (λ (e : Event). nat_lt e.count at ≡ false) es next → IsNextAt es next at
+found-next es next at ordered inside found = record {
+  ordered = ordered;
+  inside = inside;
+  before = λ k h.
+      let d = some_event es (omega arith) in
+      let is = count_at-is es k d (omega arith) in
+      let below = found.0 k d (omega arith) h in
+      omega (arith, ltb-true _ _ below);
+  rest = λ k h l.
+      let d = some_event es (omega arith) in
+      let is = count_at-is es k d l in
+      let above = found.1 k d h l in
+      omega (arith, ltb-false _ _ above);
+}
+
+-- the counts behind a place
+count_at-drop : (es : List Event) (p k : ℕ) → count_at (drop p es) k ≡ count_at es (p + k)
+count_at-drop es p k =
+    let counts = map (λ (e : Event). e.count) es in
+    sym (ap (λ (ns : List ℕ). get_or ns k 0) (drop-map (λ (e : Event). e.count) p es)) ∙ get_or-drop p counts k 0
+
+-- inputs of other counts do nothing
+pub fed-others : (es : List Event) (n : ℕ) (d : DeviceState) → ((k : ℕ) → k < length es → count_at es k ≢ n) → fed es n d ≡ d
+fed-others [] n d other = refl
+fed-others (x ∷ es) n d other =
+    rw (ne_eqb x.count n (other 0 (omega arith))) (fed-others es n d (λ k h. other (suc k) (omega arith)))
+
+-- inputs of earlier counts do nothing
+pub fed-drop : (p : ℕ) (es : List Event) (n : ℕ) (d : DeviceState) → p ≤ length es → ((k : ℕ) → k < p → count_at es k < n) → fed es n d ≡ fed (drop p es) n d
+fed-drop zero es n d inside before = refl
+fed-drop (suc p) [] n d inside before = refl
+fed-drop (suc p) (x ∷ es) n d inside before =
+    let early : x.count < n = before 0 (omega arith) in
+    rw (ne_eqb x.count n (λ e. omega arith)) (fed-drop p es n d (omega arith) (λ k h. before (suc k) (omega arith)))
+
+-- behind the inputs of a count nothing of it is left
+pub fed-rest : (es : List Event) (p at : ℕ) (d : DeviceState) → IsNextAt es p (at + 1) → fed (drop p es) at d ≡ d
+fed-rest es p at d past = fed-others (drop p es) at d (λ k h same.
+    let l : length (drop p es) ≡ length es - p = length-drop p es in
+    let later : at + 1 ≤ count_at es (p + k) = past.rest (p + k) (omega arith) (omega arith) in
+    let moved = count_at-drop es p k in
+    omega arith)
+
+-- where the next input is not due, none of this count is there
+pub fed-not_due : (es : List Event) (next due at : ℕ) (d : DeviceState) → IsNextAt es next at → IsDue es next due → at < 2 ^ 64 - 1 → at ≢ due → (IsNextAt es next (at + 1)) × (fed es at d ≡ d)
+fed-not_due es next due at d past is small other =
+    let least : (k : ℕ) → next ≤ k → k < length es → at + 1 ≤ count_at es k = λ k h l.
+    let up = counts-order es past.ordered next k h l in
+    let first = past.rest next (omega arith) (omega arith) in
+    let same = is.some (omega arith) in
+    omega arith in
+    let after : IsNextAt es next (at + 1) = record {
+      ordered = past.ordered;
+      inside = past.inside;
+      before = λ k h. let b = past.before k h in omega arith;
+      rest = least;
+    } in
+    (after, fed-drop next es at d past.inside past.before ∙ fed-rest es next at d after)
+
+-- the inputs of a count end at the first one of a later count
+pub next-after : (es : List Event) (first next at : ℕ) → IsNextAt es first at → first ≤ next → next < length es → ((k : ℕ) → k < next → count_at es k < at + 1) → count_at es next ≢ at → IsNextAt es next (at + 1)
+next-after es first next at past h inside before other =
+    let least = past.rest next h inside in
+    record {
+      ordered = past.ordered;
+      inside = omega arith;
+      before = before;
+      rest = λ k l m. let up = counts-order es past.ordered next k l m in omega arith;
+    }
+
+-- the first of the inputs that are left, where it has this count
+pub fed-here : (es : List Event) (p at : ℕ) (e : Event) (d : DeviceState) → p < length es → e ≡ get_or es p e → e.count ≡ at → fed (drop p es) at d ≡ fed (drop (p + 1) es) at (taken_input e.input d)
+fed-here es p at e d inside is due =
+    let front : drop p es ≡ e ∷ drop (suc p) es = drop-cons es p e inside ∙ ap (λ (x : Event). x ∷ drop (suc p) es) (sym is) in
+    let test : nat_eq e.count at ≡ true = eq-eqb e.count at due in
+    rw add-one (ap (λ (xs : List Event). fed xs at d) front ∙ ap (λ (b : Bool). fed (drop (suc p) es) at (cond b (taken_input e.input d) d)) test)

@@ -1,0 +1,5 @@
+use Rattle.risc_machine.proofs.RangeLemmas.{step-in_range}
+use Rattle.risc_machine.proofs.machine.Machine.step.Goals as goal
+
+pub invariant_of-self : goal.invariant_of-self
+invariant_of-self c = step-in_range _ _ _ c.step.ensures.exec c.step.ensures.err c.self.invariant

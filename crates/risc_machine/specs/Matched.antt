@@ -1,0 +1,8 @@
+-- Comparing what is sent with what is expected, byte by byte.
+use Rattle.std.specs.Prelude.{◌≡◌, ◌++◌, List, ℕ, Bool, true, false, ◌≤◌, length, take}
+
+-- so many of the expected bytes were sent and nothing else; or what was sent is no beginning of them
+pub record IsMatched (expected : List ℕ) (place : ℕ) (same : Bool) (sent : List ℕ) : Type 0 where
+  pub inside : place ≤ length expected
+  pub matched : same ≡ true → sent ≡ take place expected
+  pub other : same ≡ false → (rest : List ℕ) → sent ++ rest ≡ expected → ⊥

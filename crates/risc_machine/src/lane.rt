@@ -1,0 +1,57 @@
+//! Bytes of words.
+ghost use Rattle.std.specs.Prelude.{◌≡◌, ◌<◌, ◌%◌, ◌^◌};
+ghost use Rattle.risc_machine.specs.Lane.{lane_byte, with_lane};
+ghost use Rattle.risc_machine.specs.Exec.{loaded_value, stored_word, stored_value};
+
+/// The lowest byte of a word.
+const BYTE_MASK: u32 = 0xFF;
+
+/// The byte of `word` in a lane.
+#[inline(always)]
+fn byte_in(lane: u8, word: u32) -> u32
+    requires { lane < 4 }
+    ensures { result ≡ lane_byte lane word }
+{
+    word >> (8 * lane as u32) & BYTE_MASK
+}
+
+/// `word` with the lowest byte of `value` in a lane.
+#[inline(always)]
+#[tactic(auto, using(crate::proofs::LaneLemmas::with_lane_is))]
+fn with_byte(lane: u8, value: u32, word: u32) -> u32
+    requires { lane < 4 }
+    ensures { result ≡ with_lane lane (value % 2 ^ 8) word }
+{
+    let shift = 8 * lane as u32;
+    word & !(BYTE_MASK << shift) | (value & BYTE_MASK) << shift
+}
+
+/// What a load of `word`, or of the byte in its lane, gives.
+#[inline(always)]
+pub(crate) fn loaded(byte: bool, lane: u8, word: u32) -> u32
+    requires { lane < 4 }
+    ensures { result ≡ loaded_value byte lane word }
+{
+    if byte { byte_in(lane, word) } else { word }
+}
+
+/// What a store of `value`, or of its lowest byte, makes of `word`.
+#[inline(always)]
+pub(crate) fn stored(byte: bool, lane: u8, value: u32, word: u32) -> u32
+    requires { lane < 4 }
+    ensures { result ≡ stored_word byte lane value word }
+{
+    if byte {
+        with_byte(lane, value, word)
+    } else {
+        value
+    }
+}
+
+/// What a store of `value`, or of its lowest byte, hands to a device.
+#[inline(always)]
+pub(crate) fn handed(byte: bool, value: u32) -> u32
+    ensures { result ≡ stored_value byte value }
+{
+    if byte { value & BYTE_MASK } else { value }
+}

@@ -1,0 +1,86 @@
+//! Where the bytes that a machine sends go: to the end of a vector, or into a comparison. When it sends is with its run.
+ghost use Rattle.std.specs.Prelude.{◌≡◌, ◌++◌, ◌∷◌, [], List, ℕ, Bool, true, false, IsTrue, OnOk, OnErr, ◌+◌, ◌<◌, ◌≤◌, length, ◌↔◌};
+ghost use Rattle.risc_machine.specs.Matched.{IsMatched};
+
+use std::alloc::AllocError;
+
+/// Takes bytes in the order in which they are sent.
+pub(crate) trait Sink {
+    // these bytes were taken so far
+    ghost has_sent: { Self → List ℕ → Type 0 };
+
+    // whether taking a byte may want memory
+    ghost can_fail: { Bool };
+
+    // what stays the same
+    ghost kept: { Self → List ℕ };
+
+    fn put(&mut self, byte: u8) -> Result<(), AllocError>
+        ensures ok { OnOk result ((l : List ℕ) → has_sent self.old l → has_sent self.new (l ++ byte ∷ [])) }
+        ensures err { OnErr result ((l : List ℕ) → has_sent self.old l → has_sent self.new l) }
+        ensures fails { OnErr result (IsTrue can_fail) }
+        ensures kept { kept self.new ≡ kept self.old };
+}
+
+impl Sink for Vec<u8> {
+    ghost has_sent = { λ v l. v.items ≡ l };
+
+    ghost can_fail = { true };
+
+    ghost kept = { λ _. [] };
+
+    #[inline]
+    fn put(&mut self, byte: u8) -> Result<(), AllocError> {
+        self.push(byte)?;
+        Ok(())
+    }
+}
+
+/// Compares the bytes that it takes with those that are expected.
+#[derive(Drop)]
+pub(crate) struct Matching<'a> {
+    expected: &'a [u8],
+    place: usize,
+    same: bool,
+}
+
+impl<'a> Sink for Matching<'a> {
+    ghost has_sent = { λ m l. IsMatched m.expected.now m.place m.same l };
+
+    ghost can_fail = { false };
+
+    ghost kept = { λ m. m.expected.now };
+
+    #[inline]
+    fn put(&mut self, byte: u8) -> Result<(), AllocError> {
+        if self.same {
+            if self.place < self.expected.len() && self.expected[self.place] == byte {
+                self.place += 1;
+            } else {
+                self.same = false;
+            }
+        }
+        Ok(())
+    }
+}
+
+impl<'a> Matching<'a> {
+    /// A comparison with these bytes, none of which was sent yet.
+    pub(crate) fn new(expected: &'a [u8]) -> Self
+        ensures matched { IsMatched result.expected.now result.place result.same [] }
+        ensures expected { result.expected.now ≡ expected.now }
+    {
+        Matching {
+            expected,
+            place: 0,
+            same: true,
+        }
+    }
+
+    /// Whether the bytes that were sent are all those that were expected.
+    pub(crate) fn is_whole(&self) -> bool
+        ensures { (l : List ℕ) → IsMatched self.now.expected.now self.now.place self.now.same l → (IsTrue result ↔ (l ≡ self.now.expected.now)) }
+    {
+        self.same && self.place == self.expected.len()
+    }
+}
