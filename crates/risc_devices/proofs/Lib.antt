@@ -1,3 +1,4 @@
 pub mod InputLemmas
 pub mod DeviceLemmas
 pub mod PictureLemmas
+mod Examples

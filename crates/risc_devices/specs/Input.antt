@@ -6,7 +6,8 @@ use Rattle.risc_devices.specs.declared.kind.Kind.TheVariants.{Timer, Switches, M
 use Rattle.risc_devices.specs.DeviceState.{DeviceState}
 use Rattle.risc_devices.specs.KeyCodes.{joined}
 use Rattle.risc_devices.specs.InputKind.{kind_number}
-pub use Rattle.risc_devices.specs.InputKind.{is_input, IsInput, is_mouse}
+pub use Rattle.risc_devices.specs.InputKind.{IsInput}
+unfoldable pub use Rattle.risc_devices.specs.InputKind.{is_input, is_mouse}
 
 -- The number of an input's kind.
 abbrev pub kind_of : Input → ℕ

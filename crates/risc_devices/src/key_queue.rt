@@ -54,6 +54,7 @@ impl KeyQueue {
 
     /// Adds a code at the end, or drops it where sixteen wait.
     #[tactic(auto, unfolding(crate::specs::KeyCodes::joined))]
+    #[cold]
     pub(crate) fn join(&mut self, code: u8)
         ensures { self.new ≡ joined code self.old }
     {
@@ -63,6 +64,7 @@ impl KeyQueue {
     }
 
     /// Takes the oldest code out of the queue: 0 where none waits.
+    #[cold]
     pub(crate) fn leave(&mut self) -> u8
         ensures value { result ≡ oldest self.old }
         ensures after { self.new ≡ drop 1 self.old }
@@ -73,6 +75,8 @@ impl KeyQueue {
         self.waiting.remove(0)
     }
 
+    /// The same queue once more.
+    #[cold]
     pub(crate) fn copy(&self) -> KeyQueue
         ensures { result ≡ self.now }
     {

@@ -1,0 +1,80 @@
+-- Worked examples of the definitions: they compute.
+use Rattle.std.proofs.Common.{◌≡◌, ℕ, true, false, List, [], ◌∷◌, Some, None, refl}
+use Rattle.risc_devices.specs.DeviceState.{DeviceState, state_of_parts, serial_number}
+use Rattle.risc_devices.specs.DeviceWords.{read_value, after_read, after_write, sent_byte}
+use Rattle.risc_devices.specs.Input.{taken_value, is_input, is_mouse}
+use Rattle.risc_devices.specs.KeyCodes.{joined}
+use Rattle.risc_devices.specs.Picture.{picture_head, dot}
+use Rattle.risc_devices.specs.declared.kind.Kind.TheVariants.{Key, Serial}
+
+abbrev idle : DeviceState
+idle = state_of_parts 0 0 0 0 0 []
+
+-- the mouse word's mask, and each bit that is not in it
+mask : is_mouse 0x073FF3FF ≡ true
+unfolding is_mouse
+mask = refl
+
+bits_10_and_11 : ((is_mouse 0x00000400) ∷ (is_mouse 0x00000800) ∷ []) ≡ (false ∷ false ∷ [])
+unfolding is_mouse
+bits_10_and_11 = refl
+
+bits_22_and_23 : ((is_mouse 0x00400000) ∷ (is_mouse 0x00800000) ∷ []) ≡ (false ∷ false ∷ [])
+unfolding is_mouse
+bits_22_and_23 = refl
+
+bits_27_and_31 : ((is_mouse 0x08000000) ∷ (is_mouse 0x80000000) ∷ []) ≡ (false ∷ false ∷ [])
+unfolding is_mouse
+bits_27_and_31 = refl
+
+-- what no input has
+no_inputs : ((is_input 6 0) ∷ (is_input 0 0) ∷ (is_input 2 4096) ∷ (is_input 4 256) ∷ (is_input 5 256) ∷ []) ≡ (false ∷ false ∷ false ∷ false ∷ false ∷ [])
+unfolding is_input
+no_inputs = refl
+
+-- a key waits, is shown beside the mouse, is read and is gone
+key_shown : read_value (taken_value Key 0x41 idle) 6 ≡ 0x10000000
+unfolding read_value taken_value joined
+key_shown = refl
+
+key_read : read_value (taken_value Key 0x41 idle) 7 ≡ 0x41
+unfolding read_value taken_value joined
+key_read = refl
+
+key_gone : after_read (taken_value Key 0x41 idle) 7 ≡ idle
+unfolding after_read taken_value joined
+key_gone = refl
+
+no_key : ((read_value idle 6) ∷ (read_value idle 7) ∷ []) ≡ (0 ∷ 0 ∷ [])
+unfolding read_value
+no_key = refl
+
+-- a byte comes on the serial line, and is read twice
+byte_came : ((read_value (taken_value Serial 0x55 idle) 3) ∷ (read_value (taken_value Serial 0x55 idle) 2) ∷ []) ≡ (3 ∷ 0x55 ∷ [])
+unfolding read_value taken_value
+byte_came = refl
+
+byte_read : ((read_value (after_read (taken_value Serial 0x55 idle) 2) 3) ∷ (read_value (after_read (taken_value Serial 0x55 idle) 2) 2) ∷ []) ≡ (2 ∷ 0x55 ∷ [])
+unfolding read_value after_read taken_value
+byte_read = refl
+
+-- a byte is sent, and one lights the LEDs
+byte_sent : sent_byte 2 0x141 ≡ Some 0x41
+unfolding sent_byte
+byte_sent = refl
+
+nothing_sent : sent_byte 1 0x141 ≡ None
+unfolding sent_byte
+nothing_sent = refl
+
+leds_lit : after_write idle 1 0x1A5 ≡ record idle { leds = 0xA5 }
+unfolding after_write
+leds_lit = refl
+
+-- the leftmost dot of the lowest line of a display of one word
+corner : ((dot (1 ∷ []) 0 0) ∷ (dot (1 ∷ []) 1 0) ∷ []) ≡ (1 ∷ 0 ∷ [])
+corner = refl
+
+-- `P4`, a line feed, `1024 768`, a line feed
+head : picture_head ≡ 80 ∷ 52 ∷ 10 ∷ 49 ∷ 48 ∷ 50 ∷ 52 ∷ 32 ∷ 55 ∷ 54 ∷ 56 ∷ 10 ∷ []
+head = refl
