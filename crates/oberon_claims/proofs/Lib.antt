@@ -1,4 +1,5 @@
 pub mod Counting
+pub mod Examples
 pub mod Gathers
 pub mod Keeps
 pub mod Shares
