@@ -14,6 +14,8 @@ mod page;
 mod place;
 mod pool;
 mod table;
+#[cfg(test)]
+mod tests;
 
 pub use delta::Delta;
 pub use memory::Memory;
