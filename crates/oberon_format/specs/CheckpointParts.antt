@@ -1,0 +1,28 @@
+-- What a checkpoint is made of.
+use Rattle.std.specs.Prelude.{ℕ, false, List, []}
+use Rattle.risc_devices.specs.DeviceState.{DeviceState}
+use Rattle.risc_machine.specs.MachineState.{CpuState, cpu_state}
+use Rattle.oberon_format.specs.declared.checkpoint.Checkpoint.{Checkpoint}
+
+-- what is claimed of the state at a count: the processor, the devices, the bytes sent since the checkpoint before, and the memory
+-- as the page numbers of its 1,024 places
+pub record CheckpointParts : Type 0 where
+  pub count : ℕ
+  pub cpu : CpuState
+  pub devices : DeviceState
+  pub sent : List ℕ
+  pub table : List ℕ
+
+-- the parts of a `Checkpoint`
+abbrev pub checkpoint_parts : Checkpoint → CheckpointParts
+checkpoint_parts c = record { count = c.count; cpu = cpu_state c.cpu; devices = c.devices; sent = c.sent; table = c.table }
+
+-- what stands where there is no checkpoint
+abbrev pub no_checkpoint : CheckpointParts
+no_checkpoint = record {
+  count = 0;
+  cpu = record { r = []; h = 0; pc = 0; flags = record { n = false; z = false; c = false; v = false }; stop = 0 };
+  devices = record { timer = 0; switches = 0; leds = 0; mouse = 0; serial = 0; received = false; keys = [] };
+  sent = [];
+  table = [];
+}

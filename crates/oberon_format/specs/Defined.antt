@@ -1,0 +1,36 @@
+-- What a recording claims, and what one uninterrupted run from its first state gives.
+use Rattle.std.specs.Prelude.{ℕ, ◌≡◌, ◌-◌, List}
+use Rattle.risc_pages.specs.Content.{table_words}
+use Rattle.risc_machine.specs.MachineState.{State}
+use Rattle.risc_machine.specs.Replay.{run_of, sent_of}
+use Rattle.oberon_format.specs.CheckpointParts.{CheckpointParts}
+use Rattle.oberon_format.specs.Recording.{RecordingParts, checkpoint_at, count_at}
+
+-- a state, and the bytes sent since the checkpoint before
+pub record Outcome : Type 0 where
+  pub state : State
+  pub sent : List ℕ
+
+-- what a checkpoint says over a pool: its memory is the content of its table, without page numbers
+abbrev pub claim_of : List (List ℕ) → CheckpointParts → Outcome
+claim_of pool c = record { state = record { cpu = c.cpu; devices = c.devices; words = table_words pool c.table }; sent = c.sent }
+
+-- what checkpoint k claims
+abbrev pub claimed : RecordingParts → ℕ → Outcome
+claimed r k = claim_of r.pool (checkpoint_at r k)
+
+-- the state at a count, in one run from checkpoint 0
+abbrev pub state_at : RecordingParts → ℕ → State
+state_at r n = run_of r.inputs 0 n (claimed r 0).state
+
+-- the bytes that this run sends from one count up to another
+abbrev pub output_between : RecordingParts → ℕ → ℕ → List ℕ
+output_between r from to = sent_of r.inputs from (to - from) (state_at r from)
+
+-- what this run gives at checkpoint k, with its output since the checkpoint before. At checkpoint 0 that is no output
+abbrev pub defined : RecordingParts → ℕ → Outcome
+defined r k = record { state = state_at r (count_at r k); sent = output_between r (count_at r (k - 1)) (count_at r k) }
+
+-- checkpoint k claims what the run gives
+abbrev pub IsTrueAt : RecordingParts → ℕ → Type 0
+IsTrueAt r k = claimed r k ≡ defined r k

@@ -1,0 +1,45 @@
+-- The fields of a recording's text that rules speak of, whatever the layout in which they stand.
+use Rattle.std.specs.Prelude.{ℕ, zero, suc, ◌+◌, List}
+
+-- an event: its count, the number of its kind, and its value
+pub record EventFields : Type 0 where
+  pub count : ℕ
+  pub kind : ℕ
+  pub value : ℕ
+
+-- a checkpoint's fields that have a range: `waiting` is the number of its keys, `unused` are the key bytes at or after that
+-- number, and `output` is the length of its output
+pub record CheckpointFields : Type 0 where
+  pub count : ℕ
+  pub pc : ℕ
+  pub flags : ℕ
+  pub stop : ℕ
+  pub switches : ℕ
+  pub leds : ℕ
+  pub mouse : ℕ
+  pub serial : ℕ
+  pub waiting : ℕ
+  pub unused : List ℕ
+  pub output : ℕ
+
+-- a text: its length, the six numbers of its header, event i, checkpoint k, and page number j of checkpoint k
+pub record Fields : Type 0 where
+  pub long : ℕ
+  pub first : ℕ
+  pub version : ℕ
+  pub pages : ℕ
+  pub events : ℕ
+  pub checkpoints : ℕ
+  pub last : ℕ
+  pub event : ℕ → EventFields
+  pub checkpoint : ℕ → CheckpointFields
+  pub number : ℕ → ℕ → ℕ
+
+-- f 0 + f 1 + .. + f (k - 1)
+unfoldable pub total : (ℕ → ℕ) → ℕ → ℕ
+total f zero = 0
+total f (suc k) = total f k + f k
+
+-- the length of the output of all checkpoints before checkpoint k
+abbrev pub sent_below : Fields → ℕ → ℕ
+sent_below f k = total (λ i. (f.checkpoint i).output) k

@@ -1,0 +1,35 @@
+-- Laws of texts and recordings.
+use Rattle.std.specs.Prelude.{ℕ, ◌≡◌, ◌↔◌, List, None, MatchOption}
+use Rattle.risc_machine.specs.InputOrder.{AreOrdered}
+use Rattle.risc_pages.specs.Pages.{ArePages}
+use Rattle.oberon_format.specs.PartFields.{fault_of_parts}
+use Rattle.oberon_format.specs.Recording.{RecordingParts, IsLawful}
+use Rattle.oberon_format.specs.Tested.{AreFormed}
+use Rattle.oberon_format.specs.Text.{AreBytes, IsLaidOut, Text}
+use Rattle.oberon_format.specs.TextFields.{first_fault_of}
+
+-- a text is that of at most one recording
+abbrev pub HasOneRecording : Type 0
+HasOneRecording = (text : List ℕ) (r s : RecordingParts) → Text text r → Text text s → r ≡ s
+
+-- a list of bytes that is the text of a recording, and the only one
+pub record IsOnlyText (text : List ℕ) (r : RecordingParts) : Type 0 where
+  pub bytes : AreBytes text
+  pub is : Text text r
+  pub only : (other : List ℕ) → AreBytes other → Text other r → other ≡ text
+
+-- a lawful recording has exactly one text
+abbrev pub HasOneText : Type 0
+HasOneText = (r : RecordingParts) → IsLawful r → (text : List ℕ) × IsOnlyText text r
+
+-- each text has a recording exactly where it has no first fault
+abbrev pub HasTextOrFault : Type 0
+HasTextOrFault = (text : List ℕ) → AreBytes text → MatchOption (first_fault_of text) ((r : RecordingParts) × Text text r) (λ fault. (r : RecordingParts) → ¬ (Text text r))
+
+-- a text that is laid out of parts has the fault of the parts
+abbrev pub HasFaultOfParts : Type 0
+HasFaultOfParts = (text : List ℕ) (r : RecordingParts) → AreFormed r.checkpoints → IsLaidOut text r → first_fault_of text ≡ fault_of_parts r
+
+-- parts are lawful exactly where they have no fault
+abbrev pub IsMadeOfParts : Type 0
+IsMadeOfParts = (r : RecordingParts) → ArePages r.pool → AreOrdered r.inputs → AreFormed r.checkpoints → (fault_of_parts r ≡ None) ↔ IsLawful r

@@ -1,0 +1,17 @@
+pub mod Fields
+pub mod FirstFault
+pub mod Ranges
+pub mod Layout
+pub mod Rules
+pub mod TextFields
+pub mod FlagsNumber
+pub mod CheckpointParts
+pub mod Recording
+pub mod Parts
+pub mod PartFields
+pub mod Text
+pub mod Tested
+pub mod Spelling
+pub mod Line
+pub mod Defined
+pub mod Laws

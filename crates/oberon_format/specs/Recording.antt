@@ -1,0 +1,58 @@
+-- What a recording is, and which recordings are lawful. All limits are this project's own choice.
+use Rattle.std.specs.Prelude.{ℕ, ◌≡◌, ◌+◌, ◌-◌, ◌^◌, ◌<◌, ◌≤◌, List, All, [], length, slice_index_or}
+use Rattle.std.specs.List.{flat_map}
+use Rattle.risc_pages.specs.Pages.{ArePages}
+use Rattle.risc_pages.specs.Content.{IsNamed}
+use Rattle.risc_pages.specs.Tables.{IsTable}
+use Rattle.risc_devices.specs.DeviceState.{IsDeviceState}
+use Rattle.risc_machine.specs.declared.event.Event.{Event}
+use Rattle.risc_machine.specs.InputOrder.{AreOrdered}
+use Rattle.risc_machine.specs.MachineState.{IsCpuState}
+use Rattle.oberon_format.specs.CheckpointParts.{CheckpointParts, no_checkpoint}
+use Rattle.oberon_format.specs.Ranges.{max_count, max_output}
+
+-- a pool of pages, each the list of its words; inputs with their counts; and checkpoints 0 to K
+pub record RecordingParts : Type 0 where
+  pub pool : List (List ℕ)
+  pub inputs : List Event
+  pub checkpoints : List CheckpointParts
+
+-- checkpoint k
+abbrev pub checkpoint_at : RecordingParts → ℕ → CheckpointParts
+checkpoint_at r k = slice_index_or r.checkpoints k no_checkpoint
+
+-- the count of checkpoint k
+abbrev pub count_at : RecordingParts → ℕ → ℕ
+count_at r k = (checkpoint_at r k).count
+
+-- K, the number of the last checkpoint
+abbrev pub last_of : RecordingParts → ℕ
+last_of r = length r.checkpoints - 1
+
+-- all bytes sent, checkpoint by checkpoint
+abbrev pub output_of : List CheckpointParts → List ℕ
+output_of checkpoints = flat_map (λ c. c.sent) checkpoints
+
+-- a checkpoint that is in its ranges and names pages of the pool. It may claim any stop
+pub record IsFit (pool : List (List ℕ)) (c : CheckpointParts) : Type 0 where
+  pub bounded : c.count ≤ max_count
+  pub cpu : IsCpuState c.cpu
+  pub devices : IsDeviceState c.devices
+  pub table : IsTable c.table
+  pub named : IsNamed pool c.table
+  pub bytes : All (λ byte. byte < 2 ^ 8) c.sent
+
+-- within all limits: few enough pages and inputs, inputs in the order of their counts, at least one checkpoint and few enough,
+-- counts that begin at 0 and rise, nothing sent before checkpoint 0, and not too much in all
+pub record IsLawful (r : RecordingParts) : Type 0 where
+  pub pages : length r.pool ≤ 65536
+  pub pool : ArePages r.pool
+  pub events : length r.inputs ≤ 1000000
+  pub ordered : AreOrdered r.inputs
+  pub some : 0 < length r.checkpoints
+  pub few : length r.checkpoints ≤ 4097
+  pub begins : count_at r 0 ≡ 0
+  pub rises : (k : ℕ) → k + 1 < length r.checkpoints → count_at r k < count_at r (k + 1)
+  pub silent : (checkpoint_at r 0).sent ≡ []
+  pub output : length (output_of r.checkpoints) ≤ max_output
+  pub fit : (k : ℕ) → k < length r.checkpoints → IsFit r.pool (checkpoint_at r k)

@@ -1,0 +1,37 @@
+//! What is wrong with a text. What each rule is, and in which order they are tested, stands in `specs/`.
+
+use thiserror::Error;
+
+/// The first broken rule of a text, with the offset of a byte; or want of memory.
+///
+/// The numbers 1 to 8 and the rules are this project's own choice.
+#[derive(Clone, Copy, Debug, PartialEq, Eq, Error)]
+pub enum Fault {
+    /// 1: the text ends too early. The byte is its length.
+    #[error("the text ends too early, at byte {0}")]
+    Short(u64),
+    /// 2: the text doesn't begin with `ORSR`. The byte is 0.
+    #[error("the text is not that of a recording, at byte {0}")]
+    Magic(u64),
+    /// 3: the version is not 1. The byte is 4.
+    #[error("the version is not known, at byte {0}")]
+    Version(u64),
+    /// 4: a number of the header is out of its range. The byte is that number's place.
+    #[error("a number of the header is out of its range, at byte {0}")]
+    Limit(u64),
+    /// 5: an event is out of its ranges. The byte is the event's start.
+    #[error("an event is out of its ranges, at byte {0}")]
+    Event(u64),
+    /// 6: a field of a checkpoint before its table is out of its range. The byte is the checkpoint's start.
+    #[error("a checkpoint is out of its ranges, at byte {0}")]
+    Checkpoint(u64),
+    /// 7: a table names a page that isn't there. The byte is the place of the page number.
+    #[error("a page number is out of its range, at byte {0}")]
+    Page(u64),
+    /// 8: there are bytes after the output. The byte is the first of them.
+    #[error("the text goes on after its end, at byte {0}")]
+    Trailing(u64),
+    /// There was no room for the recording. No fault of the text.
+    #[error("no memory")]
+    Memory,
+}

@@ -1,0 +1,17 @@
+//! Recordings of sessions of the RISC5 workstation, and their texts.
+//!
+//! A recording is a pool of pages, a list of inputs with their counts, and checkpoints that claim what the machine is at their
+//! counts. Each recording has exactly one text of version 1, the format of which is this project's own. Here a text is read or
+//! refused with its first fault, a recording is made of parts or refused with the first fault of their text, and a recording is
+//! written. Whether a checkpoint's claim is true is not known here: `Defined` in `specs/` says what that means.
+#![tactic(auto)]
+
+mod checkpoint;
+mod fault;
+mod recording;
+mod sent;
+
+pub use checkpoint::Checkpoint;
+pub use fault::Fault;
+pub use recording::Recording;
+pub use sent::Sent;

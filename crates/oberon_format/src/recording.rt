@@ -1,0 +1,89 @@
+//! Recordings: pool, inputs and checkpoints that are lawful together. How they are read, made of parts and written stands in
+//! modules of its own.
+
+ghost use Rattle.std.specs.Prelude.{◌≡◌, ◌<◌, length};
+ghost use Rattle.oberon_format.specs.CheckpointParts.{checkpoint_parts};
+ghost use Rattle.oberon_format.specs.Recording.{IsLawful, IsFit, checkpoint_at};
+ghost use Rattle.oberon_format.specs.Parts.{parts_of};
+
+use crate::checkpoint::Checkpoint;
+use risc_machine::Inputs;
+use risc_pages::Pool;
+use std::marker::Model;
+
+/// A lawful recording: a pool of pages, inputs with their counts, and checkpoints 0 to K.
+///
+/// | what | limit |
+/// |---|---|
+/// | pages in the pool | at most 65,536 |
+/// | inputs | at most 1,000,000, their counts not falling and at most 2^40 |
+/// | checkpoints | from 1 to 4,097: the first at count 0 with no output, their counts rising and at most 2^40 |
+/// | output in all | at most 1,048,576 bytes |
+/// | each checkpoint | a program counter below 2^22, a stop of at most 4, page numbers of the pool |
+///
+/// All limits are this project's own choice. In contracts a recording is the record of its parts.
+#[derive(Drop)]
+pub struct Recording {
+    pool: Pool,
+    inputs: Inputs,
+    checkpoints: Vec<Checkpoint>,
+}
+
+impl Model for Recording {
+    ghost use Rattle.oberon_format.specs.Recording.{RecordingParts, IsLawful};
+    ghost use Rattle.oberon_format.specs.Parts.{parts_of};
+
+    ghost Value = { RecordingParts };
+
+    ghost view = { λ r. parts_of r.pool r.inputs r.checkpoints.items };
+
+    ghost invariant = { λ r. IsLawful (parts_of r.pool r.inputs r.checkpoints.items) };
+}
+
+impl Recording {
+    /// The recording of parts that are known to be lawful.
+    pub(crate) fn from_lawful(pool: Pool, inputs: Inputs, checkpoints: Vec<Checkpoint>) -> Recording
+        requires { IsLawful (parts_of pool inputs checkpoints.items) }
+        ensures { result ≡ parts_of pool inputs checkpoints.items }
+    {
+        Recording {
+            pool,
+            inputs,
+            checkpoints,
+        }
+    }
+
+    /// The pages that the checkpoints' tables name.
+    pub fn pool(&self) -> &Pool
+        ensures pool { result.now ≡ self.now.pool }
+        ensures lawful { IsLawful self.now }
+    {
+        &self.pool
+    }
+
+    /// The inputs, in the order of their counts.
+    pub fn inputs(&self) -> &Inputs
+        ensures inputs { result.now ≡ self.now.inputs }
+        ensures lawful { IsLawful self.now }
+    {
+        &self.inputs
+    }
+
+    /// The number of checkpoints, K + 1: from 1 to 4,097.
+    pub fn count(&self) -> u32
+        ensures count { result ≡ length self.now.checkpoints }
+        ensures lawful { IsLawful self.now }
+    {
+        self.checkpoints.len() as u32
+    }
+
+    /// Checkpoint k, from 0 to K.
+    pub fn checkpoint(&self, k: u32) -> &Checkpoint
+        requires { k < length self.now.checkpoints }
+        ensures checkpoint { checkpoint_parts result.now ≡ checkpoint_at self.now k }
+        ensures fit { IsFit self.now.pool (checkpoint_parts result.now) }
+        ensures lawful { IsLawful self.now }
+    {
+        &self.checkpoints[k as usize]
+    }
+}
