@@ -1,12 +1,12 @@
 -- The ranges of the devices, and that their parts are all that they are.
-use Rattle.std.proofs.Common.{◌≡◌, ℕ, zero, suc, ◌+◌, ◌*◌, ◌/◌, ◌%◌, ◌^◌, ◌<◌, ◌≤◌, Bool, true, false, List, [], ◌∷◌, ◌++◌, length, drop, refl, ap, sym, arith, rules, length-append}
-use Rattle.std.specs.Prelude.{IsTrue, All, ◌==◌, if◌then◌else◌}
+use Rattle.std.proofs.Common.{◌≡◌, ℕ, ◌+◌, ◌%◌, ◌^◌, ◌<◌, ◌≤◌, Bool, true, false, List, [], ◌∷◌, length, drop, refl, arith}
+use Rattle.std.specs.Prelude.{All, ◌==◌, if◌then◌else◌}
 use Rattle.std.proofs.lemmas.List.Elements.{All-drop}
 use Rattle.std.proofs.lemmas.Grind.{common_steps}
 use Rattle.risc_devices.specs.KeyCodes.{joined, oldest, key_bit}
 use Rattle.risc_devices.specs.DeviceState.{DeviceState, IsDeviceState, serial_number}
 use Rattle.risc_devices.specs.DeviceWords.{read_value, after_read, after_write}
-use Rattle.risc_devices.specs.InputKind.{kind_number, IsInput, is_mouse}
+use Rattle.risc_devices.specs.InputKind.{kind_number, IsInput}
 use Rattle.risc_devices.specs.Input.{taken_value, taken_input}
 use Rattle.risc_devices.specs.declared.input.Input.{Input}
 use Rattle.risc_devices.specs.declared.kind.Kind.{Kind}

@@ -1,6 +1,6 @@
 -- Worked examples of the definitions: they compute.
-use Rattle.std.proofs.Common.{◌≡◌, ℕ, true, false, List, [], ◌∷◌, Some, None, refl}
-use Rattle.risc_devices.specs.DeviceState.{DeviceState, state_of_parts, serial_number}
+use Rattle.std.proofs.Common.{◌≡◌, true, false, [], ◌∷◌, Some, None, refl}
+use Rattle.risc_devices.specs.DeviceState.{DeviceState, state_of_parts}
 use Rattle.risc_devices.specs.DeviceWords.{read_value, after_read, after_write, sent_byte}
 use Rattle.risc_devices.specs.Input.{taken_value, is_input, is_mouse}
 use Rattle.risc_devices.specs.KeyCodes.{joined}

@@ -1,11 +1,11 @@
 -- The bits of a byte of a picture.
-use Rattle.std.proofs.Common.{◌≡◌, ℕ, zero, suc, ◌+◌, ◌-◌, ◌*◌, ◌/◌, ◌%◌, ◌^◌, ◌<◌, List, refl, ap, sym, ◌∙◌, pow-add, get_or, inl, inr, arith, w8}
-use Rattle.std.specs.Prelude.{◌≤◌, length, take, All, slice_index}
+use Rattle.std.proofs.Common.{◌≡◌, ℕ, zero, suc, ◌+◌, ◌-◌, ◌*◌, ◌/◌, ◌%◌, ◌^◌, ◌<◌, List, ap, sym, ◌∙◌, pow-add, get_or, inl, inr, arith, w8}
+use Rattle.std.specs.Prelude.{length, take, slice_index}
 use Rattle.std.specs.Int.{reverse_bits, reverse_bits_onto}
 use Rattle.std.proofs.Math.Nat.{div-div-eq-div-mul}
 use Rattle.std.proofs.lemmas.List.{get_or-take, ext_get_or}
 use Rattle.std.proofs.lemmas.Bool.{cases_lt}
-use Rattle.risc_devices.specs.Picture.{dot, HasDots, IsPicture}
+use Rattle.risc_devices.specs.Picture.{HasDots, IsPicture}
 
 -- a byte turned round
 reversed_bit : (n j : ℕ) → j < 8 → reverse_bits w8 n / 2 ^ (7 - j) % 2 ≡ n / 2 ^ j % 2
@@ -72,25 +72,25 @@ same_byte a b fits_a fits_b bits =
 same_behind : (n : ℕ) (xs ys : List ℕ) → length xs ≡ length ys → take n xs ≡ take n ys → ((k : ℕ) → n + k < length xs → slice_index xs (n + k) ≡ slice_index ys (n + k)) → xs ≡ ys
 same_behind n xs ys lengths fronts rests =
     ext_get_or 0 xs ys lengths (λ i below. elim (cases_lt i n) as (λ _. get_or xs i 0 ≡ get_or ys i 0) [
-      inl front ↦ sym (get_or-take n xs i 0 front) ∙ (ap (λ l. get_or l i 0) fronts ∙ get_or-take n ys i 0 front)
-    | inr behind ↦
-        let e : n + (i - n) ≡ i = omega arith in
-        let there : n + (i - n) < length xs = omega arith in
-        rw e at (rests (i - n) there)
+      | inl front ↦ sym (get_or-take n xs i 0 front) ∙ (ap (λ l. get_or l i 0) fronts ∙ get_or-take n ys i 0 front)
+      | inr behind ↦
+          let e : n + (i - n) ≡ i = omega arith in
+          let there : n + (i - n) < length xs = omega arith in
+          rw e at (rests (i - n) there)
     ])
 
 -- a display has one picture
 pub same_picture : (words a b : List ℕ) → IsPicture words a → IsPicture words b → a ≡ b
 same_picture words a b pa pb =
     same_behind 12 a b (pa.len ∙ sym pb.len) (pa.head ∙ sym pb.head) (λ k below.
-        let e : length a ≡ 98316 = pa.len in
-        let f : length b ≡ 98316 = pb.len in
-        let at : 128 * (k / 128) + k % 128 ≡ k = omega arith in
-        let row : k / 128 < 768 = omega arith in
-        let col : k % 128 < 128 = omega arith in
-        let in_a : 12 + k < length a = omega arith in
-        let in_b : 12 + k < length b = omega arith in
-        let dots_a : HasDots words (k / 128) (k % 128) (slice_index a (12 + k)) = rw at at (pa.dots (k / 128) (k % 128) row col) in
-        let dots_b : HasDots words (k / 128) (k % 128) (slice_index b (12 + k)) = rw at at (pb.dots (k / 128) (k % 128) row col) in
-        same_byte (slice_index a (12 + k)) (slice_index b (12 + k)) (pa.bytes_fit (12 + k) 0 in_a) (pb.bytes_fit (12 + k) 0 in_b)
-            (λ j below. dots_a j below ∙ sym (dots_b j below)))
+    let e : length a ≡ 98316 = pa.len in
+    let f : length b ≡ 98316 = pb.len in
+    let at : 128 * (k / 128) + k % 128 ≡ k = omega arith in
+    let row : k / 128 < 768 = omega arith in
+    let col : k % 128 < 128 = omega arith in
+    let in_a : 12 + k < length a = omega arith in
+    let in_b : 12 + k < length b = omega arith in
+    let dots_a : HasDots words (k / 128) (k % 128) (slice_index a (12 + k)) = rw at at (pa.dots (k / 128) (k % 128) row col) in
+    let dots_b : HasDots words (k / 128) (k % 128) (slice_index b (12 + k)) = rw at at (pb.dots (k / 128) (k % 128) row col) in
+    same_byte (slice_index a (12 + k)) (slice_index b (12 + k)) (pa.bytes_fit (12 + k) 0 in_a) (pb.bytes_fit (12 + k) 0 in_b)
+    (λ j below. dots_a j below ∙ sym (dots_b j below)))

@@ -1,5 +1,5 @@
 -- The state of the devices.
-use Rattle.std.specs.Prelude.{◌≡◌, ℕ, ◌+◌, ◌/◌, ◌%◌, ◌^◌, ◌<◌, ◌≤◌, Bool, ◌==◌, if◌then◌else◌, IsTrue, List, length, All}
+use Rattle.std.specs.Prelude.{ℕ, ◌+◌, ◌/◌, ◌%◌, ◌^◌, ◌<◌, ◌≤◌, Bool, ◌==◌, if◌then◌else◌, IsTrue, List, length, All}
 use Rattle.risc_devices.specs.InputKind.{is_mouse}
 
 -- What the devices hold. The buttons are bits 11 to 8 of `switches`, and the switches bits 7 to 0. `serial` is the byte that

@@ -66,5 +66,6 @@ fn dots_at(words: &[u32], at: usize) -> u8
     let y = 767 - at / 128;
     let col = at % 128;
     let dots = words[32 * y + col / 4] >> (8 * (col % 4));
-    ((dots % 256) as u8).reverse_bits()
+    let eight = (dots % 256) as u8;
+    eight.reverse_bits()
 }

@@ -1,4 +1,4 @@
-use Rattle.std.proofs.Common.{◌≡◌, ◌<◌, ◌/◌, ◌%◌, ℕ}
+use Rattle.std.proofs.Common.{◌/◌, ◌%◌}
 use Rattle.risc_devices.proofs.PictureLemmas.{byte-HasDots}
 use Rattle.risc_devices.proofs.display.dots_at.Goals as goal
 
