@@ -1,1 +1,11 @@
 pub mod CheckpointLemmas
+pub mod Numbers
+pub mod RuleLemmas
+pub mod Each
+pub mod Keys
+pub mod Output
+pub mod PartLemmas
+pub mod SameFields
+pub mod Agree
+pub mod LawfulLemmas
+pub mod ReadLemmas

@@ -20,6 +20,7 @@ pub record IsSized (text : List ℕ) : Type 0 where
 
 -- the text breaks no rule
 pub record Meets (text : List ℕ) : Type 0 where
+  pub faultless : first_fault_of text ≡ None
   pub magic_is : word_at text 0 ≡ magic
   pub version : word_at text 4 ≡ 1
   pub zero_is : word_at text 20 ≡ 0

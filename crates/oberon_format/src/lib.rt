@@ -8,10 +8,18 @@
 
 mod checkpoint;
 mod fault;
+mod formed;
+mod line;
+mod number;
+mod ranges;
+mod reading;
 mod recording;
+mod rules;
 mod sent;
 
 pub use checkpoint::Checkpoint;
 pub use fault::Fault;
+pub use line::refusal;
+pub use reading::read;
 pub use recording::Recording;
 pub use sent::Sent;

@@ -1,0 +1,82 @@
+-- A text that is laid out of parts has their fields, and so their first fault.
+use Rattle.std.proofs.Common.{◌≡◌, ◌<◌, ◌≤◌, ◌+◌, ◌-◌, ◌∙◌, ℕ, List, ◌++◌, get_or, length, drop, sym, ap, arith}
+use Rattle.std.specs.Prelude.{slice_range, replicate}
+use Rattle.std.proofs.lemmas.List.{drop_at}
+use Rattle.risc_devices.specs.DeviceState.{DeviceState}
+use Rattle.risc_machine.specs.declared.event.Event.{Event}
+use Rattle.oberon_format.specs.CheckpointParts.{CheckpointParts, no_checkpoint}
+use Rattle.oberon_format.specs.Layout.{word_at, event_place, checkpoint_place}
+use Rattle.oberon_format.specs.PartFields.{fields_of_parts, fault_of_parts, event_fields, checkpoint_fields}
+use Rattle.oberon_format.specs.Recording.{RecordingParts, checkpoint_at}
+use Rattle.oberon_format.specs.Tested.{AreFormed}
+use Rattle.oberon_format.specs.Text.{IsEvent, IsDevices, IsCheckpoint, IsLaidOut}
+use Rattle.oberon_format.specs.TextFields.{fields_of, event_of, checkpoint_of, first_fault_of}
+use Rattle.oberon_format.proofs.Keys.{range-split, length-range}
+use Rattle.oberon_format.proofs.PartLemmas.{member, event_here, checkpoint_here, number_here}
+use Rattle.oberon_format.proofs.SameFields.{SameFields, same_rules}
+
+-- an event that stands at a place has its fields there
+event_stands : (text : List ℕ) (place : ℕ) (e : Event) → IsEvent text place e → event_of text place ≡ event_fields e
+event_stands text place e is = λ i. record { count = is.count i; kind = is.kind i; value = is.value i }
+
+events_agree : (text : List ℕ) (r : RecordingParts) → IsLaidOut text r → (i : ℕ) → i < length r.inputs → (fields_of text).event i ≡ (fields_of_parts r).event i
+events_agree text r is i lt =
+    let d = member r.inputs i lt in
+    event_stands text (event_place text i) (get_or r.inputs i d) (is.events_stand i d lt) ∙ sym (event_here r i d lt)
+
+-- the key bytes after the keys
+unused_agree : (text : List ℕ) (place : ℕ) (d : DeviceState) → place + 128 ≤ length text → length d.keys ≤ 16 → IsDevices text place d
+    → slice_range text (place + 112 + word_at text (place + 108)) (place + 128) ≡ replicate (16 - length d.keys) 0
+unused_agree text place d room few is =
+    let n = word_at text (place + 108) in
+    let w = is.waiting in
+    let zs : List ℕ = replicate (16 - length d.keys) 0 in
+    let a = slice_range text (place + 112) (place + 112 + n) in
+    let b = slice_range text (place + 112 + n) (place + 128) in
+    let split : slice_range text (place + 112) (place + 128) ≡ a ++ b = range-split text (place + 112) (place + 112 + n) (place + 128) (omega arith) (omega arith) (omega arith) in
+    let la : length a ≡ n = omega (arith, length-range text (place + 112) (place + 112 + n) (omega arith) (omega arith)) in
+    sym (drop_at a b n la) ∙ ap (drop n) (sym split ∙ is.keys) ∙ drop_at d.keys zs n (sym w)
+
+-- a checkpoint that stands at a place has its fields there
+checkpoint_stands : (text : List ℕ) (place : ℕ) (c : CheckpointParts) → place + 128 ≤ length text → length c.devices.keys ≤ 16 → IsCheckpoint text place c → checkpoint_of text place ≡ checkpoint_fields c
+checkpoint_stands text place c room few is =
+    let unused = unused_agree text place c.devices room few is.devices in
+    λ i. record {
+      count = is.count i;
+      pc = is.cpu.pc i;
+      flags = is.cpu.flags i;
+      stop = is.cpu.stop i;
+      switches = is.devices.switches i;
+      leds = is.devices.leds i;
+      mouse = is.devices.mouse i;
+      serial = is.devices.serial i;
+      waiting = is.devices.waiting i;
+      unused = unused i;
+      output = is.sent i;
+    }
+
+pub fields_agree : (text : List ℕ) (r : RecordingParts) → AreFormed r.checkpoints → IsLaidOut text r → SameFields (fields_of text) (fields_of_parts r)
+fields_agree text r formed is =
+    let long = is.long in
+    let cp = is.page_count in
+    let ce = is.event_count in
+    let ck = is.checkpoint_count in
+    record {
+      long = omega arith;
+      first = is.magic;
+      version = is.version;
+      pages = is.page_count;
+      events = is.event_count;
+      checkpoints = is.checkpoint_count;
+      last = is.zero;
+      event = events_agree text r is;
+      checkpoint = λ k lt.
+          checkpoint_stands text (checkpoint_place text k) (checkpoint_at r k) (omega arith) (formed k no_checkpoint lt).devices.keys (is.checkpoints_stand k no_checkpoint lt)
+          ∙ sym (checkpoint_here r k lt);
+      number = λ k j lt less.
+          let table = (formed k no_checkpoint lt).table.count in
+          (is.checkpoints_stand k no_checkpoint lt).table j 0 (omega arith) ∙ ap (λ (h : ℕ → ℕ). h j) (sym (number_here r k lt));
+    }
+
+pub text_agrees : (text : List ℕ) (r : RecordingParts) → AreFormed r.checkpoints → IsLaidOut text r → first_fault_of text ≡ fault_of_parts r
+text_agrees text r formed is = same_rules (fields_of text) (fields_of_parts r) (fields_agree text r formed is)

@@ -1,0 +1,43 @@
+-- The keys of a checkpoint, with zeros after them.
+use Rattle.std.proofs.Common.{◌≡◌, ◌≤◌, ◌+◌, ◌-◌, ◌∙◌, ℕ, true, eqb, List, [], ◌∷◌, ◌++◌, length, take, drop, refl, sym, ap, arith}
+use Rattle.std.specs.Prelude.{slice_range, replicate, nat_le}
+use Rattle.std.specs.List.{list_all}
+use Rattle.std.proofs.lemmas.Bool.{eqb-true, leb-true}
+use Rattle.std.proofs.lemmas.List.{take-append-drop, length-drop, length-take, drop-drop, take-take, drop-take}
+use Rattle.oberon_format.proofs.RuleLemmas.{and_left, and_right}
+use Rattle.oberon_format.specs.Layout.{word_at}
+use Rattle.oberon_format.specs.Ranges.{are_keys}
+use Rattle.oberon_format.specs.TextFields.{checkpoint_of}
+
+-- bytes that are all 0
+pub zeros-are : (xs : List ℕ) → list_all (λ b. eqb b 0) xs ≡ true → xs ≡ replicate (length xs) 0
+zeros-are [] h = refl
+zeros-are (x ∷ xs) h =
+    let first = eqb-true x 0 (and_left (eqb x 0) (list_all (λ b. eqb b 0) xs) h) in
+    let rest = zeros-are xs (and_right (eqb x 0) (list_all (λ b. eqb b 0) xs) h) in
+    cc
+
+-- two parts of a list that follow each other
+pub range-split : (xs : List ℕ) (a b c : ℕ) → a ≤ b → b ≤ c → c ≤ length xs → slice_range xs a c ≡ slice_range xs a b ++ slice_range xs b c
+range-split xs a b c ab bc fits =
+    let m = b - a in
+    let n = c - b in
+    let ys = drop a xs in
+    let sum : c - a ≡ m + n = omega arith in
+    let from : a + m ≡ b = omega arith in
+    let first : take m (take (m + n) ys) ≡ take m ys = take-take m (m + n) ys (omega arith) in
+    let second : drop m (take (m + n) ys) ≡ take n (drop b xs) = drop-take m n ys ∙ ap (take n) (drop-drop m a xs ∙ ap (λ (k : ℕ). drop k xs) from) in
+    ap (λ (k : ℕ). take k ys) sum ∙ sym (take-append-drop m (take (m + n) ys)) ∙ ap (λ (l : List ℕ). l ++ drop m (take (m + n) ys)) first ∙ ap (λ (l : List ℕ). take m ys ++ l) second
+
+pub length-range : (xs : List ℕ) (a b : ℕ) → a ≤ b → b ≤ length xs → length (slice_range xs a b) ≡ b - a
+length-range xs a b ab fits = omega (arith, length-take (b - a) (drop a xs), length-drop a xs)
+
+pub keys-stand : (text : List ℕ) (place : ℕ) → place + 4228 ≤ length text → are_keys (checkpoint_of text place) ≡ true
+    → slice_range text (place + 112) (place + 128) ≡ slice_range text (place + 112) (place + 112 + word_at text (place + 108)) ++ replicate (16 - word_at text (place + 108)) 0
+keys-stand text place room h =
+    let n = word_at text (place + 108) in
+    let few : n ≤ 16 = leb-true n 16 (and_left _ _ h) in
+    let zeros = zeros-are (slice_range text (place + 112 + n) (place + 128)) (and_right (nat_le n 16) _ h) in
+    let len : length (slice_range text (place + 112 + n) (place + 128)) ≡ 16 - n = omega (arith, length-range text (place + 112 + n) (place + 128) (omega arith) (omega arith)) in
+    range-split text (place + 112) (place + 112 + n) (place + 128) (omega arith) (omega arith) (omega arith)
+    ∙ ap (λ (r : List ℕ). slice_range text (place + 112) (place + 112 + n) ++ r) (zeros ∙ ap (λ (m : ℕ). replicate m 0) len)

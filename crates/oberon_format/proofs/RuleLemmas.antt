@@ -1,0 +1,219 @@
+-- The first broken rule of lists of rules.
+use Rattle.std.proofs.Common.{◌≡◌, ◌<◌, ◌+◌, ◌-◌, ℕ, zero, suc, Bool, true, false, ◌&&◌, List, [], ◌∷◌, ◌++◌, length, Some, None, refl, ap, sym, ◌∙◌, arith, add-suc, add-zero, add-one, inl, inr}
+use Rattle.std.proofs.lemmas.Bool.{cases_lt}
+use Rattle.oberon_format.specs.declared.fault.Fault.{Fault}
+use Rattle.oberon_format.specs.declared.fault.Fault.TheVariants as fault
+use Rattle.std.proofs.lemmas.Bool.Decides.{nat_tests}
+use Rattle.oberon_format.specs.Fields.{Fields, sent_below, total}
+use Rattle.oberon_format.specs.FirstFault.{Rule, each, first_broken}
+use Rattle.oberon_format.specs.Layout.{checkpoint_place, checkpoints, event_place, events, long_at, magic, pages, word_at}
+use Rattle.oberon_format.specs.Ranges.{is_checkpoint, is_event}
+use Rattle.oberon_format.specs.Rules.{checkpoint_rules, count_before, end_rules, event_floor, event_rules, header_rules, number_rules, rules, rules_at, whole}
+use Rattle.oberon_format.specs.Tested.{IsSized, Meets}
+use Rattle.oberon_format.specs.TextFields.{checkpoint_of, event_of, fields_of, first_fault_of, number_of}
+use Rattle.risc_devices.specs.InputKind.{is_input}
+
+pub met-append : (xs ys : List Rule) → first_broken xs ≡ None → first_broken (xs ++ ys) ≡ first_broken ys
+met-append [] ys h = refl
+met-append ((true, f) ∷ xs) ys h = met-append xs ys h
+met-append ((false, f) ∷ xs) ys h = absurd cc
+
+pub broken-append : (xs ys : List Rule) (g : Fault) → first_broken xs ≡ Some g → first_broken (xs ++ ys) ≡ Some g
+broken-append [] ys g h = absurd cc
+broken-append ((true, f) ∷ xs) ys g h = broken-append xs ys g h
+broken-append ((false, f) ∷ xs) ys g h = h
+
+pub each_none : (rules : ℕ → List Rule) → first_broken (each 0 rules) ≡ None
+unfolding each
+each_none rules = refl
+
+pub each_more : (rules : ℕ → List Rule) (i : ℕ) → first_broken (each i rules) ≡ None → first_broken (rules i) ≡ None → first_broken (each (i + 1) rules) ≡ None
+unfolding each
+each_more rules i h e = rw (add-one i) (met-append (each i rules) (rules i) h ∙ e)
+
+each_stays : (rules : ℕ → List Rule) (i k : ℕ) (g : Fault) → first_broken (each i rules) ≡ Some g → first_broken (each (i + k) rules) ≡ Some g
+unfolding each
+each_stays rules i zero g h = rw (add-zero i) h
+each_stays rules i (suc k) g h = rw (add-suc i k) (broken-append (each (i + k) rules) (rules (i + k)) g (each_stays rules i k g h))
+
+pub each_broken : (rules : ℕ → List Rule) (i n : ℕ) (g : Fault) → i < n → first_broken (each i rules) ≡ None → first_broken (rules i) ≡ Some g → first_broken (each n rules) ≡ Some g
+unfolding each
+each_broken rules i n g lt h e =
+    let k : n ≡ suc i + (n - suc i) = omega arith in
+    let one : first_broken (each (suc i) rules) ≡ Some g = met-append (each i rules) (rules i) h ∙ e in
+    ap (λ (m : ℕ). first_broken (each m rules)) k ∙ each_stays rules (suc i) (n - suc i) g one
+
+-- one rule at each number
+pub each_met : (holds : ℕ → Bool) (fault : ℕ → Fault) (i : ℕ) → first_broken (each i (λ k. (holds k, fault k) ∷ [])) ≡ None → holds i ≡ true → first_broken (each (i + 1) (λ k. (holds k, fault k) ∷ [])) ≡ None
+each_met holds fault i h e = each_more (λ k. (holds k, fault k) ∷ []) i h (rw e refl)
+
+pub each_unmet : (holds : ℕ → Bool) (fault : ℕ → Fault) (i n : ℕ) → i < n → first_broken (each i (λ k. (holds k, fault k) ∷ [])) ≡ None → holds i ≡ false → first_broken (each n (λ k. (holds k, fault k) ∷ [])) ≡ Some (fault i)
+each_unmet holds fault i n lt h e = each_broken (λ k. (holds k, fault k) ∷ []) i n (fault i) lt h (rw e refl)
+
+-- the length of the output of the checkpoints of a text before checkpoint k
+abbrev pub output_below : List ℕ → ℕ → ℕ
+output_below text k = sent_below (fields_of text) k
+
+pub output_below_none : (text : List ℕ) → output_below text 0 ≡ 0
+unfolding total
+output_below_none text = refl
+
+pub output_below_more : (text : List ℕ) (k : ℕ) → output_below text (k + 1) ≡ output_below text k + word_at text (checkpoint_place text k + 128)
+unfolding total
+output_below_more text k = rw (add-one k) refl
+
+pub count_before_more : (text : List ℕ) (k : ℕ) → count_before (fields_of text) (k + 1) ≡ long_at text (checkpoint_place text k)
+count_before_more text k = grind (arith, nat_tests)
+
+pub any_in_header : (x : Fields) (f : Fault) → first_broken (header_rules x) ≡ Some f → first_broken (rules x) ≡ Some f
+unfolding rules
+any_in_header x f h =
+    let a = broken-append (header_rules x) (each x.events (event_rules x)) f h in
+    let b = broken-append (header_rules x ++ each x.events (event_rules x)) (each x.checkpoints (checkpoint_rules x)) f a in
+    broken-append (header_rules x ++ each x.events (event_rules x) ++ each x.checkpoints (checkpoint_rules x)) (end_rules x) f b
+
+pub any_in_events : (x : Fields) (f : Fault) → first_broken (header_rules x) ≡ None → first_broken (each x.events (event_rules x)) ≡ Some f → first_broken (rules x) ≡ Some f
+unfolding rules
+any_in_events x f h e =
+    let a = met-append (header_rules x) (each x.events (event_rules x)) h ∙ e in
+    let b = broken-append (header_rules x ++ each x.events (event_rules x)) (each x.checkpoints (checkpoint_rules x)) f a in
+    broken-append (header_rules x ++ each x.events (event_rules x) ++ each x.checkpoints (checkpoint_rules x)) (end_rules x) f b
+
+pub any_in_checkpoints : (x : Fields) (f : Fault) → first_broken (header_rules x) ≡ None → first_broken (each x.events (event_rules x)) ≡ None
+    → first_broken (each x.checkpoints (checkpoint_rules x)) ≡ Some f → first_broken (rules x) ≡ Some f
+unfolding rules
+any_in_checkpoints x f h e k =
+    let a = met-append (header_rules x) (each x.events (event_rules x)) h ∙ e in
+    let b = met-append (header_rules x ++ each x.events (event_rules x)) (each x.checkpoints (checkpoint_rules x)) a ∙ k in
+    broken-append (header_rules x ++ each x.events (event_rules x) ++ each x.checkpoints (checkpoint_rules x)) (end_rules x) f b
+
+pub any_in_end : (x : Fields) → first_broken (header_rules x) ≡ None → first_broken (each x.events (event_rules x)) ≡ None
+    → first_broken (each x.checkpoints (checkpoint_rules x)) ≡ None → first_broken (rules x) ≡ first_broken (end_rules x)
+unfolding rules
+any_in_end x h e k =
+    let a = met-append (header_rules x) (each x.events (event_rules x)) h ∙ e in
+    let b = met-append (header_rules x ++ each x.events (event_rules x)) (each x.checkpoints (checkpoint_rules x)) a ∙ k in
+    met-append (header_rules x ++ each x.events (event_rules x) ++ each x.checkpoints (checkpoint_rules x)) (end_rules x) b
+
+-- those for a text, whose variables `grind` can see
+pub in_header : (text : List ℕ) (g : Fault) → first_broken (header_rules (fields_of text)) ≡ Some g → first_fault_of text ≡ Some g
+in_header text = any_in_header (fields_of text)
+
+pub in_events : (text : List ℕ) (g : Fault) → first_broken (header_rules (fields_of text)) ≡ None → first_broken (each (events text) (event_rules (fields_of text))) ≡ Some g → first_fault_of text ≡ Some g
+in_events text = any_in_events (fields_of text)
+
+pub in_checkpoints : (text : List ℕ) (g : Fault) → first_broken (header_rules (fields_of text)) ≡ None → first_broken (each (events text) (event_rules (fields_of text))) ≡ None
+    → first_broken (each (checkpoints text) (checkpoint_rules (fields_of text))) ≡ Some g → first_fault_of text ≡ Some g
+in_checkpoints text = any_in_checkpoints (fields_of text)
+
+pub in_end : (text : List ℕ) → first_broken (header_rules (fields_of text)) ≡ None → first_broken (each (events text) (event_rules (fields_of text))) ≡ None
+    → first_broken (each (checkpoints text) (checkpoint_rules (fields_of text))) ≡ None → first_fault_of text ≡ first_broken (end_rules (fields_of text))
+in_end text = any_in_end (fields_of text)
+
+-- a rule of a list that is met
+pub met_left : (xs ys : List Rule) → first_broken (xs ++ ys) ≡ None → first_broken xs ≡ None
+met_left [] ys h = refl
+met_left ((true, f) ∷ xs) ys h = met_left xs ys h
+met_left ((false, f) ∷ xs) ys h = absurd cc
+
+pub met_right : (xs ys : List Rule) → first_broken (xs ++ ys) ≡ None → first_broken ys ≡ None
+met_right xs ys h = sym (met-append xs ys (met_left xs ys h)) ∙ h
+
+pub each_holds : (rules : ℕ → List Rule) (n i : ℕ) → i < n → first_broken (each n rules) ≡ None → first_broken (rules i) ≡ None
+unfolding each
+each_holds rules zero i lt h = absurd (omega arith)
+each_holds rules (suc n) i lt h =
+    elim (cases_lt i n) [
+      | inl less ↦ each_holds rules n i less (met_left (each n rules) (rules n) h)
+      | inr more ↦
+          let e : n ≡ i = omega arith in
+          ap (λ (j : ℕ). first_broken (rules j)) (sym e) ∙ met_right (each n rules) (rules n) h
+    ]
+
+-- a first rule that is met
+pub rule_holds : (b : Bool) (f : Fault) (xs : List Rule) → first_broken ((b, f) ∷ xs) ≡ None → (b ≡ true) × (first_broken xs ≡ None)
+rule_holds true f xs h = (refl, h)
+rule_holds false f xs h = absurd cc
+
+pub header_sized : (text : List ℕ) → first_broken (header_rules (fields_of text)) ≡ None → IsSized text
+header_sized text h = record {
+  pages = grind (arith, nat_tests);
+  events = grind (arith, nat_tests);
+  some = grind (arith, nat_tests);
+  few = grind (arith, nat_tests);
+  long = grind (arith, nat_tests);
+}
+
+pub header_exact : (text : List ℕ) → first_broken (header_rules (fields_of text)) ≡ None → (word_at text 0 ≡ magic) × (word_at text 4 ≡ 1) × (word_at text 20 ≡ 0)
+header_exact text h = (grind (arith, nat_tests), grind (arith, nat_tests), grind (arith, nat_tests))
+
+pub end_whole : (text : List ℕ) → first_broken (end_rules (fields_of text)) ≡ None → length text ≡ whole (fields_of text)
+end_whole text h = grind (arith, nat_tests)
+
+-- the four parts of rules that are met
+pub record AreMet (f : Fields) : Type 0 where
+  pub header : first_broken (header_rules f) ≡ None
+  pub events : first_broken (each f.events (event_rules f)) ≡ None
+  pub checkpoints : first_broken (each f.checkpoints (checkpoint_rules f)) ≡ None
+  pub ends : first_broken (end_rules f) ≡ None
+
+pub met_parts : (f : Fields) → first_broken (rules f) ≡ None → AreMet f
+unfolding rules
+met_parts f h =
+    let es = each f.events (event_rules f) in
+    let cs = each f.checkpoints (checkpoint_rules f) in
+    let abc : first_broken (header_rules f ++ es ++ cs) ≡ None = met_left (header_rules f ++ es ++ cs) (end_rules f) h in
+    let ab : first_broken (header_rules f ++ es) ≡ None = met_left (header_rules f ++ es) cs abc in
+    record {
+      header = met_left (header_rules f) es ab;
+      events = met_right (header_rules f) es ab;
+      checkpoints = met_right (header_rules f ++ es) cs abc;
+      ends = met_right (header_rules f ++ es ++ cs) (end_rules f) h;
+    }
+
+pub parts_met : (f : Fields) → AreMet f → first_broken (rules f) ≡ None
+parts_met f are = any_in_end f are.header are.events are.checkpoints ∙ are.ends
+
+-- each of the rules of all numbers below n is met
+pub each_all : (rules : ℕ → List Rule) (n : ℕ) → ((i : ℕ) → i < n → first_broken (rules i) ≡ None) → first_broken (each n rules) ≡ None
+unfolding each
+each_all rules zero h = refl
+each_all rules (suc n) h = met-append (each n rules) (rules n) (each_all rules n (λ i lt. h i (omega arith))) ∙ h n (omega arith)
+
+pub none_meets : (text : List ℕ) → first_fault_of text ≡ None → Meets text
+none_meets text h =
+    let are = met_parts (fields_of text) h in
+    let sized = header_sized text are.header in
+    let exact = header_exact text are.header in
+    record {
+      faultless = h;
+      magic_is = exact.0;
+      version = exact.1;
+      zero_is = exact.2;
+      sized = sized;
+      events_meet = are.events;
+      checkpoints_meet = are.checkpoints;
+      whole_is = end_whole text are.ends;
+    }
+
+-- the parts of a test
+pub and_left : (a b : Bool) → (a && b) ≡ true → a ≡ true
+and_left true b h = refl
+and_left false b h = absurd cc
+
+pub and_right : (a b : Bool) → (a && b) ≡ true → b ≡ true
+and_right true b h = h
+and_right false b h = absurd cc
+
+pub event_input : (text : List ℕ) (i : ℕ) → Meets text → i < events text → is_input (word_at text (event_place text i + 8)) (word_at text (event_place text i + 12)) ≡ true
+event_input text i meets lt =
+    let one = each_holds (event_rules (fields_of text)) (events text) i lt meets.events_meet in
+    let holds = rule_holds (is_event (event_floor (fields_of text) i) (event_of text (event_place text i))) (fault.Event (event_place text i)) [] one in
+    and_right _ _ holds.0
+
+pub checkpoint_holds : (text : List ℕ) (k : ℕ) → Meets text → k < checkpoints text → is_checkpoint k (count_before (fields_of text) k) (output_below text k) (checkpoint_of text (checkpoint_place text k)) ≡ true
+unfolding rules_at
+checkpoint_holds text k meets lt =
+    let one = each_holds (checkpoint_rules (fields_of text)) (checkpoints text) k lt meets.checkpoints_meet in
+    let place = checkpoint_place text k in
+    (rule_holds (is_checkpoint k (count_before (fields_of text) k) (output_below text k) (checkpoint_of text place)) (fault.Checkpoint place) (each 1024 (number_rules (pages text) place (number_of text place))) one).0

@@ -1,0 +1,9 @@
+use Rattle.std.proofs.Common.{arith, ◌<◌}
+use Rattle.oberon_format.proofs.RuleLemmas.{event_input}
+use Rattle.oberon_format.proofs.reading.events_of.Goals as goal
+use Rattle.oberon_format.specs.Layout.{events}
+
+pub event_of-requires-clause-input : goal.event_of-requires-clause-input
+event_of-requires-clause-input c =
+    let lt : c.loop-i.i < events c.args.text.now = omega arith in
+    rw c.u32_at.ensures (event_input c.args.text.now c.loop-i.i c.requires lt)

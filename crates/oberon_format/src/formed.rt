@@ -1,0 +1,26 @@
+//! What the types of a checkpoint's parts say of them. Each function here only reads.
+
+ghost use Rattle.std.specs.Prelude.{map};
+ghost use Rattle.oberon_format.specs.CheckpointParts.{checkpoint_parts};
+ghost use Rattle.oberon_format.specs.Tested.{IsFormed, AreFormed};
+
+use crate::checkpoint::Checkpoint;
+
+/// The parts of a checkpoint are as their types say.
+pub(crate) fn formed(checkpoint: &Checkpoint)
+    ensures { IsFormed (checkpoint_parts checkpoint.now) }
+{
+    let _cpu = &checkpoint.cpu;
+    let _timer = checkpoint.devices.timer();
+    let _bytes = checkpoint.sent.bytes();
+    let _numbers = checkpoint.table.numbers();
+}
+
+/// The parts of all checkpoints are as their types say.
+pub(crate) fn all_formed(checkpoints: &[Checkpoint])
+    ensures { AreFormed (map checkpoint_parts checkpoints.now) }
+{
+    for checkpoint in checkpoints {
+        formed(checkpoint);
+    }
+}

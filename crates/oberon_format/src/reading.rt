@@ -1,0 +1,235 @@
+//! The recording of a text without fault. Whether a text has one is tested before, in `rules`.
+
+ghost use Rattle.std.specs.Prelude.{◌≡◌, ◌≤◌, ◌<◌, ◌+◌, ◌*◌, ◌^◌, ℕ, All, true, length, IfOk, IfErr, slice_index, slice_range, drop, map, MatchOption};
+ghost use Rattle.oberon_format.specs.CheckpointParts.{checkpoint_parts};
+ghost use Rattle.oberon_format.specs.FlagsNumber.{bits_number};
+ghost use Rattle.oberon_format.specs.Layout.{word_at, pages, events, checkpoints, output_place};
+ghost use Rattle.oberon_format.specs.Parts.{parts_of};
+ghost use Rattle.oberon_format.specs.Ranges.{in_ranges, are_keys};
+ghost use Rattle.oberon_format.specs.Recording.{output_of};
+ghost use Rattle.oberon_format.specs.Tested.{IsSized, Meets, IsRefused};
+ghost use Rattle.oberon_format.specs.Text.{EachAt, AreWords, IsPageAt, IsEvent, IsEventAt, IsCpu, IsDevices, IsCheckpoint, IsCheckpointAt, Text};
+ghost use Rattle.oberon_format.specs.TextFields.{first_fault_of, checkpoint_of};
+ghost use Rattle.risc_devices.specs.InputKind.{IsInput};
+ghost use Rattle.risc_machine.specs.MachineState.{cpu_state};
+
+use crate::checkpoint::Checkpoint;
+use crate::fault::Fault;
+use crate::formed::all_formed;
+use crate::number::{u32_at, u64_at};
+use crate::recording::Recording;
+use crate::rules::first_fault;
+use crate::sent::Sent;
+use risc_devices::{Devices, Input};
+use risc_machine::{Cpu, Event, Flags, Inputs};
+use risc_pages::{Page, Pool, Table};
+use std::alloc::{AllocError, Global};
+
+/// The recording of a text, or its first fault. `Memory` is answered only for a text without fault: the whole text is tested
+/// before anything grows, and the test takes no memory.
+pub fn read(alloc: Global, bytes: &[u8]) -> Result<Recording, Fault>
+    // What is read is the recording of the text.
+    ensures found { IfOk result (λ r. Text bytes.now r) }
+    // A text with a fault is answered with its first one.
+    ensures fault { MatchOption (first_fault_of bytes.now) (Unit {0}) (λ f. result ≡ Err f) }
+    // What is refused has that first fault, or has none and there was no room.
+    ensures refused { IfErr result (λ f. IsRefused bytes.now f) }
+{
+    if let Some(fault) = first_fault(bytes) {
+        return Err(fault);
+    }
+    match recording_of(alloc, bytes) {
+        Ok(recording) => Ok(recording),
+        Err(_) => Err(Fault::Memory),
+    }
+}
+
+/// The recording of a text without fault.
+fn recording_of(alloc: Global, text: &[u8]) -> Result<Recording, AllocError>
+    requires { Meets text.now }
+    ensures { IfOk result (λ r. Text text.now r) }
+{
+    let pool = pool_of(alloc, text)?;
+    let inputs = inputs_of(alloc, text)?;
+    let checkpoints = checkpoints_of(alloc, text)?;
+    all_formed(&checkpoints);
+    let _pages = pool.len();
+    let _events = inputs.events();
+    Ok(Recording::from_lawful(pool, inputs, checkpoints))
+}
+
+/// The words from a place on.
+fn words_at<const N: usize>(text: &[u8], place: usize) -> [u32; N]
+    requires { place + 4 * N ≤ length text.now }
+    ensures { AreWords text.now place result }
+{
+    let mut words = [0; N];
+    for i in 0..N {
+        words[i] = u32_at(text, place + 4 * i);
+    }
+    words
+}
+
+/// The pages of a text.
+fn pool_of(alloc: Global, text: &[u8]) -> Result<Pool, AllocError>
+    requires { IsSized text.now }
+    ensures { IfOk result (λ pool. (length pool ≡ pages text.now) × EachAt (IsPageAt text.now) pool) }
+{
+    let mut pool = Pool::with_capacity(alloc, u32_at(text, 8))?;
+    for p in 0..u32_at(text, 8) as usize {
+        let words = words_at(text, 24 + 1024 * p);
+        words_fit(&words);
+        pool.push(Page { words })?;
+    }
+    Ok(pool)
+}
+
+/// Each word is a number of four bytes, as its type says.
+fn words_fit(words: &[u32])
+    ensures all { All (λ word. word < 2 ^ 32) words.now }
+    ensures each { (i : ℕ) → slice_index words.now i < 2 ^ 32 }
+{}
+
+/// The event at a place.
+fn event_of(text: &[u8], place: usize) -> Event
+    requires room { place + 16 ≤ length text.now }
+    requires input { IsInput (word_at text.now (place + 8)) (word_at text.now (place + 12)) }
+    ensures { IsEvent text.now place result }
+{
+    let kind = u32_at(text, place + 8) as u8;
+    let input = Input::new(kind, u32_at(text, place + 12)).unwrap();
+    Event {
+        count: u64_at(text, place),
+        input,
+    }
+}
+
+/// The events of a text.
+fn events_of(alloc: Global, text: &[u8]) -> Result<Vec<Event>, AllocError>
+    requires { Meets text.now }
+    ensures { IfOk result (λ list. (length list.items ≡ events text.now) × EachAt (IsEventAt text.now) list.items) }
+{
+    let first = 24 + 1024 * u32_at(text, 8) as usize;
+    let mut list = Vec::with_capacity(alloc, u32_at(text, 12) as usize)?;
+    for i in 0..u32_at(text, 12) as usize {
+        list.push(event_of(text, first + 16 * i))?;
+    }
+    Ok(list)
+}
+
+/// The inputs of a text.
+fn inputs_of(alloc: Global, text: &[u8]) -> Result<Inputs, AllocError>
+    requires { Meets text.now }
+    ensures { IfOk result (λ inputs. (length inputs ≡ events text.now) × EachAt (IsEventAt text.now) inputs) }
+{
+    let list = events_of(alloc, text)?;
+    match Inputs::new(list) {
+        Ok(inputs) => Ok(inputs),
+        Err(_) => unreachable!(),
+    }
+}
+
+/// The flags of a number.
+fn flags_of(number: u32) -> Flags
+    requires { number < 16 }
+    ensures { bits_number result.n result.z result.c result.v ≡ number }
+{
+    Flags {
+        n: number / 8 % 2 == 1,
+        z: number / 4 % 2 == 1,
+        c: number / 2 % 2 == 1,
+        v: number % 2 == 1,
+    }
+}
+
+/// The processor of the checkpoint at a place.
+fn cpu_of(text: &[u8], place: usize) -> Cpu
+    requires room { place + 4228 ≤ length text.now }
+    requires ranges { in_ranges (checkpoint_of text.now place) ≡ true }
+    ensures { IsCpu text.now place (cpu_state result) }
+{
+    let r = words_at(text, place + 8);
+    words_fit(&r);
+    Cpu {
+        r,
+        h: u32_at(text, place + 72),
+        pc: u32_at(text, place + 76),
+        flags: flags_of(u32_at(text, place + 80)),
+        stop: u32_at(text, place + 84) as u8,
+    }
+}
+
+/// The devices of the checkpoint at a place.
+fn devices_of(text: &[u8], place: usize) -> Devices
+    requires room { place + 4228 ≤ length text.now }
+    requires ranges { in_ranges (checkpoint_of text.now place) ≡ true }
+    requires keys { are_keys (checkpoint_of text.now place) ≡ true }
+    ensures { IsDevices text.now place result }
+{
+    let waiting = u32_at(text, place + 108) as usize;
+    Devices::new(
+        u32_at(text, place + 88),
+        u32_at(text, place + 92) as u16,
+        u32_at(text, place + 96) as u8,
+        u32_at(text, place + 100),
+        u32_at(text, place + 104) as u16,
+        &text[place + 112..place + 112 + waiting],
+    )
+    .unwrap()
+}
+
+/// The table of the checkpoint at a place.
+fn table_of(text: &[u8], place: usize) -> Table
+    requires { place + 4228 ≤ length text.now }
+    ensures { AreWords text.now (place + 132) result }
+{
+    let mut table = Table::zeros();
+    for j in 0..1024u16 {
+        table.set(j, u32_at(text, place + 132 + 4 * j as usize));
+    }
+    table
+}
+
+/// The checkpoint at a place, whose output begins at `from`.
+fn checkpoint_of(
+    alloc: Global,
+    text: &[u8],
+    place: usize,
+    from: usize,
+) -> Result<Checkpoint, AllocError>
+    requires room { place + 4228 ≤ length text.now }
+    requires ranges { in_ranges (checkpoint_of text.now place) ≡ true }
+    requires keys { are_keys (checkpoint_of text.now place) ≡ true }
+    requires output { from + word_at text.now (place + 128) ≤ length text.now }
+    ensures stands { IfOk result (λ c. IsCheckpoint text.now place (checkpoint_parts c)) }
+    ensures sent { IfOk result (λ c. c.sent ≡ slice_range text.now from (from + word_at text.now (place + 128))) }
+{
+    let len = u32_at(text, place + 128) as usize;
+    let sent = Vec::from_slice(alloc, &text[from..from + len])?;
+    Ok(Checkpoint {
+        count: u64_at(text, place),
+        cpu: cpu_of(text, place),
+        devices: devices_of(text, place),
+        sent: Sent::new(sent),
+        table: table_of(text, place),
+    })
+}
+
+/// The checkpoints of a text.
+fn checkpoints_of(alloc: Global, text: &[u8]) -> Result<Vec<Checkpoint>, AllocError>
+    requires { Meets text.now }
+    ensures count { IfOk result (λ list. length list.items ≡ checkpoints text.now) }
+    ensures stand { IfOk result (λ list. EachAt (IsCheckpointAt text.now) (map checkpoint_parts list.items)) }
+    ensures output { IfOk result (λ list. drop (output_place text.now) text.now ≡ output_of (map checkpoint_parts list.items)) }
+{
+    let count = u32_at(text, 16) as usize;
+    let first = 24 + 1024 * u32_at(text, 8) as usize + 16 * u32_at(text, 12) as usize;
+    let mut from = first + 4228 * count;
+    let mut list = Vec::with_capacity(alloc, count)?;
+    for k in 0..count {
+        let place = first + 4228 * k;
+        list.push(checkpoint_of(alloc, text, place, from)?)?;
+        from += u32_at(text, place + 128) as usize;
+    }
+    Ok(list)
+}
