@@ -6,3 +6,4 @@ pub mod RunLemmas
 pub mod RangeLemmas
 pub mod KeepLemmas
 pub mod LawLemmas
+pub mod OutcomeLemmas

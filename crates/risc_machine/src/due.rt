@@ -43,3 +43,25 @@ pub(crate) fn take_inputs(devices: &mut Devices, events: &[Event], place: usize,
     }
     events.len()
 }
+
+/// Takes the inputs of the count `at`, where some are due, and moves on to the next ones.
+#[inline(always)]
+pub(crate) fn feed_due(
+    devices: &mut Devices,
+    events: &[Event],
+    next: &mut usize,
+    due: &mut u64,
+    at: u64,
+)
+    requires next { IsNextAt events.now next.old at }
+    requires due { IsDue events.now next.old due.old }
+    requires small { at < 2 ^ 64 - 1 }
+    ensures devices { devices.new ≡ fed events.now at devices.old }
+    ensures next { IsNextAt events.now next.new (at + 1) }
+    ensures due { IsDue events.now next.new due.new }
+{
+    if at == *due {
+        *next = take_inputs(devices, events, *next, at);
+        *due = due_at(events, *next);
+    }
+}

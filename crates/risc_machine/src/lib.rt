@@ -6,6 +6,7 @@
 #![tactic(auto)]
 
 mod board;
+mod bus;
 mod cpu;
 mod due;
 mod event;
@@ -14,8 +15,10 @@ mod lane;
 mod laws;
 mod machine;
 mod operate;
+mod registers;
 mod replay;
 mod sink;
+mod status;
 
 pub use cpu::Cpu;
 pub use event::Event;
@@ -24,3 +27,6 @@ pub use laws::{run_law, stop_law, stopped_law};
 pub use machine::Machine;
 pub use replay::RunFault;
 pub use risc_core::Flags;
+
+#[cfg(test)]
+mod tests;

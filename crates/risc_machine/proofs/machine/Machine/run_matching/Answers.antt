@@ -2,7 +2,7 @@ use Rattle.std.proofs.Common.{◌≡◌, ◌-◌, List, [], sym, ap, ◌∙◌}
 use Rattle.risc_machine.proofs.RangeLemmas.{run-in_range}
 use Rattle.risc_machine.specs.declared.event.Event.{Event}
 use Rattle.risc_machine.specs.Refusal.{Held}
-use Rattle.risc_machine.specs.Boards.{state_of}
+use Rattle.risc_machine.specs.Boards.{held_of}
 use Rattle.risc_machine.specs.Replay.{sent_of}
 use Rattle.risc_machine.proofs.machine.Machine.run_matching.Goals as goal
 
@@ -12,10 +12,10 @@ returns-clause-same c =
     let m = c.in_ok-run.ensures.ok_sent [] c.new-matching.ensures.matched in
     let w = c.is_whole.ensures _ m in
     let e : c.run.new.sent.expected.now ≡ c.args.expected.now = c.in_ok-run.ensures.sink ∙ c.new-matching.ensures.expected in
-    let bytes : sent_of c.events.result.now c.args.from n (state_of c.self.inside.board) ≡ sent_of c.args.inputs.now c.args.from n c.args.self.now.state =
-    ap (λ (es : List Event). sent_of es c.args.from n (state_of c.self.inside.board)) c.events.ensures.events
+    let bytes : sent_of c.events.result.now c.args.from n (held_of c.self.inside.board).state ≡ sent_of c.args.inputs.now c.args.from n c.args.self.now.state =
+    ap (λ (es : List Event). sent_of es c.args.from n (held_of c.self.inside.board).state) c.events.ensures.events
     ∙ ap (λ (h : Held). sent_of c.args.inputs.now c.args.from n h.state) c.self.view_is in
     (λ t. sym bytes ∙ w.0 t ∙ e, λ s. w.1 (bytes ∙ s ∙ sym e))
 
 pub invariant_of-self-2 : goal.invariant_of-self-2
-invariant_of-self-2 c = run-in_range _ _ _ _ c.self.inside.board c.run.new.self c.run.ensures.ok c.run.ensures.err c.self.invariant
+invariant_of-self-2 c = run-in_range _ _ _ _ (held_of c.self.inside.board) (held_of c.run.new.self) c.run.ensures.ok c.run.ensures.err c.self.invariant

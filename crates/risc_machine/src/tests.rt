@@ -1,0 +1,373 @@
+//! Worked examples, and each call once.
+ghost use Rattle.std.specs.Prelude.{◌≡◌, ◌≤◌, ◌<◌, All, IfOk, length};
+
+use super::*;
+use risc_devices::{Devices, Input};
+use risc_pages::{Page, Pool, Table};
+use std::alloc::{AllocError, Global};
+use std::process::Abort;
+
+/// A jump to itself.
+const JUMP: u32 = 0xE7FF_FFFF;
+
+/// A program that sends one byte, 41 hexadecimal.
+const SENDER: [u32; 4] = [0x5100_FFC8, 0x4000_0041, 0xA010_0000, JUMP];
+
+/// A program at word 0, word 64, and the values of R0, R1, R2 and R15 to begin with.
+#[derive(Clone, Copy)]
+struct Example {
+    program: [u32; 4],
+    word_64: u32,
+    registers: [u32; 4],
+}
+
+/// What an example comes to. The flags are N, Z, C and V as a number.
+#[derive(Clone, Copy, Debug, PartialEq, Eq)]
+struct Outcome {
+    registers: [u32; 4],
+    pc: u32,
+    stop: u8,
+    flags: u8,
+    word_64: u32,
+    timer: u32,
+    keys: usize,
+    sent: usize,
+}
+
+/// Writes a word of a page.
+fn write(page: &mut Page, place: usize, word: u32)
+    requires { place < 256 }
+{
+    page.words[place] = word;
+}
+
+/// A pool of the example's page.
+fn pool_of(alloc: Global, example: Example) -> Result<Pool, AllocError>
+    ensures { IfOk result (λ pool. length pool ≡ 1) }
+{
+    let mut pool = Pool::new(alloc);
+    let mut page = *pool.page(0);
+    write(&mut page, 0, example.program[0]);
+    write(&mut page, 1, example.program[1]);
+    write(&mut page, 2, example.program[2]);
+    write(&mut page, 3, example.program[3]);
+    write(&mut page, 64, example.word_64);
+    pool.push(page)?;
+    Ok(pool)
+}
+
+/// The table with page 1 at place 0 and zeros elsewhere.
+fn first_place() -> Table
+    ensures { All (λ n. n ≤ 1) result }
+{
+    let mut table = Table::zeros();
+    table.set(0, 1);
+    table
+}
+
+/// The example's processor.
+fn cpu_of(example: Example) -> Cpu
+    ensures pc { result.pc ≡ 0 }
+    ensures stop { result.stop ≡ 0 }
+{
+    let mut r = [0; 16];
+    r[0] = example.registers[0];
+    r[1] = example.registers[1];
+    r[2] = example.registers[2];
+    r[15] = example.registers[3];
+    let flags = Flags {
+        n: false,
+        z: false,
+        c: false,
+        v: false,
+    };
+    Cpu {
+        r,
+        h: 0,
+        pc: 0,
+        flags,
+        stop: 0,
+    }
+}
+
+/// The example's machine.
+fn machine_of<'a>(rt: &impl Abort, alloc: Global, pool: &'a Pool, example: Example) -> Machine<'a>
+    requires { length pool.now ≡ 1 }
+{
+    let devices = Devices::new(0, 0, 0, 0, 0, &[]).expect(rt, "the parts are in range");
+    let table = first_place();
+    Machine::start(alloc, pool, &table, cpu_of(example), devices).expect(rt, "there is room")
+}
+
+/// Inputs of these counts, kinds and values.
+fn inputs_of(rt: &impl Abort, alloc: Global, rows: &[(u64, u8, u32)]) -> Result<Inputs, Unordered> {
+    let mut list = Vec::new(alloc);
+    for (count, kind, value) in rows {
+        let input = Input::new(*kind, *value).expect(rt, "the input is in range");
+        let event = Event {
+            count: *count,
+            input,
+        };
+        if list.push(event).is_err() {
+            panic!(rt; "there is room");
+        }
+    }
+    Inputs::new(list)
+}
+
+/// N, Z, C and V as a number.
+fn number_of(flags: Flags) -> u8 {
+    u8::from(flags.n) << 3 | u8::from(flags.z) << 2 | u8::from(flags.c) << 1 | u8::from(flags.v)
+}
+
+/// Where a machine stands that sent so many bytes.
+fn outcome_of(machine: &Machine, sent: usize) -> Outcome {
+    let cpu = *machine.cpu();
+    let registers = [cpu.r[0], cpu.r[1], cpu.r[2], cpu.r[15]];
+    Outcome {
+        registers,
+        pc: cpu.pc,
+        stop: cpu.stop,
+        flags: number_of(cpu.flags),
+        word_64: machine.memory().read(64),
+        timer: machine.devices().timer(),
+        keys: machine.devices().keys().len(),
+        sent,
+    }
+}
+
+/// What an example comes to after so many steps with these inputs.
+fn run_of(
+    rt: &impl Abort,
+    alloc: Global,
+    example: Example,
+    rows: &[(u64, u8, u32)],
+    steps: u64,
+) -> Outcome {
+    let pool = pool_of(alloc, example).expect(rt, "there is room");
+    let mut machine = machine_of(rt, alloc, &pool, example);
+    let mut sent = Vec::new(alloc);
+    match inputs_of(rt, alloc, rows) {
+        Ok(inputs) => machine
+            .run(&inputs, 0, steps, &mut sent)
+            .expect(rt, "there is room"),
+        Err(_) => panic!(rt; "the inputs are in order"),
+    }
+    outcome_of(&machine, sent.len())
+}
+
+const STILL: Outcome = Outcome {
+    registers: [0; 4],
+    pc: 0,
+    stop: 0,
+    flags: 0,
+    word_64: 0,
+    timer: 0,
+    keys: 0,
+    sent: 0,
+};
+
+/// An example with this program and these registers.
+const fn example_of(program: [u32; 4], registers: [u32; 4]) -> Example {
+    Example {
+        program,
+        word_64: 0x4433_2211,
+        registers,
+    }
+}
+
+#[test]
+fn loads_and_links(rt: HostRuntime) {
+    let timer = example_of([0x5100_FFC0, 0x8010_0000, 0, 0], [0; 4]);
+    let want = Outcome {
+        registers: [7, 0xFFFF_FFC0, 0, 0],
+        pc: 2,
+        word_64: 0x4433_2211,
+        timer: 7,
+        ..STILL
+    };
+    assert_eq!(rt; run_of(&rt, rt.alloc(), timer, &[(0, 1, 7)], 2), want);
+    let key = example_of([0x5100_FFDD, 0x9010_0000, 0, 0], [0; 4]);
+    let want = Outcome {
+        registers: [0, 0xFFFF_FFDD, 0, 0],
+        flags: 4,
+        timer: 0,
+        ..want
+    };
+    assert_eq!(rt; run_of(&rt, rt.alloc(), key, &[(0, 4, 0x41)], 2), want);
+    let link = example_of([0, 0, 0xD700_000F, 0], [0, 0, 0, 0x40]);
+    let want = Outcome {
+        registers: [0, 0, 0, 0x0C],
+        pc: 16,
+        flags: 0,
+        ..want
+    };
+    assert_eq!(rt; run_of(&rt, rt.alloc(), link, &[], 3), want);
+}
+
+#[test]
+fn keeps_the_other_lanes(rt: HostRuntime) {
+    let load = example_of([0x9000_0102, 0, 0, 0], [0; 4]);
+    let want = Outcome {
+        registers: [0x33, 0, 0, 0],
+        pc: 1,
+        word_64: 0x4433_2211,
+        ..STILL
+    };
+    assert_eq!(rt; run_of(&rt, rt.alloc(), load, &[], 1), want);
+    let store = example_of([0xB200_0101, 0, 0, 0], [0, 0, 0xAA, 0]);
+    let want = Outcome {
+        registers: [0, 0, 0xAA, 0],
+        word_64: 0x4433_AA11,
+        ..want
+    };
+    assert_eq!(rt; run_of(&rt, rt.alloc(), store, &[], 1), want);
+}
+
+#[test]
+fn stops_and_changes_nothing_else(rt: HostRuntime) {
+    let rows = [
+        (0x000C_0000, 0, 0, 1),
+        (0x400B_0000, 0, 0, 2),
+        (0xC700_0001, 0x10_0000, 262_144, 3),
+        (0xA010_0000, 0x20_0000, 0, 4),
+        (0x8010_0000, 0x20_0000, 0, 4),
+    ];
+    for (word, r1, pc, stop) in rows {
+        let stopper = example_of([word, 0, 0, 0], [5, r1, 6, 0]);
+        let want = Outcome {
+            registers: [5, r1, 6, 0],
+            pc,
+            stop,
+            word_64: 0x4433_2211,
+            ..STILL
+        };
+        assert_eq!(rt; run_of(&rt, rt.alloc(), stopper, &[(2, 1, 7)], 9), want);
+    }
+}
+
+#[test]
+fn runs_off_the_end_and_stays_there(rt: HostRuntime) {
+    let empty = Example {
+        program: [0; 4],
+        word_64: 0,
+        registers: [0; 4],
+    };
+    let want = Outcome {
+        pc: 262_144,
+        stop: 3,
+        flags: 4,
+        ..STILL
+    };
+    assert_eq!(rt;
+        run_of(&rt, rt.alloc(), empty, &[(300_000, 1, 7)], 1 << 40),
+        want
+    );
+}
+
+#[test]
+fn keeps_sixteen_of_seventeen_keys(rt: HostRuntime) {
+    let jump = example_of([JUMP, 0, 0, 0], [0; 4]);
+    let want = Outcome {
+        word_64: 0x4433_2211,
+        keys: 16,
+        ..STILL
+    };
+    assert_eq!(rt; run_of(&rt, rt.alloc(), jump, &[(0, 4, 9); 17], 1), want);
+}
+
+#[test]
+fn takes_inputs_from_a_count_on(rt: HostRuntime) {
+    let jump = example_of([JUMP, 0, 0, 0], [0; 4]);
+    let pool = pool_of(rt.alloc(), jump).expect(&rt, "there is room");
+    let mut machine = machine_of(&rt, rt.alloc(), &pool, jump);
+    match inputs_of(&rt, rt.alloc(), &[(9, 1, 5), (10, 4, 0x41), (20, 4, 0x42)]) {
+        Ok(inputs) => {
+            assert!(rt;
+                machine
+                    .run_matching(&inputs, 0, 10, &[])
+                    .expect(&rt, "there is room")
+            );
+            assert!(rt; machine.devices().keys().is_empty());
+            assert!(rt;
+                machine
+                    .run_matching(&inputs, 10, 20, &[])
+                    .expect(&rt, "there is room")
+            );
+            assert_eq!(rt; machine.devices().keys(), &[0x41][..]);
+            assert_eq!(rt; inputs.events().len(), 3);
+        }
+        Err(_) => panic!(rt; "the inputs are in order"),
+    }
+}
+
+/// Whether an example sends these bytes in four steps.
+fn matches(rt: &impl Abort, alloc: Global, sender: Example, expected: &[u8]) -> bool {
+    let pool = pool_of(alloc, sender).expect(rt, "there is room");
+    let mut machine = machine_of(rt, alloc, &pool, sender);
+    match inputs_of(rt, alloc, &[]) {
+        Ok(inputs) => {
+            let same = machine.run_matching(&inputs, 0, 4, expected);
+            same.expect(rt, "there is room")
+        }
+        Err(_) => panic!(rt; "the inputs are in order"),
+    }
+}
+
+#[test]
+fn sends_a_byte_and_compares_it(rt: HostRuntime) {
+    let sender = example_of(SENDER, [0; 4]);
+    let want = Outcome {
+        registers: [0x41, 0xFFFF_FFC8, 0, 0],
+        pc: 2,
+        word_64: 0x4433_2211,
+        ..STILL
+    };
+    assert_eq!(rt; run_of(&rt, rt.alloc(), sender, &[], 2), want);
+    let want = Outcome {
+        pc: 3,
+        sent: 1,
+        ..want
+    };
+    assert_eq!(rt; run_of(&rt, rt.alloc(), sender, &[], 4), want);
+    assert!(rt; matches(&rt, rt.alloc(), sender, &[0x41]));
+    assert!(rt; !matches(&rt, rt.alloc(), sender, &[]));
+    assert!(rt; !matches(&rt, rt.alloc(), sender, &[0x42]));
+    assert!(rt; !matches(&rt, rt.alloc(), sender, &[0x41, 0x41]));
+}
+
+#[test]
+fn steps_and_closes(rt: HostRuntime) {
+    let stores = example_of([0xA200_0100, 0, 0, 0], [0, 0, 5, 0]);
+    let pool = pool_of(rt.alloc(), stores).expect(&rt, "there is room");
+    let mut machine = machine_of(&rt, rt.alloc(), &pool, stores);
+    assert!(rt; !machine.memory().owned(0));
+    assert_eq!(rt; machine.step().expect(&rt, "there is room"), None);
+    assert!(rt; machine.memory().owned(0));
+    let (cpu, devices, delta) = machine.close().expect(&rt, "there is room");
+    assert_eq!(rt; (cpu.r[2], cpu.pc, devices.leds()), (5, 1, 0));
+    assert_eq!(rt; delta.changed.len(), 1);
+}
+
+#[test]
+fn hands_back_inputs_that_are_out_of_order(rt: HostRuntime) {
+    let last = 1 << 40;
+    let rows = [
+        ([(0, 1, 0), (5, 1, 0), (4, 1, 0)], Some(2)),
+        ([(7, 1, 0), (5, 1, 0), (6, 1, 0)], Some(1)),
+        ([(last + 1, 1, 0), (0, 1, 0), (0, 1, 0)], Some(0)),
+        ([(0, 1, 0), (0, 1, 0), (last, 1, 0)], None),
+    ];
+    for (row, want) in rows {
+        match inputs_of(&rt, rt.alloc(), &row) {
+            Ok(inputs) => {
+                assert_eq!(rt; want, None);
+                assert_eq!(rt; inputs.events().len(), 3);
+            }
+            Err(unordered) => {
+                assert_eq!(rt; want, Some(unordered.at));
+                assert_eq!(rt; unordered.list.len(), 3);
+            }
+        }
+    }
+}
