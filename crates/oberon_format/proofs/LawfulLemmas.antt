@@ -1,17 +1,19 @@
 -- Parts are lawful exactly where the text laid out of them has no fault.
-use Rattle.std.proofs.Common.{◌≡◌, ◌<◌, ◌≤◌, ◌+◌, ◌-◌, ◌*◌, ◌∙◌, ℕ, zero, suc, Bool, true, ◌&&◌, eqb, List, [], ◌∷◌, map, get_or, length, None, refl, sym, ap, subst, arith, add-one, eq-eqb}
+use Rattle.std.proofs.Common.{◌≡◌, ◌<◌, ◌≤◌, ◌+◌, ◌-◌, ◌*◌, ◌∙◌, ℕ, zero, suc, Bool, true, ◌&&◌, eqb, List, [], ◌∷◌, map, get_or, length, None, refl, sym, ap, subst, arith, add-one, eq-eqb, false, Option, Some}
 use Rattle.std.specs.Prelude.{slice_index, replicate, nat_le, nat_lt, if◌then◌else◌, ◌==◌}
 use Rattle.std.specs.List.{list_all}
+use Rattle.std.specs.Option.{IfNone}
 use Rattle.std.proofs.lemmas.Bool.{le-leb, lt-ltb, leb-true, ltb-true}
 use Rattle.std.proofs.lemmas.List.{get_or_default}
 use Rattle.std.proofs.lemmas.Bool.Decides.{nat_tests}
 use Rattle.risc_devices.specs.DeviceState.{DeviceState, IsDeviceState, serial_number}
-use Rattle.risc_devices.specs.InputKind.{is_input}
+use Rattle.risc_devices.specs.InputKind.{is_input, is_mouse}
 use Rattle.risc_machine.specs.declared.event.Event.{Event}
 use Rattle.risc_machine.specs.InputOrder.{AreOrdered}
 use Rattle.risc_machine.specs.InputOrder.{count_before as before_count}
 use Rattle.risc_pages.specs.Pages.{ArePages}
 use Rattle.risc_machine.specs.MachineState.{CpuState}
+use Rattle.oberon_format.specs.declared.fault.Fault.{Fault}
 use Rattle.oberon_format.specs.declared.fault.Fault.TheVariants as fault
 use Rattle.oberon_format.specs.CheckpointParts.{CheckpointParts, no_checkpoint}
 use Rattle.oberon_format.specs.Fields.{Fields, EventFields, CheckpointFields, sent_below}
@@ -23,7 +25,7 @@ use Rattle.oberon_format.specs.Ranges.{is_count, is_output, in_ranges, are_keys,
 use Rattle.oberon_format.specs.Recording.{RecordingParts, IsLawful, checkpoint_at, count_at, output_of}
 use Rattle.oberon_format.specs.Rules.{header_rules, event_rules, event_floor, place_of_checkpoint, number_rules, rules_at, count_before, checkpoint_rules}
 use Rattle.oberon_format.specs.Tested.{IsFormed, AreFormed}
-use Rattle.oberon_format.proofs.RuleLemmas.{AreMet, met_parts, parts_met, each_holds, each_all, rule_holds, and_left, and_right}
+use Rattle.oberon_format.proofs.RuleLemmas.{any_in_end, any_in_checkpoints, AreMet, met_parts, parts_met, each_holds, each_all, rule_holds, and_left, and_right}
 use Rattle.oberon_format.proofs.PartLemmas.{member, event_here, checkpoint_here, before_more, sent_none, sent_more, total_le, sent_all, rules_here, ends_met}
 
 -- zeros are zeros
@@ -31,15 +33,11 @@ zeros_met : (n : ℕ) → list_all (λ byte. eqb byte 0) (replicate n 0) ≡ tru
 zeros_met zero = refl
 zeros_met (suc n) = zeros_met n
 
-flags_fit : (cpu : CpuState) → flags_number cpu < 16
+pub flags_fit : (cpu : CpuState) → flags_number cpu < 16
 flags_fit cpu = grind arith
 
-serial_fits : (d : DeviceState) → IsDeviceState d → serial_number d < 512
+pub serial_fits : (d : DeviceState) → IsDeviceState d → serial_number d < 512
 serial_fits d fits = let s = fits.serial in grind arith
-
--- what a checkpoint's types don't say of its ranges
-pub own_ranges : CheckpointParts → Bool
-own_ranges c = nat_lt c.cpu.pc 4194304 && nat_le c.cpu.stop 4
 
 -- the keys of formed parts
 pub keys_met : (c : CheckpointParts) → IsFormed c → are_keys (checkpoint_fields c) ≡ true
@@ -47,15 +45,30 @@ keys_met c formed =
     let few : nat_le (length c.devices.keys) 16 ≡ true = le-leb _ _ formed.devices.keys in
     rw (few, zeros_met (16 - length c.devices.keys)) refl
 
+two_of_seven : (a f b s l m x : Bool) → f ≡ true → s ≡ true → l ≡ true → m ≡ true → x ≡ true → (a && f && b && s && l && m && x) ≡ (a && b)
+two_of_seven true f true s l m x hf hs hl hm hx = rw (hf, hs, hl, hm, hx) refl
+two_of_seven true f false s l m x hf hs hl hm hx = rw hf refl
+two_of_seven false f b s l m x hf hs hl hm hx = refl
+
 -- the ranges of formed parts are those of the program counter and the stop
+pub ranges_are : (c : CheckpointParts) → IsFormed c → in_ranges (checkpoint_fields c) ≡ (nat_lt c.cpu.pc 4194304 && nat_le c.cpu.stop 4)
+ranges_are c formed =
+    two_of_seven (nat_lt c.cpu.pc 4194304) (nat_lt (flags_number c.cpu) 16) (nat_le c.cpu.stop 4) (nat_lt c.devices.switches 4096) (nat_lt c.devices.leds 256) (is_mouse c.devices.mouse) (nat_lt (serial_number c.devices) 512)
+    (lt-ltb _ _ (flags_fit c.cpu)) (lt-ltb _ _ formed.devices.switches) (lt-ltb _ _ formed.devices.leds) formed.devices.mouse (lt-ltb _ _ (serial_fits c.devices formed.devices))
+
 pub ranges_met : (c : CheckpointParts) → IsFormed c → nat_lt c.cpu.pc 4194304 ≡ true → nat_le c.cpu.stop 4 ≡ true → in_ranges (checkpoint_fields c) ≡ true
-ranges_met c formed pc stop =
-    let flags = flags_fit c.cpu in
-    let serial = serial_fits c.devices formed.devices in
-    let switches = formed.devices.switches in
-    let leds = formed.devices.leds in
-    let mouse = formed.devices.mouse in
-    grind (arith, nat_tests)
+ranges_met c formed pc stop = ranges_are c formed ∙ rw (pc, stop) refl
+
+-- the test of a checkpoint's fields, where its parts are formed
+pub checkpoint_test : (k before sent : ℕ) (c : CheckpointParts) → IsFormed c
+    → is_count k before c.count ≡ true → (nat_lt c.cpu.pc 4194304 && nat_le c.cpu.stop 4) ≡ true → is_checkpoint k before sent (checkpoint_fields c) ≡ is_output k sent (length c.sent)
+checkpoint_test k before sent c formed count ranges = rw (count, ranges_are c formed, ranges, keys_met c formed) refl
+
+pub count_fails : (k before sent : ℕ) (c : CheckpointParts) → is_count k before c.count ≡ false → is_checkpoint k before sent (checkpoint_fields c) ≡ false
+count_fails k before sent c count = rw count refl
+
+pub ranges_fail : (k before sent : ℕ) (c : CheckpointParts) → IsFormed c → is_count k before c.count ≡ true → (nat_lt c.cpu.pc 4194304 && nat_le c.cpu.stop 4) ≡ false → is_checkpoint k before sent (checkpoint_fields c) ≡ false
+ranges_fail k before sent c formed count ranges = rw (count, ranges_are c formed, ranges) refl
 
 -- what the header's rules say of the numbers
 pub record IsWithin (f : Fields) : Type 0 where
@@ -287,3 +300,15 @@ faultless_lawful r pages ordered formed h = met_lawful r pages ordered formed (m
 
 pub lawful_faultless : (r : RecordingParts) → IsLawful r → fault_of_parts r ≡ None
 lawful_faultless r lawful = parts_met (fields_of_parts r) (lawful_met r (lawful_formed r lawful) lawful)
+
+-- the first fault of parts in order is that of their checkpoints, where their numbers are within limits
+pub parts_rest : (r : RecordingParts) (n : ℕ) (o : Option Fault) → n ≡ length r.checkpoints → AreOrdered r.inputs → first_broken (header_rules (fields_of_parts r)) ≡ None
+    → first_broken (each n (checkpoint_rules (fields_of_parts r))) ≡ o → fault_of_parts r ≡ o
+parts_rest r n None len ordered h e =
+    any_in_end (fields_of_parts r) h (events_met r ordered) (ap (λ (m : ℕ). first_broken (each m (checkpoint_rules (fields_of_parts r)))) (sym len) ∙ e) ∙ ends_met r
+parts_rest r n (Some g) len ordered h e =
+    any_in_checkpoints (fields_of_parts r) g h (events_met r ordered) (ap (λ (m : ℕ). first_broken (each m (checkpoint_rules (fields_of_parts r)))) (sym len) ∙ e)
+
+pub if_none : (o : Option Fault) (P : Type 0) → (o ≡ None → P) → IfNone o P
+if_none None P h = h refl
+if_none (Some f) P h = tt

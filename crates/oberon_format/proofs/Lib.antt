@@ -9,3 +9,6 @@ pub mod SameFields
 pub mod Agree
 pub mod LawfulLemmas
 pub mod ReadLemmas
+pub mod WriteLemmas
+pub mod Stands
+pub mod Spelled

@@ -66,6 +66,16 @@ rules_here r k place before sent lt at b s =
     ∙ ap (λ (p : ℕ). rules_at (length r.pool) place k p (sent_below f k) c n) (sym b)
     ∙ ap (λ (p : ℕ). rules_at (length r.pool) place k before p c n) (sym s)
 
+-- the same, of a checkpoint that is known by its parts
+pub rules_with : (r : RecordingParts) (k pages place before sent : ℕ) (c : CheckpointParts) → k < length r.checkpoints → checkpoint_at r k ≡ c → pages ≡ length r.pool
+    → place ≡ 24 + 1024 * length r.pool + 16 * length r.inputs + 4228 * k
+    → before ≡ count_before (fields_of_parts r) k → sent ≡ sent_below (fields_of_parts r) k
+    → checkpoint_rules (fields_of_parts r) k ≡ rules_at pages place k before sent (checkpoint_fields c) (slice_index c.table)
+rules_with r k pages place before sent c lt here count at b s =
+    rules_here r k place before sent lt at b s
+    ∙ ap (λ (x : CheckpointParts). rules_at (length r.pool) place k before sent (checkpoint_fields x) (slice_index x.table)) here
+    ∙ ap (λ (p : ℕ). rules_at p place k before sent (checkpoint_fields c) (slice_index c.table)) (sym count)
+
 total_head : (f : ℕ → ℕ) (n : ℕ) → total f (suc n) ≡ f 0 + total (λ i. f (suc i)) n
 unfolding total
 total_head f zero = omega arith

@@ -11,11 +11,13 @@ mod fault;
 mod formed;
 mod line;
 mod number;
+mod parts;
 mod ranges;
 mod reading;
 mod recording;
 mod rules;
 mod sent;
+mod writing;
 
 pub use checkpoint::Checkpoint;
 pub use fault::Fault;
@@ -23,3 +25,4 @@ pub use line::refusal;
 pub use reading::read;
 pub use recording::Recording;
 pub use sent::Sent;
+pub use writing::write;

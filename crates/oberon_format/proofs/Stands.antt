@@ -1,0 +1,104 @@
+-- Bytes that stand in a text from a place on.
+use Rattle.std.proofs.Common.{◌≡◌, ◌<◌, ◌+◌, ◌-◌, ◌*◌, ◌^◌, ◌∙◌, ℕ, zero, suc, List, [], ◌∷◌, ◌++◌, length, drop, get_or, refl, sym, ap, subst, arith, add-zero, zero-add, append_assoc, length-append}
+use Rattle.std.specs.Prelude.{All, slice_range}
+use Rattle.std.specs.List.{flat_map}
+use Rattle.std.proofs.lemmas.List.{drop_at, take_at, append-nil}
+use Rattle.byteorder.specs.Endian.{little_from, little_bytes}
+use Rattle.byteorder.specs.Numbers.{little_number-reads_back, length-bytes_low_first}
+use Rattle.oberon_format.proofs.Numbers.{little_from-drop}
+use Rattle.oberon_format.specs.Layout.{long_at, word_at}
+use Rattle.oberon_format.specs.Spelling.{long_bytes, word_bytes, words_bytes}
+use Rattle.oberon_format.specs.Text.{AreWords, EachAt}
+
+-- numbers of four bytes
+abbrev pub AreWide : List ℕ → Type 0
+AreWide xs = All (λ x. x < 2 ^ 32) xs
+
+-- these bytes stand in the text at a place
+pub record Stands (text : List ℕ) (place : ℕ) (bytes : List ℕ) : Type 0 where
+  pub front : List ℕ
+  pub back : List ℕ
+  pub is : text ≡ front ++ (bytes ++ back)
+  pub here : length front ≡ place
+
+pub stands_whole : (text : List ℕ) → Stands text 0 text
+stands_whole text = record { front = []; back = []; is = sym (append-nil text); here = refl }
+
+pub stands_left : (text : List ℕ) (place : ℕ) (xs ys : List ℕ) → Stands text place (xs ++ ys) → Stands text place xs
+stands_left text place xs ys s = record {
+  front = s.front;
+  back = ys ++ s.back;
+  is = s.is ∙ ap (λ (l : List ℕ). s.front ++ l) (append_assoc xs ys s.back);
+  here = s.here;
+}
+
+pub stands_right : (text : List ℕ) (place n : ℕ) (xs ys : List ℕ) → Stands text place (xs ++ ys) → length xs ≡ n → Stands text (place + n) ys
+stands_right text place n xs ys s e = record {
+  front = s.front ++ xs;
+  back = s.back;
+  is = s.is ∙ ap (λ (l : List ℕ). s.front ++ l) (append_assoc xs ys s.back) ∙ sym (append_assoc s.front xs (ys ++ s.back));
+  here = omega (arith, length-append s.front xs, s.here, e);
+}
+
+pub stands_regroup : (text : List ℕ) (place : ℕ) (xs ys zs : List ℕ) → Stands text place (xs ++ ys ++ zs) → Stands text place (xs ++ (ys ++ zs))
+stands_regroup text place xs ys zs s = subst (Stands text place) (append_assoc xs ys zs) s
+
+pub stands_from : (text : List ℕ) (n : ℕ) (xs ys : List ℕ) → Stands text 0 (xs ++ ys) → length xs ≡ n → Stands text n ys
+stands_from text n xs ys s e = subst (λ (k : ℕ). Stands text k ys) (zero-add n) (stands_right text 0 n xs ys s e)
+
+pub stands_drop : (text : List ℕ) (place : ℕ) (bytes : List ℕ) (s : Stands text place bytes) → drop place text ≡ bytes ++ s.back
+stands_drop text place bytes s = ap (drop place) s.is ∙ drop_at s.front (bytes ++ s.back) place s.here
+
+pub stands_range : (text : List ℕ) (place to : ℕ) (bytes : List ℕ) → Stands text place bytes → to ≡ place + length bytes → slice_range text place to ≡ bytes
+stands_range text place to bytes s e =
+    let n : to - place ≡ length bytes = omega arith in
+    rw (n, stands_drop text place bytes s) (take_at bytes s.back (length bytes) refl)
+
+pub word_stands : (text : List ℕ) (place x : ℕ) → Stands text place (word_bytes x) → x < 2 ^ 32 → word_at text place ≡ x
+unfolding word_at word_bytes
+word_stands text place x s lt =
+    sym (little_from-drop 4 0 place text ∙ ap (λ (k : ℕ). little_from k 4 text) (add-zero place))
+    ∙ ap (little_from 0 4) (stands_drop text place (little_bytes 4 x) s)
+    ∙ little_number-reads_back 4 x s.back lt
+
+pub long_stands : (text : List ℕ) (place x : ℕ) → Stands text place (long_bytes x) → x < 2 ^ 64 → long_at text place ≡ x
+unfolding long_at long_bytes
+long_stands text place x s lt =
+    sym (little_from-drop 8 0 place text ∙ ap (λ (k : ℕ). little_from k 8 text) (add-zero place))
+    ∙ ap (little_from 0 8) (stands_drop text place (little_bytes 8 x) s)
+    ∙ little_number-reads_back 8 x s.back lt
+
+pub length-word_bytes : (x : ℕ) → length (word_bytes x) ≡ 4
+unfolding word_bytes
+length-word_bytes x = length-bytes_low_first 0 4 x
+
+pub length-long_bytes : (x : ℕ) → length (long_bytes x) ≡ 8
+unfolding long_bytes
+length-long_bytes x = length-bytes_low_first 0 8 x
+
+-- parts of one length
+pub each_stands : {X : Type 0} (f : X → List ℕ) (n : ℕ) (text : List ℕ) (place : ℕ) (xs : List X) → ((i : ℕ) (d : X) → i < length xs → length (f (get_or xs i d)) ≡ n)
+    → Stands text place (flat_map f xs) → EachAt (λ i x. Stands text (place + n * i) (f x)) xs
+each_stands {X} f n text place [] len s i d h = absurd (omega arith)
+each_stands {X} f n text place (x ∷ xs) len s zero d h =
+    let e : place ≡ place + n * zero = omega arith in
+    subst (λ (p : ℕ). Stands text p (f x)) e (stands_left text place (f x) (flat_map f xs) s)
+each_stands {X} f n text place (x ∷ xs) len s (suc i) d h =
+    let rest = stands_right text place n (f x) (flat_map f xs) s (len 0 d (omega arith)) in
+    let ih = each_stands f n text (place + n) xs (λ k e lt. len (suc k) e (omega arith)) rest i d (omega arith) in
+    let e : place + n + n * i ≡ place + n * suc i = omega arith in
+    subst (λ (p : ℕ). Stands text p (f (get_or xs i d))) e ih
+
+pub length-flat_map : {X : Type 0} (f : X → List ℕ) (n : ℕ) (xs : List X) → ((i : ℕ) (d : X) → i < length xs → length (f (get_or xs i d)) ≡ n) → length (flat_map f xs) ≡ n * length xs
+length-flat_map {X} f n [] len = omega arith
+length-flat_map {X} f n (x ∷ xs) len =
+    let ih = length-flat_map f n xs (λ k e lt. len (suc k) e (omega arith)) in
+    let first : length (f x) ≡ n = len 0 x (omega arith) in
+    length-append (f x) (flat_map f xs) ∙ omega arith
+
+pub words_stand : (text : List ℕ) (place : ℕ) (xs : List ℕ) → AreWide xs → Stands text place (words_bytes xs) → AreWords text place xs
+words_stand text place xs wide s i d h =
+    word_stands text (place + 4 * i) (get_or xs i d) (each_stands word_bytes 4 text place xs (λ k e lt. length-word_bytes (get_or xs k e)) s i d h) (wide i d h)
+
+pub length-words_bytes : (xs : List ℕ) → length (words_bytes xs) ≡ 4 * length xs
+length-words_bytes xs = length-flat_map word_bytes 4 xs (λ k e lt. length-word_bytes (get_or xs k e))

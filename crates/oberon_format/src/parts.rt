@@ -1,0 +1,164 @@
+//! A recording made of its parts, or refused with the first fault of the text that would be laid out of them.
+//!
+//! What the types of the parts say isn't tested again: devices and inputs are in their ranges, and inputs in their order. Nothing
+//! here takes memory.
+
+ghost use Rattle.std.specs.Prelude.{◌≡◌, ◌<◌, ◌≤◌, ◌+◌, ◌&&◌, nat_le, nat_lt, length, slice_index};
+ghost use Rattle.std.specs.Option.{IfNone};
+ghost use Rattle.oberon_format.specs.CheckpointParts.{checkpoint_parts};
+ghost use Rattle.oberon_format.specs.FirstFault.{first_broken, each};
+ghost use Rattle.oberon_format.specs.PartFields.{fields_of_parts, fault_of_parts, checkpoint_fields};
+ghost use Rattle.oberon_format.specs.Parts.{parts_of};
+ghost use Rattle.oberon_format.specs.Ranges.{is_checkpoint};
+ghost use Rattle.oberon_format.specs.Recording.{IsLawful};
+ghost use Rattle.oberon_format.specs.Rules.{header_rules, checkpoint_rules, number_rules, rules_at};
+
+use crate::checkpoint::Checkpoint;
+use crate::fault::Fault;
+use crate::formed::{all_formed, formed};
+use crate::ranges::{MAX_CHECKPOINTS, MAX_EVENTS, MAX_PAGES, is_count, is_output};
+use crate::recording::Recording;
+use risc_machine::{Cpu, Inputs};
+use risc_pages::{Pool, Table};
+
+impl Recording {
+    ghost use Rattle.std.specs.Prelude.{◌≡◌, ◌↔◌, Some, IfOk, IfErr, IsOk};
+    ghost use Rattle.oberon_format.specs.PartFields.{fault_of_parts};
+    ghost use Rattle.oberon_format.specs.Parts.{parts_of};
+    ghost use Rattle.oberon_format.specs.Recording.{IsLawful};
+
+    /// The recording of these parts.
+    ///
+    /// Refused exactly where the text laid out of them has a first fault, with that fault: a number too large for its field breaks
+    /// that field's rule. The parts are then given up. Never answers `Memory`.
+    pub fn from_parts(
+        pool: Pool,
+        inputs: Inputs,
+        checkpoints: Vec<Checkpoint>,
+    ) -> Result<Recording, Fault>
+        // The recording has these parts.
+        ensures parts { IfOk result (λ r. r ≡ parts_of pool inputs checkpoints.items) }
+        // It is made exactly where they are lawful.
+        ensures lawful { IsOk result ↔ IsLawful (parts_of pool inputs checkpoints.items) }
+        // Else the fault is the first one of their text.
+        ensures refused { IfErr result (λ f. fault_of_parts (parts_of pool inputs checkpoints.items) ≡ Some f) }
+    {
+        if let Some(fault) = parts_fault(&pool, &inputs, &checkpoints) {
+            return Err(fault);
+        }
+        Ok(Recording::from_lawful(pool, inputs, checkpoints))
+    }
+}
+
+/// The first fault of the text of these parts.
+fn parts_fault(pool: &Pool, inputs: &Inputs, checkpoints: &[Checkpoint]) -> Option<Fault>
+    ensures fault { result ≡ fault_of_parts (parts_of pool.now inputs.now checkpoints.now) }
+    ensures lawful { IfNone result (IsLawful (parts_of pool.now inputs.now checkpoints.now)) }
+{
+    all_formed(checkpoints);
+    let _pages = pool.len();
+    let _events = inputs.events();
+    if let Some(fault) = counts_fault(pool, inputs, checkpoints) {
+        return Some(fault);
+    }
+    checkpoints_fault(pool, inputs, checkpoints)
+}
+
+/// The first fault of the numbers of parts.
+fn counts_fault(pool: &Pool, inputs: &Inputs, checkpoints: &[Checkpoint]) -> Option<Fault>
+    ensures fault { result ≡ first_broken (header_rules (fields_of_parts (parts_of pool.now inputs.now checkpoints.now))) }
+    ensures pages { IfNone result (length pool.now ≤ 65536) }
+    ensures events { IfNone result (length inputs.now ≤ 1000000) }
+    ensures few { IfNone result (length checkpoints.now ≤ 4097) }
+{
+    if pool.len() > MAX_PAGES {
+        return Some(Fault::Limit(8));
+    }
+    if inputs.events().len() > MAX_EVENTS as usize {
+        return Some(Fault::Limit(12));
+    }
+    if checkpoints.len() < 1 || checkpoints.len() > MAX_CHECKPOINTS as usize {
+        return Some(Fault::Limit(16));
+    }
+    None
+}
+
+/// Whether the program counter and the stop are in their ranges.
+fn in_ranges(cpu: &Cpu) -> bool
+    ensures { result ≡ (nat_lt cpu.now.pc 4194304 && nat_le cpu.now.stop 4) }
+{
+    cpu.pc < 4_194_304 && cpu.stop <= 4
+}
+
+/// Whether the fields before the table of checkpoint k are in their ranges, after a count and a length of output.
+fn is_checkpoint(k: usize, before: u64, sent: u64, checkpoint: &Checkpoint) -> bool
+    requires { sent ≤ 1048576 }
+    ensures { result ≡ is_checkpoint k before sent (checkpoint_fields (checkpoint_parts checkpoint.now)) }
+{
+    formed(checkpoint);
+    let own = checkpoint.sent.bytes().len() as u64;
+    if !is_count(k, before, checkpoint.count) {
+        return false;
+    }
+    if !in_ranges(&checkpoint.cpu) {
+        return false;
+    }
+    is_output(k, sent, own)
+}
+
+/// The first fault of the page numbers of a table, whose checkpoint begins at a place.
+fn numbers_fault(pages: u32, place: u64, table: &Table) -> Option<Fault>
+    requires { place < 1000000000 }
+    ensures { result ≡ first_broken (each 1024 (number_rules pages place (slice_index table.now))) }
+{
+    let numbers = table.numbers();
+    for j in 0..1024 {
+        if numbers[j] > pages {
+            return Some(Fault::Page(place + 132 + 4 * j as u64));
+        }
+    }
+    None
+}
+
+/// The first fault of checkpoint k, which begins at a place.
+#[tactic(auto, unfolding(crate::specs::Rules::rules_at))]
+fn checkpoint_fault(
+    pages: u32,
+    place: u64,
+    k: usize,
+    before: u64,
+    sent: u64,
+    checkpoint: &Checkpoint,
+) -> Option<Fault>
+    requires place { place < 1000000000 }
+    requires sent { sent ≤ 1048576 }
+    ensures fault { result ≡ first_broken (rules_at pages place k before sent (checkpoint_fields (checkpoint_parts checkpoint.now)) (slice_index checkpoint.now.table)) }
+    ensures small { IfNone result (sent + length checkpoint.now.sent ≤ 1048576) }
+{
+    if !is_checkpoint(k, before, sent, checkpoint) {
+        return Some(Fault::Checkpoint(place));
+    }
+    numbers_fault(pages, place, &checkpoint.table)
+}
+
+/// The first fault of the checkpoints.
+fn checkpoints_fault(pool: &Pool, inputs: &Inputs, checkpoints: &[Checkpoint]) -> Option<Fault>
+    requires pages { length pool.now ≤ 65536 }
+    requires events { length inputs.now ≤ 1000000 }
+    requires few { length checkpoints.now ≤ 4097 }
+    ensures { result ≡ first_broken (each (length checkpoints.now) (checkpoint_rules (fields_of_parts (parts_of pool.now inputs.now checkpoints.now)))) }
+{
+    let first = 24 + 1024 * pool.len() as u64 + 16 * inputs.events().len() as u64;
+    let mut before = 0;
+    let mut sent = 0;
+    for k in 0..checkpoints.len() {
+        let checkpoint = &checkpoints[k];
+        let place = first + 4228 * k as u64;
+        if let Some(fault) = checkpoint_fault(pool.len(), place, k, before, sent, checkpoint) {
+            return Some(fault);
+        }
+        before = checkpoint.count;
+        sent += checkpoint.sent.bytes().len() as u64;
+    }
+    None
+}
