@@ -1,0 +1,9 @@
+pub mod Difference
+pub mod Verdict
+pub mod Line
+pub mod Headline
+pub mod Laws
+pub mod Segment
+pub mod Collecting
+pub mod Tally
+pub mod Run

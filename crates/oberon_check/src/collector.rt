@@ -1,0 +1,118 @@
+//! The collector: what segment verdicts, in any order, come to.
+//!
+//! Here live the tally of segment verdicts and the faults of lists that have too many or too few. What one segment's replay
+//! finds lives in `segment`.
+ghost use Rattle.std.specs.Prelude.{◌≡◌, ◌<◌, ◌≤◌, ℕ, All, IfOk, IfErr, OnOk, MatchOption, length};
+ghost use Rattle.oberon_check.specs.Verdict.{IsVerdict};
+ghost use Rattle.oberon_check.specs.Segment.{Finding, IsTrueFinding};
+ghost use Rattle.oberon_check.specs.Collecting.{IsFirstDouble, IsCollectFault};
+ghost use Rattle.oberon_check.specs.Tally.{IsTally, end_of, IsMarked, lesser_of};
+
+use crate::part::Part;
+use crate::segment::SegmentVerdict;
+use crate::verdict::Verdict;
+use oberon_format::Recording;
+use thiserror::Error;
+
+/// Why segment verdicts don't come to one verdict.
+#[derive(Clone, Copy, Debug, PartialEq, Eq, Error)]
+pub enum CollectFault {
+    /// This segment has two verdicts: that of the first verdict whose segment stood before it.
+    #[error("segment {0} has two verdicts")]
+    Double(u32),
+    /// No segment has two verdicts, and this is the least one without a verdict, among those below the least failed segment
+    /// or among all where none failed.
+    #[error("segment {0} has no verdict")]
+    Missing(u32),
+}
+
+// Which segments have a verdict, and the least that failed.
+#[derive(Clone, Copy)]
+struct Tally {
+    seen: [bool; 4096],
+    least: Option<(u32, Part)>,
+}
+
+// The least failed segment with its part, once one verdict more is taken in.
+fn lesser(least: Option<(u32, Part)>, segment: u32, part: Option<Part>) -> Option<(u32, Part)>
+    ensures { result ≡ lesser_of least segment part }
+{
+    let Some(part) = part else {
+        return least;
+    };
+    match least {
+        Some((first, _)) if first <= segment => least,
+        _ => Some((segment, part)),
+    }
+}
+
+// The number of segments that have to have a verdict.
+fn end(least: Option<(u32, Part)>, last: u32) -> u32
+    ensures { result ≡ end_of least last }
+{
+    match least {
+        Some((segment, _)) => segment,
+        None => last,
+    }
+}
+
+// The tally of the verdicts, or the first segment that stood before.
+fn tally_of(verdicts: &[SegmentVerdict]) -> Result<Tally, u32>
+    ensures ok { IfOk result (λ t. IsTally verdicts.now (length verdicts.now) t.seen t.least) }
+    ensures findings { IfOk result (λ t. All IsTrueFinding verdicts.now) }
+    ensures double { IfErr result (IsFirstDouble verdicts.now) }
+{
+    let mut seen = [false; 4096];
+    let mut least = None;
+    for verdict in verdicts {
+        let segment = verdict.segment();
+        if seen[segment as usize] {
+            return Err(segment);
+        }
+        seen[segment as usize] = true;
+        least = lesser(least, segment, verdict.part());
+    }
+    Ok(Tally { seen, least })
+}
+
+// The first segment below `end` that has no mark.
+fn first_unmarked(seen: &[bool; 4096], end: u32) -> Option<u32>
+    requires { end ≤ 4096 }
+    ensures { MatchOption result ((s : ℕ) → s < end → IsMarked seen.now s) (λ x. (x < end) × ¬ (IsMarked seen.now x) × ((s : ℕ) → s < x → IsMarked seen.now s)) }
+{
+    for segment in 0..end {
+        if !seen[segment as usize] {
+            return Some(segment);
+        }
+    }
+    None
+}
+
+/// The verdict that segment verdicts of a recording come to, in whatever order they come. Those above the least failed
+/// segment may be wanting. It answers a verdict exactly where there is no [`CollectFault`], and takes no memory.
+pub fn collect(r: &Recording, verdicts: &[SegmentVerdict]) -> Result<Verdict, CollectFault>
+    requires { All (λ v. v.recording ≡ r.now) verdicts.now }
+    ensures verdict { IfOk result (IsVerdict r.now) }
+    ensures whole { OnOk result ((fault : _) → ¬ (IsCollectFault r.now verdicts.now fault)) }
+    ensures fault { IfErr result (IsCollectFault r.now verdicts.now) }
+{
+    let last = r.count() - 1;
+    let tally = match tally_of(verdicts) {
+        Ok(tally) => tally,
+        Err(segment) => return Err(CollectFault::Double(segment)),
+    };
+    if let Some(segment) = first_unmarked(&tally.seen, end(tally.least, last)) {
+        return Err(CollectFault::Missing(segment));
+    }
+    match tally.least {
+        Some((segment, part)) => Ok(Verdict::FalseAt {
+            checkpoint: segment + 1,
+            count: r.checkpoint(segment + 1).count,
+            part,
+        }),
+        None => Ok(Verdict::Accepted {
+            checkpoints: last,
+            steps: r.checkpoint(last).count,
+        }),
+    }
+}

@@ -1,0 +1,101 @@
+//! The first part in which a machine differs from a checkpoint.
+//!
+//! Here live the comparisons of the processor, of the devices and of the whole. Pages are compared by `risc_pages`, and
+//! the bytes sent while the machine runs.
+ghost use Rattle.std.specs.Prelude.{◌≡◌, ◌≢◌, ◌<◌, ◌↔◌, ℕ, List, slice_index, IsTrue, MatchOption};
+ghost use Rattle.risc_pages.specs.Content.{IsNamed};
+ghost use Rattle.risc_machine.specs.MachineState.{cpu_state};
+ghost use Rattle.oberon_format.specs.CheckpointParts.{checkpoint_parts};
+ghost use Rattle.oberon_format.specs.Defined.{Outcome, claim_of};
+ghost use Rattle.oberon_check.specs.Difference.{IsFirstDifference, IsDifference};
+
+use crate::part::Part;
+use oberon_format::Checkpoint;
+use risc_devices::Devices;
+use risc_machine::{Cpu, Machine};
+use risc_pages::Pool;
+
+// The first register that isn't the same.
+fn register_difference(a: &[u32; 16], b: &[u32; 16]) -> Option<u8>
+    ensures { MatchOption result (a.now ≡ b.now) (λ i. (i < 16) × ((k : ℕ) → k < i → slice_index a.now k ≡ slice_index b.now k) × (slice_index a.now i ≢ slice_index b.now i)) }
+{
+    for i in 0..16u8 {
+        if a[i as usize] != b[i as usize] {
+            return Some(i);
+        }
+    }
+    None
+}
+
+// The first part in which two processors differ, whatever is around them.
+fn cpu_difference(claimed: &Cpu, cpu: &Cpu) -> Option<Part>
+    ensures { (x y : Outcome) → x.state.cpu ≡ cpu_state claimed.now → y.state.cpu ≡ cpu_state cpu.now → MatchOption result (x.state.cpu ≡ y.state.cpu) (IsFirstDifference x y) }
+{
+    if let Some(i) = register_difference(&claimed.r, &cpu.r) {
+        return Some(Part::R(i));
+    }
+    if claimed.h != cpu.h {
+        return Some(Part::H);
+    }
+    if claimed.pc != cpu.pc {
+        return Some(Part::Pc);
+    }
+    if claimed.flags != cpu.flags {
+        return Some(Part::Flags);
+    }
+    if claimed.stop != cpu.stop {
+        return Some(Part::Stop);
+    }
+    None
+}
+
+// The first part in which devices differ, where the processors beside them don't.
+fn device_difference(claimed: &Devices, devices: &Devices) -> Option<Part>
+    ensures { (x y : Outcome) → x.state.cpu ≡ y.state.cpu → x.state.devices ≡ claimed.now → y.state.devices ≡ devices.now → MatchOption result (x.state.devices ≡ y.state.devices) (IsFirstDifference x y) }
+{
+    if claimed.timer() != devices.timer() {
+        return Some(Part::Timer);
+    }
+    if claimed.switches() != devices.switches() {
+        return Some(Part::Switches);
+    }
+    if claimed.leds() != devices.leds() {
+        return Some(Part::Leds);
+    }
+    if claimed.mouse() != devices.mouse() {
+        return Some(Part::Mouse);
+    }
+    if claimed.serial() != devices.serial() {
+        return Some(Part::Serial);
+    }
+    if claimed.keys() != devices.keys() {
+        return Some(Part::Keys);
+    }
+    None
+}
+
+/// The first part in which a checkpoint differs from a machine, where `same` says whether the bytes that the machine sent
+/// are the checkpoint's. Takes no memory.
+pub(crate) fn first_difference(
+    machine: &Machine<'_>,
+    same: bool,
+    pool: &Pool,
+    checkpoint: &Checkpoint,
+) -> Option<Part>
+    requires { IsNamed pool.now checkpoint.now.table }
+    ensures { (sent : List ℕ) → (IsTrue same ↔ (sent ≡ checkpoint.now.sent)) → IsDifference (claim_of pool.now (checkpoint_parts checkpoint.now)) (record { state = machine.now.state; sent = sent }) result }
+{
+    if let Some(part) = cpu_difference(&checkpoint.cpu, machine.cpu()) {
+        return Some(part);
+    }
+    if let Some(part) = device_difference(&checkpoint.devices, machine.devices()) {
+        return Some(part);
+    }
+    if !same {
+        return Some(Part::Sent);
+    }
+    match machine.memory().first_difference(pool, &checkpoint.table) {
+        Some(place) => Some(Part::Page(place)),
+        None => None,
+    }
+}

@@ -1,0 +1,56 @@
+//! The verdict on a recording, with its line and its exit status.
+//!
+//! Here lives how a verdict is printed. How segment verdicts come to it lives in `collector`.
+ghost use Rattle.std.specs.Prelude.{◌≡◌, IfOk};
+ghost use Rattle.oberon_check.specs.Line.{line_of, status_of};
+
+use crate::part::Part;
+use std::alloc::{AllocError, Global};
+
+/// What the check of a recording comes to.
+#[derive(Clone, Copy, Debug, PartialEq, Eq)]
+pub enum Verdict {
+    /// Every checkpoint is the state and the output of one uninterrupted run from checkpoint 0.
+    Accepted {
+        /// The number of checkpoints after checkpoint 0, at most 4,096.
+        checkpoints: u32,
+        /// The last checkpoint's count, at most 2^40.
+        steps: u64,
+    },
+    /// A checkpoint isn't.
+    FalseAt {
+        /// The least such checkpoint, from 1 on.
+        checkpoint: u32,
+        /// Its count.
+        count: u64,
+        /// The first part in which it differs from the run.
+        part: Part,
+    },
+}
+
+/// The line of a verdict, ended by a line feed.
+pub(crate) fn line(alloc: Global, verdict: &Verdict) -> Result<Vec<u8>, AllocError>
+    ensures { IfOk result (λ bytes. bytes.items ≡ line_of verdict.now) }
+{
+    let text = match verdict {
+        Verdict::Accepted { checkpoints, steps } => {
+            format!(in alloc; "accepted {checkpoints} checkpoints {steps} steps\n")?
+        }
+        Verdict::FalseAt {
+            checkpoint,
+            count,
+            part,
+        } => format!(in alloc; "false checkpoint {checkpoint} at {count} part {part}\n")?,
+    };
+    Ok(text.into_bytes())
+}
+
+/// The exit status of a verdict: 0 accepted, 1 false.
+pub(crate) fn status(verdict: &Verdict) -> u8
+    ensures { result ≡ status_of verdict.now }
+{
+    match verdict {
+        Verdict::Accepted { .. } => 0,
+        Verdict::FalseAt { .. } => 1,
+    }
+}
