@@ -1,0 +1,5 @@
+mod Mapped
+mod Shapes
+mod Orders
+mod Lawful
+mod Tests

@@ -1,0 +1,21 @@
+use Rattle.std.proofs.Common.{◌≡◌, Some, None, subst}
+use Rattle.std.proofs.lemmas.List.{map-append}
+use Rattle.std.proofs.lemmas.Result.{err_from_is_err_and}
+use Rattle.serde_json.specs.View.{view}
+use Rattle.serde_json.specs.declared.value.Value.{Value}
+use Rattle.oberon_session.proofs.Shapes.{each-none, each-step}
+use Rattle.oberon_session.specs.Draft.{input_of, input_view}
+use Rattle.oberon_session.proofs.shape.inputs.Goals as goal
+
+pub returns-in_err-input : goal.returns-in_err-input
+returns-in_err-input c =
+    let from = err_from_is_err_and c.from_residual-in_err-input.result c.from_residual-in_err-input.ensures.1 in
+    rw (from.1, from.2) (λ no.
+    let wrong = c.in_err-input.ensures no in
+    let none = subst (λ (v : Value). input_of (view v) ≡ None) c.item-item.is wrong.1 in
+    (wrong.0, rw c.in_ok-item-items.ensures (each-none input_of view _ _ _ c.loop-item-test.true none)))
+
+pub loop-item-preserved : goal.loop-item-preserved
+loop-item-preserved c =
+    let one = subst (λ (v : Value). input_of (view v) ≡ Some (input_view c.in_ok-input.field-0)) c.item-item.is c.in_ok-input.ensures in
+    rw (c.in_ok-push.ensures.items, map-append) (each-step input_of view _ _ _ _ _ c.loop-item-test.true c.loop-item.invariant one)

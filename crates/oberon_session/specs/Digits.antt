@@ -1,0 +1,40 @@
+-- The page that a text of hexadecimal digits says.
+use Rattle.std.specs.Prelude.{ℕ, ◌+◌, ◌*◌, ◌^◌, List, map, slice_index, Option, Some, None, Result, Ok, Err}
+use Rattle.std.specs.List.{range_with_len}
+use Rattle.hex.specs.Hex.{decode_of}
+use Rattle.oberon_session.specs.Shape.{◌>>=◌, each}
+use Rattle.oberon_session.specs.Draft.{PageText}
+use Rattle.oberon_session.specs.declared.placed.PlacedPage.{PlacedPage}
+
+-- a page and the place where it stands
+pub record PlacedWords : Type 0 where
+  pub at : ℕ
+  pub words : List ℕ
+
+abbrev pub placed_view : PlacedPage → PlacedWords
+placed_view p = record { at = p.at; words = p.page.words }
+
+-- word i of a page of these first bytes: bytes 4 * i to 4 * i + 3, the lowest first. Bytes that aren't there are 0
+abbrev pub word_of_bytes : List ℕ → ℕ → ℕ
+word_of_bytes bytes i =
+    slice_index bytes (4 * i)
+    + 2 ^ 8 * slice_index bytes (4 * i + 1)
+    + 2 ^ 16 * slice_index bytes (4 * i + 2)
+    + 2 ^ 24 * slice_index bytes (4 * i + 3)
+
+-- the words of a page of these first bytes
+unfoldable pub words_of_bytes : List ℕ → List ℕ
+words_of_bytes bytes = map (word_of_bytes bytes) (range_with_len 0 256)
+
+abbrev pub ok_of : {T E : Type 0} → Result T E → Option T
+ok_of (Ok x) = Some x
+ok_of (Err e) = None
+
+-- what the digits of a page say, where they are hexadecimal digits and their number is even
+abbrev pub placed_of : PageText → Option PlacedWords
+placed_of page = do
+  bytes ← ok_of (decode_of page.hex)
+  Some (record { at = page.at; words = words_of_bytes bytes })
+
+abbrev pub all_placed_of : List PageText → Option (List PlacedWords)
+all_placed_of = each placed_of

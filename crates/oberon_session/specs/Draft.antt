@@ -1,0 +1,117 @@
+-- What a JSON value says, where it has the shape of a session of version 1. The format is this project's own.
+use Rattle.std.specs.Prelude.{◌==◌, ℕ, List, [], ◌∷◌, length, map, Option, Some, None, if◌then◌else◌, codes}
+use Rattle.std.specs.Str.{bytes_eq}
+use Rattle.serde_json.specs.Data.{Data}
+use Rattle.serde_json.specs.Find.{get}
+use Rattle.oberon_session.specs.Shape.{◌>>=◌, each, exactly, items_of, number_of, numbers_of, only_if, text_of}
+use Rattle.oberon_session.specs.declared.draft.InputDraft.{InputDraft}
+use Rattle.oberon_session.specs.declared.draft.PageDraft.{PageDraft}
+use Rattle.oberon_session.specs.declared.draft.StartDraft.{StartDraft}
+use Rattle.oberon_session.specs.declared.draft.Draft.{Draft as DraftValue}
+
+-- the numbers of the first state
+pub record Start : Type 0 where
+  pub registers : List ℕ
+  pub h : ℕ
+  pub pc : ℕ
+  pub flags : ℕ
+
+-- a page: its place, and the text of its digits
+pub record PageText : Type 0 where
+  pub at : ℕ
+  pub hex : List ℕ
+
+-- an input: its count, the number of its kind, and its value
+pub record InputNumbers : Type 0 where
+  pub count : ℕ
+  pub kind : ℕ
+  pub value : ℕ
+
+pub record Draft : Type 0 where
+  pub start : Start
+  pub pages : List PageText
+  pub inputs : List InputNumbers
+  pub checkpoints : List ℕ
+
+-- ---- the shape
+
+-- an object of exactly R, an array of sixteen numbers, and the numbers H, PC and flags
+abbrev pub start_of : Data → Option Start
+start_of json = do
+  start ← exactly 4 json
+  registers ← get (codes "R") start >>= numbers_of
+  sixteen ← only_if (length registers == 16) registers
+  h ← get (codes "H") start >>= number_of
+  pc ← get (codes "PC") start >>= number_of
+  flags ← get (codes "flags") start >>= number_of
+  Some (record { registers = sixteen; h = h; pc = pc; flags = flags })
+
+-- an object of exactly a number, at, and a text, hex
+abbrev pub page_of : Data → Option PageText
+page_of json = do
+  page ← exactly 2 json
+  at ← get (codes "at") page >>= number_of
+  hex ← get (codes "hex") page >>= text_of
+  Some (record { at = at; hex = hex })
+
+-- the number of the kind of input of this name
+abbrev pub kind_of : List ℕ → Option ℕ
+kind_of name =
+    if bytes_eq name (codes "timer") then Some 1
+    else if bytes_eq name (codes "switches") then Some 2
+    else if bytes_eq name (codes "mouse") then Some 3
+    else if bytes_eq name (codes "key") then Some 4
+    else if bytes_eq name (codes "serial") then Some 5
+    else None
+
+-- an array of exactly a count, the name of a kind, and a value
+abbrev pub triple_of : List Data → Option InputNumbers
+triple_of (first ∷ second ∷ third ∷ []) = do
+  count ← number_of first
+  name ← text_of second
+  kind ← kind_of name
+  value ← number_of third
+  Some (record { count = count; kind = kind; value = value })
+triple_of _ = None
+
+abbrev pub input_of : Data → Option InputNumbers
+input_of json = items_of json >>= triple_of
+
+abbrev pub pages_of : Data → Option (List PageText)
+pages_of json = items_of json >>= each page_of
+
+abbrev pub inputs_of : Data → Option (List InputNumbers)
+inputs_of json = items_of json >>= each input_of
+
+-- an object of exactly format and version, which are given, start, pages, inputs and checkpoints
+abbrev pub draft_of : Data → Option Draft
+draft_of json = do
+  session ← exactly 6 json
+  format ← get (codes "format") session >>= text_of
+  named ← only_if (bytes_eq format (codes "oberon-session")) format
+  version ← get (codes "version") session >>= number_of
+  first ← only_if (version == 1) version
+  start ← get (codes "start") session >>= start_of
+  pages ← get (codes "pages") session >>= pages_of
+  inputs ← get (codes "inputs") session >>= inputs_of
+  checkpoints ← get (codes "checkpoints") session >>= numbers_of
+  Some (record { start = start; pages = pages; inputs = inputs; checkpoints = checkpoints })
+
+-- ---- what the program's values say
+
+abbrev pub start_view : StartDraft → Start
+start_view s = record { registers = s.registers.items; h = s.h; pc = s.pc; flags = s.flags }
+
+abbrev pub page_view : PageDraft → PageText
+page_view p = record { at = p.at; hex = p.hex.now }
+
+abbrev pub input_view : InputDraft → InputNumbers
+input_view i = record { count = i.count; kind = i.kind; value = i.value }
+
+abbrev pub draft_view : DraftValue → Draft
+draft_view d = record {
+  start = start_view d.start;
+  pages = map page_view d.pages.items;
+  inputs = map input_view d.inputs.items;
+  checkpoints = d.checkpoints.items;
+}

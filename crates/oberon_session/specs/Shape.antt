@@ -1,0 +1,60 @@
+-- Looking into a JSON value that has to have a given shape.
+use Rattle.std.specs.Prelude.{◌≡◌, ◌≢◌, ◌==◌, ℕ, suc, List, [], ◌∷◌, Bool, true, false, Option, Some, None, Result, MatchResult, if◌then◌else◌, option_map}
+use Rattle.serde_json.specs.Data.{Data, Items, no_items, item, Members, no_members, member}
+use Rattle.serde_json.specs.Find.{as_array, as_number, as_object, as_str, as_u64}
+use Rattle.oberon_session.specs.declared.fault.SessionFault.{SessionFault}
+use Rattle.oberon_session.specs.declared.fault.SessionFault.TheVariants.{Memory, Shape}
+
+-- the second step, where the first gave a value
+infixl 10 ◌>>=◌
+abbrev pub ◌>>=◌ : {A B : Type 0} → Option A → (A → Option B) → Option B
+Some x >>= f = f x
+None >>= f = None
+
+-- the value, where the test holds
+abbrev pub only_if : {A : Type 0} → Bool → A → Option A
+only_if true x = Some x
+only_if false x = None
+
+-- the result is what the definition gives, and this fault comes only where it gives nothing
+abbrev pub GivesOr : {T X : Type 0} → SessionFault → (T → X) → Option X → Result T SessionFault → Type 0
+GivesOr why view found result =
+    MatchResult result (λ value. found ≡ Some (view value))
+    (λ fault. fault ≢ Memory → (fault ≡ why) × (found ≡ None))
+
+abbrev pub Gives : {T X : Type 0} → (T → X) → Option X → Result T SessionFault → Type 0
+Gives = GivesOr Shape
+
+-- the number of members of an object
+abbrev pub member_count : Members → ℕ
+member_count no_members = 0
+member_count (member name value rest) = suc (member_count rest)
+
+-- the value, where it is an object of so many members
+abbrev pub exactly : ℕ → Data → Option Data
+exactly count json = as_object json >>= λ members. if member_count members == count then Some json else None
+
+-- a whole number below 2 ^ 64
+abbrev pub number_of : Data → Option ℕ
+number_of json = as_number json >>= as_u64
+
+abbrev pub text_of : Data → Option (List ℕ)
+text_of = as_str
+
+abbrev pub list_of : Items → List Data
+list_of no_items = []
+list_of (item json rest) = json ∷ list_of rest
+
+abbrev pub items_of : Data → Option (List Data)
+items_of json = option_map list_of (as_array json)
+
+-- what each item says, where each says something
+abbrev pub each : {A X : Type 0} → (A → Option X) → List A → Option (List X)
+each read [] = Some []
+each read (x ∷ rest) = do
+  first ← read x
+  others ← each read rest
+  Some (first ∷ others)
+
+abbrev pub numbers_of : Data → Option (List ℕ)
+numbers_of json = items_of json >>= each number_of

@@ -1,0 +1,73 @@
+//! Pages read from hexadecimal digits.
+
+ghost use Rattle.std.specs.Prelude.{◌≡◌, ◌<◌, ◌≤◌, ◌^◌, length, map, slice_index};
+ghost use Rattle.std.specs.List.{All};
+ghost use Rattle.oberon_session.specs.Shape.{GivesOr};
+ghost use Rattle.oberon_session.specs.Draft.{page_view};
+ghost use Rattle.oberon_session.specs.Ranges.{PageFits};
+ghost use Rattle.oberon_session.specs.Digits.{all_placed_of, placed_of, placed_view, word_of_bytes, words_of_bytes};
+
+use crate::SessionFault;
+use crate::draft::PageDraft;
+use crate::placed::PlacedPage;
+use hex::FromHexError;
+use risc_pages::Page;
+use std::alloc::Global;
+
+/// The pages of a session, where each is written in pairs of hexadecimal digits.
+pub fn placed_pages(
+    alloc: Global,
+    drafts: &[PageDraft<'_>],
+) -> Result<Vec<PlacedPage>, SessionFault>
+    requires { All PageFits (map page_view drafts.now) }
+    ensures { GivesOr SessionFault.Hex (λ found. map placed_view found.items) (all_placed_of (map page_view drafts.now)) result }
+{
+    let mut pages = Vec::new(alloc);
+    for draft in drafts {
+        pages.push(placed_page(alloc, draft)?)?;
+    }
+    Ok(pages)
+}
+
+fn placed_page(alloc: Global, draft: &PageDraft<'_>) -> Result<PlacedPage, SessionFault>
+    requires { PageFits (page_view draft.now) }
+    ensures { GivesOr SessionFault.Hex placed_view (placed_of (page_view draft.now)) result }
+{
+    match hex::decode(alloc, draft.hex) {
+        Ok(bytes) => Ok(PlacedPage {
+            at: draft.at as u16,
+            page: page_of(&bytes),
+        }),
+        Err(FromHexError::OutOfMemory) => Err(SessionFault::Memory),
+        Err(_) => Err(SessionFault::Hex),
+    }
+}
+
+/// The page that begins with these bytes and goes on with zeros.
+fn page_of(bytes: &[u8]) -> Page
+    ensures { result.words ≡ words_of_bytes bytes.now }
+{
+    let mut words = [0; 256];
+    for i in 0..256 {
+        words[i] = word(bytes, i);
+    }
+    Page { words }
+}
+
+/// Word `i` of the page: four bytes, the lowest first.
+fn word(bytes: &[u8], i: usize) -> u32
+    requires { i < 256 }
+    ensures { result ≡ word_of_bytes bytes.now i }
+{
+    let low = byte(bytes, 4 * i) + (byte(bytes, 4 * i + 1) << 8);
+    let high = byte(bytes, 4 * i + 2) + (byte(bytes, 4 * i + 3) << 8);
+    low + (high << 16)
+}
+
+/// A byte of the page, which is 0 where none was read.
+fn byte(bytes: &[u8], place: usize) -> u32
+    ensures value { result ≡ slice_index bytes.now place }
+    ensures range { result < 2 ^ 8 }
+{
+    bytes.get(place).copied().map_or(0, u32::from)
+}

@@ -1,0 +1,68 @@
+//! The inputs of a session, tested and made.
+
+ghost use Rattle.std.specs.Prelude.{◌≡◌, ◌≢◌, IfOk, IfErr, MatchOption, map};
+ghost use Rattle.std.specs.List.{All};
+ghost use Rattle.risc_machine.specs.InputOrder.{AreOrdered};
+ghost use Rattle.oberon_session.specs.Draft.{input_view};
+ghost use Rattle.oberon_session.specs.Ranges.{InputFits, InputsFit, NeverFalls, input_counts};
+ghost use Rattle.oberon_session.specs.Session.{numbers_of_event};
+ghost use Rattle.oberon_session.specs.Tested.{BreaksInputs};
+
+use crate::SessionFault;
+use crate::draft::InputDraft;
+use crate::range::LAST_COUNT;
+use risc_devices::Input;
+use risc_machine::{Event, Inputs};
+use std::alloc::Global;
+
+/// The inputs of a session, or the first rule of their ranges and their order that they break.
+pub fn inputs_of(alloc: Global, drafts: &[InputDraft]) -> Result<Inputs, SessionFault>
+    ensures numbers { IfOk result (λ inputs. map numbers_of_event inputs ≡ map input_view drafts.now) }
+    ensures fit { IfOk result (λ _. InputsFit (map input_view drafts.now)) }
+    ensures ordered { IfOk result AreOrdered }
+    ensures order { IfOk result (λ _. NeverFalls (input_counts (map input_view drafts.now))) }
+    ensures err { IfErr result (BreaksInputs (map input_view drafts.now)) }
+{
+    if drafts.len() > 1_000_000 {
+        return Err(SessionFault::Range);
+    }
+    match Inputs::new(events(alloc, drafts)?) {
+        Ok(inputs) => Ok(inputs),
+        Err(_) => Err(SessionFault::Order),
+    }
+}
+
+/// The events of inputs that are all in their ranges.
+fn events(alloc: Global, drafts: &[InputDraft]) -> Result<Vec<Event>, SessionFault>
+    ensures numbers { IfOk result (λ events. map numbers_of_event events.items ≡ map input_view drafts.now) }
+    ensures fit { IfOk result (λ _. All InputFits (map input_view drafts.now)) }
+    ensures err { IfErr result (λ fault. fault ≢ SessionFault.Memory → (fault ≡ SessionFault.Range) × (All InputFits (map input_view drafts.now) → ⊥)) }
+{
+    let mut events = Vec::new(alloc);
+    for draft in drafts {
+        match event(draft) {
+            Some(event) => events.push(event)?,
+            None => return Err(SessionFault::Range),
+        }
+    }
+    Ok(events)
+}
+
+/// The event of an input that is in its range.
+fn event(draft: &InputDraft) -> Option<Event>
+    ensures { MatchOption result (InputFits (input_view draft.now) → ⊥) (λ event. (numbers_of_event event ≡ input_view draft.now) × InputFits (input_view draft.now)) }
+{
+    if draft.count > LAST_COUNT {
+        return None;
+    }
+    let Ok(value) = u32::try_from(draft.value) else {
+        return None;
+    };
+    match Input::new(draft.kind, value) {
+        Ok(input) => Some(Event {
+            count: draft.count,
+            input,
+        }),
+        Err(_) => None,
+    }
+}

@@ -1,0 +1,84 @@
+//! Why a text is no session. What each rule is, and in which order they are tested, stands in `specs/`.
+
+ghost use Rattle.std.specs.Prelude.{◌≡◌};
+ghost use Rattle.oberon_session.specs.FaultNames.{session_fault_name, session_fault_number};
+
+use std::alloc::{AllocError, AllocFailed};
+use thiserror::Error;
+
+/// The first rule that a text breaks, or want of memory.
+///
+/// The numbers, the names and the rules are this project's own choice.
+#[derive(Clone, Copy, Debug, PartialEq, Eq, Error)]
+pub enum SessionFault {
+    /// 1, `json`: `serde_json` does not read the text.
+    #[error("the text is no JSON")]
+    Json,
+    /// 2, `shape`: a member, a type, the number of registers, or one of the texts and numbers that are given is wrong.
+    #[error("the text has not the shape of a session")]
+    Shape,
+    /// 3, `range`: a number is out of its range, something is too long, or there are too many of something.
+    #[error("a number of the session is out of its range")]
+    Range,
+    /// 4, `order`: places of pages or counts of checkpoints don't rise, or counts of inputs fall.
+    #[error("the session is out of order")]
+    Order,
+    /// 5, `hex`: a page has an odd number of digits, or one that is not hexadecimal.
+    #[error("a page of the session is not written in hexadecimal digits")]
+    Hex,
+    /// There was no room for the session. No fault of the text.
+    #[error("no memory")]
+    Memory,
+}
+
+impl SessionFault {
+    /// The fault's number, from 1 to 5; none for want of memory.
+    pub fn number(self) -> Option<u8>
+        ensures { result ≡ session_fault_number self }
+    {
+        match self {
+            SessionFault::Json => Some(1),
+            SessionFault::Shape => Some(2),
+            SessionFault::Range => Some(3),
+            SessionFault::Order => Some(4),
+            SessionFault::Hex => Some(5),
+            SessionFault::Memory => None,
+        }
+    }
+
+    /// The fault's name.
+    pub fn name(self) -> &'static str
+        ensures { result.now ≡ session_fault_name self }
+    {
+        match self {
+            SessionFault::Json => "json",
+            SessionFault::Shape => "shape",
+            SessionFault::Range => "range",
+            SessionFault::Order => "order",
+            SessionFault::Hex => "hex",
+            SessionFault::Memory => "memory",
+        }
+    }
+}
+
+impl From<AllocError> for SessionFault {
+    ghost use Rattle.std.specs.Prelude.{◌≡◌};
+    ghost use Rattle.oberon_session.specs.declared.fault.SessionFault.{SessionFault};
+
+    ghost from_gives = { λ _ fault. fault ≡ SessionFault.Memory };
+
+    fn from(_refused: AllocError) -> SessionFault {
+        SessionFault::Memory
+    }
+}
+
+impl<T: Drop> From<AllocFailed<T>> for SessionFault {
+    ghost use Rattle.std.specs.Prelude.{◌≡◌};
+    ghost use Rattle.oberon_session.specs.declared.fault.SessionFault.{SessionFault};
+
+    ghost from_gives = { λ _ fault. fault ≡ SessionFault.Memory };
+
+    fn from(_refused: AllocFailed<T>) -> SessionFault {
+        SessionFault::Memory
+    }
+}

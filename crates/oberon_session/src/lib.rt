@@ -1,0 +1,23 @@
+//! Sessions of the RISC5 workstation: a first state, inputs with their counts, and the counts at which checkpoints are wanted.
+//!
+//! A session is written in JSON, in a format of this project's own. Here its text is read, or refused with the first rule that it
+//! breaks. JSON and hexadecimal digits are read by `serde_json` and `hex`.
+#![tactic(auto)]
+
+mod digits;
+mod draft;
+mod events;
+mod fault;
+mod placed;
+mod range;
+mod reading;
+mod session;
+mod shape;
+mod walk;
+
+pub use fault::SessionFault;
+pub use reading::read_session;
+pub use session::Session;
+
+#[cfg(test)]
+mod tests;

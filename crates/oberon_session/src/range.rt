@@ -1,0 +1,75 @@
+//! The ranges of a session's numbers, and the order of its pages and checkpoints. Inputs are tested where they are made, in
+//! `events`.
+
+ghost use Rattle.std.specs.Prelude.{◌<◌, ◌^◌, ◌↔◌, IsTrue};
+ghost use Rattle.std.specs.List.{All};
+ghost use Rattle.std.specs.List.Sorted.{IsStrictlyIncreasing};
+ghost use Rattle.oberon_session.specs.Draft.{start_view};
+ghost use Rattle.oberon_session.specs.Tested.{DraftPagesFit, NumbersFit, NumbersRise, RisesBy};
+ghost use Rattle.oberon_session.specs.Ranges.{CountsFit, StartFits};
+
+use crate::draft::{Draft, PageDraft, StartDraft};
+
+/// The highest count: 2^40.
+pub const LAST_COUNT: u64 = 1 << 40;
+
+/// Whether the numbers of the first state, of pages and of checkpoints are in their ranges.
+pub fn is_in_range(draft: &Draft<'_>) -> bool
+    ensures { IsTrue result ↔ NumbersFit draft.now }
+{
+    start_fits(&draft.start) && pages_fit(&draft.pages) && counts_fit(&draft.checkpoints)
+}
+
+/// Whether the places of pages and the counts of checkpoints rise.
+pub fn is_rising(draft: &Draft<'_>) -> bool
+    ensures { IsTrue result ↔ NumbersRise draft.now }
+{
+    places_rise(&draft.pages) && rises(&draft.checkpoints)
+}
+
+/// Whether registers, H, program counter and flags are in their ranges.
+fn start_fits(start: &StartDraft) -> bool
+    ensures { IsTrue result ↔ StartFits (start_view start.now) }
+{
+    registers_fit(&start.registers) && start.h < 1 << 32 && start.pc < 1 << 22 && start.flags < 16
+}
+
+fn registers_fit(registers: &[u64]) -> bool
+    ensures { IsTrue result ↔ All (λ register. register < 2 ^ 32) registers.now }
+{
+    registers.iter().all(|register| *register < 1 << 32)
+}
+
+/// Whether there are at most 1,024 pages, each at a place below 1,024 and with at most 2,048 digits.
+fn pages_fit(pages: &[PageDraft<'_>]) -> bool
+    ensures { IsTrue result ↔ DraftPagesFit pages.now }
+{
+    pages.len() <= 1_024
+        && pages
+            .iter()
+            .all(|page| page.at < 1_024 && page.hex.len() <= 2_048)
+}
+
+/// Whether there are at most 4,096 checkpoints, each at a count from 1 to 2^40.
+fn counts_fit(counts: &[u64]) -> bool
+    ensures { IsTrue result ↔ CountsFit counts.now }
+{
+    counts.len() <= 4_096
+        && counts
+            .iter()
+            .all(|count| 1 <= *count && *count <= LAST_COUNT)
+}
+
+/// Whether the places of pages rise.
+fn places_rise(pages: &[PageDraft<'_>]) -> bool
+    ensures { IsTrue result ↔ RisesBy (λ page. page.at) pages.now }
+{
+    pages.windows(2).all(|pair| pair[0].at < pair[1].at)
+}
+
+/// Whether numbers rise.
+fn rises(numbers: &[u64]) -> bool
+    ensures { IsTrue result ↔ IsStrictlyIncreasing numbers.now }
+{
+    numbers.windows(2).all(|pair| pair[0] < pair[1])
+}

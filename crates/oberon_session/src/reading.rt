@@ -1,0 +1,114 @@
+//! Reading a session from its text.
+
+ghost use Rattle.std.specs.Prelude.{◌≡◌, ◌<◌, ◌^◌, IfOk, IfErr, IsTrue, length, slice_index};
+ghost use Rattle.serde_json.specs.View.{view};
+ghost use Rattle.risc_machine.specs.MachineState.{cpu_state};
+ghost use Rattle.oberon_session.specs.Draft.{draft_view, start_view};
+ghost use Rattle.oberon_session.specs.Ranges.{InOrder, InRange, StartFits};
+ghost use Rattle.oberon_session.specs.Session.{Breaks, BreaksIn, IsSession, IsSessionIn, Says, cpu_of, flags_of};
+ghost use Rattle.oberon_session.specs.Tested.{BreaksDraft, IsTested};
+
+use crate::SessionFault;
+use crate::digits::placed_pages;
+use crate::draft::{Draft, StartDraft};
+use crate::events::inputs_of;
+use crate::range::{is_in_range, is_rising};
+use crate::session::Session;
+use crate::shape::read_draft;
+use risc_machine::{Cpu, Flags, Inputs};
+use serde_json::Value;
+use std::alloc::Global;
+
+/// The longest text of a session, in bytes.
+const LONGEST: usize = 67_108_864;
+
+/// The session of a text, or the first rule that the text breaks.
+///
+/// The rules, in the order in which they are tested: the text has at most 67,108,864 bytes (`Range`), is JSON (`Json`), has the
+/// shape of a session (`Shape`), and its numbers are in their ranges (`Range`); places of pages and counts of checkpoints rise,
+/// and counts of inputs don't fall (`Order`); and pages are written in pairs of hexadecimal digits (`Hex`). Where memory is
+/// wanting, `Memory` may stand in place of each answer, save where the text is too long.
+pub fn read_session(alloc: Global, bytes: &[u8]) -> Result<Session, SessionFault>
+    ensures ok { IfOk result (IsSession bytes.now) }
+    ensures err { IfErr result (Breaks bytes.now) }
+{
+    if bytes.len() > LONGEST {
+        return Err(SessionFault::Range);
+    }
+    match Value::from_slice(alloc, bytes) {
+        Ok(value) => session_in(alloc, &value),
+        Err(e) if e.is_memory() => Err(SessionFault::Memory),
+        Err(_) => Err(SessionFault::Json),
+    }
+}
+
+/// The session of a JSON value.
+fn session_in(alloc: Global, value: &Value) -> Result<Session, SessionFault>
+    ensures ok { IfOk result (IsSessionIn (view value.now)) }
+    ensures err { IfErr result (BreaksIn (view value.now)) }
+{
+    let draft = read_draft(alloc, value)?;
+    session_of(alloc, draft)
+}
+
+/// The session of a draft.
+fn session_of(alloc: Global, draft: Draft<'_>) -> Result<Session, SessionFault>
+    ensures range { IfOk result (λ _. InRange (draft_view draft.entry)) }
+    ensures order { IfOk result (λ _. InOrder (draft_view draft.entry)) }
+    ensures says { IfOk result (Says (draft_view draft.entry)) }
+    ensures err { IfErr result (BreaksDraft (draft_view draft.entry)) }
+{
+    let inputs = tested(alloc, &draft)?;
+    let pages = placed_pages(alloc, &draft.pages)?;
+    Ok(Session {
+        cpu: cpu_of(&draft.start),
+        pages,
+        inputs,
+        counts: draft.checkpoints,
+    })
+}
+
+/// The inputs of a draft whose numbers are all in their ranges and in order.
+fn tested(alloc: Global, draft: &Draft<'_>) -> Result<Inputs, SessionFault>
+    ensures ok { IfOk result (IsTested (draft_view draft.now)) }
+    ensures err { IfErr result (BreaksDraft (draft_view draft.now)) }
+{
+    if !is_in_range(draft) {
+        return Err(SessionFault::Range);
+    }
+    let inputs = inputs_of(alloc, &draft.inputs)?;
+    if !is_rising(draft) {
+        return Err(SessionFault::Order);
+    }
+    Ok(inputs)
+}
+
+/// The processor of the first state.
+fn cpu_of(start: &StartDraft) -> Cpu
+    requires { StartFits (start_view start.now) }
+    ensures { cpu_state result ≡ cpu_of (start_view start.now) }
+{
+    let mut r = [0; 16];
+    for i in 0..16 {
+        r[i] = start.registers[i] as u32;
+    }
+    Cpu {
+        r,
+        h: start.h as u32,
+        pc: start.pc as u32,
+        flags: flags_of(start.flags as u8),
+        stop: 0,
+    }
+}
+
+/// The flags of a number: N is bit 3, Z bit 2, C bit 1, V bit 0.
+fn flags_of(number: u8) -> Flags
+    ensures { result ≡ flags_of number }
+{
+    Flags {
+        n: number >> 3 & 1 == 1,
+        z: number >> 2 & 1 == 1,
+        c: number >> 1 & 1 == 1,
+        v: number & 1 == 1,
+    }
+}

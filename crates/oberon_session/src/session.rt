@@ -1,0 +1,36 @@
+//! Sessions as the recorder takes them. How one is read from its text stands in `reading`.
+
+ghost use Rattle.std.specs.Prelude.{◌≡◌, ◌<◌};
+
+use crate::placed::PlacedPage;
+use risc_machine::{Cpu, Inputs};
+use std::marker::Model;
+
+/// A lawful session: a first state, inputs with their counts, and the counts of checkpoints 1 to K.
+///
+/// | what | limit |
+/// |---|---|
+/// | program counter of the first state | below 2^22 |
+/// | pages of the first state's memory | at most 1,024, their places below 1,024 and rising |
+/// | inputs | at most 1,000,000, their counts not falling and at most 2^40 |
+/// | checkpoints | at most 4,096, their counts from 1 to 2^40 and rising |
+///
+/// The first state is not stopped, its devices are all zeros, and so is its memory where no page stands. All limits are this
+/// project's own choice. In contracts a session is the record of its parts.
+#[derive(Drop)]
+pub struct Session {
+    pub(crate) cpu: Cpu,
+    pub(crate) pages: Vec<PlacedPage>,
+    pub(crate) inputs: Inputs,
+    pub(crate) counts: Vec<u64>,
+}
+
+impl Model for Session {
+    ghost use Rattle.oberon_session.specs.SessionParts.{SessionParts, IsLawful, session_of_parts};
+
+    ghost Value = { SessionParts };
+
+    ghost view = { λ s. session_of_parts s.cpu s.pages.items s.inputs s.counts.items };
+
+    ghost invariant = { λ s. IsLawful (session_of_parts s.cpu s.pages.items s.inputs s.counts.items) };
+}

@@ -1,0 +1,103 @@
+//! Reading the shape of a session from a JSON value. Ranges and order are tested in `range`.
+
+ghost use Rattle.std.specs.Prelude.{◌≡◌, map};
+ghost use Rattle.serde_json.specs.View.{view};
+ghost use Rattle.oberon_session.specs.Shape.{Gives};
+ghost use Rattle.oberon_session.specs.Draft.{draft_of, draft_view, input_of, input_view, inputs_of, kind_of, page_of, page_view, pages_of, start_of, start_view};
+
+use crate::SessionFault;
+use crate::draft::{Draft, InputDraft, PageDraft, StartDraft};
+use crate::walk::{exactly, items, member, number, numbers, text};
+use serde_json::Value;
+use std::alloc::Global;
+
+/// The whole session.
+pub fn read_draft<'a>(alloc: Global, value: &'a Value) -> Result<Draft<'a>, SessionFault>
+    ensures { Gives draft_view (draft_of (view value.now)) result }
+{
+    let session = exactly(value, 6)?;
+    if text(member(session, "format")?)? != "oberon-session"
+        || number(member(session, "version")?)? != 1
+    {
+        return Err(SessionFault::Shape);
+    }
+    Ok(Draft {
+        start: start(alloc, member(session, "start")?)?,
+        pages: pages(alloc, member(session, "pages")?)?,
+        inputs: inputs(alloc, member(session, "inputs")?)?,
+        checkpoints: numbers(alloc, member(session, "checkpoints")?)?,
+    })
+}
+
+fn start(alloc: Global, value: &Value) -> Result<StartDraft, SessionFault>
+    ensures { Gives start_view (start_of (view value.now)) result }
+{
+    let start = exactly(value, 4)?;
+    let registers = numbers(alloc, member(start, "R")?)?;
+    if registers.len() != 16 {
+        return Err(SessionFault::Shape);
+    }
+    Ok(StartDraft {
+        registers,
+        h: number(member(start, "H")?)?,
+        pc: number(member(start, "PC")?)?,
+        flags: number(member(start, "flags")?)?,
+    })
+}
+
+fn pages<'a>(alloc: Global, value: &'a Value) -> Result<Vec<PageDraft<'a>>, SessionFault>
+    ensures { Gives (λ found. map page_view found.items) (pages_of (view value.now)) result }
+{
+    let mut pages = Vec::new(alloc);
+    for item in items(value)? {
+        pages.push(page(item)?)?;
+    }
+    Ok(pages)
+}
+
+fn page(value: &Value) -> Result<PageDraft<'_>, SessionFault>
+    ensures { Gives page_view (page_of (view value.now)) result }
+{
+    let page = exactly(value, 2)?;
+    Ok(PageDraft {
+        at: number(member(page, "at")?)?,
+        hex: text(member(page, "hex")?)?,
+    })
+}
+
+fn inputs(alloc: Global, value: &Value) -> Result<Vec<InputDraft>, SessionFault>
+    ensures { Gives (λ found. map input_view found.items) (inputs_of (view value.now)) result }
+{
+    let mut inputs = Vec::new(alloc);
+    for item in items(value)? {
+        inputs.push(input(item)?)?;
+    }
+    Ok(inputs)
+}
+
+fn input(value: &Value) -> Result<InputDraft, SessionFault>
+    ensures { Gives input_view (input_of (view value.now)) result }
+{
+    match items(value)? {
+        [count, kind, value] => Ok(InputDraft {
+            count: number(count)?,
+            kind: kind_number(text(kind)?).ok_or(SessionFault::Shape)?,
+            value: number(value)?,
+        }),
+        _ => Err(SessionFault::Shape),
+    }
+}
+
+/// The number of the kind of input of this name.
+fn kind_number(name: &str) -> Option<u8>
+    ensures { result ≡ kind_of name.now }
+{
+    match name {
+        "timer" => Some(1),
+        "switches" => Some(2),
+        "mouse" => Some(3),
+        "key" => Some(4),
+        "serial" => Some(5),
+        _ => None,
+    }
+}

@@ -1,0 +1,197 @@
+//! The session of the documents, each fault once, and the order of faults where two rules are broken.
+
+use crate::{SessionFault, read_session};
+use std::alloc::Global;
+use std::test::Fail;
+
+/// How each text begins that breaks no rule before its pages.
+const START: &str =
+    "{\"format\":\"oberon-session\",\"version\":1,\"start\":{\"R\":[0,0,0,0,0,0,0,0,0,0,0,0,0,0,0,0],\"H\":0,\"PC\":0,\"flags\":0},";
+
+/// What follows, and the first fault of the whole.
+const FAULTS_AFTER_START: [(&str, SessionFault); 22] = [
+    // one rule broken
+    (
+        "\"pages\":[{\"at\":0,\"hex\":\"05000040\"}],\"inputs\":[],\"checkpoints\":[100]",
+        SessionFault::Json,
+    ),
+    (
+        "\"pages\":[],\"inputs\":[],\"checkpoints\":[1.5]}",
+        SessionFault::Shape,
+    ),
+    (
+        "\"pages\":[],\"inputs\":[],\"checkpoints\":[-1]}",
+        SessionFault::Shape,
+    ),
+    (
+        "\"pages\":[],\"inputs\":[[1,\"bell\",0]],\"checkpoints\":[]}",
+        SessionFault::Shape,
+    ),
+    (
+        "\"pages\":[],\"inputs\":[[1,\"key\"]],\"checkpoints\":[]}",
+        SessionFault::Shape,
+    ),
+    (
+        "\"pages\":[],\"inputs\":[],\"checkpoints\":[],\"more\":1}",
+        SessionFault::Shape,
+    ),
+    (
+        "\"pages\":[],\"inputs\":[],\"checkpoints\":[0]}",
+        SessionFault::Range,
+    ),
+    (
+        "\"pages\":[],\"inputs\":[],\"checkpoints\":[1099511627777]}",
+        SessionFault::Range,
+    ),
+    (
+        "\"pages\":[{\"at\":1024,\"hex\":\"\"}],\"inputs\":[],\"checkpoints\":[]}",
+        SessionFault::Range,
+    ),
+    (
+        "\"pages\":[],\"inputs\":[[1,\"mouse\",1024]],\"checkpoints\":[]}",
+        SessionFault::Range,
+    ),
+    (
+        "\"pages\":[],\"inputs\":[[1,\"timer\",4294967296]],\"checkpoints\":[]}",
+        SessionFault::Range,
+    ),
+    (
+        "\"pages\":[],\"inputs\":[[1099511627777,\"key\",0]],\"checkpoints\":[]}",
+        SessionFault::Range,
+    ),
+    (
+        "\"pages\":[],\"inputs\":[],\"checkpoints\":[100,100]}",
+        SessionFault::Order,
+    ),
+    (
+        "\"pages\":[{\"at\":3,\"hex\":\"\"},{\"at\":3,\"hex\":\"\"}],\"inputs\":[],\"checkpoints\":[]}",
+        SessionFault::Order,
+    ),
+    (
+        "\"pages\":[],\"inputs\":[[7,\"key\",1],[6,\"key\",1]],\"checkpoints\":[]}",
+        SessionFault::Order,
+    ),
+    (
+        "\"pages\":[{\"at\":0,\"hex\":\"0500004\"}],\"inputs\":[],\"checkpoints\":[100]}",
+        SessionFault::Hex,
+    ),
+    (
+        "\"pages\":[{\"at\":0,\"hex\":\"0500004g\"}],\"inputs\":[],\"checkpoints\":[100]}",
+        SessionFault::Hex,
+    ),
+    // two rules broken
+    (
+        "\"pages\":[],\"inputs\":[],\"checkpoints\":[1.5]",
+        SessionFault::Json,
+    ),
+    (
+        "\"pages\":[],\"inputs\":[[1,\"bell\",0]],\"checkpoints\":[0]}",
+        SessionFault::Shape,
+    ),
+    (
+        "\"pages\":[],\"inputs\":[[7,\"key\",1],[6,\"key\",256]],\"checkpoints\":[100,100]}",
+        SessionFault::Range,
+    ),
+    (
+        "\"pages\":[{\"at\":0,\"hex\":\"0\"}],\"inputs\":[],\"checkpoints\":[5000000000000]}",
+        SessionFault::Range,
+    ),
+    (
+        "\"pages\":[{\"at\":0,\"hex\":\"0\"}],\"inputs\":[],\"checkpoints\":[2,1]}",
+        SessionFault::Order,
+    ),
+];
+
+/// Whole texts that break a rule at their start.
+const FAULTS_AT_START: [(&str, SessionFault); 6] = [
+    ("", SessionFault::Json),
+    ("[]", SessionFault::Shape),
+    (
+        "{\"format\":\"oberon-session\",\"version\":3,\"start\":{\"R\":[0,0,0,0,0,0,0,0,0,0,0,0,0,0,0,0],\"H\":0,\"PC\":0,\"flags\":0},\"pages\":[],\"inputs\":[],\"checkpoints\":[]}",
+        SessionFault::Shape,
+    ),
+    (
+        "{\"format\":\"oberon-session\",\"version\":1,\"start\":{\"R\":[0,0,0,0,0,0,0,0,0,0,0,0,0,0,0],\"H\":0,\"PC\":0,\"flags\":0},\"pages\":[],\"inputs\":[],\"checkpoints\":[]}",
+        SessionFault::Shape,
+    ),
+    (
+        "{\"format\":\"oberon-session\",\"version\":1,\"start\":{\"R\":[0,0,0,0,0,0,0,0,0,0,0,0,0,0,0,0],\"H\":0,\"PC\":4194304,\"flags\":0},\"pages\":[],\"inputs\":[],\"checkpoints\":[]}",
+        SessionFault::Range,
+    ),
+    (
+        "{\"format\":\"oberon-session\",\"version\":1,\"start\":{\"R\":[0,0,0,0,0,0,0,0,0,0,0,0,0,0,0,4294967296],\"H\":0,\"PC\":0,\"flags\":0},\"pages\":[],\"inputs\":[],\"checkpoints\":[]}",
+        SessionFault::Range,
+    ),
+];
+
+fn fault_of(alloc: Global, text: &[u8]) -> Option<SessionFault> {
+    read_session(alloc, text).err()
+}
+
+#[test]
+fn reads_a_whole_session(rt: HostRuntime) -> Result<(), Fail> {
+    let alloc = rt.alloc();
+    let text =
+        "{\"format\":\"oberon-session\",\"version\":1,\"start\":{\"R\":[1,2,3,4,5,6,7,8,9,10,11,12,13,14,15,4294967295],\"H\":17,\"PC\":4194303,\"flags\":10},\"pages\":[{\"at\":0,\"hex\":\"05000040FFffffe7aA\"},{\"at\":1023,\"hex\":\"\"}],\"inputs\":[[0,\"timer\",4294967295],[0,\"switches\",4095],[3,\"mouse\",121631743],[3,\"key\",65],[1099511627776,\"serial\",255]],\"checkpoints\":[1,100,1099511627776]}";
+    let session = read_session(alloc, text.as_bytes()).map_err(|_| "a session")?;
+    assert!(rt;
+        session.cpu.r
+            == [
+                1,
+                2,
+                3,
+                4,
+                5,
+                6,
+                7,
+                8,
+                9,
+                10,
+                11,
+                12,
+                13,
+                14,
+                15,
+                4_294_967_295
+            ]
+    );
+    assert!(rt; session.cpu.h == 17 && session.cpu.pc == 4_194_303 && session.cpu.stop == 0);
+    let flags = session.cpu.flags;
+    assert!(rt; flags.n && !flags.z && flags.c && !flags.v);
+    assert!(rt;
+        session.pages.len() == 2 && session.pages[0].at == 0 && session.pages[1].at == 1_023
+    );
+    let words = session.pages[0].page.words;
+    assert!(rt; words[0] == 0x4000_0005 && words[1] == 0xE7FF_FFFF && words[2] == 0xAA);
+    assert!(rt; words[3] == 0 && words[255] == 0 && session.pages[1].page.words[0] == 0);
+    let events = session.inputs.events();
+    assert!(rt; events.len() == 5 && events[2].count == 3 && events[4].count == 1 << 40);
+    assert!(rt; events[0].input.kind() == 1 && events[2].input.value() == 121_631_743);
+    assert!(rt; events[3].input.kind() == 4 && events[3].input.value() == 65);
+    assert!(rt; session.counts.as_slice() == [1, 100, 1 << 40].as_slice());
+    Ok(())
+}
+
+#[test]
+fn gives_the_first_fault(rt: HostRuntime) -> Result<(), Fail> {
+    let alloc = rt.alloc();
+    for (rest, fault) in &FAULTS_AFTER_START {
+        let text = format!(in alloc; "{START}{rest}")?;
+        assert!(rt; fault_of(alloc, text.as_bytes()) == Some(*fault));
+    }
+    for (text, fault) in &FAULTS_AT_START {
+        assert!(rt; fault_of(alloc, text.as_bytes()) == Some(*fault));
+    }
+    assert!(rt; fault_of(alloc, &[123, 255, 125]) == Some(SessionFault::Json));
+    Ok(())
+}
+
+#[test]
+fn numbers_and_names_faults(rt: HostRuntime) {
+    assert!(rt; SessionFault::Json.number() == Some(1) && SessionFault::Json.name() == "json");
+    assert!(rt; SessionFault::Shape.number() == Some(2) && SessionFault::Shape.name() == "shape");
+    assert!(rt; SessionFault::Range.number() == Some(3) && SessionFault::Range.name() == "range");
+    assert!(rt; SessionFault::Order.number() == Some(4) && SessionFault::Order.name() == "order");
+    assert!(rt; SessionFault::Hex.number() == Some(5) && SessionFault::Hex.name() == "hex");
+    assert!(rt; SessionFault::Memory.number().is_none() && SessionFault::Memory.name() == "memory");
+}
