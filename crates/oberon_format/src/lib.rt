@@ -26,3 +26,6 @@ pub use reading::read;
 pub use recording::Recording;
 pub use sent::Sent;
 pub use writing::write;
+
+#[cfg(test)]
+mod tests;
