@@ -12,3 +12,7 @@ pub mod ReadLemmas
 pub mod WriteLemmas
 pub mod Stands
 pub mod Spelled
+pub mod Back
+pub mod One
+pub mod Exists
+pub mod LawLemmas

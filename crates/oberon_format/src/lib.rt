@@ -9,6 +9,7 @@
 mod checkpoint;
 mod fault;
 mod formed;
+mod laws;
 mod line;
 mod number;
 mod parts;
@@ -21,6 +22,7 @@ mod writing;
 
 pub use checkpoint::Checkpoint;
 pub use fault::Fault;
+pub use laws::{fault_of_parts, lawful_parts, one_recording, one_text, text_or_fault};
 pub use line::refusal;
 pub use reading::read;
 pub use recording::Recording;

@@ -1,0 +1,138 @@
+-- A text is that of at most one recording.
+use Rattle.std.proofs.Common.{◌≡◌, ◌<◌, ◌+◌, ◌-◌, ◌/◌, ◌%◌, ◌^◌, ◌∙◌, ℕ, zero, suc, Bool, true, false, List, [], ◌∷◌, length, take, drop, get_or, refl, sym, ap, subst, arith}
+use Rattle.std.proofs.Props.{props}
+use Rattle.std.specs.Prelude.{replicate, ◌==◌}
+use Rattle.std.proofs.lemmas.List.{take_at, drop_at, get_or_default}
+use Rattle.risc_devices.specs.declared.input.Input.{Input}
+use Rattle.risc_devices.specs.DeviceState.{DeviceState, IsDeviceState}
+use Rattle.risc_devices.proofs.InputLemmas.{same_input}
+use Rattle.risc_devices.proofs.DeviceLemmas.{same_devices}
+use Rattle.risc_machine.specs.declared.event.Event.{Event}
+use Rattle.risc_machine.specs.MachineState.{CpuState, IsCpuState}
+use Rattle.oberon_format.specs.CheckpointParts.{CheckpointParts, no_checkpoint}
+use Rattle.oberon_format.specs.FlagsNumber.{bits_number, flags_number}
+use Rattle.oberon_format.specs.Layout.{page_place, event_place, checkpoint_place}
+use Rattle.oberon_format.specs.Recording.{RecordingParts, IsFit, checkpoint_at, output_of}
+use Rattle.oberon_format.specs.Text.{AreWords, IsEvent, IsCpu, IsDevices, IsCheckpoint, Text}
+
+-- lists of one length with the same members
+same_members : {X : Type 0} (xs ys : List X) → length xs ≡ length ys → ((i : ℕ) (d : X) → i < length xs → get_or xs i d ≡ get_or ys i d) → xs ≡ ys
+same_members {X} [] [] len each = refl
+same_members {X} [] (y ∷ ys) len each = absurd (omega arith)
+same_members {X} (x ∷ xs) [] len each = absurd (omega arith)
+same_members {X} (x ∷ xs) (y ∷ ys) len each =
+    let first : x ≡ y = each 0 x (omega arith) in
+    let rest : xs ≡ ys = same_members xs ys (omega arith) (λ i d lt. each (suc i) d (omega arith)) in
+    λ i. first i ∷ rest i
+
+-- words that stand at one place
+same_words : (text : List ℕ) (place : ℕ) (xs ys : List ℕ) → length xs ≡ length ys → AreWords text place xs → AreWords text place ys → xs ≡ ys
+same_words text place xs ys len a b = same_members xs ys len (λ i d lt. sym (a i d lt) ∙ b i d (omega arith))
+
+-- events of one count and one input
+event_of_parts : (count : ℕ) (input : Input) → count < 2 ^ 64 → Event
+event_of_parts count input range = record { count = count; input = input; range = range }
+
+same_event : (e f : Event) → e.count ≡ f.count → e.input ≡ f.input → e ≡ f
+unfolding event_of_parts
+same_event e f counts inputs =
+    let facts : IsProp (e.count < 2 ^ 64) = hlevel props in
+    let Q : ℕ → Type 0 = λ n. (r : n < 2 ^ 64) → event_of_parts e.count e.input e.range ≡ event_of_parts n e.input r in
+    let base : Q e.count = λ r. ap (event_of_parts e.count e.input) (facts e.range r) in
+    let P : Input → Type 0 = λ i. event_of_parts e.count e.input e.range ≡ event_of_parts f.count i f.range in
+    subst P inputs (subst Q counts base f.range)
+
+same_event_at : (text : List ℕ) (place : ℕ) (e f : Event) → IsEvent text place e → IsEvent text place f → e ≡ f
+same_event_at text place e f a b =
+    same_event e f (sym a.count ∙ b.count) (same_input e.input f.input (sym a.kind ∙ b.kind) (sym a.value ∙ b.value))
+
+-- flags of one number
+record Bits (n z c v : Bool) : Type 0 where
+  n_is : (bits_number n z c v / 8 % 2 == 1) ≡ n
+  z_is : (bits_number n z c v / 4 % 2 == 1) ≡ z
+  c_is : (bits_number n z c v / 2 % 2 == 1) ≡ c
+  v_is : (bits_number n z c v % 2 == 1) ≡ v
+
+bits : (n z c v : Bool) → Bits n z c v
+bits true true true true = record { n_is = refl; z_is = refl; c_is = refl; v_is = refl }
+bits true true true false = record { n_is = refl; z_is = refl; c_is = refl; v_is = refl }
+bits true true false true = record { n_is = refl; z_is = refl; c_is = refl; v_is = refl }
+bits true true false false = record { n_is = refl; z_is = refl; c_is = refl; v_is = refl }
+bits true false true true = record { n_is = refl; z_is = refl; c_is = refl; v_is = refl }
+bits true false true false = record { n_is = refl; z_is = refl; c_is = refl; v_is = refl }
+bits true false false true = record { n_is = refl; z_is = refl; c_is = refl; v_is = refl }
+bits true false false false = record { n_is = refl; z_is = refl; c_is = refl; v_is = refl }
+bits false true true true = record { n_is = refl; z_is = refl; c_is = refl; v_is = refl }
+bits false true true false = record { n_is = refl; z_is = refl; c_is = refl; v_is = refl }
+bits false true false true = record { n_is = refl; z_is = refl; c_is = refl; v_is = refl }
+bits false true false false = record { n_is = refl; z_is = refl; c_is = refl; v_is = refl }
+bits false false true true = record { n_is = refl; z_is = refl; c_is = refl; v_is = refl }
+bits false false true false = record { n_is = refl; z_is = refl; c_is = refl; v_is = refl }
+bits false false false true = record { n_is = refl; z_is = refl; c_is = refl; v_is = refl }
+bits false false false false = record { n_is = refl; z_is = refl; c_is = refl; v_is = refl }
+
+same_cpu : (text : List ℕ) (place : ℕ) (a b : CpuState) → IsCpuState a → IsCpuState b → IsCpu text place a → IsCpu text place b → a ≡ b
+same_cpu text place a b fit_a fit_b x y =
+    let registers : a.r ≡ b.r = same_words text (place + 8) a.r b.r (fit_a.count ∙ sym fit_b.count) x.registers y.registers in
+    let number : flags_number a ≡ flags_number b = sym x.flags ∙ y.flags in
+    let bits_a = bits a.flags.n a.flags.z a.flags.c a.flags.v in
+    let bits_b = bits b.flags.n b.flags.z b.flags.c b.flags.v in
+    let n : a.flags.n ≡ b.flags.n = sym bits_a.n_is ∙ ap (λ (k : ℕ). k / 8 % 2 == 1) number ∙ bits_b.n_is in
+    let z : a.flags.z ≡ b.flags.z = sym bits_a.z_is ∙ ap (λ (k : ℕ). k / 4 % 2 == 1) number ∙ bits_b.z_is in
+    let c : a.flags.c ≡ b.flags.c = sym bits_a.c_is ∙ ap (λ (k : ℕ). k / 2 % 2 == 1) number ∙ bits_b.c_is in
+    let v : a.flags.v ≡ b.flags.v = sym bits_a.v_is ∙ ap (λ (k : ℕ). k % 2 == 1) number ∙ bits_b.v_is in
+    let h : a.h ≡ b.h = sym x.h ∙ y.h in
+    let pc : a.pc ≡ b.pc = sym x.pc ∙ y.pc in
+    let stop : a.stop ≡ b.stop = sym x.stop ∙ y.stop in
+    λ i. record { r = registers i; h = h i; pc = pc i; flags = record { n = n i; z = z i; c = c i; v = v i }; stop = stop i }
+
+same_devices_at : (text : List ℕ) (place : ℕ) (a b : DeviceState) → IsDeviceState a → IsDeviceState b → IsDevices text place a → IsDevices text place b → a ≡ b
+same_devices_at text place a b fit_a fit_b x y =
+    let len : length a.keys ≡ length b.keys = sym x.waiting ∙ y.waiting in
+    let keys : a.keys ≡ b.keys =
+    sym (take_at a.keys (replicate (16 - length a.keys) 0) (length b.keys) len) ∙ ap (take (length b.keys)) (sym x.keys ∙ y.keys) ∙ take_at b.keys (replicate (16 - length b.keys) 0) (length b.keys) refl in
+    same_devices a b fit_a fit_b (sym x.timer ∙ y.timer) (sym x.switches ∙ y.switches) (sym x.leds ∙ y.leds) (sym x.mouse ∙ y.mouse) (sym x.serial ∙ y.serial) keys
+
+-- outputs of one length each that are the same in all
+same_sent : (cs ds : List CheckpointParts) → length cs ≡ length ds → ((i : ℕ) → i < length cs → length (get_or cs i no_checkpoint).sent ≡ length (get_or ds i no_checkpoint).sent)
+    → output_of cs ≡ output_of ds → (i : ℕ) → i < length cs → (get_or cs i no_checkpoint).sent ≡ (get_or ds i no_checkpoint).sent
+same_sent [] ds len each same i lt = absurd (omega arith)
+same_sent (c ∷ cs) [] len each same i lt = absurd (omega arith)
+same_sent (c ∷ cs) (d ∷ ds) len each same zero lt =
+    let first : length c.sent ≡ length d.sent = each 0 (omega arith) in
+    sym (take_at c.sent (output_of cs) (length d.sent) first) ∙ ap (take (length d.sent)) same ∙ take_at d.sent (output_of ds) (length d.sent) refl
+same_sent (c ∷ cs) (d ∷ ds) len each same (suc i) lt =
+    let first : length c.sent ≡ length d.sent = each 0 (omega arith) in
+    let rest : output_of cs ≡ output_of ds = sym (drop_at c.sent (output_of cs) (length d.sent) first) ∙ ap (drop (length d.sent)) same ∙ drop_at d.sent (output_of ds) (length d.sent) refl in
+    same_sent cs ds (omega arith) (λ k less. each (suc k) (omega arith)) rest i (omega arith)
+
+same_checkpoint : (text : List ℕ) (place : ℕ) (p q : List (List ℕ)) (c d : CheckpointParts) → IsFit p c → IsFit q d → c.sent ≡ d.sent → IsCheckpoint text place c → IsCheckpoint text place d → c ≡ d
+same_checkpoint text place p q c d fit_c fit_d sent x y =
+    let count : c.count ≡ d.count = sym x.count ∙ y.count in
+    let cpu = same_cpu text place c.cpu d.cpu fit_c.cpu fit_d.cpu x.cpu y.cpu in
+    let devices = same_devices_at text place c.devices d.devices fit_c.devices fit_d.devices x.devices y.devices in
+    let table : c.table ≡ d.table = same_words text (place + 132) c.table d.table (fit_c.table.count ∙ sym fit_d.table.count) x.table y.table in
+    λ i. record { count = count i; cpu = cpu i; devices = devices i; sent = sent i; table = table i }
+
+checkpoints_same : (text : List ℕ) (r s : RecordingParts) → Text text r → Text text s → r.checkpoints ≡ s.checkpoints
+checkpoints_same text r s a b =
+    let len : length r.checkpoints ≡ length s.checkpoints = sym a.laid.checkpoint_count ∙ b.laid.checkpoint_count in
+    let stands_r = a.laid.checkpoints_stand in
+    let stands_s = b.laid.checkpoints_stand in
+    let lengths : (i : ℕ) → i < length r.checkpoints → length (checkpoint_at r i).sent ≡ length (checkpoint_at s i).sent = λ i lt. sym (stands_r i no_checkpoint lt).sent ∙ (stands_s i no_checkpoint (omega arith)).sent in
+    let sent = same_sent r.checkpoints s.checkpoints len lengths (sym a.laid.output ∙ b.laid.output) in
+    let each : (i : ℕ) → i < length r.checkpoints → checkpoint_at r i ≡ checkpoint_at s i = λ i lt.
+    same_checkpoint text (checkpoint_place text i) r.pool s.pool (checkpoint_at r i) (checkpoint_at s i) (a.lawful.fit i lt) (b.lawful.fit i (omega arith)) (sent i lt) (stands_r i no_checkpoint lt) (stands_s i no_checkpoint (omega arith)) in
+    same_members r.checkpoints s.checkpoints len (λ i d lt. get_or_default r.checkpoints i d no_checkpoint lt ∙ each i lt ∙ get_or_default s.checkpoints i no_checkpoint d (omega arith))
+
+-- a text is that of one recording
+pub same_recording : (text : List ℕ) (r s : RecordingParts) → Text text r → Text text s → r ≡ s
+same_recording text r s a b =
+    let pages_len : length r.pool ≡ length s.pool = sym a.laid.page_count ∙ b.laid.page_count in
+    let pool : r.pool ≡ s.pool = same_members r.pool s.pool pages_len (λ i d lt.
+    same_words text (page_place i) (get_or r.pool i d) (get_or s.pool i d) ((a.lawful.pool i d lt).whole ∙ sym (b.lawful.pool i d (omega arith)).whole) (a.laid.pages_stand i d lt) (b.laid.pages_stand i d (omega arith))) in
+    let events_len : length r.inputs ≡ length s.inputs = sym a.laid.event_count ∙ b.laid.event_count in
+    let inputs : r.inputs ≡ s.inputs = same_members r.inputs s.inputs events_len (λ i d lt.
+    same_event_at text (event_place text i) (get_or r.inputs i d) (get_or s.inputs i d) (a.laid.events_stand i d lt) (b.laid.events_stand i d (omega arith))) in
+    let checkpoints = checkpoints_same text r s a b in
+    λ i. record { pool = pool i; inputs = inputs i; checkpoints = checkpoints i }
