@@ -7,3 +7,4 @@ pub mod RangeLemmas
 pub mod KeepLemmas
 pub mod LawLemmas
 pub mod OutcomeLemmas
+pub mod Examples
