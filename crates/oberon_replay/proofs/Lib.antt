@@ -1,0 +1,10 @@
+-- What the proofs of this crate stand on.
+mod CutLemmas
+mod DisplayLemmas
+mod FieldLemmas
+mod KnownLemmas
+mod Literals
+mod Numbers
+mod Parsed
+mod RuleLemmas
+mod TurnLemmas

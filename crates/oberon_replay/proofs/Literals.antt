@@ -1,0 +1,37 @@
+-- What words that are written out ask for.
+use Rattle.std.proofs.Common.{◌≡◌, [], ◌∷◌, Some, None, refl, codes, inl}
+use Rattle.clap.proofs.OnLiterals.{clap_on_literals}
+use Rattle.oberon_replay.specs.Asked.{IsHelp, asked, faults, found}
+use Rattle.oberon_replay.specs.declared.words.Request.TheVariants.{Check, Screen}
+
+pub check : asked (codes "check" ∷ []) ≡ Some (Check 2 1)
+unfolding clap_on_literals faults found
+check = refl
+
+pub check_workers : asked (codes "check" ∷ codes "--workers" ∷ codes "3" ∷ []) ≡ Some (Check 3 1)
+unfolding clap_on_literals faults found
+check_workers = refl
+
+pub check_both : asked (codes "check" ∷ codes "--cut=4096" ∷ codes "--workers=64" ∷ []) ≡ Some (Check 64 4096)
+unfolding clap_on_literals faults found
+check_both = refl
+
+pub screen : asked (codes "screen" ∷ codes "--at" ∷ codes "0" ∷ []) ≡ Some (Screen 0)
+unfolding clap_on_literals faults found
+screen = refl
+
+pub too_many_workers : asked (codes "check" ∷ codes "--workers" ∷ codes "65" ∷ []) ≡ None
+unfolding clap_on_literals faults found
+too_many_workers = refl
+
+pub screen_alone : asked (codes "screen" ∷ []) ≡ None
+unfolding clap_on_literals faults found
+screen_alone = refl
+
+pub help : IsHelp (codes "--help" ∷ [])
+unfolding clap_on_literals faults found
+help = inl refl
+
+pub check_help : IsHelp (codes "check" ∷ codes "-h" ∷ [])
+unfolding clap_on_literals faults found
+check_help = inl refl

@@ -1,0 +1,48 @@
+-- When two lists of rules have one first fault.
+use Rattle.std.proofs.Common.{◌≡◌, ◌<◌, ◌+◌, ◌==◌, ℕ, zero, suc, Bool, true, false, List, [], ◌∷◌, ◌++◌, Some, None, arith, refl, ap₂}
+use Rattle.std.specs.Prelude.{nat_le}
+use Rattle.std.proofs.lemmas.Bool.{le-leb, ne_eqb}
+use Rattle.oberon_format.specs.declared.fault.Fault.{Fault}
+use Rattle.oberon_format.specs.declared.fault.Fault.TheVariants as fault
+use Rattle.oberon_format.specs.FirstFault.{Rule, each, first_broken}
+use Rattle.oberon_format.specs.Fields.{total}
+
+-- the rules after one that both lists begin with
+pub same_after : (holds : Bool) (fault : Fault) (p q : List Rule) → (holds ≡ true → first_broken p ≡ first_broken q) → first_broken ((holds, fault) ∷ p) ≡ first_broken ((holds, fault) ∷ q)
+same_after true fault p q same = same refl
+same_after false fault p q same = refl
+
+-- the rules after some that both lists begin with
+pub same_behind : (front p q : List Rule) → (first_broken front ≡ None → first_broken p ≡ first_broken q) → first_broken (front ++ p) ≡ first_broken (front ++ q)
+same_behind [] p q same = same refl
+same_behind ((true, fault) ∷ rest) p q same = same_behind rest p q same
+same_behind ((false, fault) ∷ rest) p q same = refl
+
+-- rules after two that hold
+pub both_pass : (holds holds' : Bool) (fault fault' : Fault) (p q : List Rule) → holds ≡ true → holds' ≡ true → first_broken p ≡ first_broken q
+    → first_broken ((holds, fault) ∷ p) ≡ first_broken ((holds', fault') ∷ q)
+both_pass holds holds' fault fault' p q is is' same = rw (is, is') same
+
+-- a text that is longer than it is to be
+pub too_long : (end long : ℕ) → end < long → first_broken ((nat_le end long, fault.Short long) ∷ (long == end, fault.Trailing end) ∷ []) ≡ Some (fault.Trailing end)
+too_long end long over =
+    let there : nat_le end long ≡ true = le-leb _ _ (omega arith) in
+    let more : (long == end) ≡ false = ne_eqb _ _ (λ e. omega arith) in
+    rw (there, more) refl
+
+-- rules that are the same number by number
+pub each_same : (n : ℕ) (p q : ℕ → List Rule) → ((i : ℕ) → i < n → p i ≡ q i) → each n p ≡ each n q
+unfolding each
+each_same zero p q same = refl
+each_same (suc n) p q same = ap₂ (λ x y. x ++ y) (each_same n p q (λ i below. same i (omega arith))) (same n (omega arith))
+
+pub total_same : (n : ℕ) (f g : ℕ → ℕ) → ((i : ℕ) → i < n → f i ≡ g i) → total f n ≡ total g n
+unfolding total
+total_same zero f g same = refl
+total_same (suc n) f g same = ap₂ (λ x y. x + y) (total_same n f g (λ i below. same i (omega arith))) (same n (omega arith))
+
+-- the last of some rules that all hold
+pub last_holds : (front back : List Rule) → first_broken (front ++ back) ≡ None → first_broken back ≡ None
+last_holds [] back none = none
+last_holds ((true, fault) ∷ rest) back none = last_holds rest back none
+last_holds ((false, fault) ∷ rest) back none = cc

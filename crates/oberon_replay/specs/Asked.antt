@@ -1,0 +1,76 @@
+-- What the words of the command line ask for.
+use Rattle.std.specs.Prelude.{◌≡◌, ◌≢◌, ◌≤◌, ℕ, List, [], ◌∷◌, Option, Some, None, option_map, option_and_then, if◌then◌else◌, codes, ⊤}
+use Rattle.std.specs.Str.{bytes_eq}
+use Rattle.std.specs.Str.Parse.{digits_value, without_leading_plus}
+use Rattle.clap.specs.ValueTests.{is_unsigned_in}
+use Rattle.clap.specs.Walk.{Row, Text, is_empty, one_of}
+use Rattle.clap.specs.Simple.{subcommand_of}
+use Rattle.clap.specs.Kinds.{IsAmong, Kinds}
+use Rattle.clap.specs.Faults.{fault_of}
+use Rattle.clap.specs.declared.error.Error.{Error}
+use Rattle.clap.specs.declared.error.kind.ErrorKind.{ErrorKind}
+use Rattle.clap.specs.declared.error.kind.ErrorKind.TheVariants.{DisplayHelp, OutOfMemory}
+use Rattle.oberon_replay.specs.Program.{program_app}
+use Rattle.oberon_replay.specs.declared.words.Request.{Request}
+use Rattle.oberon_replay.specs.declared.words.Request.TheVariants.{Check, Screen}
+use Rattle.oberon_replay.specs.declared.words.Refusal.{Refusal}
+use Rattle.oberon_replay.specs.declared.words.Refusal.TheVariants.{Help, Words, Memory}
+
+-- the number that the text writes in decimal digits, perhaps after a plus, where it lies in the range
+abbrev pub whole_number : ℕ → ℕ → Text → Option ℕ
+whole_number low high text =
+    if is_unsigned_in low high text then Some (digits_value 10 (without_leading_plus text)) else None
+
+-- the number that `clap` found for an argument
+abbrev pub number_at : ℕ → ℕ → Text → List Row → Option ℕ
+number_at low high id rows = option_and_then (whole_number low high) (one_of id rows)
+
+abbrev pub check_of : List Row → Option Request
+check_of rows = option_and_then (λ workers. option_map (λ cut. Check workers cut)
+    (number_at 1 4096 (codes "cut") rows)) (number_at 1 64 (codes "workers") rows)
+
+-- the numbers of a request are in their ranges
+abbrev pub IsWithinLimits : Request → Type 0
+IsWithinLimits (Check workers cut) = (1 ≤ workers) × (workers ≤ 64) × (1 ≤ cut) × (cut ≤ 4096)
+IsWithinLimits (Screen at) = at ≤ 4096
+
+-- what a subcommand with its arguments asks for
+abbrev pub request_of : Text → List Row → Option Request
+request_of name rows =
+    if bytes_eq name (codes "check") then check_of rows
+    else if bytes_eq name (codes "screen") then option_map Screen (number_at 0 4096 (codes "at") rows)
+    else None
+
+-- the kinds of fault that `clap` finds in the words
+unfoldable pub faults : List Text → Kinds
+faults words = fault_of program_app words
+
+-- the subcommand that `clap` finds in the words, with its arguments
+unfoldable pub found : List Text → Option (Text × List Row)
+found words = subcommand_of program_app words
+
+-- what the words ask for, no words at all for a check
+abbrev pub asked : List Text → Option Request
+asked [] = Some (Check 2 1)
+asked (word ∷ words) =
+    if is_empty (faults (word ∷ words)) then option_and_then (λ p. request_of p.0 p.1) (found (word ∷ words))
+    else None
+
+-- the words ask for help
+abbrev pub IsHelp : List Text → Type 0
+IsHelp words = IsAmong DisplayHelp (faults words)
+
+-- the words ask for nothing, and not for help alone
+abbrev pub IsRefused : List Text → Type 0
+IsRefused words = (asked words ≡ None) × (faults words ≢ DisplayHelp ∷ [])
+
+-- the refusal that an error of `clap` stands for
+abbrev pub refusal_by : ErrorKind → Error → Refusal
+refusal_by DisplayHelp error = Help error
+refusal_by OutOfMemory error = Memory
+refusal_by _ error = Words
+
+abbrev pub RefusedBy : List Text → Refusal → Type 0
+RefusedBy words (Help error) = IsHelp words
+RefusedBy words Words = IsRefused words
+RefusedBy words Memory = ⊤

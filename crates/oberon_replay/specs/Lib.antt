@@ -1,0 +1,7 @@
+-- What the program reads and writes.
+pub mod Answer
+pub mod Asked
+pub mod Program
+pub mod Reply
+pub mod Screen
+pub mod Transfer

@@ -1,0 +1,53 @@
+-- The command line, as `clap` reads it: this project's own choice.
+use Rattle.std.specs.Prelude.{[], ◌∷◌, pos, Some, true, codes}
+use Rattle.clap.specs.Walk.{Rule}
+use Rattle.clap.specs.Simple.{App, Shape, new_app, new_rule, new_shape, with_rule, with_subcommand}
+use Rattle.clap.specs.declared.builder.action.ArgAction.TheVariants.{Set}
+use Rattle.clap.specs.declared.builder.value_parser.ValueParser.TheVariants.{Signed}
+
+-- `--workers`, from 1 to 64, or 2
+abbrev pub workers_rule : Rule
+workers_rule = record (new_rule (codes "workers")) {
+  long = Some (codes "workers");
+  action = Some Set;
+  value_names = 1;
+  defaults = codes "2" ∷ [];
+  parser = Some (Signed (pos 1) (pos 64));
+}
+
+-- `--cut`, from 1 to 4,096, or 1
+abbrev pub cut_rule : Rule
+cut_rule = record (new_rule (codes "cut")) {
+  long = Some (codes "cut");
+  action = Some Set;
+  value_names = 1;
+  defaults = codes "1" ∷ [];
+  parser = Some (Signed (pos 1) (pos 4096));
+}
+
+-- `--at`, from 0 to 4,096, required
+abbrev pub at_rule : Rule
+at_rule = record (new_rule (codes "at")) {
+  long = Some (codes "at");
+  action = Some Set;
+  value_names = 1;
+  required = true;
+  parser = Some (Signed (pos 0) (pos 4096));
+}
+
+-- `check`, with its two options
+abbrev pub check_app : App
+check_app = with_rule (with_rule (new_app (codes "check")) workers_rule) cut_rule
+
+-- `screen`, with its option
+abbrev pub screen_app : App
+screen_app = with_rule (new_app (codes "screen")) at_rule
+
+-- one of two commands has to stand there, with no program's name before it
+abbrev pub program_shape : Shape
+program_shape =
+    record (new_shape (codes "oberon_replay")) { no_binary_name = true; subcommand_required = true }
+
+abbrev pub program_app : App
+program_app = with_subcommand (with_subcommand (record { top = program_shape; subs = [] }) check_app.top)
+    screen_app.top

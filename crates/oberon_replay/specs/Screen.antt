@@ -1,0 +1,42 @@
+-- What the command `screen` answers.
+use Rattle.std.specs.Prelude.{◌≡◌, ◌⊎◌, ◌<◌, ◌≤◌, ℕ, List, ◌++◌, length, slice_range, codes}
+use Rattle.std.specs.Fmt.{decimal}
+use Rattle.risc_pages.specs.Content.{table_words}
+use Rattle.risc_devices.specs.Picture.{IsPicture}
+use Rattle.oberon_format.specs.Recording.{RecordingParts, checkpoint_at}
+use Rattle.oberon_format.specs.Text.{Text}
+use Rattle.oberon_check.specs.Headline.{IsLineOfFault}
+
+-- the words of the display, 237,504 to 262,079, in the memory that checkpoint k claims
+abbrev pub display_of : RecordingParts → ℕ → List ℕ
+display_of r k = slice_range (table_words r.pool (checkpoint_at r k).table) 237504 262080
+
+-- the line where there is no such checkpoint
+abbrev pub missing_line : ℕ → List ℕ
+missing_line at = codes "no checkpoint " ++ (decimal at ++ codes "\n")
+
+-- the picture of the display that the checkpoint claims
+pub record IsClaimedScreen (r : RecordingParts) (at : ℕ) (text : List ℕ) (status : ℕ) : Type 0 where
+  pub there : at < length r.checkpoints
+  pub picture : IsPicture (display_of r at) text
+  pub status_is : status ≡ 0
+
+-- there is no such checkpoint
+pub record IsMissing (r : RecordingParts) (at : ℕ) (text : List ℕ) (status : ℕ) : Type 0 where
+  pub beyond : length r.checkpoints ≤ at
+  pub text_is : text ≡ missing_line at
+  pub status_is : status ≡ 2
+
+-- the answer on a recording
+abbrev pub IsScreenOf : RecordingParts → ℕ → List ℕ → ℕ → Type 0
+IsScreenOf r at text status = IsClaimedScreen r at text status ⊎ IsMissing r at text status
+
+-- the input is the text of a recording, and this is the answer on it
+pub record IsReadScreen (at : ℕ) (input text : List ℕ) (status : ℕ) : Type 0 where
+  pub recording : RecordingParts
+  pub read : Text input recording
+  pub screen : IsScreenOf recording at text status
+
+-- the answer on an input: that on its recording, or the line of its first fault, whatever the checkpoint
+abbrev pub IsScreen : ℕ → List ℕ → List ℕ → ℕ → Type 0
+IsScreen at input text status = IsReadScreen at input text status ⊎ IsLineOfFault input text status

@@ -1,0 +1,49 @@
+//! What each command answers to the bytes of its input. Reading them, and writing the answer, is in `serve`.
+ghost use Rattle.std.specs.Prelude.{◌≡◌, ◌≤◌, IfOk};
+ghost use Rattle.oberon_check.specs.Headline.{IsLineOf};
+ghost use Rattle.oberon_replay.specs.Answer.{IsAnswer, limit_of};
+ghost use Rattle.oberon_replay.specs.Asked.{IsWithinLimits};
+
+use crate::reply::Reply;
+use crate::screen::screen;
+use crate::words::Request;
+use oberon_check::{CheckFault, FreeGate, Report, check_bytes};
+use std::alloc::{AllocError, Global};
+
+/// One byte more than the longest text of a recording has. A longer input has a fault within so many bytes, and none of them is
+/// looked at further on.
+const TEXT_LIMIT: usize = 101_479_581;
+
+impl Request {
+    /// The most bytes that the command reads.
+    pub fn limit(self) -> usize
+        ensures { result ≡ limit_of self }
+    {
+        match self {
+            Request::Check { .. } | Request::Screen { .. } => TEXT_LIMIT,
+        }
+    }
+}
+
+/// The answer of a command to the bytes of an input. Only want of memory is refused.
+pub fn answer(alloc: Global, request: Request, bytes: &[u8]) -> Result<Reply, AllocError>
+    requires { IsWithinLimits request }
+    ensures { IfOk result (λ reply. IsAnswer request bytes.now reply.text.items reply.status) }
+{
+    match request {
+        Request::Check { workers, cut } => check(alloc, bytes, workers, cut),
+        Request::Screen { at } => screen(alloc, bytes, at),
+    }
+}
+
+/// The line of the check.
+fn check(alloc: Global, bytes: &[u8], workers: u32, cut: u32) -> Result<Reply, AllocError>
+    requires workers { (1 ≤ workers) × (workers ≤ 64) }
+    requires cut { 1 ≤ cut }
+    ensures { IfOk result (λ reply. IsLineOf bytes.now reply.text.items reply.status) }
+{
+    match check_bytes(alloc, bytes, workers, cut, &FreeGate) {
+        Ok(Report { line, status }) => Ok(Reply { text: line, status }),
+        Err(CheckFault::Memory) => Err(AllocError),
+    }
+}

@@ -1,0 +1,48 @@
+//! The program `oberon_replay`: checks recordings of a Project Oberon workstation, and shows their screens.
+//!
+//! It reads standard input, writes standard output and nothing on standard error, and ends with the status of `serve`, which is the
+//! whole program as a function over any reader and writer. Here is only what binds it to the process.
+#![tactic(auto)]
+
+mod answer;
+mod command;
+mod failure;
+mod reading;
+mod reply;
+mod screen;
+mod serve;
+mod words;
+mod writing;
+
+use failure::Failure;
+use serve::{refuse, serve};
+use std::io::ErrorKind;
+use std::process::ExitCode;
+use std::{env, io};
+
+fn main(rt: HostRuntime) -> ExitCode {
+    let status = run(&rt).unwrap_or_else(|failure| refuse(&mut io::writer(&rt), failure));
+    ExitCode::from(status)
+}
+
+/// Serves the words of the process, but for the program's own name.
+fn run(rt: &HostRuntime) -> Result<u8, Failure> {
+    let words: Vec<String> = env::args(rt)
+        .map_err(|error| unread(error.kind()))?
+        .skip(1)
+        .collect(rt.alloc())?;
+    let words: Vec<&str> = words.iter().map(String::as_str).collect(rt.alloc())?;
+    let mut output = io::writer(rt);
+    Ok(serve(rt.alloc(), &words, &mut rt.stdin(), &mut output))
+}
+
+/// Why the words of the process can't be had.
+fn unread(kind: ErrorKind) -> Failure {
+    match kind {
+        ErrorKind::OutOfMemory => Failure::Memory,
+        _ => Failure::Words,
+    }
+}
+
+#[cfg(test)]
+mod tests;

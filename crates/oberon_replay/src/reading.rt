@@ -1,0 +1,72 @@
+//! Reading an input to its end, or up to a limit, by a loop that counts its turns. What the bytes mean is not known here.
+ghost use Rattle.std.specs.Prelude.{◌≡◌, ◌<◌, ◌≤◌, ◌++◌, ◌^◌, List, ℕ, length, IfOk, OnErr, true};
+ghost use Rattle.std.specs.Io.KnownBytes.{Consumes, IsAtEnd};
+ghost use Rattle.oberon_replay.specs.Transfer.{IsReadUpTo, TakesAtMost};
+
+use std::alloc::{AllocError, Global};
+use std::io::{ErrorKind, Read};
+
+/// The most bytes that one read asks for: what a pipe holds.
+const CHUNK: usize = 65_536;
+
+/// Why an input was not read.
+#[derive(Clone, Copy, Debug, PartialEq, Eq)]
+pub enum ReadFault {
+    /// A read failed, or the reader went on being interrupted.
+    Failed,
+    /// There was no memory for the bytes.
+    Memory,
+}
+
+impl From<AllocError> for ReadFault {
+    fn from(_refused: AllocError) -> ReadFault {
+        ReadFault::Memory
+    }
+}
+
+/// Reads the input to its end, or `limit` bytes of it where it has more. A reader that has come to neither after
+/// `limit + 1` turns has failed. Whatever happens, no more than `limit` bytes are taken from it.
+pub fn read_up_to<R: Read>(alloc: Global, input: &mut R, limit: usize) -> Result<Vec<u8>, ReadFault>
+    requires { limit < 2 ^ 32 }
+    ensures read { IfOk result (λ bytes.
+        IsReadUpTo limit (R.remaining input.old) (R.remaining input.new) bytes.items) }
+    ensures most { TakesAtMost limit (R.remaining input.old) (R.remaining input.new) }
+{
+    let mut bytes = Vec::new(alloc);
+    let mut chunk = [0u8; CHUNK];
+    for _turn in 0..limit + 1 {
+        let room = (limit - bytes.len()).min(CHUNK);
+        if room == 0 {
+            return Ok(bytes);
+        }
+        if read_turn(input, &mut chunk[..room], &mut bytes)? {
+            return Ok(bytes);
+        }
+    }
+    Err(ReadFault::Failed)
+}
+
+/// One turn: the bytes of one read go to the end of `bytes`. Answers whether the input has ended.
+fn read_turn<R: Read>(
+    input: &mut R,
+    chunk: &mut [u8],
+    bytes: &mut Vec<u8>,
+) -> Result<bool, ReadFault>
+    requires { 0 < length chunk.old }
+    ensures gained { IfOk result (λ _. (got : List ℕ) × (bytes.new.items ≡ bytes.old.items ++ got)
+        × (length got ≤ length chunk.old)
+        × Consumes (R.remaining input.old) (R.remaining input.new) got) }
+    ensures end { IfOk result (λ ended. ended ≡ true → IsAtEnd (R.remaining input.new)) }
+    ensures lost { OnErr result
+        (TakesAtMost (length chunk.old) (R.remaining input.old) (R.remaining input.new)) }
+{
+    match input.read(chunk) {
+        Ok(0) => Ok(true),
+        Ok(n) => {
+            bytes.extend_from_slice(&chunk[..n])?;
+            Ok(false)
+        }
+        Err(e) if e.kind() == ErrorKind::Interrupted => Ok(false),
+        Err(_) => Err(ReadFault::Failed),
+    }
+}

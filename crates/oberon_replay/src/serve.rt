@@ -1,0 +1,90 @@
+//! The program as a function: from words, a reader and a writer to a status.
+ghost use Rattle.std.specs.Prelude.{◌≡◌, map, IfOk, IfErr};
+ghost use Rattle.oberon_replay.specs.Answer.{limit_for};
+ghost use Rattle.oberon_replay.specs.Asked.{asked};
+ghost use Rattle.oberon_replay.specs.Reply.{AnswersAll, IsReplyTo, IsSentText, MayFail, Outcome, Replies, failure_line, failure_status, outcome_status, outcome_text};
+ghost use Rattle.oberon_replay.specs.Transfer.{TakesAtMost};
+
+use crate::answer::answer;
+use crate::failure::Failure;
+use crate::reading::read_up_to;
+use crate::reply::Reply;
+use crate::words::{Refusal, asked};
+use crate::writing::{WriteFault, write_whole};
+use std::alloc::Global;
+use std::io::{Read, Write};
+
+/// Does the command of the words, and answers the status to end with.
+///
+/// | words | what is written | status |
+/// |---|---|---|
+/// | none, or `check` with its options | the line of the check | 0 accepted, 1 false, 2 refused |
+/// | `screen --at k` | the picture of the screen that checkpoint k claims; the line of a fault; or `no checkpoint k` | 0; 2; 2 |
+/// | a request for help | `clap`'s text | 0 |
+/// | others | `words refused` | 4 |
+///
+/// The words are read before the input, and no more than the longest text of a recording and one byte is read of it. Where a read
+/// fails only `read fault` is written, where memory is wanting only `no memory`; the status is 3. Where a write fails what went out
+/// is a front of the text, nothing else is written, and the status is 3.
+pub fn serve<'a, R: Read, W: Write>(
+    alloc: Global,
+    words: &'a [&'a str],
+    input: &mut R,
+    output: &mut W,
+) -> u8
+    // Whatever the reader and the writer do, it is some reply to the words that is written.
+    ensures replies { Replies (map (λ word. word.now) words.entry.now) (R.remaining input.old)
+        (R.remaining input.new) (W.contents output.old) (W.contents output.new) result }
+    // Where nothing fails it is the answer to the whole input.
+    ensures answers { AnswersAll (map (λ word. word.now) words.entry.now) (R.remaining input.old)
+        (W.contents output.old) (W.contents output.new) result }
+    ensures reads { TakesAtMost (limit_for (asked (map (λ word. word.now) words.entry.now)))
+        (R.remaining input.old) (R.remaining input.new) }
+{
+    match reply(alloc, words, input) {
+        Ok(reply) => send(output, &reply.text, reply.status),
+        Err(failure) => refuse(output, failure),
+    }
+}
+
+/// Writes the line of a failure, and answers its status, or 3 after a write fault. Takes no memory.
+pub fn refuse<W: Write>(output: &mut W, failure: Failure) -> u8
+    ensures { IsSentText (failure_line failure) (failure_status failure) (W.contents output.old)
+        (W.contents output.new) result }
+{
+    send(output, failure.line().as_bytes(), failure.status())
+}
+
+/// Writes the text, and answers its status, or 3 after a write fault.
+fn send<W: Write>(output: &mut W, text: &[u8], status: u8) -> u8
+    ensures { IsSentText text.now status (W.contents output.old) (W.contents output.new) result }
+{
+    match write_whole(output, text) {
+        Ok(()) => status,
+        Err(WriteFault) => 3,
+    }
+}
+
+/// What there is to write, and its status. The input is read only where the words ask for a command.
+fn reply<'a, R: Read>(alloc: Global, words: &'a [&'a str], input: &mut R) -> Result<Reply, Failure>
+    ensures ok { IfOk result (λ reply. (outcome : Outcome)
+        × IsReplyTo (map (λ word. word.now) words.entry.now) (R.remaining input.old)
+        (R.remaining input.new) outcome
+        × (reply.text.items ≡ outcome_text outcome) × (reply.status ≡ outcome_status outcome)) }
+    ensures err { IfErr result (MayFail (map (λ word. word.now) words.entry.now)) }
+    ensures reads { TakesAtMost (limit_for (asked (map (λ word. word.now) words.entry.now)))
+        (R.remaining input.old) (R.remaining input.new) }
+{
+    match asked(alloc, words) {
+        Ok(request) => {
+            let bytes = read_up_to(alloc, input, request.limit())?;
+            Ok(answer(alloc, request, &bytes)?)
+        }
+        Err(Refusal::Help(error)) => Ok(Reply {
+            text: error.to_string(alloc)?.into_bytes(),
+            status: 0,
+        }),
+        Err(Refusal::Words) => Err(Failure::Words),
+        Err(Refusal::Memory) => Err(Failure::Memory),
+    }
+}

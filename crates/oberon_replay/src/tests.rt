@@ -1,0 +1,9 @@
+//! Worked examples through `serve`, over readers and writers in memory.
+
+mod checks;
+mod draft;
+mod ends;
+mod faults;
+mod helped;
+mod screens;
+mod served;

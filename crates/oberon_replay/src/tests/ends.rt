@@ -1,0 +1,162 @@
+//! Readers and writers that fail, that never end, or that take one byte at a time.
+
+use super::draft::STORED_RUN;
+use crate::reading::{ReadFault, read_up_to};
+use crate::serve::serve;
+use std::io::{self, Error, ErrorKind, Read, Write};
+use std::test::Fail;
+
+/// Gives one zero byte a turn, `left` in all, and then the error at each turn.
+#[derive(Drop)]
+struct Failing {
+    left: usize,
+    with: ErrorKind,
+}
+
+impl Read for Failing {
+    fn read(&mut self, buf: &mut [u8]) -> io::Result<usize> {
+        if self.left == 0 || buf.is_empty() {
+            return Err(Error::from(self.with));
+        }
+        self.left -= 1;
+        buf[0] = 0;
+        Ok(1)
+    }
+}
+
+/// Gives what it has, one byte a turn, with an interrupted turn before each.
+#[derive(Drop)]
+struct Dripping<'a> {
+    rest: &'a [u8],
+    interrupted: bool,
+}
+
+impl Read for Dripping<'_> {
+    fn read(&mut self, buf: &mut [u8]) -> io::Result<usize> {
+        self.interrupted = !self.interrupted;
+        if self.interrupted {
+            return Err(Error::from(ErrorKind::Interrupted));
+        }
+        match (self.rest.split_first(), buf.first_mut()) {
+            (Some((byte, rest)), Some(there)) => {
+                *there = *byte;
+                self.rest = rest;
+                Ok(1)
+            }
+            _ => Ok(0),
+        }
+    }
+}
+
+/// Gives zeros without end, and counts them.
+#[derive(Drop)]
+struct Endless {
+    given: u64,
+}
+
+impl Read for Endless {
+    fn read(&mut self, buf: &mut [u8]) -> io::Result<usize> {
+        for byte in buf.iter_mut() {
+            *byte = 0;
+        }
+        let count = buf.len();
+        self.given = self.given.saturating_add(count as u64);
+        Ok(count)
+    }
+}
+
+/// Takes one byte a turn, `room` in all, and then none.
+#[derive(Drop)]
+struct Narrow {
+    taken: Vec<u8>,
+    room: usize,
+}
+
+impl Write for Narrow {
+    fn write(&mut self, buf: &[u8]) -> io::Result<usize> {
+        if self.room == 0 || buf.is_empty() {
+            return Ok(0);
+        }
+        self.taken.push(buf[0])?;
+        self.room -= 1;
+        Ok(1)
+    }
+
+    fn flush(&mut self) -> io::Result<()> {
+        Ok(())
+    }
+}
+
+#[test]
+fn a_failed_read_leaves_its_line_alone(rt: HostRuntime) {
+    let alloc = rt.alloc();
+    for words in [["check", "--cut=1"].as_slice(), &["screen", "--at=0"]] {
+        let mut input = Failing {
+            left: 3,
+            with: ErrorKind::Other,
+        };
+        let mut output = Vec::new(alloc);
+        assert_eq!(rt; serve(alloc, words, &mut input, &mut output), 3);
+        assert_eq!(rt; output.as_slice(), b"read fault\n".as_slice());
+    }
+}
+
+#[test]
+fn a_reader_that_is_always_interrupted_is_a_read_fault(rt: HostRuntime) {
+    let mut input = Failing {
+        left: 3,
+        with: ErrorKind::Interrupted,
+    };
+    let ended = read_up_to(rt.alloc(), &mut input, 100);
+    assert!(rt; matches!(ended, Err(ReadFault::Failed)));
+}
+
+#[test]
+fn an_interrupted_reader_is_read_to_its_end(rt: HostRuntime) -> Result<(), Fail> {
+    let alloc = rt.alloc();
+    let text = STORED_RUN.text(alloc, &[])?;
+    let mut input = Dripping {
+        rest: &text,
+        interrupted: false,
+    };
+    let mut output = Vec::new(alloc);
+    assert_eq!(rt; serve(alloc, &[], &mut input, &mut output), 0);
+    assert_eq!(rt;
+        output.as_slice(),
+        b"accepted 1 checkpoints 100 steps\n".as_slice()
+    );
+    Ok(())
+}
+
+#[test]
+fn a_reader_without_end_is_read_up_to_the_limit(rt: HostRuntime) {
+    let alloc = rt.alloc();
+    let mut input = Endless { given: 0 };
+    let mut output = Vec::new(alloc);
+    assert_eq!(rt; serve(alloc, &[], &mut input, &mut output), 2);
+    assert_eq!(rt;
+        output.as_slice(),
+        b"refused 2 magic at byte 0\n".as_slice()
+    );
+    assert_eq!(rt; input.given, 101_479_581);
+}
+
+#[test]
+fn a_narrow_writer_gets_all_that_it_has_room_for(rt: HostRuntime) -> Result<(), Fail> {
+    let alloc = rt.alloc();
+    let text = STORED_RUN.text(alloc, &[])?;
+    let line = b"accepted 1 checkpoints 100 steps\n".as_slice();
+    for (room, status) in [(33, 0), (32, 3), (8, 3), (0, 3)] {
+        let mut output = Narrow {
+            taken: Vec::new(alloc),
+            room,
+        };
+        assert_eq!(rt;
+            serve(alloc, &[], &mut text.as_slice(), &mut output),
+            status
+        );
+        assert_eq!(rt; output.taken.len(), room);
+        assert!(rt; line.starts_with(&output.taken));
+    }
+    Ok(())
+}

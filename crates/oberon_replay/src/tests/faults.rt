@@ -1,0 +1,78 @@
+//! Texts that are refused: each with the line of its first fault.
+
+use super::draft::Spot::{EventKind, Word};
+use super::draft::{Draft, STORED_RUN};
+use super::served::served;
+use std::test::Fail;
+
+/// One byte of the text of the stored run that is changed, and the line that this gives.
+const CHANGED_BYTES: [(usize, u8, &str); 8] = [
+    (0, 0x00, "refused 2 magic at byte 0\n"),
+    (4, 0x09, "refused 3 version at byte 4\n"),
+    (20, 0x01, "refused 4 limit at byte 20\n"),
+    (16, 0x00, "refused 4 limit at byte 16\n"),
+    (1048, 0x01, "refused 6 checkpoint at byte 1048\n"),
+    (5388, 0x01, "refused 6 checkpoint at byte 5276\n"),
+    (5408, 0x02, "refused 7 page at byte 5408\n"),
+    (5404, 0x01, "refused 1 short at byte 9504\n"),
+];
+
+#[test]
+fn refuses_a_text_with_one_byte_changed(rt: HostRuntime) -> Result<(), Fail> {
+    let text = STORED_RUN.text(rt.alloc(), &[])?;
+    assert_eq!(rt; text.len(), 9504);
+    refuse_each(&rt, text, &CHANGED_BYTES)
+}
+
+fn refuse_each(
+    rt: &HostRuntime,
+    mut text: Vec<u8>,
+    changes: &[(usize, u8, &'static str)],
+) -> Result<(), Fail> {
+    for (at, byte, line) in changes {
+        let old = text.get(*at).copied().ok_or("no such byte")?;
+        put(&mut text, *at, *byte);
+        refuse(rt, &text, line);
+        put(&mut text, *at, old);
+    }
+    Ok(())
+}
+
+fn put(text: &mut [u8], at: usize, byte: u8) {
+    if let Some(there) = text.get_mut(at) {
+        *there = byte;
+    }
+}
+
+fn refuse(rt: &HostRuntime, text: &[u8], line: &str) {
+    let (written, ended) = served(rt.alloc(), &["check"], text);
+    assert_eq!(rt; written.as_slice(), line.as_bytes());
+    assert_eq!(rt; ended, 2);
+}
+
+#[test]
+fn refuses_a_text_that_is_cut_or_goes_on(rt: HostRuntime) -> Result<(), Fail> {
+    let mut text = STORED_RUN.text(rt.alloc(), &[])?;
+    text.push(0)?;
+    refuse(&rt, &text, "refused 8 trailing at byte 9504\n");
+    text.truncate(9503);
+    refuse(&rt, &text, "refused 1 short at byte 9503\n");
+    refuse(&rt, &[], "refused 1 short at byte 0\n");
+    Ok(())
+}
+
+/// An input of no kind.
+const BAD_EVENT_KIND: Draft<'static> = Draft {
+    pages: 1,
+    events: 1,
+    checkpoints: 1,
+    numbers: &[(Word(0, 0), 0x4000_0005), (EventKind(0), 6)],
+    output: &[],
+};
+
+#[test]
+fn refuses_an_event_of_no_kind(rt: HostRuntime) -> Result<(), Fail> {
+    let text = BAD_EVENT_KIND.text(rt.alloc(), &[])?;
+    refuse(&rt, &text, "refused 5 event at byte 1048\n");
+    Ok(())
+}

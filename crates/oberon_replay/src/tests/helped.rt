@@ -1,0 +1,45 @@
+//! Words that ask for help, and words that ask for nothing.
+
+use super::served::served;
+
+/// Words that ask for nothing.
+const REFUSED: [&[&str]; 9] = [
+    &["screen"],
+    &["screen", "--at", "4097"],
+    &["check", "--workers", "65"],
+    &["check", "--workers", "0"],
+    &["check", "--cut", "4097"],
+    &["check", "--cut", "0"],
+    &["bogus"],
+    &["check", "again"],
+    &["migrate"],
+];
+
+/// Words that ask for help.
+const ASKING: [&[&str]; 3] = [&["--help"], &["check", "--help"], &["help", "screen"]];
+
+#[test]
+fn refuses_words(rt: HostRuntime) {
+    refuse_each(&rt, &REFUSED);
+}
+
+fn refuse_each<'a>(rt: &HostRuntime, words: &'a [&'a [&'a str]]) {
+    for words in words {
+        let (written, ended) = served(rt.alloc(), words, b"the input isn't read");
+        assert_eq!(rt; written.as_slice(), b"words refused\n".as_slice());
+        assert_eq!(rt; ended, 4);
+    }
+}
+
+#[test]
+fn helps(rt: HostRuntime) {
+    help_each(&rt, &ASKING);
+}
+
+fn help_each<'a>(rt: &HostRuntime, words: &'a [&'a [&'a str]]) {
+    for words in words {
+        let (written, ended) = served(rt.alloc(), words, b"the input isn't read");
+        assert!(rt; written.len() > 100);
+        assert_eq!(rt; ended, 0);
+    }
+}
