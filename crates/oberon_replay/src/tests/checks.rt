@@ -6,6 +6,7 @@ use super::draft::Spot::{
 };
 use super::draft::{Draft, JUMP, STORED_RUN, Spot};
 use super::served::served;
+use std::process::Abort;
 use std::test::Fail;
 
 /// A recording with changes, the line of its check, and the status.
@@ -233,7 +234,7 @@ fn gives_each_recording_its_line(rt: HostRuntime) -> Result<(), Fail> {
     check_each(&rt, &EXAMPLES)
 }
 
-fn check_each(rt: &HostRuntime, examples: &[Example]) -> Result<(), Fail> {
+fn check_each(rt: &(impl Abort + AllocGlobal), examples: &[Example]) -> Result<(), Fail> {
     for (draft, changes, line, status) in examples {
         let text = draft.text(rt.alloc(), changes)?;
         let (written, ended) = served(rt.alloc(), &[], &text);
@@ -284,7 +285,7 @@ fn gives_one_line_whatever_the_workers_and_the_cut(rt: HostRuntime) -> Result<()
     Ok(())
 }
 
-fn check_with_each(rt: &HostRuntime, text: &[u8], line: &[u8]) {
+fn check_with_each(rt: &(impl Abort + AllocGlobal), text: &[u8], line: &[u8]) {
     for workers in ["1", "2", "64"] {
         for cut in ["1", "4", "100"] {
             let words = ["check", "--workers", workers, "--cut", cut];

@@ -3,6 +3,7 @@
 use super::draft::Spot::{EventKind, Word};
 use super::draft::{Draft, STORED_RUN};
 use super::served::served;
+use std::process::Abort;
 use std::test::Fail;
 
 /// One byte of the text of the stored run that is changed, and the line that this gives.
@@ -25,7 +26,7 @@ fn refuses_a_text_with_one_byte_changed(rt: HostRuntime) -> Result<(), Fail> {
 }
 
 fn refuse_each(
-    rt: &HostRuntime,
+    rt: &(impl Abort + AllocGlobal),
     mut text: Vec<u8>,
     changes: &[(usize, u8, &'static str)],
 ) -> Result<(), Fail> {
@@ -44,7 +45,7 @@ fn put(text: &mut [u8], at: usize, byte: u8) {
     }
 }
 
-fn refuse(rt: &HostRuntime, text: &[u8], line: &str) {
+fn refuse(rt: &(impl Abort + AllocGlobal), text: &[u8], line: &str) {
     let (written, ended) = served(rt.alloc(), &["check"], text);
     assert_eq!(rt; written.as_slice(), line.as_bytes());
     assert_eq!(rt; ended, 2);

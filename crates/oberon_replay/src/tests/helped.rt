@@ -1,6 +1,7 @@
 //! Words that ask for help, and words that ask for nothing.
 
 use super::served::served;
+use std::process::Abort;
 
 /// Words that ask for nothing.
 const REFUSED: [&[&str]; 9] = [
@@ -23,7 +24,7 @@ fn refuses_words(rt: HostRuntime) {
     refuse_each(&rt, &REFUSED);
 }
 
-fn refuse_each<'a>(rt: &HostRuntime, words: &'a [&'a [&'a str]]) {
+fn refuse_each<'a>(rt: &(impl Abort + AllocGlobal), words: &'a [&'a [&'a str]]) {
     for words in words {
         let (written, ended) = served(rt.alloc(), words, b"the input isn't read");
         assert_eq!(rt; written.as_slice(), b"words refused\n".as_slice());
@@ -36,7 +37,7 @@ fn helps(rt: HostRuntime) {
     help_each(&rt, &ASKING);
 }
 
-fn help_each<'a>(rt: &HostRuntime, words: &'a [&'a [&'a str]]) {
+fn help_each<'a>(rt: &(impl Abort + AllocGlobal), words: &'a [&'a [&'a str]]) {
     for words in words {
         let (written, ended) = served(rt.alloc(), words, b"the input isn't read");
         assert!(rt; written.len() > 100);

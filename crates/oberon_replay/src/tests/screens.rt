@@ -3,6 +3,7 @@
 use super::draft::Spot::{Place, Word};
 use super::draft::{Draft, STORED_RUN};
 use super::served::served;
+use std::process::Abort;
 use std::test::Fail;
 
 /// One dot at the bottom left, of word 237,504, which stands in page 927 of the memory.
@@ -33,7 +34,7 @@ fn shows_one_dot(rt: HostRuntime) -> Result<(), Fail> {
 }
 
 /// The picture of checkpoint 0 has one byte after its head that isn't 0.
-fn show(rt: &HostRuntime, text: &[u8], at: usize, byte: u8) {
+fn show(rt: &(impl Abort + AllocGlobal), text: &[u8], at: usize, byte: u8) {
     let (written, ended) = served(rt.alloc(), &["screen", "--at", "0"], text);
     assert_eq!(rt; ended, 0);
     assert_eq!(rt; written.len(), 98_316);
@@ -52,7 +53,7 @@ fn shows_no_screen(rt: HostRuntime) -> Result<(), Fail> {
     Ok(())
 }
 
-fn refuse(rt: &HostRuntime, text: &[u8], line: &[u8]) {
+fn refuse(rt: &(impl Abort + AllocGlobal), text: &[u8], line: &[u8]) {
     let (written, ended) = served(rt.alloc(), &["screen", "--at", "2"], text);
     assert_eq!(rt; written.as_slice(), line);
     assert_eq!(rt; ended, 2);
