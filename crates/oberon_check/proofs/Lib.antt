@@ -5,4 +5,8 @@ pub mod Collects
 pub mod Sizes
 pub mod Unique
 pub mod Existence
-pub mod InOrder
+pub mod Tops
+pub mod Runs
+pub mod Gathered
+pub mod DoneLemmas
+pub mod Lines

@@ -7,3 +7,4 @@ pub mod Segment
 pub mod Collecting
 pub mod Tally
 pub mod Run
+pub mod Work

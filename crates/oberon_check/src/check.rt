@@ -1,18 +1,24 @@
-//! The check of a recording.
+//! The check of a recording by workers in threads of their own.
 //!
-//! Here lives the order in which segments are replayed. What their verdicts come to lives in `collector`, and what is printed
-//! in `report`.
-ghost use Rattle.std.specs.Prelude.{◌≡◌, ◌≤◌, All, IfOk};
+//! Here live the start and the end of the threads. What a worker does lives in `worker`, what their parts come to in
+//! `gathering`, and what is printed in `report`.
+ghost use Rattle.std.specs.Prelude.{◌≡◌, ◌≤◌, vec_len, All, IfOk};
+ghost use Rattle.std.specs.Int.{div_ceil};
+ghost use Rattle.oberon_claims.specs.Pass.{fresh_pass};
 ghost use Rattle.oberon_format.specs.Recording.{last_of};
-ghost use Rattle.oberon_check.specs.Run.{IsRun};
 ghost use Rattle.oberon_check.specs.Verdict.{IsVerdict};
+ghost use Rattle.oberon_check.specs.Work.{IsPartOf, IsWork};
 
-use crate::collector::collect;
 use crate::gate::Gate;
-use crate::segment::{SegmentVerdict, replay_segment};
+use crate::gathering::gather;
+use crate::segment::SegmentVerdict;
 use crate::verdict::Verdict;
+use crate::worker::{Done, work};
+use oberon_claims::{Claims, Pass};
 use oberon_format::Recording;
 use std::alloc::{AllocError, Global};
+use std::sync::Wait;
+use std::thread::{Threads, map_vec};
 use thiserror::Error;
 
 /// Why a check has no answer.
@@ -34,45 +40,91 @@ impl From<AllocError> for CheckFault {
     }
 }
 
-// The verdicts of the segments in their order, up to the first that failed.
-fn replay_in_order<G: Gate>(
+// One worker's part, in the two values that cross threads.
+fn work_apart<G: Gate>(
     alloc: Global,
     r: &Recording,
+    claims: &Claims,
+    pass: Pass,
     cut: u32,
     gate: &G,
-) -> Result<Vec<SegmentVerdict>, AllocError>
-    requires { 1 ≤ cut }
-    ensures recordings { IfOk result (λ vs. All (λ v. v.recording ≡ r.now) vs.items) }
-    ensures run { IfOk result (λ vs. IsRun 0 (last_of r.now) vs.items) }
+) -> Result<(Pass, Vec<SegmentVerdict>), AllocError>
+    requires cut { 1 ≤ cut }
+    requires fresh { pass ≡ fresh_pass claims.now }
+    requires jobs { claims.now.jobs ≡ div_ceil (last_of r.now) cut }
+    ensures { IfOk result (λ w. IsWork r.now cut claims.now w.0 w.1.items) }
 {
-    let mut verdicts = Vec::new(alloc);
-    for segment in 0..r.count() - 1 {
-        if segment % cut == 0 {
-            gate.before(segment / cut);
-        }
-        let verdict = replay_segment(alloc, r, segment)?;
-        let failed = verdict.part().is_some();
-        verdicts.push(verdict)?;
-        if failed {
-            return Ok(verdicts);
-        }
-    }
-    Ok(verdicts)
+    let done = work(alloc, r, claims, pass, cut, gate)?;
+    Ok(done.into_parts())
 }
 
-/// The verdict on a recording.
-pub(crate) fn verdict_of<G: Gate>(
+// Each pass in a thread of its own, over one recording and one book.
+fn work_all<R: Threads + Sync, G: Gate + Sync>(
+    rt: &R,
     alloc: Global,
     r: &Recording,
+    claims: &Claims,
+    passes: Vec<Pass>,
     cut: u32,
     gate: &G,
-) -> Result<Verdict, AllocError>
-    requires { 1 ≤ cut }
+) -> Result<Vec<Result<(Pass, Vec<SegmentVerdict>), AllocError>>, AllocError>
+    requires cut { 1 ≤ cut }
+    requires fresh { All (λ p. p ≡ fresh_pass claims.now) passes.items }
+    requires jobs { claims.now.jobs ≡ div_ceil (last_of r.now) cut }
+    ensures len { IfOk result (λ v. vec_len v ≡ vec_len passes) }
+    ensures parts { IfOk result (λ v. All (λ d. IfOk d (λ w. IsWork r.now cut claims.now w.0 w.1.items)) v.items) }
+{
+    map_vec(
+        rt,
+        passes,
+        &|pass: Pass| -> Result<(Pass, Vec<SegmentVerdict>), AllocError>
+            requires { (1 ≤ cut) × (pass ≡ fresh_pass claims.now) × (claims.now.jobs ≡ div_ceil (last_of r.now) cut) }
+            ensures { IfOk result (λ w. IsWork r.entry.now cut claims.entry.now w.0 w.1.items) }
+        { work_apart(alloc, r, claims, pass, cut, gate) },
+    )
+}
+
+// The parts, if memory sufficed for each.
+fn all_done(
+    alloc: Global,
+    r: &Recording,
+    claims: &Claims,
+    cut: u32,
+    results: Vec<Result<(Pass, Vec<SegmentVerdict>), AllocError>>,
+) -> Result<Vec<Done>, AllocError>
+    requires { All (λ d. IfOk d (λ w. IsWork r.now cut claims.now w.0 w.1.items)) results.items }
+    ensures len { IfOk result (λ v. vec_len v ≡ vec_len results) }
+    ensures parts { IfOk result (λ v. All (IsPartOf r.now cut claims.now) v.items) }
+{
+    let _ = claims;
+    let mut done = Vec::new(alloc);
+    for result in results {
+        let (pass, verdicts) = result?;
+        done.push(Done::from_parts(r, cut, pass, verdicts))?;
+    }
+    Ok(done)
+}
+
+/// The verdict on a recording, by so many workers that share its jobs, each in a thread of its own. Neither `workers` nor
+/// `cut`, the number of segments in a job, bears on the answer.
+///
+/// The gate is called once before each job. The call returns when all workers have ended; `Memory` is answered only where
+/// memory was refused.
+pub fn check_recording<R: Threads + Wait + Sync, G: Gate + Sync>(
+    rt: &R,
+    alloc: Global,
+    r: &Recording,
+    workers: u32,
+    cut: u32,
+    gate: &G,
+) -> Result<Verdict, CheckFault>
+    requires workers { (1 ≤ workers) × (workers ≤ 64) }
+    requires cut { 1 ≤ cut }
     ensures { IfOk result (IsVerdict r.now) }
 {
-    let verdicts = replay_in_order(alloc, r, cut, gate)?;
-    match collect(r, verdicts.as_slice()) {
-        Ok(verdict) => Ok(verdict),
-        Err(_) => unreachable!(),
-    }
+    let jobs = (r.count() - 1).div_ceil(cut);
+    let (claims, passes) = Claims::new(alloc, jobs, workers)?;
+    let results = work_all(rt, alloc, r, &claims, passes, cut, gate)?;
+    let done = all_done(alloc, r, &claims, cut, results)?;
+    Ok(gather(alloc, r, claims, done)?)
 }

@@ -1,7 +1,17 @@
 //! The laws of this crate's definitions, each the contract of a function that does nothing.
-ghost use Rattle.oberon_check.specs.Laws.{OneVerdict};
+ghost use Rattle.oberon_check.specs.Laws.{OneLine, OneVerdict};
+
+use oberon_format::{one_recording, text_or_fault};
 
 /// A lawful recording has exactly one verdict.
 pub const fn verdict_law()
     ensures { OneVerdict }
 {}
+
+/// A byte text has exactly one line with one status.
+pub fn line_law()
+    ensures { OneLine }
+{
+    one_recording();
+    text_or_fault();
+}

@@ -4,11 +4,13 @@
 ghost use Rattle.std.specs.Prelude.{◌≡◌, ◌≤◌, IfOk};
 ghost use Rattle.oberon_check.specs.Headline.{IsLineOf};
 
-use crate::check::{CheckFault, verdict_of};
+use crate::check::{CheckFault, check_recording};
 use crate::gate::Gate;
 use crate::verdict::{line, status};
 use oberon_format::{Fault, read, refusal};
 use std::alloc::Global;
+use std::sync::Wait;
+use std::thread::Threads;
 
 /// What is printed, and the exit status of a program that prints it.
 #[derive(Debug, Drop)]
@@ -24,7 +26,8 @@ pub struct Report {
 ///
 /// A job is `cut` segments that follow each other, and the gate is called before each. `Memory` is answered only where
 /// memory was refused.
-pub fn check_bytes<G: Gate>(
+pub fn check_bytes<R: Threads + Wait + Sync, G: Gate + Sync>(
+    rt: &R,
     alloc: Global,
     bytes: &[u8],
     workers: u32,
@@ -35,7 +38,6 @@ pub fn check_bytes<G: Gate>(
     requires cut { 1 ≤ cut }
     ensures { IfOk result (λ report. IsLineOf bytes.now report.line.items report.status) }
 {
-    let _ = workers;
     let r = match read(alloc, bytes) {
         Ok(r) => r,
         Err(Fault::Memory) => return Err(CheckFault::Memory),
@@ -44,7 +46,7 @@ pub fn check_bytes<G: Gate>(
             return Ok(Report { line, status: 2 });
         }
     };
-    let verdict = verdict_of(alloc, &r, cut, gate)?;
+    let verdict = check_recording(rt, alloc, &r, workers, cut, gate)?;
     let line = line(alloc, &verdict)?;
     Ok(Report {
         line,

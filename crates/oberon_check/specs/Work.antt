@@ -1,0 +1,92 @@
+-- What one worker does of the jobs that workers share.
+use Rattle.std.specs.Prelude.{ℕ, ◌≡◌, ◌⊎◌, ◌+◌, ◌*◌, ◌<◌, ◌≤◌, min, List, [], ◌∷◌, ◌++◌, true, Option, None, Some, All, Contains}
+use Rattle.std.specs.Int.{div_ceil}
+use Rattle.oberon_claims.specs.Pass.{PassRecord, BookId}
+use Rattle.oberon_format.specs.Recording.{RecordingParts, last_of}
+use Rattle.oberon_check.specs.declared.part.Part.{Part}
+use Rattle.oberon_check.specs.Segment.{Finding}
+use Rattle.oberon_check.specs.Run.{IsRun}
+
+-- A segment that was shown lies before this one.
+abbrev pub IsBehind : List ℕ → ℕ → Type 0
+IsBehind shown first = (x : ℕ) × Contains shown x × (x < first)
+
+-- The verdicts of a job of `cut` segments, of fewer at the end: those of its segments in order, to its end or its first
+-- failed one; or none, where it begins after a value shown.
+abbrev pub IsJob : ℕ → ℕ → List ℕ → ℕ → List Finding → Type 0
+IsJob last cut shown job vs = ((vs ≡ []) × IsBehind shown (job * cut)) ⊎ IsRun (job * cut) (min (job * cut + cut) last) vs
+
+-- The list is one piece for each, in order, and nothing else.
+abbrev pub InPieces : {A : Type 0} → (A → List Finding → Type 0) → List A → List Finding → Type 0
+InPieces P [] vs = vs ≡ []
+InPieces P (x ∷ xs) vs = (front : List Finding) × (back : List Finding) × (vs ≡ front ++ back) × P x front × InPieces P xs back
+
+-- The segment, where it failed.
+abbrev pub one_failed : ℕ → Option Part → List ℕ
+one_failed segment None = []
+one_failed segment (Some part) = segment ∷ []
+
+-- The segments that failed.
+abbrev pub failed_of : List Finding → List ℕ
+failed_of [] = []
+failed_of (v ∷ vs) = one_failed v.segment v.part ++ failed_of vs
+
+-- Each job that the pass took has its verdicts, there are no others, and the segments told are the failed ones.
+pub record HasDone (last cut : ℕ) (p : PassRecord) (vs : List Finding) : Type 0 where
+  pub jobs : InPieces (IsJob last cut p.shown) p.taken vs
+  pub told : p.told ≡ failed_of vs
+
+-- What a contract sees of a worker's part.
+pub record DoneRecord : Type 0 where
+  pub recording : RecordingParts
+  pub cut : ℕ
+  pub pass : PassRecord
+  pub verdicts : List Finding
+
+-- The part is whole: the pass was answered None, its book has as many jobs as the recording has at this cut, the verdicts
+-- are the recording's, and they are those of the jobs that the pass took.
+pub record IsDone (d : DoneRecord) : Type 0 where
+  pub cut : 1 ≤ d.cut
+  pub book : d.pass.book.jobs ≡ div_ceil (last_of d.recording) d.cut
+  pub ended : d.pass.ended ≡ true
+  pub recordings : All (λ v. v.recording ≡ d.recording) d.verdicts
+  pub done : HasDone (last_of d.recording) d.cut d.pass d.verdicts
+
+-- The part of this recording, cut, pass and verdicts.
+abbrev pub done_record : RecordingParts → ℕ → PassRecord → List Finding → DoneRecord
+done_record r cut p vs = record { recording = r; cut = cut; pass = p; verdicts = vs }
+
+-- The part is of this recording, cut and book.
+pub record IsPartOf (r : RecordingParts) (cut : ℕ) (book : BookId) (d : DoneRecord) : Type 0 where
+  pub recording_is : d.recording ≡ r
+  pub cut_is : d.cut ≡ cut
+  pub book_is : d.pass.book ≡ book
+
+-- A pass of this book and these verdicts make a whole part.
+pub record IsWork (r : RecordingParts) (cut : ℕ) (book : BookId) (p : PassRecord) (vs : List Finding) : Type 0 where
+  pub whole : IsDone (done_record r cut p vs)
+  pub book_is : p.book ≡ book
+
+-- What a pass and a list of verdicts become with the verdicts of one job more.
+pub record AddsJob (r : RecordingParts) (cut job : ℕ) (p q : PassRecord) (vs ws : List Finding) : Type 0 where
+  pub book : q.book ≡ p.book
+  pub taken : q.taken ≡ p.taken
+  pub ended : q.ended ≡ p.ended
+  pub shown : (x : ℕ) → Contains p.shown x → Contains q.shown x
+  pub piece : List Finding
+  pub verdicts : ws ≡ vs ++ piece
+  pub told : q.told ≡ p.told ++ failed_of piece
+  pub recordings : All (λ v. v.recording ≡ r) piece
+  pub is_job : IsJob (last_of r) cut q.shown job piece
+
+-- What they become with a run of verdicts more.
+pub record AddsRun (r : RecordingParts) (first end : ℕ) (p q : PassRecord) (vs ws : List Finding) : Type 0 where
+  pub book : q.book ≡ p.book
+  pub taken : q.taken ≡ p.taken
+  pub ended : q.ended ≡ p.ended
+  pub shown : q.shown ≡ p.shown
+  pub piece : List Finding
+  pub verdicts : ws ≡ vs ++ piece
+  pub told : q.told ≡ p.told ++ failed_of piece
+  pub recordings : All (λ v. v.recording ≡ r) piece
+  pub is_run : IsRun first end piece

@@ -1,0 +1,174 @@
+//! One worker's part: the jobs that it claims, and the verdicts of their segments.
+//!
+//! Here live the loop of a worker and what it leaves. The claims themselves live in `oberon_claims`, what all workers' parts
+//! come to in `gathering`, and the threads in `check`. Nothing here waits.
+ghost use Rattle.std.specs.Prelude.{◌≡◌, ◌<◌, ◌≤◌, ◌*◌, IfOk, OnOk};
+ghost use Rattle.std.specs.Int.{div_ceil};
+ghost use Rattle.oberon_claims.specs.Pass.{fresh_pass};
+ghost use Rattle.oberon_format.specs.Recording.{last_of};
+ghost use Rattle.oberon_check.specs.Work.{AddsJob, AddsRun};
+
+use crate::gate::Gate;
+use crate::segment::{SegmentVerdict, replay_segment};
+use oberon_claims::{Claims, Pass};
+use oberon_format::Recording;
+use std::alloc::{AllocError, Global};
+use std::marker::Model;
+use std::snapshot::Snapshot;
+
+/// One worker's part: its pass, and the verdicts of the jobs that it took.
+///
+/// Whoever has it, the pass was answered `None`; each job that it took has the verdicts of its segments, in order, to its
+/// end or to its first failed one, or it has none and begins after a value that the pass was shown; there are no other
+/// verdicts; the pass told the failed segments; and its book has as many jobs as the recording has at the cut. It carries,
+/// for contracts, the recording and the cut.
+#[derive(Drop)]
+pub struct Done {
+    recording: Snapshot<Recording>,
+    cut: u32,
+    pass: Pass,
+    verdicts: Vec<SegmentVerdict>,
+}
+
+impl Model for Done {
+    ghost use Rattle.oberon_check.specs.Work.{DoneRecord, IsDone};
+
+    ghost Value = { DoneRecord };
+
+    ghost view = { λ d. record { recording = d.recording.value; cut = d.cut; pass = d.pass; verdicts = d.verdicts.items } };
+
+    ghost invariant = { λ d. IsDone (record { recording = d.recording.value; cut = d.cut; pass = d.pass; verdicts = d.verdicts.items }) };
+}
+
+impl Done {
+    ghost use Rattle.oberon_check.specs.Work.{IsDone, done_record};
+
+    /// The part of a pass and its verdicts.
+    pub(crate) fn from_parts(
+        r: &Recording,
+        cut: u32,
+        pass: Pass,
+        verdicts: Vec<SegmentVerdict>,
+    ) -> Done
+        requires { IsDone (done_record r.now cut pass verdicts.items) }
+        ensures { result ≡ done_record r.now cut pass verdicts.items }
+    {
+        Done {
+            recording: Snapshot::of(r),
+            cut,
+            pass,
+            verdicts,
+        }
+    }
+
+    /// The pass and the verdicts.
+    pub(crate) fn into_parts(self) -> (Pass, Vec<SegmentVerdict>)
+        ensures parts { done_record self.recording self.cut result.0 result.1.items ≡ self }
+        ensures done { IsDone self }
+    {
+        let Done {
+            recording: _,
+            cut: _,
+            pass,
+            verdicts,
+        } = self;
+        (pass, verdicts)
+    }
+
+    /// The verdicts of the jobs that the pass took, job by job in the order of the claims.
+    pub fn verdicts(&self) -> &[SegmentVerdict]
+        ensures verdicts { result.now ≡ self.now.verdicts }
+        ensures done { IsDone self.now }
+    {
+        self.verdicts.as_slice()
+    }
+}
+
+// Replays the segments from one up to another, or up to the first that fails, which is told.
+fn replay_run(
+    alloc: Global,
+    r: &Recording,
+    claims: &Claims,
+    pass: &mut Pass,
+    verdicts: &mut Vec<SegmentVerdict>,
+    from: u32,
+    to: u32,
+) -> Result<(), AllocError>
+    requires book { pass.old.book ≡ claims.now }
+    requires range { (from < to) × (to ≤ last_of r.now) }
+    ensures { OnOk result (AddsRun r.now from to pass.old pass.new verdicts.old.items verdicts.new.items) }
+{
+    for segment in from..to {
+        let verdict = replay_segment(alloc, r, segment)?;
+        let failed = verdict.part().is_some();
+        verdicts.push(verdict)?;
+        if failed {
+            claims.tell(pass, segment);
+            return Ok(());
+        }
+    }
+    Ok(())
+}
+
+// Does a job, or passes it over where a value shown is below its first segment.
+fn do_job(
+    alloc: Global,
+    r: &Recording,
+    claims: &Claims,
+    pass: &mut Pass,
+    verdicts: &mut Vec<SegmentVerdict>,
+    cut: u32,
+    job: u32,
+) -> Result<(), AllocError>
+    requires book { pass.old.book ≡ claims.now }
+    requires cut { 1 ≤ cut }
+    requires job { job * cut < last_of r.now }
+    ensures { OnOk result (AddsJob r.now cut job pass.old pass.new verdicts.old.items verdicts.new.items) }
+{
+    let last = r.count() - 1;
+    let first = job * cut;
+    if let Some(shown) = claims.look(pass)
+        && shown < first
+    {
+        return Ok(());
+    }
+    let end = if cut < last - first {
+        first + cut
+    } else {
+        last
+    };
+    replay_run(alloc, r, claims, pass, verdicts, first, end)?;
+    Ok(())
+}
+
+/// Claims jobs until there is none, calls the gate before each, and does it. It waits for nobody.
+///
+/// A job is `cut` segments that follow each other, the last one perhaps fewer: job j begins at segment `j * cut`. A refusal
+/// of memory gives the pass up, and its book can't be gathered any more.
+pub fn work<G: Gate>(
+    alloc: Global,
+    r: &Recording,
+    claims: &Claims,
+    mut pass: Pass,
+    cut: u32,
+    gate: &G,
+) -> Result<Done, AllocError>
+    requires cut { 1 ≤ cut }
+    requires fresh { pass ≡ fresh_pass claims.now }
+    requires jobs { claims.now.jobs ≡ div_ceil (last_of r.now) cut }
+    ensures recording { IfOk result (λ d. d.recording ≡ r.now) }
+    ensures cut { IfOk result (λ d. d.cut ≡ cut) }
+    ensures book { IfOk result (λ d. d.pass.book ≡ claims.now) }
+{
+    let mut verdicts = Vec::new(alloc);
+    while let Some(job) = claims.claim(&mut pass) {
+        gate.before(job);
+        do_job(alloc, r, claims, &mut pass, &mut verdicts, cut, job)?;
+    }
+    Ok(Done {
+        recording: Snapshot::of(r),
+        cut,
+        pass,
+        verdicts,
+    })
+}
