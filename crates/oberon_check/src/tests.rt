@@ -1,0 +1,424 @@
+//! Worked examples of segments, of what their verdicts come to, of workers, and of the lines of texts.
+ghost use Rattle.std.specs.Prelude.{◌≡◌, ◌≤◌, All, IfOk, vec_len};
+ghost use Rattle.std.specs.Int.{div_ceil};
+ghost use Rattle.oberon_claims.specs.Pass.{fresh_pass};
+ghost use Rattle.oberon_format.specs.Recording.{last_of};
+ghost use Rattle.oberon_check.specs.Work.{IsPartOf};
+
+use super::*;
+use oberon_claims::{Claims, Pass};
+use oberon_format::{Recording, read};
+use std::alloc::{AllocError, Global};
+use std::sync::Wait;
+use std::sync::atomic::{AtomicU64, Ordering};
+use std::test::Fail;
+use std::thread::Threads;
+
+/// A jump to itself.
+const JUMP: u32 = 0xE7FF_FFFF;
+
+/// What a checkpoint claims beside zeros: its count, H and the LEDs.
+#[derive(Clone, Copy)]
+struct Claim {
+    count: u32,
+    h: u32,
+    leds: u32,
+}
+
+const fn at(count: u32, h: u32, leds: u32) -> Claim {
+    Claim { count, h, leds }
+}
+
+fn push_word(text: &mut Vec<u8>, word: u32) -> Result<(), Fail> {
+    text.extend_from_slice(&word.to_le_bytes())?;
+    Ok(())
+}
+
+fn push_zeros(text: &mut Vec<u8>, words: u32) -> Result<(), Fail> {
+    for _ in 0..words {
+        push_word(text, 0)?;
+    }
+    Ok(())
+}
+
+// A checkpoint whose table names page 1 at place 0.
+fn push_checkpoint(text: &mut Vec<u8>, claim: Claim) -> Result<(), Fail> {
+    push_word(text, claim.count)?;
+    push_zeros(text, 17)?;
+    push_word(text, claim.h)?;
+    push_zeros(text, 5)?;
+    push_word(text, claim.leds)?;
+    push_zeros(text, 8)?;
+    push_word(text, 1)?;
+    push_zeros(text, 1023)
+}
+
+// The text of a recording whose word 0 is a jump to itself, without inputs and output.
+fn jump_text(alloc: Global, claims: &[Claim]) -> Result<Vec<u8>, Fail> {
+    let checkpoints = u32::try_from(claims.len())?;
+    let mut text = Vec::new(alloc);
+    text.extend_from_slice(b"ORSR")?;
+    for word in [1, 1, 0, checkpoints, 0, JUMP] {
+        push_word(&mut text, word)?;
+    }
+    push_zeros(&mut text, 255)?;
+    for claim in claims {
+        push_checkpoint(&mut text, *claim)?;
+    }
+    Ok(text)
+}
+
+fn jump_recording(alloc: Global, claims: &[Claim]) -> Result<Recording, Fail> {
+    let text = jump_text(alloc, claims)?;
+    let r = read(alloc, text.as_slice())?;
+    Ok(r)
+}
+
+// Four checkpoints, of which two claim an H that no instruction gave.
+fn false_h() -> [Claim; 4] {
+    [at(0, 0, 0), at(10, 0, 0), at(20, 1, 0), at(30, 1, 0)]
+}
+
+fn true_h() -> [Claim; 4] {
+    [at(0, 0, 0), at(10, 0, 0), at(20, 0, 0), at(30, 0, 0)]
+}
+
+// Ten segments, of which checkpoints 3 and 7 claim LEDs that no instruction lit.
+fn two_false() -> [Claim; 11] {
+    [
+        at(0, 0, 0),
+        at(10, 0, 0),
+        at(20, 0, 0),
+        at(30, 0, 1),
+        at(40, 0, 0),
+        at(50, 0, 0),
+        at(60, 0, 0),
+        at(70, 0, 1),
+        at(80, 0, 0),
+        at(90, 0, 0),
+        at(100, 0, 0),
+    ]
+}
+
+const FALSE_H: Verdict = Verdict::FalseAt {
+    checkpoint: 2,
+    count: 20,
+    part: Part::H,
+};
+
+const FALSE_LEDS: Verdict = Verdict::FalseAt {
+    checkpoint: 3,
+    count: 30,
+    part: Part::Leds,
+};
+
+// The verdicts of these segments, in this order.
+fn verdicts_of(
+    alloc: Global,
+    r: &Recording,
+    segments: &[u32],
+) -> Result<Vec<SegmentVerdict>, AllocError>
+    ensures { IfOk result (λ vs. All (λ v. v.recording ≡ r.now) vs.items) }
+{
+    let mut verdicts = Vec::new(alloc);
+    for segment in segments {
+        if *segment >= r.count() - 1 {
+            return Ok(verdicts);
+        }
+        let verdict = replay_segment(alloc, r, *segment)?;
+        verdicts.push(verdict)?;
+    }
+    Ok(verdicts)
+}
+
+fn collected(
+    alloc: Global,
+    r: &Recording,
+    segments: &[u32],
+) -> Result<Result<Verdict, CollectFault>, Fail> {
+    let verdicts = verdicts_of(alloc, r, segments)?;
+    Ok(collect(r, verdicts.as_slice()))
+}
+
+// The segments and the parts that verdicts name.
+fn findings(
+    alloc: Global,
+    verdicts: &[SegmentVerdict],
+) -> Result<Vec<(u32, Option<Part>)>, AllocError> {
+    let mut found = Vec::new(alloc);
+    for verdict in verdicts {
+        found.push((verdict.segment(), verdict.part()))?;
+    }
+    Ok(found)
+}
+
+#[test]
+fn segments_of_a_false_h(rt: HostRuntime) -> Result<(), Fail> {
+    let r = jump_recording(rt.alloc(), &false_h())?;
+    let verdicts = verdicts_of(rt.alloc(), &r, &[0, 1, 2])?;
+    let found = findings(rt.alloc(), verdicts.as_slice())?;
+    assert_eq!(rt;
+        found.as_slice(),
+        [(0, None), (1, Some(Part::H)), (2, None)].as_slice()
+    );
+    Ok(())
+}
+
+#[test]
+fn collect_by_hand(rt: HostRuntime) -> Result<(), Fail> {
+    let alloc = rt.alloc();
+    let r = jump_recording(alloc, &false_h())?;
+    assert_eq!(rt; collected(alloc, &r, &[2, 0, 1])?, Ok(FALSE_H));
+    assert_eq!(rt; collected(alloc, &r, &[0, 1])?, Ok(FALSE_H));
+    assert_eq!(rt; collected(alloc, &r, &[1])?, Err(CollectFault::Missing(0)));
+    assert_eq!(rt;
+        collected(alloc, &r, &[0, 0])?,
+        Err(CollectFault::Double(0))
+    );
+    assert_eq!(rt; collected(alloc, &r, &[])?, Err(CollectFault::Missing(0)));
+    Ok(())
+}
+
+#[test]
+fn collect_where_all_hold(rt: HostRuntime) -> Result<(), Fail> {
+    let alloc = rt.alloc();
+    let r = jump_recording(alloc, &true_h())?;
+    let accepted = Verdict::Accepted {
+        checkpoints: 3,
+        steps: 30,
+    };
+    assert_eq!(rt; collected(alloc, &r, &[2, 0, 1])?, Ok(accepted));
+    let r = jump_recording(alloc, &[at(0, 0, 0)])?;
+    let accepted = Verdict::Accepted {
+        checkpoints: 0,
+        steps: 0,
+    };
+    assert_eq!(rt; collected(alloc, &r, &[])?, Ok(accepted));
+    Ok(())
+}
+
+// The line and the status of a text, by so many workers.
+fn line_of<R: Threads + Wait + Sync>(
+    rt: &R,
+    alloc: Global,
+    text: &[u8],
+    workers: u32,
+    cut: u32,
+) -> Result<(Vec<u8>, u8), Fail> {
+    if workers < 1 || workers > 64 || cut < 1 {
+        return Err("no such workers or cut".into());
+    }
+    let report = check_bytes(rt, alloc, text, workers, cut, &FreeGate)?;
+    Ok((report.line, report.status))
+}
+
+#[test]
+fn lines_of_texts(rt: HostRuntime) -> Result<(), Fail> {
+    let text = jump_text(rt.alloc(), &false_h())?;
+    let (line, status) = line_of(&rt, rt.alloc(), text.as_slice(), 1, 1)?;
+    assert_eq!(rt;
+        line.as_slice(),
+        b"false checkpoint 2 at 20 part H\n".as_slice()
+    );
+    assert_eq!(rt; status, 1);
+    let text = jump_text(rt.alloc(), &true_h())?;
+    let (line, status) = line_of(&rt, rt.alloc(), text.as_slice(), 64, 2)?;
+    assert_eq!(rt;
+        line.as_slice(),
+        b"accepted 3 checkpoints 30 steps\n".as_slice()
+    );
+    assert_eq!(rt; status, 0);
+    let (line, status) = line_of(&rt, rt.alloc(), b"", 2, 1)?;
+    assert_eq!(rt; line.as_slice(), b"refused 1 short at byte 0\n".as_slice());
+    assert_eq!(rt; status, 2);
+    Ok(())
+}
+
+/// Counts how often each job begins.
+#[derive(Drop)]
+struct CountingGate<'a> {
+    begun: &'a [AtomicU64],
+}
+
+impl Gate for CountingGate<'_> {
+    fn before(&self, job: u32) {
+        if let Some(begun) = self.begun.get(job as usize) {
+            begun.fetch_add(1, Ordering::SeqCst);
+        }
+    }
+}
+
+// So many counters, all 0.
+fn counters(alloc: Global, count: u32) -> Result<Vec<AtomicU64>, AllocError> {
+    let mut begun = Vec::new(alloc);
+    for _ in 0..count {
+        begun.push(AtomicU64::new(0))?;
+    }
+    Ok(begun)
+}
+
+// The verdict by so many workers, where each of the recording's jobs begins once and no other does.
+fn counted_verdict<R: Threads + Wait + Sync>(
+    rt: &R,
+    alloc: Global,
+    r: &Recording,
+    workers: u32,
+    cut: u32,
+    jobs: u32,
+) -> Result<Verdict, Fail> {
+    if workers < 1 || workers > 64 || cut < 1 {
+        return Err("no such workers or cut".into());
+    }
+    let begun = counters(alloc, 12)?;
+    let gate = CountingGate {
+        begun: begun.as_slice(),
+    };
+    let verdict = check_recording(rt, alloc, r, workers, cut, &gate)?;
+    for (job, begun) in begun.iter().enumerate() {
+        let times = if job < jobs as usize { 1 } else { 0 };
+        if begun.load(Ordering::SeqCst) != times {
+            return Err("a job is lost, or begins twice".into());
+        }
+    }
+    Ok(verdict)
+}
+
+#[test]
+fn two_false_checkpoints(rt: HostRuntime) -> Result<(), Fail> {
+    let r = jump_recording(rt.alloc(), &two_false())?;
+    for (cut, jobs) in [(1, 10), (4, 3), (100, 1)] {
+        for workers in [1, 2, 64] {
+            let verdict = counted_verdict(&rt, rt.alloc(), &r, workers, cut, jobs)?;
+            assert_eq!(rt; verdict, FALSE_LEDS);
+        }
+    }
+    Ok(())
+}
+
+#[test]
+fn lines_of_two_false_checkpoints(rt: HostRuntime) -> Result<(), Fail> {
+    let text = jump_text(rt.alloc(), &two_false())?;
+    for cut in [1, 4, 100] {
+        for workers in [1, 2, 64] {
+            let (line, status) = line_of(&rt, rt.alloc(), text.as_slice(), workers, cut)?;
+            assert_eq!(rt;
+                line.as_slice(),
+                b"false checkpoint 3 at 30 part LEDs\n".as_slice()
+            );
+            assert_eq!(rt; status, 1);
+        }
+    }
+    Ok(())
+}
+
+// The passes are worked one after the other, in this thread.
+fn work_in_turn(
+    alloc: Global,
+    r: &Recording,
+    claims: &Claims,
+    passes: Vec<Pass>,
+    cut: u32,
+) -> Result<Vec<Done>, AllocError>
+    requires cut { 1 ≤ cut }
+    requires fresh { All (λ p. p ≡ fresh_pass claims.now) passes.items }
+    requires jobs { claims.now.jobs ≡ div_ceil (last_of r.now) cut }
+    ensures len { IfOk result (λ v. vec_len v ≡ vec_len passes) }
+    ensures parts { IfOk result (λ v. All (IsPartOf r.now cut claims.now) v.items) }
+{
+    let mut done = Vec::new(alloc);
+    for pass in passes {
+        let one = work(alloc, r, claims, pass, cut, &FreeGate)?;
+        done.push(one)?;
+    }
+    Ok(done)
+}
+
+// Two passes, of which the first takes all jobs: it tells segment 2, and passes the other jobs over.
+#[test]
+fn first_pass_takes_all(rt: HostRuntime) -> Result<(), Fail> {
+    let alloc = rt.alloc();
+    let r = jump_recording(alloc, &two_false())?;
+    let jobs = (r.count() - 1).div_ceil(4);
+    let (claims, passes) = Claims::new(alloc, jobs, 2)?;
+    let done = work_in_turn(alloc, &r, &claims, passes, 4)?;
+    let mut found = Vec::new(alloc);
+    for one in &done {
+        found.push(findings(alloc, one.verdicts())?)?;
+    }
+    let mut expected = Vec::new(alloc);
+    expected.push([(0, None), (1, None), (2, Some(Part::Leds))].to_vec(alloc)?)?;
+    expected.push(Vec::new(alloc))?;
+    assert_eq!(rt; found, expected);
+    assert_eq!(rt; gather(alloc, &r, claims, done)?, FALSE_LEDS);
+    Ok(())
+}
+
+/// A job begins when the other one was seen to begin too, or after so many turns.
+#[derive(Drop)]
+struct MeetingGate<'a> {
+    begun: &'a [AtomicU64],
+    met: &'a AtomicU64,
+}
+
+const TURNS: u32 = 1_000_000_000;
+
+impl Gate for MeetingGate<'_> {
+    fn before(&self, job: u32) {
+        for (place, begun) in self.begun.iter().enumerate() {
+            if place == job as usize {
+                begun.store(1, Ordering::SeqCst);
+            }
+        }
+        for _ in 0..TURNS {
+            if self
+                .begun
+                .iter()
+                .all(|begun| begun.load(Ordering::SeqCst) == 1)
+            {
+                self.met.fetch_add(1, Ordering::SeqCst);
+                return;
+            }
+        }
+    }
+}
+
+#[test]
+fn workers_meet(rt: HostRuntime) -> Result<(), Fail> {
+    let alloc = rt.alloc();
+    let claims = [at(0, 0, 0), at(10, 0, 0), at(20, 0, 0)];
+    let r = jump_recording(alloc, &claims)?;
+    let begun = counters(alloc, 2)?;
+    let met = AtomicU64::new(0);
+    let gate = MeetingGate {
+        begun: begun.as_slice(),
+        met: &met,
+    };
+    let verdict = check_recording(&rt, alloc, &r, 2, 1, &gate)?;
+    let accepted = Verdict::Accepted {
+        checkpoints: 2,
+        steps: 20,
+    };
+    assert_eq!(rt; verdict, accepted);
+    assert_eq!(rt; met.load(Ordering::SeqCst), 2);
+    Ok(())
+}
+
+#[test]
+fn workers_of_a_text_meet(rt: HostRuntime) -> Result<(), Fail> {
+    let alloc = rt.alloc();
+    let claims = [at(0, 0, 0), at(10, 0, 0), at(20, 0, 0)];
+    let text = jump_text(alloc, &claims)?;
+    let begun = counters(alloc, 2)?;
+    let met = AtomicU64::new(0);
+    let gate = MeetingGate {
+        begun: begun.as_slice(),
+        met: &met,
+    };
+    let report = check_bytes(&rt, alloc, text.as_slice(), 2, 1, &gate)?;
+    assert_eq!(rt;
+        report.line.as_slice(),
+        b"accepted 2 checkpoints 20 steps\n".as_slice()
+    );
+    assert_eq!(rt; met.load(Ordering::SeqCst), 2);
+    Ok(())
+}
