@@ -2,4 +2,4 @@ mod Mapped
 mod Shapes
 mod Orders
 mod Lawful
-mod Tests
+mod RuleLemmas
