@@ -9,6 +9,8 @@ use crate::screen::screen;
 use crate::words::Request;
 use oberon_check::{CheckFault, FreeGate, Report, check_bytes};
 use std::alloc::{AllocError, Global};
+use std::sync::Wait;
+use std::thread::Threads;
 
 /// One byte more than the longest text of a recording has. A longer input has a fault within so many bytes, and none of them is
 /// looked at further on.
@@ -26,23 +28,34 @@ impl Request {
 }
 
 /// The answer of a command to the bytes of an input. Only want of memory is refused.
-pub fn answer(alloc: Global, request: Request, bytes: &[u8]) -> Result<Reply, AllocError>
+pub fn answer<H: Threads + Wait + Sync>(
+    rt: &H,
+    alloc: Global,
+    request: Request,
+    bytes: &[u8],
+) -> Result<Reply, AllocError>
     requires { IsWithinLimits request }
     ensures { IfOk result (λ reply. IsAnswer request bytes.now reply.text.items reply.status) }
 {
     match request {
-        Request::Check { workers, cut } => check(alloc, bytes, workers, cut),
+        Request::Check { workers, cut } => check(rt, alloc, bytes, workers, cut),
         Request::Screen { at } => screen(alloc, bytes, at),
     }
 }
 
 /// The line of the check.
-fn check(alloc: Global, bytes: &[u8], workers: u32, cut: u32) -> Result<Reply, AllocError>
+fn check<H: Threads + Wait + Sync>(
+    rt: &H,
+    alloc: Global,
+    bytes: &[u8],
+    workers: u32,
+    cut: u32,
+) -> Result<Reply, AllocError>
     requires workers { (1 ≤ workers) × (workers ≤ 64) }
     requires cut { 1 ≤ cut }
     ensures { IfOk result (λ reply. IsLineOf bytes.now reply.text.items reply.status) }
 {
-    match check_bytes(alloc, bytes, workers, cut, &FreeGate) {
+    match check_bytes(rt, alloc, bytes, workers, cut, &FreeGate) {
         Ok(Report { line, status }) => Ok(Reply { text: line, status }),
         Err(CheckFault::Memory) => Err(AllocError),
     }

@@ -16,24 +16,32 @@ mod writing;
 
 use failure::Failure;
 use serve::{refuse, serve};
-use std::io::ErrorKind;
+use std::io::{ErrorKind, Read};
 use std::process::ExitCode;
+use std::rt::Env;
+use std::sync::Wait;
+use std::thread::Threads;
 use std::{env, io};
 
 fn main(rt: HostRuntime) -> ExitCode {
-    let status = run(&rt).unwrap_or_else(|failure| refuse(&mut io::writer(&rt), failure));
+    let status = run(&rt, &mut rt.stdin()).unwrap_or_else(|failure| refuse(
+        &mut io::writer(&rt),
+        failure,
+    ));
     ExitCode::from(status)
 }
 
 /// Serves the words of the process, but for the program's own name.
-fn run(rt: &HostRuntime) -> Result<u8, Failure> {
+fn run<H: AllocGlobal + Env + Print + Sync + Threads + Wait, R: Read>(
+    rt: &H,
+    input: &mut R,
+) -> Result<u8, Failure> {
     let words: Vec<String> = env::args(rt)
         .map_err(|error| unread(error.kind()))?
         .skip(1)
         .collect(rt.alloc())?;
     let words: Vec<&str> = words.iter().map(String::as_str).collect(rt.alloc())?;
-    let mut output = io::writer(rt);
-    Ok(serve(rt.alloc(), &words, &mut rt.stdin(), &mut output))
+    Ok(serve(rt, rt.alloc(), &words, input, &mut io::writer(rt)))
 }
 
 /// Why the words of the process can't be had.

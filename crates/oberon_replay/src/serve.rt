@@ -13,6 +13,8 @@ use crate::words::{Refusal, asked};
 use crate::writing::{WriteFault, write_whole};
 use std::alloc::Global;
 use std::io::{Read, Write};
+use std::sync::Wait;
+use std::thread::Threads;
 
 /// Does the command of the words, and answers the status to end with.
 ///
@@ -23,10 +25,11 @@ use std::io::{Read, Write};
 /// | a request for help | `clap`'s text | 0 |
 /// | others | `words refused` | 4 |
 ///
-/// The words are read before the input, and no more than the longest text of a recording and one byte is read of it. Where a read
+/// It waits for nothing but the workers of a check. The words are read before the input, and no more than the longest text of a recording and one byte is read of it. Where a read
 /// fails only `read fault` is written, where memory is wanting only `no memory`; the status is 3. Where a write fails what went out
 /// is a front of the text, nothing else is written, and the status is 3.
-pub fn serve<'a, R: Read, W: Write>(
+pub fn serve<'a, H: Threads + Wait + Sync, R: Read, W: Write>(
+    rt: &H,
     alloc: Global,
     words: &'a [&'a str],
     input: &mut R,
@@ -41,7 +44,7 @@ pub fn serve<'a, R: Read, W: Write>(
     ensures reads { TakesAtMost (limit_for (asked (map (λ word. word.now) words.entry.now)))
         (R.remaining input.old) (R.remaining input.new) }
 {
-    match reply(alloc, words, input) {
+    match reply(rt, alloc, words, input) {
         Ok(reply) => send(output, &reply.text, reply.status),
         Err(failure) => refuse(output, failure),
     }
@@ -66,7 +69,12 @@ fn send<W: Write>(output: &mut W, text: &[u8], status: u8) -> u8
 }
 
 /// What there is to write, and its status. The input is read only where the words ask for a command.
-fn reply<'a, R: Read>(alloc: Global, words: &'a [&'a str], input: &mut R) -> Result<Reply, Failure>
+fn reply<'a, H: Threads + Wait + Sync, R: Read>(
+    rt: &H,
+    alloc: Global,
+    words: &'a [&'a str],
+    input: &mut R,
+) -> Result<Reply, Failure>
     ensures ok { IfOk result (λ reply. (outcome : Outcome)
         × IsReplyTo (map (λ word. word.now) words.entry.now) (R.remaining input.old)
         (R.remaining input.new) outcome
@@ -78,7 +86,7 @@ fn reply<'a, R: Read>(alloc: Global, words: &'a [&'a str], input: &mut R) -> Res
     match asked(alloc, words) {
         Ok(request) => {
             let bytes = read_up_to(alloc, input, request.limit())?;
-            Ok(answer(alloc, request, &bytes)?)
+            Ok(answer(rt, alloc, request, &bytes)?)
         }
         Err(Refusal::Help(error)) => Ok(Reply {
             text: error.to_string(alloc)?.into_bytes(),

@@ -7,7 +7,9 @@ use super::draft::Spot::{
 use super::draft::{Draft, JUMP, STORED_RUN, Spot};
 use super::served::served;
 use std::process::Abort;
+use std::sync::Wait;
 use std::test::Fail;
+use std::thread::Threads;
 
 /// A recording with changes, the line of its check, and the status.
 type Example = (Draft<'static>, &'static [(Spot, u32)], &'static str, u8);
@@ -234,10 +236,13 @@ fn gives_each_recording_its_line(rt: HostRuntime) -> Result<(), Fail> {
     check_each(&rt, &EXAMPLES)
 }
 
-fn check_each(rt: &(impl Abort + AllocGlobal), examples: &[Example]) -> Result<(), Fail> {
+fn check_each(
+    rt: &(impl Abort + AllocGlobal + Threads + Wait + Sync),
+    examples: &[Example],
+) -> Result<(), Fail> {
     for (draft, changes, line, status) in examples {
         let text = draft.text(rt.alloc(), changes)?;
-        let (written, ended) = served(rt.alloc(), &[], &text);
+        let (written, ended) = served(rt, &[], &text);
         assert_eq!(rt; written.as_slice(), line.as_bytes());
         assert_eq!(rt; ended, *status, "{line}");
     }
@@ -285,11 +290,15 @@ fn gives_one_line_whatever_the_workers_and_the_cut(rt: HostRuntime) -> Result<()
     Ok(())
 }
 
-fn check_with_each(rt: &(impl Abort + AllocGlobal), text: &[u8], line: &[u8]) {
+fn check_with_each(
+    rt: &(impl Abort + AllocGlobal + Threads + Wait + Sync),
+    text: &[u8],
+    line: &[u8],
+) {
     for workers in ["1", "2", "64"] {
         for cut in ["1", "4", "100"] {
             let words = ["check", "--workers", workers, "--cut", cut];
-            let (written, ended) = served(rt.alloc(), &words, text);
+            let (written, ended) = served(rt, &words, text);
             assert_eq!(rt; written.as_slice(), line);
             assert_eq!(rt; ended, 1);
         }

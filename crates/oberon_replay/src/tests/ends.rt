@@ -96,7 +96,7 @@ fn a_failed_read_leaves_its_line_alone(rt: HostRuntime) {
             with: ErrorKind::Other,
         };
         let mut output = Vec::new(alloc);
-        assert_eq!(rt; serve(alloc, words, &mut input, &mut output), 3);
+        assert_eq!(rt; serve(&rt, alloc, words, &mut input, &mut output), 3);
         assert_eq!(rt; output.as_slice(), b"read fault\n".as_slice());
     }
 }
@@ -120,7 +120,7 @@ fn an_interrupted_reader_is_read_to_its_end(rt: HostRuntime) -> Result<(), Fail>
         interrupted: false,
     };
     let mut output = Vec::new(alloc);
-    assert_eq!(rt; serve(alloc, &[], &mut input, &mut output), 0);
+    assert_eq!(rt; serve(&rt, alloc, &[], &mut input, &mut output), 0);
     assert_eq!(rt;
         output.as_slice(),
         b"accepted 1 checkpoints 100 steps\n".as_slice()
@@ -133,7 +133,7 @@ fn a_reader_without_end_is_read_up_to_the_limit(rt: HostRuntime) {
     let alloc = rt.alloc();
     let mut input = Endless { given: 0 };
     let mut output = Vec::new(alloc);
-    assert_eq!(rt; serve(alloc, &[], &mut input, &mut output), 2);
+    assert_eq!(rt; serve(&rt, alloc, &[], &mut input, &mut output), 2);
     assert_eq!(rt;
         output.as_slice(),
         b"refused 2 magic at byte 0\n".as_slice()
@@ -152,7 +152,7 @@ fn a_narrow_writer_gets_all_that_it_has_room_for(rt: HostRuntime) -> Result<(), 
             room,
         };
         assert_eq!(rt;
-            serve(alloc, &[], &mut text.as_slice(), &mut output),
+            serve(&rt, alloc, &[], &mut text.as_slice(), &mut output),
             status
         );
         assert_eq!(rt; output.taken.len(), room);

@@ -4,7 +4,9 @@ use super::draft::Spot::{EventKind, Word};
 use super::draft::{Draft, STORED_RUN};
 use super::served::served;
 use std::process::Abort;
+use std::sync::Wait;
 use std::test::Fail;
+use std::thread::Threads;
 
 /// One byte of the text of the stored run that is changed, and the line that this gives.
 const CHANGED_BYTES: [(usize, u8, &str); 8] = [
@@ -26,7 +28,7 @@ fn refuses_a_text_with_one_byte_changed(rt: HostRuntime) -> Result<(), Fail> {
 }
 
 fn refuse_each(
-    rt: &(impl Abort + AllocGlobal),
+    rt: &(impl Abort + AllocGlobal + Threads + Wait + Sync),
     mut text: Vec<u8>,
     changes: &[(usize, u8, &'static str)],
 ) -> Result<(), Fail> {
@@ -45,8 +47,8 @@ fn put(text: &mut [u8], at: usize, byte: u8) {
     }
 }
 
-fn refuse(rt: &(impl Abort + AllocGlobal), text: &[u8], line: &str) {
-    let (written, ended) = served(rt.alloc(), &["check"], text);
+fn refuse(rt: &(impl Abort + AllocGlobal + Threads + Wait + Sync), text: &[u8], line: &str) {
+    let (written, ended) = served(rt, &["check"], text);
     assert_eq!(rt; written.as_slice(), line.as_bytes());
     assert_eq!(rt; ended, 2);
 }

@@ -2,6 +2,8 @@
 
 use super::served::served;
 use std::process::Abort;
+use std::sync::Wait;
+use std::thread::Threads;
 
 /// Words that ask for nothing.
 const REFUSED: [&[&str]; 9] = [
@@ -24,9 +26,12 @@ fn refuses_words(rt: HostRuntime) {
     refuse_each(&rt, &REFUSED);
 }
 
-fn refuse_each<'a>(rt: &(impl Abort + AllocGlobal), words: &'a [&'a [&'a str]]) {
+fn refuse_each<'a>(
+    rt: &(impl Abort + AllocGlobal + Threads + Wait + Sync),
+    words: &'a [&'a [&'a str]],
+) {
     for words in words {
-        let (written, ended) = served(rt.alloc(), words, b"the input isn't read");
+        let (written, ended) = served(rt, words, b"the input isn't read");
         assert_eq!(rt; written.as_slice(), b"words refused\n".as_slice());
         assert_eq!(rt; ended, 4);
     }
@@ -37,9 +42,12 @@ fn helps(rt: HostRuntime) {
     help_each(&rt, &ASKING);
 }
 
-fn help_each<'a>(rt: &(impl Abort + AllocGlobal), words: &'a [&'a [&'a str]]) {
+fn help_each<'a>(
+    rt: &(impl Abort + AllocGlobal + Threads + Wait + Sync),
+    words: &'a [&'a [&'a str]],
+) {
     for words in words {
-        let (written, ended) = served(rt.alloc(), words, b"the input isn't read");
+        let (written, ended) = served(rt, words, b"the input isn't read");
         assert!(rt; written.len() > 100);
         assert_eq!(rt; ended, 0);
     }

@@ -4,7 +4,9 @@ use super::draft::Spot::{Place, Word};
 use super::draft::{Draft, STORED_RUN};
 use super::served::served;
 use std::process::Abort;
+use std::sync::Wait;
 use std::test::Fail;
+use std::thread::Threads;
 
 /// One dot at the bottom left, of word 237,504, which stands in page 927 of the memory.
 const FIRST_DOT: Draft<'static> = Draft {
@@ -34,8 +36,8 @@ fn shows_one_dot(rt: HostRuntime) -> Result<(), Fail> {
 }
 
 /// The picture of checkpoint 0 has one byte after its head that isn't 0.
-fn show(rt: &(impl Abort + AllocGlobal), text: &[u8], at: usize, byte: u8) {
-    let (written, ended) = served(rt.alloc(), &["screen", "--at", "0"], text);
+fn show(rt: &(impl Abort + AllocGlobal + Threads + Wait + Sync), text: &[u8], at: usize, byte: u8) {
+    let (written, ended) = served(rt, &["screen", "--at", "0"], text);
     assert_eq!(rt; ended, 0);
     assert_eq!(rt; written.len(), 98_316);
     assert!(rt; written.starts_with(b"P4\n1024 768\n"));
@@ -53,8 +55,8 @@ fn shows_no_screen(rt: HostRuntime) -> Result<(), Fail> {
     Ok(())
 }
 
-fn refuse(rt: &(impl Abort + AllocGlobal), text: &[u8], line: &[u8]) {
-    let (written, ended) = served(rt.alloc(), &["screen", "--at", "2"], text);
+fn refuse(rt: &(impl Abort + AllocGlobal + Threads + Wait + Sync), text: &[u8], line: &[u8]) {
+    let (written, ended) = served(rt, &["screen", "--at", "2"], text);
     assert_eq!(rt; written.as_slice(), line);
     assert_eq!(rt; ended, 2);
 }

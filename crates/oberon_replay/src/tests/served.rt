@@ -1,12 +1,17 @@
 //! `serve` over a text in memory.
 
 use crate::serve::serve;
-use std::alloc::Global;
+use std::sync::Wait;
+use std::thread::Threads;
 
 /// What was written for the words and the text, and the status.
-pub fn served<'a>(alloc: Global, words: &'a [&'a str], text: &[u8]) -> (Vec<u8>, u8) {
-    let mut written = Vec::new(alloc);
+pub fn served<'a, H: AllocGlobal + Threads + Wait + Sync>(
+    rt: &H,
+    words: &'a [&'a str],
+    text: &[u8],
+) -> (Vec<u8>, u8) {
+    let mut written = Vec::new(rt.alloc());
     let mut rest = text;
-    let status = serve(alloc, words, &mut rest, &mut written);
+    let status = serve(rt, rt.alloc(), words, &mut rest, &mut written);
     (written, status)
 }
