@@ -16,3 +16,4 @@ pub mod Back
 pub mod One
 pub mod Exists
 pub mod LawLemmas
+mod Examples
