@@ -1,5 +1,5 @@
 -- Worked examples of the definitions: each computes to the value that the format gives.
-use Rattle.std.proofs.Common.{◌≡◌, ℕ, Bool, true, false, List, [], ◌∷◌, ◌+◌, ◌++◌, replicate, None, Some, refl}
+use Rattle.std.proofs.Common.{◌≡◌, ℕ, true, false, List, [], ◌∷◌, ◌+◌, ◌++◌, replicate, None, Some, refl}
 use Rattle.std.specs.Prelude.{slice_index}
 use Rattle.risc_devices.specs.Input as input
 use Rattle.oberon_format.specs.declared.fault.Fault.TheVariants as fault

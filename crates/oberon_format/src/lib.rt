@@ -10,6 +10,7 @@ mod checkpoint;
 mod fault;
 mod formed;
 mod laws;
+mod layout;
 mod line;
 mod number;
 mod parts;

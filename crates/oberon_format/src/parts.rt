@@ -16,6 +16,7 @@ ghost use Rattle.oberon_format.specs.Rules.{header_rules, checkpoint_rules, numb
 use crate::checkpoint::Checkpoint;
 use crate::fault::Fault;
 use crate::formed::{all_formed, formed};
+use crate::layout::checkpoint_start;
 use crate::ranges::{MAX_CHECKPOINTS, MAX_EVENTS, MAX_PAGES, is_count, is_output};
 use crate::recording::Recording;
 use risc_machine::{Cpu, Inputs};
@@ -148,12 +149,12 @@ fn checkpoints_fault(pool: &Pool, inputs: &Inputs, checkpoints: &[Checkpoint]) -
     requires few { length checkpoints.now ≤ 4097 }
     ensures { result ≡ first_broken (each (length checkpoints.now) (checkpoint_rules (fields_of_parts (parts_of pool.now inputs.now checkpoints.now)))) }
 {
-    let first = 24 + 1024 * pool.len() as u64 + 16 * inputs.events().len() as u64;
+    let events = inputs.events().len() as u32;
     let mut before = 0;
     let mut sent = 0;
     for k in 0..checkpoints.len() {
         let checkpoint = &checkpoints[k];
-        let place = first + 4228 * k as u64;
+        let place = checkpoint_start(pool.len(), events, k) as u64;
         if let Some(fault) = checkpoint_fault(pool.len(), place, k, before, sent, checkpoint) {
             return Some(fault);
         }

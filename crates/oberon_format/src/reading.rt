@@ -16,6 +16,9 @@ ghost use Rattle.risc_machine.specs.MachineState.{cpu_state};
 use crate::checkpoint::Checkpoint;
 use crate::fault::Fault;
 use crate::formed::all_formed;
+use crate::layout::{
+    checkpoint_count, checkpoint_start, event_count, event_start, page_count, page_start,
+};
 use crate::number::{u32_at, u64_at};
 use crate::recording::Recording;
 use crate::rules::first_fault;
@@ -75,9 +78,9 @@ fn pool_of(alloc: Global, text: &[u8]) -> Result<Pool, AllocError>
     requires { IsSized text.now }
     ensures { IfOk result (λ pool. (length pool ≡ pages text.now) × EachAt (IsPageAt text.now) pool) }
 {
-    let mut pool = Pool::with_capacity(alloc, u32_at(text, 8))?;
-    for p in 0..u32_at(text, 8) as usize {
-        let words = words_at(text, 24 + 1024 * p);
+    let mut pool = Pool::with_capacity(alloc, page_count(text))?;
+    for p in 0..page_count(text) as usize {
+        let words = words_at(text, page_start(p));
         words_fit(&words);
         pool.push(Page { words })?;
     }
@@ -109,10 +112,10 @@ fn events_of(alloc: Global, text: &[u8]) -> Result<Vec<Event>, AllocError>
     requires { Meets text.now }
     ensures { IfOk result (λ list. (length list.items ≡ events text.now) × EachAt (IsEventAt text.now) list.items) }
 {
-    let first = 24 + 1024 * u32_at(text, 8) as usize;
-    let mut list = Vec::with_capacity(alloc, u32_at(text, 12) as usize)?;
-    for i in 0..u32_at(text, 12) as usize {
-        list.push(event_of(text, first + 16 * i))?;
+    let pages = page_count(text);
+    let mut list = Vec::with_capacity(alloc, event_count(text) as usize)?;
+    for i in 0..event_count(text) as usize {
+        list.push(event_of(text, event_start(pages, i)))?;
     }
     Ok(list)
 }
@@ -222,12 +225,13 @@ fn checkpoints_of(alloc: Global, text: &[u8]) -> Result<Vec<Checkpoint>, AllocEr
     ensures stand { IfOk result (λ list. EachAt (IsCheckpointAt text.now) (map checkpoint_parts list.items)) }
     ensures output { IfOk result (λ list. drop (output_place text.now) text.now ≡ output_of (map checkpoint_parts list.items)) }
 {
-    let count = u32_at(text, 16) as usize;
-    let first = 24 + 1024 * u32_at(text, 8) as usize + 16 * u32_at(text, 12) as usize;
-    let mut from = first + 4228 * count;
+    let pages = page_count(text);
+    let events = event_count(text);
+    let count = checkpoint_count(text) as usize;
+    let mut from = checkpoint_start(pages, events, count);
     let mut list = Vec::with_capacity(alloc, count)?;
     for k in 0..count {
-        let place = first + 4228 * k;
+        let place = checkpoint_start(pages, events, k);
         list.push(checkpoint_of(alloc, text, place, from)?)?;
         from += u32_at(text, place + 128) as usize;
     }

@@ -12,14 +12,14 @@ ghost use Rattle.oberon_format.specs.Tested.{IsSized};
 ghost use Rattle.oberon_format.specs.TextFields.{first_fault_of, fields_of, event_of, checkpoint_of, number_of};
 
 use crate::fault::Fault;
+use crate::layout::{
+    MAGIC, checkpoint_count, checkpoint_start, event_count, event_start, page_count,
+};
 use crate::number::{u32_at, u64_at};
 use crate::ranges::{
     MAX_CHECKPOINTS, MAX_COUNT, MAX_EVENTS, MAX_PAGES, is_count, is_input, is_output,
 };
 use risc_devices::is_mouse_word;
-
-/// `ORSR`, as a number.
-pub(crate) const MAGIC: u32 = 0x5253_524F;
 
 /// The first fault of the header, and of the length that it asks for.
 fn header_fault(text: &[u8]) -> Option<Fault>
@@ -36,38 +36,39 @@ fn header_fault(text: &[u8]) -> Option<Fault>
     if u32_at(text, 4) != 1 {
         return Some(Fault::Version(4));
     }
-    let pages = u32_at(text, 8);
+    let pages = page_count(text);
     if pages > MAX_PAGES {
         return Some(Fault::Limit(8));
     }
-    let events = u32_at(text, 12);
+    let events = event_count(text);
     if events > MAX_EVENTS {
         return Some(Fault::Limit(12));
     }
-    let checkpoints = u32_at(text, 16);
+    let checkpoints = checkpoint_count(text);
     if checkpoints < 1 || checkpoints > MAX_CHECKPOINTS {
         return Some(Fault::Limit(16));
     }
     if u32_at(text, 20) != 0 {
         return Some(Fault::Limit(20));
     }
-    let output = 24 + 1024 * pages as u64 + 16 * events as u64 + 4228 * checkpoints as u64;
+    let output = checkpoint_start(pages, events, checkpoints as usize) as u64;
     if len < output {
         return Some(Fault::Short(len));
     }
     None
 }
 
-/// The count of the event before event i; the events begin at `first`.
-fn event_floor(text: &[u8], first: usize, i: usize) -> u64
-    requires first { first ≡ event_place text.now 0 }
+/// The count of the event before event i.
+fn event_floor(text: &[u8], i: usize) -> u64
+    requires pages { pages text.now ≤ 65536 }
+    requires events { i ≤ 1000000 }
     requires room { event_place text.now i ≤ length text.now }
     ensures { result ≡ event_floor (fields_of text.now) i }
 {
     if i == 0 {
         0
     } else {
-        u64_at(text, first + 16 * (i - 1))
+        u64_at(text, event_start(page_count(text), i - 1))
     }
 }
 
@@ -87,10 +88,10 @@ fn events_fault(text: &[u8]) -> Option<Fault>
     requires { IsSized text.now }
     ensures { result ≡ first_broken (each (events text.now) (event_rules (fields_of text.now))) }
 {
-    let first = 24 + 1024 * u32_at(text, 8) as usize;
-    for i in 0..u32_at(text, 12) as usize {
-        let place = first + 16 * i;
-        let floor = event_floor(text, first, i);
+    let pages = page_count(text);
+    for i in 0..event_count(text) as usize {
+        let place = event_start(pages, i);
+        let floor = event_floor(text, i);
         if !is_event(text, place, floor) {
             return Some(Fault::Event(place as u64));
         }
@@ -146,7 +147,7 @@ fn numbers_fault(text: &[u8], place: usize) -> Option<Fault>
     requires room { place + 4228 ≤ length text.now }
     ensures { result ≡ first_broken (each 1024 (number_rules (pages text.now) place (number_of text.now place))) }
 {
-    let pages = u32_at(text, 8);
+    let pages = page_count(text);
     for j in 0..1024 {
         let at = place + 132 + 4 * j;
         if u32_at(text, at) > pages {
@@ -180,11 +181,12 @@ fn checkpoints_fault(text: &[u8]) -> Result<u64, Fault>
         × (first_broken (each (checkpoints text.now) (checkpoint_rules (fields_of text.now))) ≡ None))
         (λ f. first_broken (each (checkpoints text.now) (checkpoint_rules (fields_of text.now))) ≡ Some f) }
 {
-    let first = 24 + 1024 * u32_at(text, 8) as usize + 16 * u32_at(text, 12) as usize;
+    let pages = page_count(text);
+    let events = event_count(text);
     let mut before: u64 = 0;
     let mut sent: u64 = 0;
-    for k in 0..u32_at(text, 16) as usize {
-        let place = first + 4228 * k;
+    for k in 0..checkpoint_count(text) as usize {
+        let place = checkpoint_start(pages, events, k);
         if let Some(fault) = checkpoint_fault(text, place, k, before, sent) {
             return Err(fault);
         }
@@ -201,10 +203,8 @@ fn end_fault(text: &[u8], sent: u64) -> Option<Fault>
     requires small { sent ≤ 1048576 }
     ensures { result ≡ first_broken (end_rules (fields_of text.now)) }
 {
-    let output = 24
-        + 1024 * u32_at(text, 8) as u64
-        + 16 * u32_at(text, 12) as u64
-        + 4228 * u32_at(text, 16) as u64;
+    let checkpoints = checkpoint_count(text) as usize;
+    let output = checkpoint_start(page_count(text), event_count(text), checkpoints) as u64;
     let whole = output + sent;
     let len = text.len() as u64;
     if len < whole {

@@ -11,8 +11,8 @@ ghost use Rattle.oberon_format.specs.Text.{Text};
 ghost use Rattle.risc_machine.specs.MachineState.{cpu_state};
 
 use crate::checkpoint::Checkpoint;
+use crate::layout::{MAGIC, checkpoint_start};
 use crate::recording::Recording;
-use crate::rules::MAGIC;
 use byteorder::{ByteOrder, LittleEndian};
 use risc_devices::Devices;
 use risc_machine::{Cpu, Event, Flags};
@@ -46,10 +46,8 @@ fn spell(alloc: Global, r: &Recording) -> Result<Vec<u8>, AllocError>
 fn text_len(r: &Recording) -> usize
     ensures { result ≡ checkpoint_start (length r.now.pool) (length r.now.inputs) (length r.now.checkpoints) + length (output_of r.now.checkpoints) }
 {
-    24 + 1024 * r.pool().len() as usize
-        + 16 * r.inputs().events().len()
-        + 4228 * r.count() as usize
-        + output_len(r)
+    let events = r.inputs().events().len() as u32;
+    checkpoint_start(r.pool().len(), events, r.count() as usize) + output_len(r)
 }
 
 /// The length of all output.

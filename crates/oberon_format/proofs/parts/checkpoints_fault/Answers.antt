@@ -26,7 +26,7 @@ loop-k-preserved c =
     let here : checkpoint_at r k ≡ checkpoint_parts x = checkpoint_at-is c.args.checkpoints.now k x c.loop-k-test.true c.index-checkpoints-k.is in
     let lt : k < length r.checkpoints = omega (arith, length-map c.args.checkpoints.now checkpoint_parts) in
     let inputs : length c.events.result.now ≡ length r.inputs = ap (λ l. length l) c.events.ensures.events in
-    let place : 24 + 1024 * c.len.result + 16 * length c.events.result.now + 4228 * k ≡ 24 + 1024 * length r.pool + 16 * length r.inputs + 4228 * k = omega arith in
+    let place : c.checkpoint_start-place.result ≡ 24 + 1024 * length r.pool + 16 * length r.inputs + 4228 * k = omega arith in
     let rules = rules_with r k c.len-in-loop-k.result _ c.loop-k.before c.loop-k.sent (checkpoint_parts x) lt here c.len-in-loop-k.ensures.count place c.loop-k.invariant.before_is c.loop-k.invariant.sent_is in
     let fields = checkpoint_here r k lt ∙ ap checkpoint_fields here in
     let own : length c.bytes.result.now ≡ length x.sent = ap (λ (l : List ℕ). length l) c.bytes.ensures.sent in
@@ -46,6 +46,6 @@ returns-in-Some c =
     let here : checkpoint_at r k ≡ checkpoint_parts x = checkpoint_at-is c.args.checkpoints.now k x c.loop-k-test.true c.index-checkpoints-k.is in
     let lt : k < length r.checkpoints = omega (arith, length-map c.args.checkpoints.now checkpoint_parts) in
     let inputs : length c.events.result.now ≡ length r.inputs = ap (λ l. length l) c.events.ensures.events in
-    let place : 24 + 1024 * c.len.result + 16 * length c.events.result.now + 4228 * k ≡ 24 + 1024 * length r.pool + 16 * length r.inputs + 4228 * k = omega arith in
+    let place : c.checkpoint_start-place.result ≡ 24 + 1024 * length r.pool + 16 * length r.inputs + 4228 * k = omega arith in
     let rules = rules_with r k c.len-in-loop-k.result _ c.loop-k.before c.loop-k.sent (checkpoint_parts x) lt here c.len-in-loop-k.ensures.count place c.loop-k.invariant.before_is c.loop-k.invariant.sent_is in
     sym (each_broken (checkpoint_rules f) k _ c.in-Some.fault c.loop-k-test.true c.loop-k.invariant.met (ap first_broken rules ∙ sym c.checkpoint_fault.ensures.fault ∙ c.in-Some.is))

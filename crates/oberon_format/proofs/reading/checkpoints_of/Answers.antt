@@ -1,4 +1,4 @@
-use Rattle.std.proofs.Common.{◌≡◌, ◌<◌, ◌+◌, ◌*◌, ◌∙◌, [], ◌∷◌, refl, ap, sym, subst, ◌++◌, map, length, length-append, arith}
+use Rattle.std.proofs.Common.{◌≡◌, ◌<◌, ◌∙◌, [], ◌∷◌, refl, ap, sym, subst, ◌++◌, map, length, length-append, arith}
 use Rattle.std.proofs.lemmas.List.{map-append, length-map}
 use Rattle.oberon_format.specs.CheckpointParts.{checkpoint_parts}
 use Rattle.oberon_format.specs.Recording.{output_of}
@@ -14,7 +14,7 @@ pub loop-k-init : goal.loop-k-init
 loop-k-init c =
     let text = c.args.text.now in
     let none = output_below_none text in
-    let from : 24 + 1024 * c.u32_at.result + 16 * c.u32_at-2.result + 4228 * c.u32_at-count.result ≡ output_place text = omega arith in
+    let from : c.checkpoint_start-from.result ≡ output_place text = omega arith in
     rw c.in_ok-list.ensures.items (record {
       len = refl;
       each = λ i d h. absurd (omega arith);
@@ -25,28 +25,28 @@ loop-k-init c =
 pub checkpoint_of-requires-clause-ranges : goal.checkpoint_of-requires-clause-ranges
 checkpoint_of-requires-clause-ranges c =
     let lt : c.loop-k.k < checkpoints c.args.text.now = omega arith in
-    rw (c.u32_at.ensures, c.u32_at-2.ensures) (ranges_hold c.args.text.now c.loop-k.k c.requires lt)
+    rw (c.checkpoint_start-place.ensures, c.page_count-pages.ensures, c.event_count-events.ensures) (ranges_hold c.args.text.now c.loop-k.k c.requires lt)
 
 pub checkpoint_of-requires-clause-keys : goal.checkpoint_of-requires-clause-keys
 checkpoint_of-requires-clause-keys c =
     let lt : c.loop-k.k < checkpoints c.args.text.now = omega arith in
-    rw (c.u32_at.ensures, c.u32_at-2.ensures) (keys_hold c.args.text.now c.loop-k.k c.requires lt)
+    rw (c.checkpoint_start-place.ensures, c.page_count-pages.ensures, c.event_count-events.ensures) (keys_hold c.args.text.now c.loop-k.k c.requires lt)
 
 pub checkpoint_of-requires-clause-output : goal.checkpoint_of-requires-clause-output
 checkpoint_of-requires-clause-output c =
     let lt : c.loop-k.k < checkpoints c.args.text.now = omega arith in
-    rw (c.u32_at.ensures, c.u32_at-2.ensures, c.loop-k.invariant.from_is) (output_fits c.args.text.now c.loop-k.k c.requires lt)
+    rw (c.checkpoint_start-place.ensures, c.page_count-pages.ensures, c.event_count-events.ensures, c.loop-k.invariant.from_is) (output_fits c.args.text.now c.loop-k.k c.requires lt)
 
 pub loop-k-preserved : goal.loop-k-preserved
 loop-k-preserved c =
     let text = c.args.text.now in
     let k = c.loop-k.k in
     let lt : k < checkpoints text = omega arith in
-    let place : 24 + 1024 * c.u32_at.result + 16 * c.u32_at-2.result + 4228 * k ≡ checkpoint_place text k = omega arith in
+    let place : c.checkpoint_start-place.result ≡ checkpoint_place text k = omega arith in
     let checkpoint = c.in_ok-checkpoint_of.field-0 in
     let stands = rw place at c.in_ok-checkpoint_of.ensures.stands in
     let sent = rw place at c.in_ok-checkpoint_of.ensures.sent in
-    let own = rw place at c.u32_at-in-loop-k.ensures in
+    let own = rw place at c.u32_at.ensures in
     let more = output_below_more text k in
     let items = c.loop-k.list.items in
     let parts = map checkpoint_parts items in

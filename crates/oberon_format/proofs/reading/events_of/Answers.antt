@@ -6,4 +6,4 @@ use Rattle.oberon_format.specs.Layout.{events}
 pub event_of-requires-clause-input : goal.event_of-requires-clause-input
 event_of-requires-clause-input c =
     let lt : c.loop-i.i < events c.args.text.now = omega arith in
-    rw c.u32_at.ensures (event_input c.args.text.now c.loop-i.i c.requires lt)
+    rw (c.event_start.ensures, c.page_count-pages.ensures) (event_input c.args.text.now c.loop-i.i c.requires lt)

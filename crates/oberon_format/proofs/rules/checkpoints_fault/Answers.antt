@@ -29,5 +29,5 @@ returns-in-Some c =
     let text = c.args.text.now in
     let k = c.loop-k.k in
     let one : first_broken (checkpoint_rules (fields_of text) k) ≡ Some c.in-Some.fault = cc in
-    let found = each_broken (checkpoint_rules (fields_of text)) k c.u32_at-k-end.result c.in-Some.fault c.loop-k-test.true c.loop-k.invariant.met one in
+    let found = each_broken (checkpoint_rules (fields_of text)) k c.checkpoint_count-k-end.result c.in-Some.fault c.loop-k-test.true c.loop-k.invariant.met one in
     cc

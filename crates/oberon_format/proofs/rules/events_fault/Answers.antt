@@ -20,6 +20,6 @@ pub returns-then-not-is_event : goal.returns-then-not-is_event
 returns-then-not-is_event c =
     let text = c.args.text.now in
     let fails : is_event (event_floor (fields_of text) c.loop-i.i) (event_of text (event_place text c.loop-i.i)) ≡ false = cc in
-    let lt : c.loop-i.i < c.u32_at-i-end.result = c.loop-i-test.true in
-    let found = each_unmet (λ k. is_event (event_floor (fields_of text) k) (event_of text (event_place text k))) (λ k. fault.Event (event_place text k)) c.loop-i.i c.u32_at-i-end.result lt c.loop-i.invariant fails in
+    let lt : c.loop-i.i < c.event_count-i-end.result = c.loop-i-test.true in
+    let found = each_unmet (λ k. is_event (event_floor (fields_of text) k) (event_of text (event_place text k))) (λ k. fault.Event (event_place text k)) c.loop-i.i c.event_count-i-end.result lt c.loop-i.invariant fails in
     cc
