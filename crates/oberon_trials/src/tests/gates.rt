@@ -1,0 +1,63 @@
+//! Gates that hold jobs until others began too.
+
+use oberon_check::Gate;
+use std::alloc::{AllocError, Global};
+use std::sync::atomic::{AtomicU64, Ordering};
+
+/// How often a held job looks for the others before it goes on without them.
+const TURNS: u32 = 1_000_000_000;
+
+/// A job that is held until all of these others began.
+#[derive(Clone, Copy)]
+pub struct Hold<'a> {
+    pub job: u32,
+    pub awaits: &'a [u32],
+}
+
+/// Marks each job that begins, holds some, and counts those that it let go on because the others began.
+#[derive(Drop)]
+pub struct HoldingGate<'a> {
+    pub holds: &'a [Hold<'a>],
+    pub begun: &'a [AtomicU64],
+    pub met: &'a AtomicU64,
+}
+
+impl HoldingGate<'_> {
+    fn has_begun(&self, job: u32) -> bool {
+        match self.begun.get(job as usize) {
+            Some(begun) => begun.load(Ordering::SeqCst) > 0,
+            None => false,
+        }
+    }
+
+    fn hold(&self, awaits: &[u32]) {
+        for _ in 0..TURNS {
+            if awaits.iter().all(|job| self.has_begun(*job)) {
+                self.met.fetch_add(1, Ordering::SeqCst);
+                return;
+            }
+        }
+    }
+}
+
+impl Gate for HoldingGate<'_> {
+    fn before(&self, job: u32) {
+        if let Some(begun) = self.begun.get(job as usize) {
+            begun.fetch_add(1, Ordering::SeqCst);
+        }
+        for hold in self.holds {
+            if hold.job == job {
+                self.hold(hold.awaits);
+            }
+        }
+    }
+}
+
+/// So many counters, all 0.
+pub fn counters(alloc: Global, count: u32) -> Result<Vec<AtomicU64>, AllocError> {
+    let mut begun = Vec::new(alloc);
+    for _ in 0..count {
+        begun.push(AtomicU64::new(0))?;
+    }
+    Ok(begun)
+}

@@ -1,0 +1,178 @@
+//! Texts that are cut off, and texts that stand at a limit or past it.
+
+use super::checked::{Crew, checked};
+use super::texts::{Claim, header, text_of};
+use oberon_check::FreeGate;
+use oberon_format::read;
+use risc_machine::Machine;
+use std::alloc::Global;
+use std::test::Fail;
+
+const TWO: Crew = Crew {
+    workers: 2,
+    cut: 64,
+};
+
+const LAST_COUNT: u64 = 1 << 40;
+
+// `MOV R0, 5`, and then zeros, which are `MOV R0, R0`.
+fn stored_run(alloc: Global) -> Result<Vec<u8>, Fail> {
+    let mut end = Claim::at(100);
+    end.r0 = 5;
+    end.pc = 100;
+    text_of(alloc, &[0x4000_0005], &[Claim::at(0), end])
+}
+
+// A byte is stored at the serial line's place, and stands at the text's end.
+fn one_byte_sent(alloc: Global) -> Result<Vec<u8>, Fail> {
+    let mut before = Claim::at(2);
+    before.r0 = 0x41;
+    before.r1 = 0xFFFF_FFC8;
+    before.pc = 2;
+    let mut after = before;
+    after.count = 4;
+    after.pc = 3;
+    after.sent = b"A";
+    let program = [0x5100_FFC8, 0x4000_0041, 0xA010_0000, 0xE7FF_FFFF];
+    text_of(alloc, &program, &[Claim::at(0), before, after])
+}
+
+// A division by zero, which stops the machine, and a checkpoint at this count.
+fn divisor_stop(alloc: Global, count: u64) -> Result<Vec<u8>, Fail> {
+    let mut end = Claim::at(count);
+    end.stop = 2;
+    text_of(alloc, &[0x400B_0000], &[Claim::at(0), end])
+}
+
+#[test]
+fn a_text_cut_anywhere_is_short(rt: HostRuntime) -> Result<(), Fail> {
+    let alloc = rt.alloc();
+    let text = stored_run(alloc)?;
+    assert_eq!(rt; text.len(), 9504);
+    for (length, _) in text.iter().enumerate() {
+        let Some(cut) = text.get(..length) else {
+            return Err("no such cut".into());
+        };
+        let (line, status) = checked(&rt, alloc, cut, TWO, &FreeGate)?;
+        let short = format!(in alloc; "refused 1 short at byte {length}\n")?;
+        assert_eq!(rt; line.as_slice(), short.as_bytes());
+        assert_eq!(rt; status, 2);
+    }
+    let (line, _) = checked(&rt, alloc, text.as_slice(), TWO, &FreeGate)?;
+    assert_eq!(rt;
+        line.as_slice(),
+        b"accepted 1 checkpoints 100 steps\n".as_slice()
+    );
+    Ok(())
+}
+
+#[test]
+fn a_byte_of_output_too_few_or_one_too_many(rt: HostRuntime) -> Result<(), Fail> {
+    let alloc = rt.alloc();
+    let mut text = one_byte_sent(alloc)?;
+    assert_eq!(rt; text.len(), 13_733);
+    let (line, _) = checked(&rt, alloc, text.as_slice(), TWO, &FreeGate)?;
+    assert_eq!(rt;
+        line.as_slice(),
+        b"accepted 2 checkpoints 4 steps\n".as_slice()
+    );
+    text.push(0)?;
+    let (line, _) = checked(&rt, alloc, text.as_slice(), TWO, &FreeGate)?;
+    assert_eq!(rt;
+        line.as_slice(),
+        b"refused 8 trailing at byte 13733\n".as_slice()
+    );
+    text.truncate(13_732);
+    let (line, _) = checked(&rt, alloc, text.as_slice(), TWO, &FreeGate)?;
+    assert_eq!(rt;
+        line.as_slice(),
+        b"refused 1 short at byte 13732\n".as_slice()
+    );
+    Ok(())
+}
+
+#[test]
+fn headers_at_the_limits_and_past_them(rt: HostRuntime) -> Result<(), Fail> {
+    let alloc = rt.alloc();
+    for (pages, events, checkpoints, expected) in [
+        (65_537, 0, 1, b"refused 4 limit at byte 8\n".as_slice()),
+        (0, 1_000_001, 1, b"refused 4 limit at byte 12\n"),
+        (0, 0, 4_098, b"refused 4 limit at byte 16\n"),
+        (65_536, 1_000_000, 4_097, b"refused 1 short at byte 24\n"),
+    ] {
+        let text = header(alloc, pages, events, checkpoints)?;
+        assert_eq!(rt; text.len(), 24);
+        let (line, status) = checked(&rt, alloc, text.as_slice(), TWO, &FreeGate)?;
+        assert_eq!(rt; line.as_slice(), expected);
+        assert_eq!(rt; status, 2);
+    }
+    Ok(())
+}
+
+// Zeros alone: each step moves R0 to itself, which sets Z.
+#[test]
+fn as_many_checkpoints_as_there_can_be(rt: HostRuntime) -> Result<(), Fail> {
+    let alloc = rt.alloc();
+    let mut claims = vec![in alloc; Claim::at(0)]?;
+    for count in 1..=4096u32 {
+        let mut claim = Claim::at(u64::from(count));
+        claim.pc = count;
+        claim.flags = 4;
+        claims.push(claim)?;
+    }
+    let text = text_of(alloc, &[], claims.as_slice())?;
+    let (line, status) = checked(&rt, alloc, text.as_slice(), TWO, &FreeGate)?;
+    assert_eq!(rt;
+        line.as_slice(),
+        b"accepted 4096 checkpoints 4096 steps\n".as_slice()
+    );
+    assert_eq!(rt; status, 0);
+    Ok(())
+}
+
+#[test]
+fn the_last_count_and_the_one_after(rt: HostRuntime) -> Result<(), Fail> {
+    let alloc = rt.alloc();
+    for (count, expected) in [
+        (
+            LAST_COUNT,
+            b"accepted 1 checkpoints 1099511627776 steps\n".as_slice(),
+        ),
+        (
+            LAST_COUNT + 1,
+            b"refused 6 checkpoint at byte 5276\n".as_slice(),
+        ),
+    ] {
+        let text = divisor_stop(alloc, count)?;
+        let (line, _) = checked(&rt, alloc, text.as_slice(), TWO, &FreeGate)?;
+        assert_eq!(rt; line.as_slice(), expected);
+    }
+    Ok(())
+}
+
+#[test]
+fn a_stopped_machine_runs_to_the_last_count(rt: HostRuntime) -> Result<(), Fail> {
+    let alloc = rt.alloc();
+    let text = divisor_stop(alloc, LAST_COUNT)?;
+    let r = read(alloc, text.as_slice())?;
+    let first = r.checkpoint(0);
+    let mut cpu = first.cpu;
+    let mut machine = Machine::start(alloc, r.pool(), &first.table, cpu, first.devices.copy())?;
+    let mut sent = Vec::new(alloc);
+    machine.run(r.inputs(), 0, LAST_COUNT, &mut sent)?;
+    cpu.stop = 2;
+    assert_eq!(rt; *machine.cpu(), cpu);
+    let devices = machine.devices();
+    assert_eq!(rt;
+        (devices.timer(), devices.switches(), devices.leds()),
+        (0, 0, 0)
+    );
+    assert_eq!(rt; (devices.mouse(), devices.serial()), (0, 0));
+    assert!(rt; devices.keys().is_empty());
+    assert_eq!(rt;
+        machine.memory().first_difference(r.pool(), &first.table),
+        None
+    );
+    assert!(rt; sent.is_empty());
+    Ok(())
+}

@@ -1,0 +1,171 @@
+//! Verdicts that no schedule of the workers may bend.
+
+use super::checked::{Crew, checked};
+use super::gates::{Hold, HoldingGate, counters};
+use super::texts::{Claim, jump_text, text_of};
+use oberon_check::{FreeGate, Part, Verdict, check_recording};
+use oberon_format::read;
+use std::alloc::Global;
+use std::sync::Wait;
+use std::sync::atomic::{AtomicU64, Ordering};
+use std::test::Fail;
+use std::thread::Threads;
+
+const TWO: Crew = Crew { workers: 2, cut: 1 };
+
+const FALSE_AT_ONCE: &[u8] = b"false checkpoint 1 at 10 part LEDs\n";
+
+const FALSE_FIRST: Verdict = Verdict::FalseAt {
+    checkpoint: 1,
+    count: 10,
+    part: Part::Leds,
+};
+
+// The line of the text whose ten checkpoints after the first have these LEDs is this one, whoever checks it.
+fn each_crew_says<R: Threads + Wait + Sync>(
+    rt: &R,
+    alloc: Global,
+    leds: &[u32; 10],
+    expected: &[u8],
+) -> Result<(), Fail> {
+    let text = jump_text(alloc, leds)?;
+    for workers in [1, 2, 64] {
+        for cut in [1, 3, 10] {
+            let crew = Crew { workers, cut };
+            let (line, status) = checked(rt, alloc, text.as_slice(), crew, &FreeGate)?;
+            if line.as_slice() != expected || status != 1 {
+                return Err("another line".into());
+            }
+        }
+    }
+    Ok(())
+}
+
+#[test]
+fn one_false_checkpoint_of_ten(rt: HostRuntime) -> Result<(), Fail> {
+    let alloc = rt.alloc();
+    for (segment, _) in [0; 10].iter().enumerate() {
+        let mut leds = [0; 10];
+        leds[segment] = 1;
+        let checkpoint = segment + 1;
+        let line = format!(in alloc; "false checkpoint {checkpoint} at {checkpoint}0 part LEDs\n")?;
+        each_crew_says(&rt, alloc, &leds, line.as_bytes())?;
+    }
+    Ok(())
+}
+
+#[test]
+fn the_first_of_many_false_checkpoints(rt: HostRuntime) -> Result<(), Fail> {
+    let alloc = rt.alloc();
+    each_crew_says(&rt, alloc, &[1; 10], FALSE_AT_ONCE)?;
+    let rising = [1, 2, 3, 4, 5, 6, 7, 8, 9, 10];
+    each_crew_says(&rt, alloc, &rising, FALSE_AT_ONCE)
+}
+
+// The line of a text by two workers whose jobs are single segments, and how often a held job met the others.
+fn held_line<R: Threads + Wait + Sync>(
+    rt: &R,
+    alloc: Global,
+    text: &[u8],
+    holds: &[Hold<'_>],
+) -> Result<(Vec<u8>, u64), Fail> {
+    let begun = counters(alloc, 10)?;
+    let met = AtomicU64::new(0);
+    let gate = HoldingGate {
+        holds,
+        begun: begun.as_slice(),
+        met: &met,
+    };
+    let (line, _) = checked(rt, alloc, text, TWO, &gate)?;
+    Ok((line, met.load(Ordering::SeqCst)))
+}
+
+// The verdict on its recording in the same way.
+fn held_verdict<R: Threads + Wait + Sync>(
+    rt: &R,
+    alloc: Global,
+    text: &[u8],
+    holds: &[Hold<'_>],
+) -> Result<(Verdict, u64), Fail> {
+    let r = read(alloc, text)?;
+    let begun = counters(alloc, 10)?;
+    let met = AtomicU64::new(0);
+    let gate = HoldingGate {
+        holds,
+        begun: begun.as_slice(),
+        met: &met,
+    };
+    let verdict = check_recording(rt, alloc, &r, 2, 1, &gate)?;
+    Ok((verdict, met.load(Ordering::SeqCst)))
+}
+
+// Checkpoints 1 and 7 are false, and the first job goes on when all others have begun: whoever takes them finds the
+// seventh false long before the first.
+#[test]
+fn the_first_job_waits_for_all_others(rt: HostRuntime) -> Result<(), Fail> {
+    let alloc = rt.alloc();
+    let text = jump_text(alloc, &[1, 0, 0, 0, 0, 0, 1, 0, 0, 0])?;
+    let holds = [Hold {
+        job: 0,
+        awaits: &[1, 2, 3, 4, 5, 6, 7, 8, 9],
+    }];
+    let (verdict, met) = held_verdict(&rt, alloc, text.as_slice(), &holds)?;
+    assert_eq!(rt; verdict, FALSE_FIRST);
+    assert_eq!(rt; met, 1);
+    let (line, met) = held_line(&rt, alloc, text.as_slice(), &holds)?;
+    assert_eq!(rt; line.as_slice(), FALSE_AT_ONCE);
+    assert_eq!(rt; met, 1);
+    Ok(())
+}
+
+#[test]
+fn two_workers_meet(rt: HostRuntime) -> Result<(), Fail> {
+    let alloc = rt.alloc();
+    let text = jump_text(alloc, &[0, 0])?;
+    let holds = [
+        Hold {
+            job: 0,
+            awaits: &[1],
+        },
+        Hold {
+            job: 1,
+            awaits: &[0],
+        },
+    ];
+    let accepted = Verdict::Accepted {
+        checkpoints: 2,
+        steps: 20,
+    };
+    let (verdict, met) = held_verdict(&rt, alloc, text.as_slice(), &holds)?;
+    assert_eq!(rt; verdict, accepted);
+    assert_eq!(rt; met, 2);
+    let (line, met) = held_line(&rt, alloc, text.as_slice(), &holds)?;
+    assert_eq!(rt;
+        line.as_slice(),
+        b"accepted 2 checkpoints 20 steps\n".as_slice()
+    );
+    assert_eq!(rt; met, 2);
+    Ok(())
+}
+
+#[test]
+fn more_workers_than_jobs(rt: HostRuntime) -> Result<(), Fail> {
+    let alloc = rt.alloc();
+    let crew = Crew {
+        workers: 64,
+        cut: 100,
+    };
+    let text = jump_text(alloc, &[0; 10])?;
+    let (line, _) = checked(&rt, alloc, text.as_slice(), crew, &FreeGate)?;
+    assert_eq!(rt;
+        line.as_slice(),
+        b"accepted 10 checkpoints 100 steps\n".as_slice()
+    );
+    let text = text_of(alloc, &[], &[Claim::at(0)])?;
+    let (line, _) = checked(&rt, alloc, text.as_slice(), crew, &FreeGate)?;
+    assert_eq!(rt;
+        line.as_slice(),
+        b"accepted 0 checkpoints 0 steps\n".as_slice()
+    );
+    Ok(())
+}
