@@ -10,3 +10,5 @@ pub mod Runs
 pub mod Gathered
 pub mod DoneLemmas
 pub mod Lines
+pub mod Examples
+pub mod Sent

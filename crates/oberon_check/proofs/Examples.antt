@@ -1,0 +1,101 @@
+-- The definitions on worked examples, computed outright: the order of the parts, the lines of verdicts, and what the verdicts
+-- of segments come to.
+use Rattle.std.proofs.Common.{◌≡◌, ◌<◌, ◌≤◌, ℕ, zero, suc, [], ◌∷◌, List, get_or, Option, None, Some, map, refl, inl, inr, arith}
+use Rattle.std.specs.Prelude.{codes, Contains}
+use Rattle.std.specs.Fmt.{digits}
+use Rattle.oberon_format.specs.Recording.{RecordingParts}
+use Rattle.oberon_check.specs.declared.part.Part.{Part}
+use Rattle.oberon_check.specs.declared.part.Part.TheVariants.{R, H, Pc, Flags, Stop, Timer, Switches, Leds, Mouse, Serial, Keys, Sent, Page}
+use Rattle.oberon_check.specs.declared.verdict.Verdict.TheVariants.{Accepted, FalseAt}
+use Rattle.oberon_check.specs.Difference.{rank}
+use Rattle.oberon_check.specs.Line.{part_name, line_of, status_of}
+use Rattle.oberon_check.specs.Segment.{Finding}
+use Rattle.oberon_check.specs.Tally.{lesser_of, end_of}
+use Rattle.oberon_check.specs.Run.{IsRun}
+use Rattle.oberon_check.specs.Work.{IsBehind, IsJob, failed_of}
+
+-- registers first, then the processor's other parts, the devices, the output, and the pages last
+order : map rank (R 0 ∷ R 15 ∷ H ∷ Pc ∷ Flags ∷ Stop ∷ Timer ∷ Switches ∷ Leds ∷ Mouse ∷ Serial ∷ Keys ∷ Sent ∷ Page 0 ∷ Page 1023 ∷ [])
+    ≡ 0 ∷ 15 ∷ 16 ∷ 17 ∷ 18 ∷ 19 ∷ 20 ∷ 21 ∷ 22 ∷ 23 ∷ 24 ∷ 25 ∷ 26 ∷ 27 ∷ 1050 ∷ []
+order = refl
+
+names : map part_name (R 0 ∷ R 15 ∷ H ∷ Pc ∷ Sent ∷ Page 1023 ∷ [])
+    ≡ codes "R0" ∷ codes "R15" ∷ codes "H" ∷ codes "PC" ∷ codes "out" ∷ codes "page 1023" ∷ []
+unfolding digits
+names = refl
+
+-- the recording of checkpoint 0 alone, and the largest numbers that a recording can have
+no_checkpoint : line_of (Accepted 0 0) ≡ codes "accepted 0 checkpoints 0 steps\n"
+unfolding digits
+no_checkpoint = refl
+
+most_steps : line_of (Accepted 4096 1099511627776) ≡ codes "accepted 4096 checkpoints 1099511627776 steps\n"
+unfolding digits
+most_steps = refl
+
+false_register : line_of (FalseAt 1 100 (R 0)) ≡ codes "false checkpoint 1 at 100 part R0\n"
+unfolding digits
+false_register = refl
+
+false_leds : line_of (FalseAt 3 30 Leds) ≡ codes "false checkpoint 3 at 30 part LEDs\n"
+unfolding digits
+false_leds = refl
+
+false_output : line_of (FalseAt 2 4 Sent) ≡ codes "false checkpoint 2 at 4 part out\n"
+unfolding digits
+false_output = refl
+
+statuses : map status_of (Accepted 2 9 ∷ FalseAt 1 2 (R 5) ∷ []) ≡ 0 ∷ 1 ∷ []
+statuses = refl
+
+-- verdicts in the order 7, 3, 5 of which all failed: the least is kept, and only what lies below it has to be there
+least_of_three : lesser_of (lesser_of (lesser_of None 7 (Some Leds)) 3 (Some Keys)) 5 (Some H) ≡ Some (3, Keys)
+least_of_three = refl
+
+held_changes_nothing : lesser_of (Some (3, Keys)) 1 None ≡ Some (3, Keys)
+held_changes_nothing = refl
+
+below_the_least : end_of (Some (3, Keys)) 10 ≡ 3
+below_the_least = refl
+
+all_of_them : end_of None 10 ≡ 10
+all_of_them = refl
+
+-- 4 is the one element of this list
+only_four : (k x : ℕ) → k < 1 → get_or (4 ∷ []) k x ≡ x → 4 ≡ x
+only_four zero x small is = is
+only_four (suc k) x small is = absurd (omega arith)
+
+not_eight : (x : ℕ) → x ≡ 8 → x < 8 → ⊥
+not_eight x is below = absurd (omega arith)
+
+-- ten segments in jobs of four, of which segment 2 failed: job 0 ends with it, and it alone is told
+module _ (r : RecordingParts) where
+  abbrev found : ℕ → Option Part → Finding
+  found segment part = record { recording = r; segment = segment; part = part }
+
+  abbrev first_job : List Finding
+  first_job = found 0 None ∷ found 1 None ∷ found 2 (Some Leds) ∷ []
+
+  job_ends_with_its_failed : IsJob 10 4 [] 0 first_job
+  job_ends_with_its_failed = inr (omega arith, refl, (omega arith, refl, (omega arith, refl, refl)))
+
+  failed_is_told : failed_of first_job ≡ 2 ∷ []
+  failed_is_told = refl
+
+  -- job 1 begins at segment 4, so it may be passed over where 2 was shown, and not where 4 alone was
+  passed_over : IsJob 10 4 (2 ∷ []) 1 []
+  passed_over = inl (refl, (2, (0, omega arith, refl), omega arith))
+
+  not_at_its_first : IsJob 10 4 (4 ∷ []) 1 [] → ⊥
+  not_at_its_first (inl over) =
+      let behind : IsBehind (4 ∷ []) 4 = over.1 in
+      let there : Contains (4 ∷ []) behind.0 = behind.1 in
+      let four = only_four there.0 behind.0 there.1 there.2 in
+      let below : behind.0 < 4 = behind.2 in
+      absurd (omega arith)
+  not_at_its_first (inr run) = not_eight 4 run (omega arith)
+
+  -- the last job has two segments
+  last_job : IsJob 10 4 [] 2 (found 8 None ∷ found 9 None ∷ [])
+  last_job = inr (omega arith, refl, (omega arith, refl, refl))
