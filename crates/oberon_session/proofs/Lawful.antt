@@ -1,7 +1,7 @@
 -- The parts of a tested draft make a lawful session.
-use Rattle.std.proofs.Common.{◌≡◌, ◌<◌, ◌≤◌, ◌^◌, ◌∙◌, ℕ, suc, List, [], ◌∷◌, Option, Some, None, arith, ap, get_or, length, map, refl, sym, subst}
+use Rattle.std.proofs.Common.{◌≡◌, ◌<◌, ◌≤◌, ◌^◌, ◌∙◌, ℕ, List, [], ◌∷◌, Option, Some, None, arith, ap, get_or, length, map, refl, sym, subst}
 use Rattle.std.proofs.lemmas.List.{length-map}
-use Rattle.std.proofs.lemmas.List.Elements.{All-map, All-weaker}
+use Rattle.std.proofs.lemmas.List.Elements.{All-map}
 use Rattle.std.specs.List.{All}
 use Rattle.std.specs.Prelude.{Result, Ok, Err}
 use Rattle.hex.specs.Hex.{decode_of}
@@ -13,8 +13,8 @@ use Rattle.risc_machine.specs.MachineState.{CpuState, cpu_state}
 use Rattle.oberon_session.proofs.Mapped.{unmapped}
 use Rattle.oberon_session.specs.Digits.{PlacedWords, all_placed_of, placed_of, placed_view, words_of_bytes}
 use Rattle.oberon_session.specs.Draft.{Draft, PageText}
-use Rattle.oberon_session.specs.Ranges.{InOrder, InRange, PageFits, places_of}
-use Rattle.oberon_session.specs.Session.{Says, cpu_of}
+use Rattle.oberon_session.specs.Ranges.{InOrder, InRange, places_of}
+use Rattle.oberon_session.specs.Session.{cpu_of}
 use Rattle.oberon_session.specs.SessionParts.{IsLawful, places_in, session_of_parts}
 use Rattle.oberon_session.specs.Shape.{each}
 use Rattle.oberon_session.specs.declared.placed.PlacedPage.{PlacedPage}

@@ -1,5 +1,5 @@
 -- What the single tests say of the whole draft.
-use Rattle.std.proofs.Common.{◌↔◌, map}
+use Rattle.std.proofs.Common.{map}
 use Rattle.oberon_session.proofs.Mapped.{mapped-fit, mapped-rises}
 use Rattle.oberon_session.specs.Draft.{PageText, draft_view, input_view, page_view}
 use Rattle.oberon_session.specs.Ranges.{InOrder, InRange, InputsFit, NeverFalls, PageFits, input_counts}

@@ -6,3 +6,5 @@ pub mod SessionParts
 pub mod Session
 pub mod Tested
 pub mod FaultNames
+pub mod Laid
+pub mod Recorded

@@ -1,7 +1,8 @@
 //! Sessions of the RISC5 workstation: a first state, inputs with their counts, and the counts at which checkpoints are wanted.
 //!
 //! A session is written in JSON, in a format of this project's own. Here its text is read, or refused with the first rule that it
-//! breaks. JSON and hexadecimal digits are read by `serde_json` and `hex`.
+//! breaks, and its recording is made, or refused at the first checkpoint that is too much. JSON and hexadecimal digits are read by
+//! `serde_json` and `hex`.
 #![tactic(auto)]
 
 mod digits;
@@ -11,12 +12,16 @@ mod fault;
 mod placed;
 mod range;
 mod reading;
+mod record_fault;
+mod recorder;
 mod session;
 mod shape;
 mod walk;
 
 pub use fault::SessionFault;
 pub use reading::read_session;
+pub use record_fault::RecordFault;
+pub use recorder::make_recording;
 pub use session::Session;
 
 #[cfg(test)]

@@ -1,7 +1,6 @@
-use Rattle.std.proofs.Common.{◌≡◌, arith, length, map, rules}
+use Rattle.std.proofs.Common.{arith}
 use Rattle.std.proofs.lemmas.List.{length-map}
 use Rattle.oberon_session.proofs.Orders.{ordered-falls, wrong-falls}
-use Rattle.oberon_session.specs.Draft.{input_view}
 use Rattle.oberon_session.proofs.events.inputs_of.Goals as goal
 
 pub returns-in-Ok-clause-order : goal.returns-in-Ok-clause-order

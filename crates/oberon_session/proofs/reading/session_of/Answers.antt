@@ -1,6 +1,5 @@
 use Rattle.std.proofs.Common.{◌∙◌, List, ap, length, refl, sym}
 use Rattle.std.proofs.lemmas.List.{length-map}
-use Rattle.risc_machine.specs.declared.event.Event.{Event}
 use Rattle.oberon_session.proofs.Lawful.{is-lawful}
 use Rattle.oberon_session.specs.Draft.{InputNumbers, draft_view}
 use Rattle.oberon_session.specs.Session.{numbers_of_event}

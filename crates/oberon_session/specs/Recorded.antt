@@ -1,0 +1,111 @@
+-- The recording of a session, or why it has none. (own)
+use Rattle.std.specs.Prelude.{ℕ, zero, suc, ◌+◌, ◌-◌, nat_lt, false, List, [], length, map, slice_index, slice_set, Option, Some, None, if◌then◌else◌}
+use Rattle.std.specs.List.{range_with_len}
+use Rattle.std.specs.Option.{option_or}
+use Rattle.risc_pages.specs.Content.{table_words}
+use Rattle.risc_pages.specs.Tables.{zero_numbers}
+use Rattle.risc_devices.specs.DeviceState.{DeviceState}
+use Rattle.risc_machine.specs.MachineState.{State}
+use Rattle.risc_machine.specs.Replay.{run_of, sent_of}
+use Rattle.oberon_format.specs.CheckpointParts.{CheckpointParts}
+use Rattle.oberon_format.specs.Ranges.{max_output}
+use Rattle.oberon_format.specs.Recording.{RecordingParts}
+use Rattle.oberon_session.specs.Digits.{PlacedWords}
+use Rattle.oberon_session.specs.Laid.{Laid, lay}
+use Rattle.oberon_session.specs.SessionParts.{SessionParts, places_in}
+use Rattle.oberon_session.specs.declared.record_fault.RecordFault.{RecordFault}
+use Rattle.oberon_session.specs.declared.record_fault.RecordFault.TheVariants as fault
+
+-- ---- the first state
+
+-- the table with page numbers 1 to n at the places of the first n pages, and 0 at all others
+unfoldable pub numbered : List PlacedWords → ℕ → List ℕ
+numbered pages zero = zero_numbers
+numbered pages (suc n) = slice_set (numbered pages n) (slice_index (places_in pages) n) (suc n)
+
+-- the session's pages in their order, and the table that has number i + 1 at the place of page i
+unfoldable pub first_laid : SessionParts → Laid
+first_laid s = record { pool = map (λ page. page.words) s.pages; table = numbered s.pages (length s.pages) }
+
+-- devices that are all zeros, with no keys
+abbrev pub no_devices : DeviceState
+no_devices = record { timer = 0; switches = 0; leds = 0; mouse = 0; serial = 0; received = false; keys = [] }
+
+-- the state in which the session begins
+unfoldable pub first_state : SessionParts → State
+first_state s =
+    record { cpu = s.cpu; devices = no_devices; words = table_words (first_laid s).pool (first_laid s).table }
+
+-- ---- the one run from the first state
+
+-- the state at a count
+unfoldable pub state_at : SessionParts → ℕ → State
+state_at s n = run_of s.inputs 0 n (first_state s)
+
+-- the bytes that are sent from one count up to another
+unfoldable pub output_between : SessionParts → ℕ → ℕ → List ℕ
+output_between s from to = sent_of s.inputs from (to - from) (state_at s from)
+
+-- the bytes that are sent up to a count
+unfoldable pub output_up_to : SessionParts → ℕ → List ℕ
+output_up_to s n = sent_of s.inputs 0 n (first_state s)
+
+-- ---- the checkpoints
+
+-- the count of checkpoint k, 0 for checkpoint 0
+unfoldable pub count_of : SessionParts → ℕ → ℕ
+count_of s zero = 0
+count_of s (suc k) = slice_index s.counts k
+
+-- the state at checkpoint k
+abbrev pub state_of : SessionParts → ℕ → State
+state_of s k = state_at s (count_of s k)
+
+-- the pool and the table of checkpoint k: the memory of each checkpoint is laid where that of the one before was laid last
+unfoldable pub laid_of : SessionParts → ℕ → Laid
+laid_of s zero = first_laid s
+laid_of s (suc k) = lay (state_of s k).words (state_of s (suc k)).words (laid_of s k)
+
+-- checkpoint k: the state at its count, and the bytes sent since the checkpoint before
+unfoldable pub checkpoint_of : SessionParts → ℕ → CheckpointParts
+checkpoint_of s k = record {
+  count = count_of s k;
+  cpu = (state_of s k).cpu;
+  devices = (state_of s k).devices;
+  sent = output_between s (count_of s (k - 1)) (count_of s k);
+  table = (laid_of s k).table;
+}
+
+-- the number of the last checkpoint
+abbrev pub last_of : SessionParts → ℕ
+last_of s = length s.counts
+
+-- the recording: the pages that the last checkpoint needs and all before it, the session's inputs, and checkpoints 0 to K
+unfoldable pub recording_of : SessionParts → RecordingParts
+recording_of s = record {
+  pool = (laid_of s (last_of s)).pool;
+  inputs = s.inputs;
+  checkpoints = map (checkpoint_of s) (range_with_len 0 (last_of s + 1));
+}
+
+-- ---- refusals
+
+-- the most pages that a recording may have
+abbrev pub max_pages : ℕ
+max_pages = 65536
+
+-- why a recording cannot go as far as checkpoint k: too many bytes sent up to it, or else too many pages
+unfoldable pub fault_at : SessionParts → ℕ → Option RecordFault
+fault_at s k =
+    if nat_lt max_output (length (output_up_to s (count_of s k))) then Some fault.Output
+    else if nat_lt max_pages (length (laid_of s k).pool) then Some fault.Pages
+    else None
+
+-- the fault at the first of the checkpoints 1 to k that has one
+unfoldable pub first_fault : SessionParts → ℕ → Option RecordFault
+first_fault s zero = None
+first_fault s (suc k) = option_or (first_fault s k) (fault_at s (suc k))
+
+-- why the session has no recording, if it has none
+unfoldable pub record_fault_of : SessionParts → Option RecordFault
+record_fault_of s = first_fault s (last_of s)

@@ -1,0 +1,69 @@
+//! Why a session has no recording. When each refusal comes stands in `specs/`.
+
+ghost use Rattle.std.specs.Prelude.{◌≡◌};
+ghost use Rattle.oberon_session.specs.FaultNames.{record_fault_name, record_fault_number};
+
+use std::alloc::{AllocError, AllocFailed};
+use thiserror::Error;
+
+/// What is too much for a recording, or want of memory.
+///
+/// The numbers, the names and the limits are this project's own choice.
+#[derive(Clone, Copy, Debug, PartialEq, Eq, Error)]
+pub enum RecordFault {
+    /// 1, `output`: more than 1,048,576 bytes are sent up to a checkpoint.
+    #[error("the session sends too much")]
+    Output,
+    /// 2, `pages`: more than 65,536 pages are needed up to a checkpoint.
+    #[error("the session changes too many pages")]
+    Pages,
+    /// There was no room for the recording. No fault of the session.
+    #[error("no memory")]
+    Memory,
+}
+
+impl RecordFault {
+    /// The fault's number, 1 or 2; none for want of memory.
+    pub fn number(self) -> Option<u8>
+        ensures { result ≡ record_fault_number self }
+    {
+        match self {
+            RecordFault::Output => Some(1),
+            RecordFault::Pages => Some(2),
+            RecordFault::Memory => None,
+        }
+    }
+
+    /// The fault's name.
+    pub fn name(self) -> &'static str
+        ensures { result.now ≡ record_fault_name self }
+    {
+        match self {
+            RecordFault::Output => "output",
+            RecordFault::Pages => "pages",
+            RecordFault::Memory => "memory",
+        }
+    }
+}
+
+impl From<AllocError> for RecordFault {
+    ghost use Rattle.std.specs.Prelude.{◌≡◌};
+    ghost use Rattle.oberon_session.specs.declared.record_fault.RecordFault.{RecordFault};
+
+    ghost from_gives = { λ _ fault. fault ≡ RecordFault.Memory };
+
+    fn from(_refused: AllocError) -> RecordFault {
+        RecordFault::Memory
+    }
+}
+
+impl<T: Drop> From<AllocFailed<T>> for RecordFault {
+    ghost use Rattle.std.specs.Prelude.{◌≡◌};
+    ghost use Rattle.oberon_session.specs.declared.record_fault.RecordFault.{RecordFault};
+
+    ghost from_gives = { λ _ fault. fault ≡ RecordFault.Memory };
+
+    fn from(_refused: AllocFailed<T>) -> RecordFault {
+        RecordFault::Memory
+    }
+}
