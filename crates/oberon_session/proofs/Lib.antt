@@ -3,3 +3,5 @@ mod Shapes
 mod Orders
 mod Lawful
 mod RuleLemmas
+mod Runs
+mod Layouts

@@ -13,7 +13,7 @@ module _ {X Y : Type 0} (f : Y → X) where
       rw (← get_or-map f ys k d (f d) lt) (all k (f d) within)
 
 module _ {X Y : Type 0} where
-  at-mapped : (number : X → ℕ) (f : Y → X) (ys : List Y) (k : ℕ) (d : Y) → k < length ys
+  pub at-mapped : (number : X → ℕ) (f : Y → X) (ys : List Y) (k : ℕ) (d : Y) → k < length ys
       → get_or (map number (map f ys)) k 0 ≡ number (f (get_or ys k d))
   at-mapped number f ys k d lt =
       let within : k < length (map f ys) = simp length-map lt in

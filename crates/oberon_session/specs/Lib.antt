@@ -8,3 +8,4 @@ pub mod Tested
 pub mod FaultNames
 pub mod Laid
 pub mod Recorded
+pub mod Walk

@@ -23,9 +23,9 @@ unfoldable pub numbered : List PlacedWords → ℕ → List ℕ
 numbered pages zero = zero_numbers
 numbered pages (suc n) = slice_set (numbered pages n) (slice_index (places_in pages) n) (suc n)
 
--- the session's pages in their order, and the table that has number i + 1 at the place of page i
-unfoldable pub first_laid : SessionParts → Laid
-first_laid s = record { pool = map (λ page. page.words) s.pages; table = numbered s.pages (length s.pages) }
+-- a session's pages in their order, and the table that has number i + 1 at the place of page i
+unfoldable pub first_laid : List PlacedWords → Laid
+first_laid pages = record { pool = map (λ page. page.words) pages; table = numbered pages (length pages) }
 
 -- devices that are all zeros, with no keys
 abbrev pub no_devices : DeviceState
@@ -34,7 +34,7 @@ no_devices = record { timer = 0; switches = 0; leds = 0; mouse = 0; serial = 0; 
 -- the state in which the session begins
 unfoldable pub first_state : SessionParts → State
 first_state s =
-    record { cpu = s.cpu; devices = no_devices; words = table_words (first_laid s).pool (first_laid s).table }
+    record { cpu = s.cpu; devices = no_devices; words = table_words (first_laid s.pages).pool (first_laid s.pages).table }
 
 -- ---- the one run from the first state
 
@@ -63,7 +63,7 @@ state_of s k = state_at s (count_of s k)
 
 -- the pool and the table of checkpoint k: the memory of each checkpoint is laid where that of the one before was laid last
 unfoldable pub laid_of : SessionParts → ℕ → Laid
-laid_of s zero = first_laid s
+laid_of s zero = first_laid s.pages
 laid_of s (suc k) = lay (state_of s k).words (state_of s (suc k)).words (laid_of s k)
 
 -- checkpoint k: the state at its count, and the bytes sent since the checkpoint before

@@ -34,3 +34,42 @@ impl Model for Session {
 
     ghost invariant = { λ s. IsLawful (session_of_parts s.cpu s.pages.items s.inputs s.counts.items) };
 }
+
+impl Session {
+    ghost use Rattle.std.specs.Prelude.{◌≡◌, map};
+    ghost use Rattle.risc_machine.specs.MachineState.{cpu_state};
+    ghost use Rattle.oberon_session.specs.Digits.{placed_view};
+    ghost use Rattle.oberon_session.specs.SessionParts.{IsLawful};
+
+    /// The processor of the first state.
+    pub(crate) fn cpu(&self) -> Cpu
+        ensures cpu { cpu_state result ≡ self.now.cpu }
+        ensures lawful { IsLawful self.now }
+    {
+        self.cpu
+    }
+
+    /// The pages of the first state's memory, each with its place.
+    pub(crate) fn pages(&self) -> &[PlacedPage]
+        ensures pages { map placed_view result.now ≡ self.now.pages }
+        ensures lawful { IsLawful self.now }
+    {
+        &self.pages
+    }
+
+    /// The inputs, with their counts.
+    pub(crate) fn inputs(&self) -> &Inputs
+        ensures inputs { result.now ≡ self.now.inputs }
+        ensures lawful { IsLawful self.now }
+    {
+        &self.inputs
+    }
+
+    /// The counts of checkpoints 1 to K.
+    pub(crate) fn counts(&self) -> &[u64]
+        ensures counts { result.now ≡ self.now.counts }
+        ensures lawful { IsLawful self.now }
+    {
+        &self.counts
+    }
+}

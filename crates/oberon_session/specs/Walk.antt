@@ -1,0 +1,47 @@
+-- What the recorder holds on its way. No public contract cites these.
+use Rattle.std.specs.Prelude.{ℕ, ◌≡◌, ◌+◌, ◌<◌, ◌≤◌, List, length, map, None}
+use Rattle.std.specs.List.{range_with_len}
+use Rattle.risc_pages.specs.declared.page.Page.{Page}
+use Rattle.risc_pages.specs.Content.{table_words}
+use Rattle.risc_machine.specs.MachineState.{State, cpu_state, IsCpuState}
+use Rattle.oberon_format.specs.CheckpointParts.{CheckpointParts}
+use Rattle.oberon_format.specs.Recording.{IsLawful}
+use Rattle.oberon_session.specs.Laid.{Laid, changed_pages}
+use Rattle.oberon_session.specs.Recorded.{checkpoint_of, count_of, first_fault, laid_of, output_up_to, state_of}
+use Rattle.oberon_session.specs.SessionParts.{SessionParts}
+use Rattle.oberon_session.specs.declared.layout.Layout.{Layout}
+use Rattle.oberon_session.specs.declared.segment.Reached.{Reached}
+
+-- a pool and a table, as Rust has them
+abbrev pub laid_view : Layout → Laid
+laid_view l = record { pool = l.pool; table = l.table }
+
+-- a changed page and its place
+abbrev pub page_view : ℕ × Page → ℕ × List ℕ
+page_view c = (c.0, c.1.words)
+
+-- a machine that began in a state of these words came to a state and sent these bytes, and its changes are told
+pub record IsReached (begun : List ℕ) (state : State) (sent : List ℕ) (r : Reached) : Type 0 where
+  pub cpu : cpu_state r.cpu ≡ state.cpu
+  pub devices : r.devices ≡ state.devices
+  pub output : r.sent.items ≡ sent
+  pub changed : map page_view r.changed.items ≡ changed_pages begun state.words
+  pub range : IsCpuState state.cpu
+  pub whole : length state.words ≡ 262144
+
+-- checkpoints 0 to k of the session
+abbrev pub checkpoints_to : SessionParts → ℕ → List CheckpointParts
+checkpoints_to s k = map (checkpoint_of s) (range_with_len 0 (k + 1))
+
+-- the content of the table of checkpoint j is the memory of its state
+abbrev pub IsContentOf : SessionParts → List (List ℕ) → ℕ → Type 0
+IsContentOf s pool j = table_words pool (laid_of s j).table ≡ (state_of s j).words
+
+-- the session was recorded up to checkpoint k, of which nothing is too much
+pub record IsRecorded (s : SessionParts) (k : ℕ) (laid : Laid) (checkpoints : List CheckpointParts) (sent : ℕ) : Type 0 where
+  pub laid_so : laid ≡ laid_of s k
+  pub recorded : checkpoints ≡ checkpoints_to s k
+  pub output : sent ≡ length (output_up_to s (count_of s k))
+  pub lawful : IsLawful (record { pool = laid.pool; inputs = s.inputs; checkpoints = checkpoints })
+  pub content : (j : ℕ) → j ≤ k → IsContentOf s laid.pool j
+  pub faultless : first_fault s k ≡ None
