@@ -5,3 +5,4 @@ mod Lawful
 mod RuleLemmas
 mod Runs
 mod Layouts
+mod Contents
