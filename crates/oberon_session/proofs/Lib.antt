@@ -6,3 +6,6 @@ mod RuleLemmas
 mod Runs
 mod Layouts
 mod Contents
+mod Steps
+mod LawfulMore
+mod Next

@@ -5,7 +5,7 @@ use Rattle.risc_pages.specs.declared.page.Page.{Page}
 use Rattle.risc_pages.specs.Content.{table_words}
 use Rattle.risc_machine.specs.MachineState.{State, cpu_state, IsCpuState}
 use Rattle.oberon_format.specs.CheckpointParts.{CheckpointParts}
-use Rattle.oberon_format.specs.Recording.{IsLawful}
+use Rattle.oberon_format.specs.Recording.{IsLawful, output_of}
 use Rattle.oberon_session.specs.Laid.{Laid, changed_pages}
 use Rattle.oberon_session.specs.Recorded.{checkpoint_of, count_of, first_fault, laid_of, output_up_to, state_of}
 use Rattle.oberon_session.specs.SessionParts.{SessionParts}
@@ -41,7 +41,8 @@ IsContentOf s pool j = table_words pool (laid_of s j).table ≡ (state_of s j).w
 pub record IsRecorded (s : SessionParts) (k : ℕ) (laid : Laid) (checkpoints : List CheckpointParts) (sent : ℕ) : Type 0 where
   pub laid_so : laid ≡ laid_of s k
   pub recorded : checkpoints ≡ checkpoints_to s k
-  pub output : sent ≡ length (output_up_to s (count_of s k))
+  pub output : output_of checkpoints ≡ output_up_to s (count_of s k)
+  pub long : sent ≡ length (output_up_to s (count_of s k))
   pub lawful : IsLawful (record { pool = laid.pool; inputs = s.inputs; checkpoints = checkpoints })
   pub content : (j : ℕ) → j ≤ k → IsContentOf s laid.pool j
   pub faultless : first_fault s k ≡ None

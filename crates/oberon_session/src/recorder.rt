@@ -1,13 +1,37 @@
 //! The recorder: the recording of a session.
 
-ghost use Rattle.std.specs.Prelude.{◌≡◌, ◌≢◌, ◌<◌, ℕ, length, None, Some, IfOk, IfErr, OnOk};
+ghost use Rattle.std.specs.Prelude.{◌≡◌, ◌≢◌, ◌+◌, ◌<◌, ℕ, length, map, None, Some, IfOk, IfErr, OnOk};
+ghost use Rattle.risc_machine.specs.InputOrder.{AreOrdered};
+ghost use Rattle.oberon_format.specs.CheckpointParts.{checkpoint_parts};
 ghost use Rattle.oberon_format.specs.Defined.{IsTrueAt};
-ghost use Rattle.oberon_session.specs.Recorded.{record_fault_of, recording_of};
+ghost use Rattle.oberon_format.specs.Parts.{parts_of};
+ghost use Rattle.oberon_format.specs.Recording.{IsLawful};
+ghost use Rattle.oberon_session.specs.Recorded.{no_devices, record_fault_of, recording_of};
+ghost use Rattle.oberon_session.specs.Walk.{IsRecorded, laid_view};
 
+use crate::layout::{Layout, first_layout, lay_pages};
 use crate::record_fault::RecordFault;
+use crate::segment::reach;
 use crate::session::Session;
-use oberon_format::Recording;
+use oberon_format::{Checkpoint, Recording, Sent};
+use risc_devices::Devices;
+use risc_machine::Inputs;
+use risc_pages::Pool;
 use std::alloc::Global;
+
+/// The most bytes that a recording may send in all.
+const MAX_OUTPUT: usize = 1_048_576;
+
+/// The most pages that a recording may have.
+const MAX_PAGES: u32 = 65_536;
+
+/// What was recorded so far: pages and the last table, checkpoints from 0 on, and the number of bytes that they send.
+#[derive(Drop)]
+struct Recorder {
+    layout: Layout,
+    checkpoints: Vec<Checkpoint>,
+    sent: usize,
+}
 
 /// The recording of a session: its first state, its inputs, and the state and output at each of its counts, in one run.
 ///
@@ -23,7 +47,103 @@ pub fn make_recording(alloc: Global, session: &Session) -> Result<Recording, Rec
     // All its checkpoints are true.
     ensures truth { IfOk result (λ recording. (k : ℕ) → k < length recording.checkpoints → IsTrueAt recording k) }
 {
-    let _inputs = session.inputs.events();
-    let _alloc = alloc;
-    Err(RecordFault::Memory)
+    let mut recorder = begin(alloc, session)?;
+    for k in 0..session.counts().len() {
+        record_next(alloc, session, &mut recorder, k)?;
+    }
+    finish(alloc, session.inputs(), recorder)
+}
+
+/// Checkpoint 0 of a session.
+fn begin(alloc: Global, session: &Session) -> Result<Recorder, RecordFault>
+    ensures recorded { IfOk result (λ recorder. IsRecorded session.now 0 (laid_view recorder.layout) (map checkpoint_parts recorder.checkpoints.items) recorder.sent) }
+    ensures refused { IfErr result (λ fault. fault ≡ RecordFault.Memory) }
+{
+    let layout = first_layout(alloc, session.pages())?;
+    let first = Checkpoint {
+        count: 0,
+        cpu: session.cpu(),
+        devices: zero_devices(),
+        sent: Sent::new(Vec::new(alloc)),
+        table: layout.table.copy(),
+    };
+    let mut checkpoints = Vec::with_capacity(alloc, session.counts().len() + 1)?;
+    checkpoints.push(first)?;
+    Ok(Recorder {
+        layout,
+        checkpoints,
+        sent: 0,
+    })
+}
+
+/// Devices that are all zeros.
+fn zero_devices() -> Devices
+    ensures { result ≡ no_devices }
+{
+    match Devices::new(0, 0, 0, 0, 0, &[]) {
+        Ok(devices) => devices,
+        Err(_) => unreachable!(),
+    }
+}
+
+/// Records checkpoint k + 1 of a session, from checkpoint k on.
+fn record_next(
+    alloc: Global,
+    session: &Session,
+    recorder: &mut Recorder,
+    k: usize,
+) -> Result<(), RecordFault>
+    requires inside { k < length session.now.counts }
+    requires recorded { IsRecorded session.now k (laid_view recorder.old.layout) (map checkpoint_parts recorder.old.checkpoints.items) recorder.old.sent }
+    ensures recorded { OnOk result (IsRecorded session.now (k + 1) (laid_view recorder.new.layout) (map checkpoint_parts recorder.new.checkpoints.items) recorder.new.sent) }
+    ensures refused { IfErr result (λ fault. fault ≢ RecordFault.Memory → record_fault_of session.now ≡ Some fault) }
+{
+    let last = &recorder.checkpoints[k];
+    let count = session.counts()[k];
+    let room = MAX_OUTPUT - recorder.sent;
+    let pool = &recorder.layout.pool;
+    let reached = reach(alloc, pool, session.inputs(), last, count, room)?;
+    lay_pages(&mut recorder.layout, &reached.changed)?;
+    if recorder.layout.pool.len() > MAX_PAGES {
+        return Err(RecordFault::Pages);
+    }
+    recorder.sent += reached.sent.len();
+    let _timer = reached.devices.timer();
+    recorder.checkpoints.push(Checkpoint {
+        count,
+        cpu: reached.cpu,
+        devices: reached.devices,
+        sent: Sent::new(reached.sent),
+        table: recorder.layout.table.copy(),
+    })?;
+    Ok(())
+}
+
+/// The recording of all that was recorded.
+fn finish(
+    alloc: Global,
+    inputs: &Inputs,
+    recorder: Recorder,
+) -> Result<Recording, RecordFault>
+    requires { IsLawful (parts_of recorder.layout.pool inputs.now recorder.checkpoints.items) }
+    ensures recording { IfOk result (λ recording. recording ≡ parts_of recorder.layout.pool inputs.now recorder.checkpoints.items) }
+    ensures refused { IfErr result (λ fault. fault ≡ RecordFault.Memory) }
+{
+    let inputs = copied(alloc, inputs)?;
+    match Recording::from_parts(recorder.layout.pool, inputs, recorder.checkpoints) {
+        Ok(recording) => Ok(recording),
+        Err(_) => unreachable!(),
+    }
+}
+
+/// The same inputs again.
+fn copied(alloc: Global, inputs: &Inputs) -> Result<Inputs, RecordFault>
+    ensures same { IfOk result (λ copy. copy ≡ inputs.now) }
+    ensures refused { IfErr result (λ fault. fault ≡ RecordFault.Memory) }
+{
+    let events = inputs.events().to_vec(alloc)?;
+    match Inputs::new(events) {
+        Ok(copy) => Ok(copy),
+        Err(_) => unreachable!(),
+    }
 }
