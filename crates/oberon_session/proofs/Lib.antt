@@ -9,3 +9,4 @@ mod Contents
 mod Steps
 mod LawfulMore
 mod Next
+mod Reaching

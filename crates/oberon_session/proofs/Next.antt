@@ -47,7 +47,7 @@ module _ (s : SessionParts) where
   pub checkpoint-there : (k j : ℕ) → j ≤ k → get_or (checkpoints_to s k) j no_checkpoint ≡ checkpoint_of s j
   checkpoint-there k j lt = get_or-map-range_with_len (checkpoint_of s) 0 (k + 1) j j no_checkpoint (omega arith) (omega arith)
 
-  checkpoints-more : (k : ℕ) → checkpoints_to s (k + 1) ≡ checkpoints_to s k ++ checkpoint_of s (k + 1) ∷ []
+  pub checkpoints-more : (k : ℕ) → checkpoints_to s (k + 1) ≡ checkpoints_to s k ++ checkpoint_of s (k + 1) ∷ []
   checkpoints-more k = map-range_with_len_more (checkpoint_of s) 0 (k + 1) (k + 1) (omega arith)
 
   pub fit-there : (k j : ℕ) → Recorded k → j ≤ k → IsFit (laid_of s k).pool (checkpoint_of s j)

@@ -1,0 +1,153 @@
+-- A machine that was started at a recorded checkpoint and runs up to the next one.
+use Rattle.std.proofs.Common.{◌≡◌, ℕ, ◌+◌, ◌-◌, ◌^◌, ◌<◌, ◌≤◌, List, [], ◌∷◌, ◌++◌, Some, ap, arith, get_or, length, length-append, map, refl, subst, sym, ◌∙◌}
+use Rattle.std.proofs.lemmas.List.{map-append}
+use Rattle.std.specs.List.{All}
+use Rattle.risc_devices.specs.DeviceState.{DeviceState, IsDeviceState}
+use Rattle.risc_pages.specs.Pages.{ArePages}
+use Rattle.risc_machine.specs.declared.event.Event.{Event}
+use Rattle.risc_pages.specs.Content.{table_words}
+use Rattle.risc_machine.specs.MachineState.{CpuState, State, IsCpuState, cpu_state}
+use Rattle.risc_machine.specs.Replay.{run_of, sent_of}
+use Rattle.oberon_format.proofs.CheckpointLemmas.{checkpoint_at-is}
+use Rattle.oberon_format.specs.declared.checkpoint.Checkpoint.{Checkpoint}
+use Rattle.oberon_format.specs.CheckpointParts.{CheckpointParts, checkpoint_parts, no_checkpoint}
+use Rattle.oberon_format.specs.Defined.{claim_of}
+use Rattle.oberon_format.specs.Recording.{IsFit}
+use Rattle.oberon_session.proofs.Next.{IsGoodNext, Recorded, checkpoint-there, checkpoints-more, count-of, fit-there, length-checkpoints, recorded-next, recorded-so, so-recorded}
+use Rattle.oberon_session.proofs.Steps.{between-is, laid_of-next, output-on, state-on, too-many-pages, too-much-output}
+use Rattle.oberon_session.specs.Laid.{Laid, changed_pages, lay, lay_pages}
+use Rattle.oberon_session.specs.Recorded.{checkpoint_of, count_of, laid_of, output_between, output_up_to, record_fault_of, state_of}
+use Rattle.oberon_session.specs.SessionParts.{SessionParts, IsLawful}
+use Rattle.oberon_session.specs.Walk.{IsReached, IsRecorded, checkpoints_to, page_view}
+use Rattle.oberon_session.specs.declared.segment.Reached.{Reached}
+use Rattle.oberon_session.specs.declared.record_fault.RecordFault.TheVariants as fault
+
+-- what checkpoint k claims is the state there, where its table has that memory as its content
+claimed-is : (s : SessionParts) (k : ℕ) (pool : List (List ℕ)) → table_words pool (laid_of s k).table ≡ (state_of s k).words → (claim_of pool (checkpoint_of s k)).state ≡ state_of s k
+unfolding checkpoint_of
+claimed-is s k pool content = ap (λ (words : List ℕ). record { cpu = (state_of s k).cpu; devices = (state_of s k).devices; words = words }) content
+
+-- the parts of checkpoint k + 1
+checkpoint-is : (s : SessionParts) (k count : ℕ) (cpu : CpuState) (devices : DeviceState) (sent table : List ℕ) → count ≡ count_of s (k + 1)
+    → cpu ≡ (state_of s (k + 1)).cpu → devices ≡ (state_of s (k + 1)).devices → sent ≡ output_between s (count_of s k) (count_of s (k + 1))
+    → table ≡ (laid_of s (k + 1)).table → record { count = count; cpu = cpu; devices = devices; sent = sent; table = table } ≡ checkpoint_of s (k + 1)
+unfolding checkpoint_of
+checkpoint-is s k count cpu devices sent table counts cpus states sents tables =
+    let before : k ≡ k + 1 - 1 = omega arith in
+    let sents-so = sents ∙ ap (λ (j : ℕ). output_between s (count_of s j) (count_of s (k + 1))) before in
+    λ i. record { count = counts i; cpu = cpus i; devices = states i; sent = sents-so i; table = tables i }
+
+module _ (s : SessionParts) (k : ℕ) (laid : Laid) (checkpoints : List Checkpoint) (sent : ℕ) (so : IsRecorded s k laid (map checkpoint_parts checkpoints) sent) where
+  pub many : length (map checkpoint_parts checkpoints) ≡ k + 1
+  many = ap length so.recorded ∙ length-checkpoints s k
+
+  module _ (last : Checkpoint) (inside : k < length checkpoints) (at : last ≡ get_or checkpoints k last) where
+    last-is : checkpoint_parts last ≡ checkpoint_of s k
+    last-is =
+        sym (checkpoint_at-is checkpoints k last inside at)
+        ∙ ap (λ (cs : List CheckpointParts). get_or cs k no_checkpoint) so.recorded ∙ checkpoint-there s k k (omega arith)
+
+    pub last-count : last.count ≡ count_of s k
+    last-count = ap (λ (c : CheckpointParts). c.count) last-is ∙ count-of s k
+
+    pub last-fit : IsFit laid.pool (checkpoint_parts last)
+    last-fit =
+        subst (λ (c : CheckpointParts). IsFit laid.pool c) (sym last-is)
+        (subst (λ (l : Laid). IsFit l.pool (checkpoint_of s k)) (sym so.laid_so)
+        (fit-there s k k (recorded-so s laid (map checkpoint_parts checkpoints) sent k so) (omega arith)))
+
+    pub begun : (claim_of laid.pool (checkpoint_parts last)).state ≡ state_of s k
+    begun =
+        ap (λ (c : CheckpointParts). (claim_of laid.pool c).state) last-is
+        ∙ claimed-is s k laid.pool (so.content k (omega arith))
+
+    module _ (es : List Event) (same : es ≡ s.inputs) (count : ℕ) (next : count ≡ count_of s (k + 1)) (on : count_of s k ≤ count_of s (k + 1)) where
+      -- where the machine begins
+      abbrev first : State
+      first = (claim_of laid.pool (checkpoint_parts last)).state
+
+      -- and where it ends
+      abbrev end : State
+      end = run_of es last.count (count - last.count) (claim_of laid.pool (checkpoint_parts last)).state
+
+      -- what it sends on the way
+      abbrev sends : List ℕ
+      sends = sent_of es last.count (count - last.count) (claim_of laid.pool (checkpoint_parts last)).state
+
+      from-to : {X : Type 0} (f : List Event → ℕ → ℕ → State → X)
+          → f es last.count (count - last.count) first ≡ f s.inputs (count_of s k) (count_of s (k + 1) - count_of s k) (state_of s k)
+      from-to f =
+          ap (λ (t : State). f es last.count (count - last.count) t) begun
+          ∙ ap (λ (l : List Event). f l last.count (count - last.count) (state_of s k)) same
+          ∙ ap (λ (n : ℕ). f s.inputs n (count - n) (state_of s k)) last-count
+          ∙ ap (λ (m : ℕ). f s.inputs (count_of s k) (m - count_of s k) (state_of s k)) next
+
+      state-reached : end ≡ state_of s (k + 1)
+      state-reached = from-to run_of ∙ state-on s (count_of s k) (count_of s (k + 1)) on
+
+      output-reached : sends ≡ output_between s (count_of s k) (count_of s (k + 1))
+      output-reached = from-to sent_of ∙ between-is s (count_of s k) (count_of s (k + 1))
+
+      whole-output : length (output_up_to s (count_of s (k + 1))) ≡ sent + length sends
+      whole-output =
+          let parts = ap length (output-on s (count_of s k) (count_of s (k + 1)) on) in
+          let here = ap length output-reached in
+          omega (arith, parts, here, so.long, length-append (output_up_to s (count_of s k)) (output_between s (count_of s k) (count_of s (k + 1))))
+
+      -- it sends too much
+      pub refused-output : k < length s.counts → 1048576 - sent < length sends → record_fault_of s ≡ Some fault.Output
+      refused-output within many = too-much-output s k within so.faultless (omega (arith, whole-output))
+
+      module _ (r : Reached) (reached : IsReached first.words end sends r) (laid' : Laid) (laid-so : laid' ≡ lay_pages laid (map page_view r.changed.items)) where
+        lay-is : lay first.words end.words laid ≡ lay_pages laid (changed_pages first.words end.words)
+        unfolding lay
+        lay-is = refl
+
+        laid-next : laid' ≡ laid_of s (k + 1)
+        laid-next =
+            laid-so ∙ ap (λ (pages : List (ℕ × List ℕ)). lay_pages laid pages) reached.changed ∙ sym lay-is
+            ∙ ap (λ (l : List ℕ). lay l end.words laid) (ap (λ (t : State). t.words) begun)
+            ∙ ap (λ (l : List ℕ). lay (state_of s k).words l laid) (ap (λ (t : State). t.words) state-reached)
+            ∙ ap (λ (l : Laid). lay (state_of s k).words (state_of s (k + 1)).words l) so.laid_so
+            ∙ sym (laid_of-next s k)
+
+        -- as much is sent as may be
+        module _ (room : length r.sent.items ≤ 1048576 - sent) (before : sent ≤ 1048576) where
+          few-bytes : length (output_up_to s (count_of s (k + 1))) ≤ 1048576
+          few-bytes = omega (arith, whole-output, ap length reached.output)
+
+          -- too many pages were laid
+          pub refused-pages : k < length s.counts → 65536 < length laid'.pool → record_fault_of s ≡ Some fault.Pages
+          refused-pages within many =
+              too-many-pages s k within so.faultless few-bytes (subst (λ (l : Laid). 65536 < length l.pool) laid-next many)
+
+          -- the next checkpoint is recorded
+          module _ (lawful : IsLawful s) (within : k < length s.counts) (pages : length laid'.pool ≤ 65536) (pool : ArePages laid'.pool)
+              (devices : IsDeviceState r.devices) (bytes : All (λ byte. byte < 2 ^ 8) r.sent.items) where
+            good : IsGoodNext s k
+            good =
+                let sent-so = reached.output ∙ output-reached in
+                record {
+                  cpu = subst (λ (t : State). IsCpuState t.cpu) state-reached reached.range;
+                  devices = subst IsDeviceState (reached.devices ∙ ap (λ (t : State). t.devices) state-reached) devices;
+                  whole = ap (λ (t : State). length t.words) (sym state-reached) ∙ reached.whole;
+                  bytes = subst (All (λ byte. byte < 2 ^ 8)) sent-so bytes;
+                  output = few-bytes;
+                  pages = subst (λ (l : Laid). length l.pool ≤ 65536) laid-next pages;
+                  pool = subst (λ (l : Laid). ArePages l.pool) laid-next pool;
+                }
+
+            pub recorded-more : (items : List Checkpoint) (new : Checkpoint) → items ≡ checkpoints ++ new ∷ []
+                → checkpoint_parts new ≡ record { count = count; cpu = cpu_state r.cpu; devices = r.devices; sent = r.sent.items; table = laid'.table }
+                → (long : ℕ) → long ≡ sent + length r.sent.items → IsRecorded s (k + 1) laid' (map checkpoint_parts items) long
+            recorded-more items new pushed new-so long long-so =
+                let after : Recorded s (k + 1) = recorded-next s lawful k within (recorded-so s laid (map checkpoint_parts checkpoints) sent k so) good in
+                let cpu = reached.cpu ∙ ap (λ (t : State). t.cpu) state-reached in
+                let devices-so = reached.devices ∙ ap (λ (t : State). t.devices) state-reached in
+                let is : checkpoint_parts new ≡ checkpoint_of s (k + 1) =
+                new-so ∙ checkpoint-is s k count (cpu_state r.cpu) r.devices r.sent.items laid'.table next cpu devices-so (reached.output ∙ output-reached) (ap (λ (l : Laid). l.table) laid-next) in
+                let all = ap (map checkpoint_parts) pushed ∙ map-append checkpoint_parts checkpoints (new ∷ [])
+                ∙ ap (λ (l : List CheckpointParts). l ++ checkpoint_parts new ∷ []) so.recorded
+                ∙ ap (λ (c : CheckpointParts). checkpoints_to s k ++ c ∷ []) is ∙ sym (checkpoints-more s k) in
+                so-recorded s laid' (map checkpoint_parts items) long (k + 1) laid-next all
+                (omega (arith, long-so, whole-output, ap length reached.output)) after
