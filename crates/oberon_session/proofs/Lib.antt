@@ -10,3 +10,4 @@ mod Steps
 mod LawfulMore
 mod Next
 mod Reaching
+mod Begun

@@ -1,6 +1,6 @@
 -- A machine that was started at a recorded checkpoint and runs up to the next one.
 use Rattle.std.proofs.Common.{◌≡◌, ℕ, ◌+◌, ◌-◌, ◌^◌, ◌<◌, ◌≤◌, List, [], ◌∷◌, ◌++◌, Some, ap, arith, get_or, length, length-append, map, refl, subst, sym, ◌∙◌}
-use Rattle.std.proofs.lemmas.List.{map-append}
+use Rattle.std.proofs.lemmas.List.{length-map, map-append}
 use Rattle.std.specs.List.{All}
 use Rattle.risc_devices.specs.DeviceState.{DeviceState, IsDeviceState}
 use Rattle.risc_pages.specs.Pages.{ArePages}
@@ -40,6 +40,9 @@ checkpoint-is s k count cpu devices sent table counts cpus states sents tables =
 module _ (s : SessionParts) (k : ℕ) (laid : Laid) (checkpoints : List Checkpoint) (sent : ℕ) (so : IsRecorded s k laid (map checkpoint_parts checkpoints) sent) where
   pub many : length (map checkpoint_parts checkpoints) ≡ k + 1
   many = ap length so.recorded ∙ length-checkpoints s k
+
+  pub inside-of : k < length checkpoints
+  inside-of = omega (arith, many, length-map checkpoints checkpoint_parts)
 
   module _ (last : Checkpoint) (inside : k < length checkpoints) (at : last ≡ get_or checkpoints k last) where
     last-is : checkpoint_parts last ≡ checkpoint_of s k
@@ -112,7 +115,7 @@ module _ (s : SessionParts) (k : ℕ) (laid : Laid) (checkpoints : List Checkpoi
             ∙ sym (laid_of-next s k)
 
         -- as much is sent as may be
-        module _ (room : length r.sent.items ≤ 1048576 - sent) (before : sent ≤ 1048576) where
+        module _ (room : length r.sent ≤ 1048576 - sent) (before : sent ≤ 1048576) where
           few-bytes : length (output_up_to s (count_of s (k + 1))) ≤ 1048576
           few-bytes = omega (arith, whole-output, ap length reached.output)
 
@@ -123,7 +126,7 @@ module _ (s : SessionParts) (k : ℕ) (laid : Laid) (checkpoints : List Checkpoi
 
           -- the next checkpoint is recorded
           module _ (lawful : IsLawful s) (within : k < length s.counts) (pages : length laid'.pool ≤ 65536) (pool : ArePages laid'.pool)
-              (devices : IsDeviceState r.devices) (bytes : All (λ byte. byte < 2 ^ 8) r.sent.items) where
+              (devices : IsDeviceState r.devices) (bytes : All (λ byte. byte < 2 ^ 8) r.sent) where
             good : IsGoodNext s k
             good =
                 let sent-so = reached.output ∙ output-reached in
@@ -138,14 +141,14 @@ module _ (s : SessionParts) (k : ℕ) (laid : Laid) (checkpoints : List Checkpoi
                 }
 
             pub recorded-more : (items : List Checkpoint) (new : Checkpoint) → items ≡ checkpoints ++ new ∷ []
-                → checkpoint_parts new ≡ record { count = count; cpu = cpu_state r.cpu; devices = r.devices; sent = r.sent.items; table = laid'.table }
-                → (long : ℕ) → long ≡ sent + length r.sent.items → IsRecorded s (k + 1) laid' (map checkpoint_parts items) long
+                → checkpoint_parts new ≡ record { count = count; cpu = cpu_state r.cpu; devices = r.devices; sent = r.sent; table = laid'.table }
+                → (long : ℕ) → long ≡ sent + length r.sent → IsRecorded s (k + 1) laid' (map checkpoint_parts items) long
             recorded-more items new pushed new-so long long-so =
                 let after : Recorded s (k + 1) = recorded-next s lawful k within (recorded-so s laid (map checkpoint_parts checkpoints) sent k so) good in
                 let cpu = reached.cpu ∙ ap (λ (t : State). t.cpu) state-reached in
                 let devices-so = reached.devices ∙ ap (λ (t : State). t.devices) state-reached in
                 let is : checkpoint_parts new ≡ checkpoint_of s (k + 1) =
-                new-so ∙ checkpoint-is s k count (cpu_state r.cpu) r.devices r.sent.items laid'.table next cpu devices-so (reached.output ∙ output-reached) (ap (λ (l : Laid). l.table) laid-next) in
+                new-so ∙ checkpoint-is s k count (cpu_state r.cpu) r.devices r.sent laid'.table next cpu devices-so (reached.output ∙ output-reached) (ap (λ (l : Laid). l.table) laid-next) in
                 let all = ap (map checkpoint_parts) pushed ∙ map-append checkpoint_parts checkpoints (new ∷ [])
                 ∙ ap (λ (l : List CheckpointParts). l ++ checkpoint_parts new ∷ []) so.recorded
                 ∙ ap (λ (c : CheckpointParts). checkpoints_to s k ++ c ∷ []) is ∙ sym (checkpoints-more s k) in

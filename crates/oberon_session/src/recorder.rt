@@ -107,13 +107,13 @@ fn record_next(
     if recorder.layout.pool.len() > MAX_PAGES {
         return Err(RecordFault::Pages);
     }
-    recorder.sent += reached.sent.len();
-    let _timer = reached.devices.timer();
+    recorder.sent += reached.sent.bytes().len();
+    let _in_range = reached.devices.timer();
     recorder.checkpoints.push(Checkpoint {
         count,
         cpu: reached.cpu,
         devices: reached.devices,
-        sent: Sent::new(reached.sent),
+        sent: reached.sent,
         table: recorder.layout.table.copy(),
     })?;
     Ok(())

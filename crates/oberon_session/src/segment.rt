@@ -9,7 +9,7 @@ ghost use Rattle.oberon_format.specs.Defined.{claim_of};
 ghost use Rattle.oberon_session.specs.Walk.{IsReached};
 
 use crate::record_fault::RecordFault;
-use oberon_format::Checkpoint;
+use oberon_format::{Checkpoint, Sent};
 use risc_devices::Devices;
 use risc_machine::{Cpu, Inputs, Machine};
 use risc_pages::{Page, Pool};
@@ -23,7 +23,7 @@ const PIECE: u64 = 1_048_576;
 pub struct Reached {
     pub cpu: Cpu,
     pub devices: Devices,
-    pub sent: Vec<u8>,
+    pub sent: Sent,
     pub changed: Vec<(u16, Page)>,
 }
 
@@ -45,7 +45,7 @@ pub fn reach(
         let steps = to - last.now.count in
         IfOk result (λ reached. IsReached begun.words (run_of inputs.now last.now.count steps begun) (sent_of inputs.now last.now.count steps begun) reached)
     }
-    ensures room { IfOk result (λ reached. length reached.sent.items ≤ room) }
+    ensures room { IfOk result (λ reached. length reached.sent ≤ room) }
     ensures refused {
         let begun = (claim_of pool.now (checkpoint_parts last.now)).state in
         let sent = sent_of inputs.now last.now.count (to - last.now.count) begun in
@@ -59,7 +59,7 @@ pub fn reach(
     Ok(Reached {
         cpu,
         devices,
-        sent,
+        sent: Sent::new(sent),
         changed: delta.changed,
     })
 }
