@@ -1,17 +1,18 @@
 -- Checkpoint 0 of a session is recorded.
-use Rattle.std.proofs.Common.{◌≡◌, ℕ, zero, suc, ◌+◌, ◌^◌, ◌<◌, ◌≤◌, List, [], ◌∷◌, ap, arith, get_or, length, map, refl, subst, sym, ◌∙◌, lit<}
-use Rattle.std.proofs.lemmas.List.{length-map}
-use Rattle.std.proofs.lemmas.List.Elements.{All-map, All-replicate, All-set, All-weaker}
+use Rattle.std.proofs.Common.{◌≡◌, ℕ, zero, suc, ◌≤◌, List, [], ◌∷◌, ap, arith, get_or, length, length-set, refl, subst, sym, ◌∙◌}
+use Rattle.std.proofs.lemmas.List.{length-map, length-replicate}
+use Rattle.std.proofs.lemmas.List.Elements.{All-map, All-replicate, All-set}
 use Rattle.std.specs.List.{All}
-use Rattle.risc_devices.specs.DeviceState.{IsDeviceState}
+use Rattle.std.specs.Prelude.{slice_index}
+use Rattle.risc_machine.specs.MachineState.{CpuState, State}
+use Rattle.risc_devices.specs.DeviceState.{DeviceState, IsDeviceState}
 use Rattle.risc_devices.specs.InputKind.{is_mouse}
-use Rattle.risc_pages.specs.Content.{IsNamed, table_words}
+use Rattle.risc_pages.specs.Content.{table_words}
 use Rattle.risc_pages.specs.Pages.{ArePages, IsPage}
-use Rattle.risc_pages.specs.Tables.{IsTable, zero_numbers}
-use Rattle.oberon_format.specs.CheckpointParts.{CheckpointParts}
-use Rattle.oberon_format.specs.Recording.{IsFit, IsLawful}
+use Rattle.risc_pages.specs.Tables.{zero_numbers}
+use Rattle.oberon_format.specs.CheckpointParts.{CheckpointParts, no_checkpoint}
+use Rattle.oberon_format.specs.Recording.{IsFit, IsLawful, output_of}
 use Rattle.oberon_session.proofs.Contents.{IsTableOf}
-use Rattle.oberon_session.proofs.Layouts.{numbered-more, numbered-none}
 use Rattle.oberon_session.proofs.Next.{Recorded, so-recorded}
 use Rattle.oberon_session.proofs.Steps.{between-none, count_of-zero, first_fault-zero, laid_of-zero, output_up_to-zero, state_at-zero}
 use Rattle.oberon_session.specs.Digits.{PlacedWords}
@@ -24,8 +25,134 @@ use Rattle.oberon_session.specs.Walk.{IsContentOf, IsRecorded, checkpoints_to}
 
 length-numbered : (pages : List PlacedWords) (n : ℕ) → length (numbered pages n) ≡ 1024
 unfolding numbered zero_numbers
-length-numbered pages n = ?
+length-numbered pages zero = length-replicate {A = ℕ} 1024 0
+length-numbered pages (suc n) = length-set (numbered pages n) (slice_index (places_in pages) n) (suc n) ∙ length-numbered pages n
 
 numbered-names : (pages : List PlacedWords) (n : ℕ) → All (λ number. number ≤ n) (numbered pages n)
-unfolding numbered
-numbered-names pages n = ?
+unfolding numbered zero_numbers
+numbered-names pages zero = All-replicate (λ number. number ≤ 0) 1024 0 (omega arith)
+numbered-names pages (suc n) =
+    All-set (λ number. number ≤ suc n) (numbered pages n) (slice_index (places_in pages) n) (suc n) (omega arith)
+    (λ k d lt. omega (arith, numbered-names pages n k d lt))
+
+pub first-table : (pages : List PlacedWords) → IsTableOf (first_laid pages)
+unfolding first_laid
+first-table pages = record {
+  count = length-numbered pages (length pages);
+  named = λ k d lt. omega (arith, numbered-names pages (length pages) k d lt, length-map pages (λ (page : PlacedWords). page.words));
+}
+
+first-pages : (pages : List PlacedWords) → All (λ (page : PlacedWords). IsPage page.words) pages → ArePages (first_laid pages).pool
+unfolding first_laid
+first-pages pages contents = All-map IsPage (λ (page : PlacedWords). page.words) pages contents
+
+first-few : (pages : List PlacedWords) → length (first_laid pages).pool ≡ length pages
+unfolding first_laid
+first-few pages = length-map pages (λ (page : PlacedWords). page.words)
+
+none-of : (xs : List ℕ) → length xs ≡ 0 → xs ≡ []
+none-of [] none = refl
+none-of (x ∷ xs) none = absurd (omega arith)
+
+-- ---- checkpoint 0
+
+zero-devices : IsDeviceState no_devices
+unfolding is_mouse
+zero-devices = record {
+  timer = omega arith;
+  switches = omega arith;
+  leds = omega arith;
+  mouse = refl;
+  serial = omega arith;
+  keys = omega arith;
+  codes = λ k d lt. absurd (omega arith);
+}
+
+module _ (s : SessionParts) where
+  -- what the checkpoint says
+  abbrev pub first-checkpoint : CheckpointParts
+  first-checkpoint = record { count = 0; cpu = s.cpu; devices = no_devices; sent = []; table = (first_laid s.pages).table }
+
+  pub state-first : state_of s 0 ≡ first_state s
+  state-first = ap (λ (n : ℕ). state_at s n) (count_of-zero s) ∙ state_at-zero s
+
+  first-cpu : (first_state s).cpu ≡ s.cpu
+  unfolding first_state
+  first-cpu = refl
+
+  first-devices : (first_state s).devices ≡ no_devices
+  unfolding first_state
+  first-devices = refl
+
+  first-words : (first_state s).words ≡ table_words (first_laid s.pages).pool (first_laid s.pages).table
+  unfolding first_state
+  first-words = refl
+
+  checkpoint-first : checkpoint_of s 0 ≡ first-checkpoint
+  unfolding checkpoint_of
+  checkpoint-first =
+      let count = count_of-zero s in
+      let cpu = ap (λ (t : State). t.cpu) state-first ∙ first-cpu in
+      let devices = ap (λ (t : State). t.devices) state-first ∙ first-devices in
+      let sent = none-of (output_between s (count_of s 0) (count_of s 0)) (between-none s (count_of s 0)) in
+      let table = ap (λ (l : Laid). l.table) (laid_of-zero s) in
+      λ i. record { count = count i; cpu = cpu i; devices = devices i; sent = sent i; table = table i }
+
+  checkpoints-first : checkpoints_to s 0 ≡ first-checkpoint ∷ []
+  checkpoints-first = ap (λ (c : CheckpointParts). c ∷ []) checkpoint-first
+
+  module _ (lawful : IsLawfulSession s) where
+    lawful-first : IsLawful (record { pool = (first_laid s.pages).pool; inputs = s.inputs; checkpoints = first-checkpoint ∷ [] })
+    lawful-first =
+        let table = first-table s.pages in
+        let few = first-few s.pages in
+        record {
+          pages = omega (arith, few, lawful.few);
+          pool = first-pages s.pages lawful.contents;
+          events = lawful.events;
+          ordered = lawful.ordered;
+          some = omega arith;
+          few = omega arith;
+          begins = refl;
+          rises = λ k lt. absurd (omega arith);
+          silent = refl;
+          output = omega arith;
+          fit = λ k lt.
+              let this : 0 ≡ k = omega arith in
+              subst (λ (j : ℕ). IsFit (first_laid s.pages).pool (get_or (first-checkpoint ∷ []) j no_checkpoint)) this (record {
+                bounded = omega arith;
+                cpu = lawful.cpu;
+                devices = zero-devices;
+                table = record { count = table.count; fit = λ j d within. omega (arith, table.named j d within, few, lawful.few) };
+                named = table.named;
+                bytes = λ j d within. absurd (omega arith);
+              });
+        }
+
+    pub recorded-first : Recorded s 0
+    recorded-first =
+        let none = none-of (output_up_to s (count_of s 0)) (ap (λ (n : ℕ). length (output_up_to s n)) (count_of-zero s) ∙ output_up_to-zero s) in
+        record {
+          laid_so = refl;
+          recorded = refl;
+          output = ap output_of checkpoints-first ∙ sym none;
+          long = refl;
+          lawful =
+              subst (λ (l : Laid). IsLawful (record { pool = l.pool; inputs = s.inputs; checkpoints = checkpoints_to s 0 })) (sym (laid_of-zero s))
+              (subst (λ (cs : List CheckpointParts). IsLawful (record { pool = (first_laid s.pages).pool; inputs = s.inputs; checkpoints = cs })) (sym checkpoints-first) lawful-first);
+          content = λ j low.
+              let this : 0 ≡ j = omega arith in
+              subst (λ (n : ℕ). IsContentOf s (laid_of s 0).pool n) this
+              (ap (λ (l : Laid). table_words l.pool l.table) (laid_of-zero s) ∙ sym first-words ∙ sym (ap (λ (t : State). t.words) state-first));
+          faultless = first_fault-zero s;
+        }
+
+    pub so-first : (laid : Laid) → laid ≡ first_laid s.pages → (cs : List CheckpointParts) → cs ≡ first-checkpoint ∷ [] → IsRecorded s 0 laid cs 0
+    so-first laid laid-so cs cs-so =
+        so-recorded s laid cs 0 0 (laid-so ∙ sym (laid_of-zero s)) (cs-so ∙ sym checkpoints-first)
+        (sym (ap (λ (n : ℕ). length (output_up_to s n)) (count_of-zero s) ∙ output_up_to-zero s)) recorded-first
+
+  pub one-checkpoint : (cpu : CpuState) (devices : DeviceState) (sent table : List ℕ) → cpu ≡ s.cpu → devices ≡ no_devices → sent ≡ []
+      → table ≡ (first_laid s.pages).table → record { count = 0; cpu = cpu; devices = devices; sent = sent; table = table } ∷ [] ≡ first-checkpoint ∷ []
+  one-checkpoint cpu devices sent table cpus states sents tables =
+      λ i. record { count = 0; cpu = cpus i; devices = states i; sent = sents i; table = tables i } ∷ []

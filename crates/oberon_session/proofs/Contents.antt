@@ -1,21 +1,20 @@
 -- What is laid is the memory: the content of the new table over the new pool.
-use Rattle.std.proofs.Common.{◌≡◌, ◌≢◌, ℕ, zero, suc, ◌+◌, ◌-◌, ◌*◌, ◌<◌, ◌≤◌, ◌⊎◌, inl, inr, Bool, true, false, List, [], ◌∷◌, ◌++◌, ap, append_assoc, arith, drop, drop-drop, get_or, get_or-set_other, length, length-append, length-drop, length-set, length-take-le, map, refl, replicate, subst, sym, take, take-add, take_all, ◌∙◌}
+use Rattle.std.proofs.Common.{◌≡◌, ℕ, zero, suc, ◌+◌, ◌-◌, ◌*◌, ◌<◌, ◌≤◌, inl, inr, Bool, true, false, List, [], ◌∷◌, ◌++◌, ap, append_assoc, arith, drop, drop-drop, get_or, get_or-set_other, length, length-append, length-drop, length-set, length-take-le, map, refl, replicate, subst, sym, take, take-add, take_all, ◌∙◌}
 use Rattle.std.proofs.lemmas.Bool.{and_parts, eqb-true}
 use Rattle.std.proofs.lemmas.Bool.Decides.{eqb_tells}
-use Rattle.std.proofs.lemmas.Grind.{common_steps, get_or-set_at, same_number_lists}
-use Rattle.std.proofs.lemmas.List.{append-nil, get_or_push, length-map, length_push}
-use Rattle.std.proofs.lemmas.List.Elements.{All-set, All-weaker}
+use Rattle.std.proofs.lemmas.Grind.{common_steps, get_or-set_at}
+use Rattle.std.proofs.lemmas.List.{append-nil, get_or_push, length_push}
+use Rattle.std.proofs.lemmas.List.Elements.{All-set}
 use Rattle.std.proofs.lemmas.List.FromFn.{get_or-range_with_len, length-range_with_len}
-use Rattle.std.proofs.lemmas.List.Sums.{AllPass-from_list_all}
 use Rattle.std.specs.Bool.{MatchBool}
 use Rattle.std.specs.Cmp.Lexicographic.{pointwise, told_text}
-use Rattle.std.specs.List.{All, Contains, flat_map, fold, list_all, range_with_len}
+use Rattle.std.specs.List.{All, Contains, flat_map, list_all, range_with_len}
 use Rattle.std.specs.Prelude.{◌==◌, nat_eq, slice_index, slice_set}
 use Rattle.risc_pages.proofs.DeltaLemmas.{AreDifferences-changed_below}
 use Rattle.risc_pages.proofs.Paging.{flat_map-same}
 use Rattle.risc_pages.proofs.PoolLemmas.{page_at-table_words, page_of-shared, page_of-zero}
 use Rattle.risc_pages.specs.Content.{IsNamed, table_words}
-use Rattle.risc_pages.specs.Delta.{AreDifferences, changed_below}
+use Rattle.risc_pages.specs.Delta.{changed_below}
 use Rattle.risc_pages.specs.Pages.{ArePages, page_at, page_of, zero_page}
 use Rattle.oberon_session.specs.Laid.{Laid, changed_pages, is_blank, lay, lay_page, lay_pages}
 
@@ -44,8 +43,8 @@ pub table_words-grown : (pool extra : List (List ℕ)) (numbers : List ℕ) → 
 table_words-grown pool extra numbers named =
     flat_map-same (page_of (pool ++ extra)) (page_of pool) numbers numbers refl
     (λ k d e lt.
-        let same : get_or numbers k d ≡ get_or numbers k e = grind (arith, common_steps) in
-        page_of-grown pool extra (get_or numbers k d) (named k d lt) ∙ ap (λ (n : ℕ). page_of pool n) same)
+    let same : get_or numbers k d ≡ get_or numbers k e = grind (arith, common_steps) in
+    page_of-grown pool extra (get_or numbers k d) (named k d lt) ∙ ap (λ (n : ℕ). page_of pool n) same)
 
 -- ---- pages of a memory
 
@@ -89,10 +88,10 @@ content-of pool table words n count whole shown =
     let many : length table ≡ length (range_with_len 0 n) = count ∙ sym (length-range_with_len 0 n) in
     let each : (k d e : ℕ) → k < length table → page_of pool (get_or table k d) ≡ page_at words (get_or (range_with_len 0 n) k e) =
     λ k d e lt.
-        let inside : k < n = omega arith in
-        let number : get_or table k d ≡ get_or table k 0 = grind (arith, common_steps) in
-        let place : get_or (range_with_len 0 n) k e ≡ k = omega (arith, get_or-range_with_len 0 n k e inside) in
-        ap (λ (m : ℕ). page_of pool m) number ∙ shown k inside ∙ ap (λ (m : ℕ). page_at words m) (sym place) in
+    let inside : k < n = omega arith in
+    let number : get_or table k d ≡ get_or table k 0 = grind (arith, common_steps) in
+    let place : get_or (range_with_len 0 n) k e ≡ k = omega (arith, get_or-range_with_len 0 n k e inside) in
+    ap (λ (m : ℕ). page_of pool m) number ∙ shown k inside ∙ ap (λ (m : ℕ). page_at words m) (sym place) in
     flat_map-same (page_of pool) (page_at words) table (range_with_len 0 n) many each
     ∙ pages-from words 0 n ∙ take_all (256 * n) words (omega arith)
 
@@ -139,7 +138,7 @@ module _ (words : List ℕ) (old : Laid) (good : IsTableOf old) (place : ℕ) (i
       table = record {
         count = length-set old.table place number ∙ good.count;
         named = All-set (λ n. n ≤ length (old.pool ++ extra)) old.table place number fits
-        (λ k d lt. omega (arith, good.named k d lt, length-append old.pool extra));
+            (λ k d lt. omega (arith, good.named k d lt, length-append old.pool extra));
       };
       kept = kept;
     }
@@ -220,13 +219,13 @@ memory-laid base words old good pages content whole =
     let laid = pages-laid words whole (changed_below 1024 base words) (λ k d lt. (differences.each k d lt).0) old good in
     let before : (p : ℕ) → p < 1024 → page_at words p ≡ page_at base p → IsShown words old p =
     λ p lt same.
-        let inside : p < length old.table = omega (arith, good.count) in
-        sym (page_at-table_words old.pool old.table p 0 pages good.named inside) ∙ ap (λ (l : List ℕ). page_at l p) content ∙ sym same in
+    let inside : p < length old.table = omega (arith, good.count) in
+    sym (page_at-table_words old.pool old.table p 0 pages good.named inside) ∙ ap (λ (l : List ℕ). page_at l p) content ∙ sym same in
     let shown : (p : ℕ) → p < 1024 → IsShown words (lay_pages old (changed_pages base words)) p =
     λ p lt. either p lt (pointwise nat_eq (page_at words p) (page_at base p))
-        (told_text (page_at words p) (page_at base p) _ refl)
-        (λ same. laid.0.kept p lt (before p lt same))
-        (λ other. laid.1 p (differences.all p lt other)) in
+    (told_text (page_at words p) (page_at base p) _ refl)
+    (λ same. laid.0.kept p lt (before p lt same))
+    (λ other. laid.1 p (differences.all p lt other)) in
     (laid.0, content-of (lay_pages old (changed_pages base words)).pool (lay_pages old (changed_pages base words)).table words 1024 laid.0.table.count whole shown)
   where
     either : (p : ℕ) → p < 1024 → (b : Bool) → MatchBool b (page_at words p ≡ page_at base p) (page_at words p ≡ page_at base p → ⊥)

@@ -11,3 +11,4 @@ mod LawfulMore
 mod Next
 mod Reaching
 mod Begun
+mod Whole

@@ -1,12 +1,11 @@
 -- What is recorded up to a checkpoint, and up to the next one.
-use Rattle.std.proofs.Common.{◌≡◌, ℕ, ◌+◌, ◌-◌, ◌^◌, ◌<◌, ◌≤◌, ◌⊎◌, inl, inr, List, [], ◌∷◌, ◌++◌, ap, arith, get_or, length, length-append, map, refl, subst, sym, ◌∙◌}
+use Rattle.std.proofs.Common.{◌≡◌, ℕ, ◌+◌, ◌-◌, ◌^◌, ◌<◌, ◌≤◌, inl, inr, List, [], ◌∷◌, ◌++◌, ap, arith, get_or, length, length-append, refl, subst, sym, ◌∙◌}
 use Rattle.std.proofs.lemmas.Bool.{cases_lt}
 use Rattle.std.proofs.lemmas.List.FromFn.{get_or-map-range_with_len, length-map-range_with_len, map-range_with_len_more}
-use Rattle.std.specs.List.{All, range_with_len}
+use Rattle.std.specs.List.{All}
 use Rattle.risc_devices.specs.DeviceState.{IsDeviceState}
 use Rattle.risc_pages.specs.Content.{IsNamed, table_words}
 use Rattle.risc_pages.specs.Pages.{ArePages}
-use Rattle.risc_pages.specs.Tables.{IsTable}
 use Rattle.risc_machine.specs.MachineState.{IsCpuState}
 use Rattle.oberon_format.proofs.Output.{output_of_push}
 use Rattle.oberon_format.specs.CheckpointParts.{CheckpointParts, no_checkpoint}
@@ -15,8 +14,8 @@ use Rattle.oberon_format.specs.Recording.{IsFit, IsLawful, RecordingParts, count
 use Rattle.oberon_session.proofs.Contents.{IsTableOf, Leads, memory-laid, table_words-grown}
 use Rattle.oberon_session.proofs.LawfulMore.{lawful-more}
 use Rattle.oberon_session.proofs.Steps.{count-fits, count-rises, laid_of-next, nothing-too-much, output-on}
-use Rattle.oberon_session.specs.Laid.{Laid, lay}
-use Rattle.oberon_session.specs.Recorded.{checkpoint_of, count_of, first_fault, laid_of, output_between, output_up_to, state_of}
+use Rattle.oberon_session.specs.Laid.{Laid}
+use Rattle.oberon_session.specs.Recorded.{checkpoint_of, count_of, laid_of, output_between, output_up_to, state_of}
 use Rattle.oberon_session.specs.SessionParts.{SessionParts, IsLawful as IsLawfulSession}
 use Rattle.oberon_session.specs.Walk.{IsContentOf, IsRecorded, checkpoints_to}
 
@@ -95,7 +94,6 @@ module _ (s : SessionParts) where
         subst Lays (sym (laid_of-next s k))
         (memory-laid (state_of s k).words (state_of s (k + 1)).words (laid_of s k) (table-good k so) so.lawful.pool (so.content k (omega arith)) good.whole)
 
-
     next-fits : IsFit (laid_of s (k + 1)).pool (checkpoint_of s (k + 1))
     unfolding checkpoint_of
     next-fits = record {
@@ -131,12 +129,12 @@ module _ (s : SessionParts) where
         let sums = ap length (ap output_of (checkpoints-more k) ∙ output_of_push (checkpoints_to s k) (checkpoint_of s (k + 1))) in
         let parts = length-append (output_of (checkpoints_to s k)) (checkpoint_of s (k + 1)).sent in
         let more = lawful-more (recorded_to k) lays.0.extra (checkpoint_of s (k + 1)) so.lawful
-            (subst (λ (p : List (List ℕ)). length p ≤ 65536) grown good.pages)
-            (subst ArePages grown good.pool)
-            (omega (arith, length-checkpoints k, lawful.counts.0))
-            (omega (arith, last-count, count-of (k + 1), count-rises s lawful k inside))
-            (subst (λ (p : List (List ℕ)). IsFit p (checkpoint_of s (k + 1))) grown next-fits)
-            (omega (arith, whole-output, sums, parts, good.output)) in
+        (subst (λ (p : List (List ℕ)). length p ≤ 65536) grown good.pages)
+        (subst ArePages grown good.pool)
+        (omega (arith, length-checkpoints k, lawful.counts.0))
+        (omega (arith, last-count, count-of (k + 1), count-rises s lawful k inside))
+        (subst (λ (p : List (List ℕ)). IsFit p (checkpoint_of s (k + 1))) grown next-fits)
+        (omega (arith, whole-output, sums, parts, good.output)) in
         subst (λ (p : List (List ℕ)). IsLawful (record { pool = p; inputs = s.inputs; checkpoints = checkpoints_to s (k + 1) })) (sym grown)
         (subst (λ (cs : List CheckpointParts). IsLawful (record { pool = (laid_of s k).pool ++ lays.0.extra; inputs = s.inputs; checkpoints = cs })) (sym (checkpoints-more k)) more)
 

@@ -23,7 +23,7 @@ use Rattle.oberon_session.specs.declared.segment.Reached.{Reached}
 use Rattle.oberon_session.specs.declared.record_fault.RecordFault.TheVariants as fault
 
 -- what checkpoint k claims is the state there, where its table has that memory as its content
-claimed-is : (s : SessionParts) (k : ℕ) (pool : List (List ℕ)) → table_words pool (laid_of s k).table ≡ (state_of s k).words → (claim_of pool (checkpoint_of s k)).state ≡ state_of s k
+pub claimed-is : (s : SessionParts) (k : ℕ) (pool : List (List ℕ)) → table_words pool (laid_of s k).table ≡ (state_of s k).words → (claim_of pool (checkpoint_of s k)).state ≡ state_of s k
 unfolding checkpoint_of
 claimed-is s k pool content = ap (λ (words : List ℕ). record { cpu = (state_of s k).cpu; devices = (state_of s k).devices; words = words }) content
 

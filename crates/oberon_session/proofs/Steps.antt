@@ -1,15 +1,13 @@
 -- The one run of a session, from checkpoint to checkpoint.
 use Rattle.std.proofs.Common.{◌≡◌, ℕ, zero, suc, ◌+◌, ◌-◌, ◌^◌, ◌<◌, ◌≤◌, List, ◌++◌, Option, Some, None, true, false, ap, arith, length, length-append, refl, subst, sym, ◌∙◌}
 use Rattle.std.proofs.lemmas.Bool.{le-ltb, lt-ltb}
-use Rattle.std.specs.List.{All}
 use Rattle.std.specs.Option.{option_or}
 use Rattle.std.specs.Prelude.{nat_lt, slice_index}
-use Rattle.risc_machine.specs.MachineState.{State}
 use Rattle.risc_machine.specs.Replay.{run_of, sent_of}
 use Rattle.oberon_format.specs.Ranges.{max_output}
-use Rattle.oberon_session.proofs.Runs.{run-on, sent-grows, sent-on}
-use Rattle.oberon_session.specs.Laid.{Laid, lay}
-use Rattle.oberon_session.specs.Recorded.{count_of, fault_at, first_fault, first_laid, first_state, laid_of, last_of, max_pages, output_between, output_up_to, record_fault_of, state_at, state_of}
+use Rattle.oberon_session.proofs.Runs.{run-on, sent-on}
+use Rattle.oberon_session.specs.Laid.{lay}
+use Rattle.oberon_session.specs.Recorded.{count_of, fault_at, first_fault, first_laid, first_state, laid_of, max_pages, output_between, output_up_to, record_fault_of, state_at, state_of}
 use Rattle.oberon_session.specs.Ranges.{CountFits}
 use Rattle.oberon_session.specs.SessionParts.{SessionParts, IsLawful}
 use Rattle.oberon_session.specs.declared.record_fault.RecordFault.{RecordFault}

@@ -120,11 +120,7 @@ fn record_next(
 }
 
 /// The recording of all that was recorded.
-fn finish(
-    alloc: Global,
-    inputs: &Inputs,
-    recorder: Recorder,
-) -> Result<Recording, RecordFault>
+fn finish(alloc: Global, inputs: &Inputs, recorder: Recorder) -> Result<Recording, RecordFault>
     requires { IsLawful (parts_of recorder.layout.pool inputs.now recorder.checkpoints.items) }
     ensures recording { IfOk result (λ recording. recording ≡ parts_of recorder.layout.pool inputs.now recorder.checkpoints.items) }
     ensures refused { IfErr result (λ fault. fault ≡ RecordFault.Memory) }

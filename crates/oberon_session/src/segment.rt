@@ -40,17 +40,13 @@ pub fn reach(
     requires counter { last.now.cpu.pc < 2 ^ 22 }
     requires stop { last.now.cpu.stop ≤ 4 }
     requires rises { last.now.count ≤ to }
-    ensures reached {
-        let begun = (claim_of pool.now (checkpoint_parts last.now)).state in
+    ensures reached { let begun = (claim_of pool.now (checkpoint_parts last.now)).state in
         let steps = to - last.now.count in
-        IfOk result (λ reached. IsReached begun.words (run_of inputs.now last.now.count steps begun) (sent_of inputs.now last.now.count steps begun) reached)
-    }
+        IfOk result (λ reached. IsReached begun.words (run_of inputs.now last.now.count steps begun) (sent_of inputs.now last.now.count steps begun) reached) }
     ensures room { IfOk result (λ reached. length reached.sent ≤ room) }
-    ensures refused {
-        let begun = (claim_of pool.now (checkpoint_parts last.now)).state in
+    ensures refused { let begun = (claim_of pool.now (checkpoint_parts last.now)).state in
         let sent = sent_of inputs.now last.now.count (to - last.now.count) begun in
-        IfErr result (λ fault. fault ≢ RecordFault.Memory → (fault ≡ RecordFault.Output) × (room < length sent))
-    }
+        IfErr result (λ fault. fault ≢ RecordFault.Memory → (fault ≡ RecordFault.Output) × (room < length sent)) }
 {
     let mut machine = Machine::start(alloc, pool, &last.table, last.cpu, last.devices.copy())?;
     let sent = run_in_pieces(alloc, &mut machine, inputs, last.count, to, room)?;

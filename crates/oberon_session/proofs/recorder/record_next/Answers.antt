@@ -1,14 +1,12 @@
-use Rattle.std.proofs.Common.{◌≡◌, ◌≢◌, Some, ◌+◌, ◌∙◌, ◌≤◌, ◌<◌, ℕ, List, ap, arith, length, map, refl, subst, sym, get_or}
+use Rattle.std.proofs.Common.{◌≢◌, Some, ◌+◌, ◌∙◌, ◌≤◌, ℕ, List, ap, arith, length, sym, get_or}
 use Rattle.std.proofs.lemmas.Result.{err_from_is_err_and}
 use Rattle.risc_machine.specs.MachineState.{cpu_state}
-use Rattle.oberon_format.specs.CheckpointParts.{checkpoint_parts}
 use Rattle.oberon_session.proofs.Layouts.{few-changes, low-changes}
 use Rattle.oberon_session.proofs.Reaching.{inside-of, last-count, last-fit, recorded-more, refused-output, refused-pages}
 use Rattle.oberon_session.proofs.Steps.{count-rises, count_of-next}
 use Rattle.oberon_session.specs.Recorded.{count_of}
 use Rattle.oberon_session.specs.Walk.{laid_view}
 use Rattle.oberon_session.specs.declared.record_fault.RecordFault.{RecordFault}
-use Rattle.oberon_session.specs.declared.record_fault.RecordFault.TheVariants as RecordFault
 use Rattle.oberon_session.proofs.recorder.record_next.Goals as goal
 
 pub index-last-requires : goal.index-last-requires
@@ -66,11 +64,11 @@ returns-in_err-reached-clause-refused c =
     let on : count_of s k ≤ count_of s (k + 1) = omega (arith, count-rises s c.counts.ensures.lawful k c.requires.inside) in
     rw from.1
     (λ no_memory.
-        let memory : c.in_err-reached.field-0.0 ≢ RecordFault.Memory = λ is. no_memory (from.2 ∙ is) in
-        let refused = c.in_err-reached.ensures.refused memory in
-        let record-fault = refused-output s k laid items c.args.recorder.now.sent so c.index-last.result.now inside c.index-last.ensures
-            c.inputs.result.now c.inputs.ensures.inputs (get_or c.counts.result.now k 0) next on c.requires.inside refused.1 in
-        record-fault ∙ ap Some (sym refused.0 ∙ sym from.2))
+    let memory : c.in_err-reached.field-0.0 ≢ RecordFault.Memory = λ is. no_memory (from.2 ∙ is) in
+    let refused = c.in_err-reached.ensures.refused memory in
+    let record-fault = refused-output s k laid items c.args.recorder.now.sent so c.index-last.result.now inside c.index-last.ensures
+    c.inputs.result.now c.inputs.ensures.inputs (get_or c.counts.result.now k 0) next on c.requires.inside refused.1 in
+    record-fault ∙ ap Some (sym refused.0 ∙ sym from.2))
 
 pub lay_pages-requires-clause-few : goal.lay_pages-requires-clause-few
 lay_pages-requires-clause-few c =
@@ -92,8 +90,8 @@ returns-then-len-gt-MAX_PAGES-clause-refused c =
     let on : count_of s k ≤ count_of s (k + 1) = omega (arith, count-rises s c.counts.ensures.lawful k c.requires.inside) in
     let laid-so = rw c.deref.ensures.value at c.in_ok-lay_pages.ensures in
     λ _. refused-pages s k laid items c.args.recorder.now.sent so c.index-last.result.now inside c.index-last.ensures
-        c.inputs.result.now c.inputs.ensures.inputs (get_or c.counts.result.now k 0) next on c.in_ok-reached.reached c.in_ok-reached.ensures.reached
-        (laid_view c.lay_pages.new.layout) laid-so c.in_ok-reached.ensures.room (omega (arith, so.long, ap length so.output, so.lawful.output)) c.requires.inside (omega arith)
+    c.inputs.result.now c.inputs.ensures.inputs (get_or c.counts.result.now k 0) next on c.in_ok-reached.reached c.in_ok-reached.ensures.reached
+    (laid_view c.lay_pages.new.layout) laid-so c.in_ok-reached.ensures.room (omega (arith, so.long, ap length so.output, so.lawful.output)) c.requires.inside (omega arith)
 
 pub returns-clause-recorded : goal.returns-clause-recorded
 returns-clause-recorded c =
@@ -109,9 +107,9 @@ returns-clause-recorded c =
     let r = c.in_ok-reached.reached in
     let count : ℕ = get_or c.counts.result.now k 0 in
     recorded-more s k laid items c.args.recorder.now.sent so c.index-last.result.now inside c.index-last.ensures
-        c.inputs.result.now c.inputs.ensures.inputs (get_or c.counts.result.now k 0) next on r c.in_ok-reached.ensures.reached
-        (laid_view c.lay_pages.new.layout) laid-so c.in_ok-reached.ensures.room (omega (arith, so.long, ap length so.output, so.lawful.output))
-        c.counts.ensures.lawful c.requires.inside (omega arith) c.len.ensures.pages c.timer-in_range.ensures.ranges c.bytes.ensures.bytes
-        c.push.new.self.items _ c.in_ok-push.ensures.items
-        (ap (λ (table : List ℕ). record { count = count; cpu = cpu_state r.cpu; devices = r.devices; sent = r.sent; table = table }) c.copy.ensures)
-        (c.args.recorder.now.sent + length c.bytes.result.now) (ap (λ (l : List ℕ). c.args.recorder.now.sent + length l) c.bytes.ensures.sent)
+    c.inputs.result.now c.inputs.ensures.inputs (get_or c.counts.result.now k 0) next on r c.in_ok-reached.ensures.reached
+    (laid_view c.lay_pages.new.layout) laid-so c.in_ok-reached.ensures.room (omega (arith, so.long, ap length so.output, so.lawful.output))
+    c.counts.ensures.lawful c.requires.inside (omega arith) c.len.ensures.pages c.timer-in_range.ensures.ranges c.bytes.ensures.bytes
+    c.push.new.self.items _ c.in_ok-push.ensures.items
+    (ap (λ (table : List ℕ). record { count = count; cpu = cpu_state r.cpu; devices = r.devices; sent = r.sent; table = table }) c.copy.ensures)
+    (c.args.recorder.now.sent + length c.bytes.result.now) (ap (λ (l : List ℕ). c.args.recorder.now.sent + length l) c.bytes.ensures.sent)

@@ -1,5 +1,5 @@
-use Rattle.std.proofs.Common.{◌≡◌, ◌+◌, ◌-◌, ◌≤◌, ◌++◌, ◌∙◌, ap, arith, length, refl, sym, List, ℕ}
-use Rattle.risc_machine.specs.Replay.{run_of, sent_of}
+use Rattle.std.proofs.Common.{◌-◌, ◌≤◌, ◌++◌, ◌∙◌, ap, arith, length, refl, sym, List, ℕ}
+use Rattle.risc_machine.specs.Replay.{sent_of}
 use Rattle.risc_machine.proofs.RunLemmas.{run_of-none, sent_of-none}
 use Rattle.oberon_session.proofs.Runs.{run-on, sent-grows, sent-on}
 use Rattle.oberon_session.proofs.segment.run_in_pieces.Goals as goal

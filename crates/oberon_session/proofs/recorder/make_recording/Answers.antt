@@ -1,0 +1,42 @@
+use Rattle.std.proofs.Common.{◌≡◌, ◌<◌, ◌∙◌, ℕ, ap, arith, length, map}
+use Rattle.std.proofs.lemmas.Result.{IfOk-weaker}
+use Rattle.std.specs.Prelude.{Result, Ok, Err, OnOk}
+use Rattle.oberon_format.specs.CheckpointParts.{checkpoint_parts}
+use Rattle.oberon_format.specs.Defined.{IsTrueAt}
+use Rattle.oberon_format.specs.Parts.{parts_of}
+use Rattle.oberon_format.specs.Recording.{RecordingParts}
+use Rattle.oberon_session.proofs.Whole.{made, recording-of, truth-of}
+use Rattle.oberon_session.specs.Recorded.{last_of, recording_of}
+use Rattle.oberon_session.specs.Walk.{laid_view}
+use Rattle.oberon_session.proofs.recorder.make_recording.Goals as goal
+
+pub returns-clause-recording : goal.returns-clause-recording
+returns-clause-recording c =
+    let s = c.args.session.now in
+    let r = c.loop-k.recorder in
+    let cs = map checkpoint_parts r.checkpoints.items in
+    let all : c.loop-k.k ≡ last_of s = omega (arith, ap length c.counts-k-end.ensures.counts) in
+    IfOk-weaker c.finish.result (λ (x : RecordingParts). x ≡ parts_of r.layout.pool c.inputs.result.now r.checkpoints.items) (λ (x : RecordingParts). x ≡ recording_of s)
+    (λ x is. is ∙ recording-of s (laid_view r.layout) cs r.sent c.loop-k.k all c.loop-k.invariant c.inputs.result.now c.inputs.ensures.inputs) c.finish.ensures.recording
+
+so-on-ok : {T E P : Type 0} (r : Result T E) → P → OnOk r P
+so-on-ok (Ok x) p = p
+so-on-ok (Err e) p = tt
+
+pub returns-clause-made : goal.returns-clause-made
+returns-clause-made c =
+    let r = c.loop-k.recorder in
+    let all : c.loop-k.k ≡ last_of c.args.session.now = omega (arith, ap length c.counts-k-end.ensures.counts) in
+    so-on-ok c.finish.result
+    (made c.args.session.now (laid_view r.layout) (map checkpoint_parts r.checkpoints.items) r.sent c.loop-k.k all c.loop-k.invariant)
+
+pub returns-clause-truth : goal.returns-clause-truth
+returns-clause-truth c =
+    let s = c.args.session.now in
+    let r = c.loop-k.recorder in
+    let cs = map checkpoint_parts r.checkpoints.items in
+    let all : c.loop-k.k ≡ last_of s = omega (arith, ap length c.counts-k-end.ensures.counts) in
+    IfOk-weaker c.finish.result (λ (x : RecordingParts). x ≡ parts_of r.layout.pool c.inputs.result.now r.checkpoints.items)
+    (λ (x : RecordingParts). (k : ℕ) → k < length x.checkpoints → IsTrueAt x k)
+    (λ x is. truth-of s (laid_view r.layout) cs r.sent c.loop-k.k all c.loop-k.invariant x
+    (is ∙ recording-of s (laid_view r.layout) cs r.sent c.loop-k.k all c.loop-k.invariant c.inputs.result.now c.inputs.ensures.inputs)) c.finish.ensures.recording

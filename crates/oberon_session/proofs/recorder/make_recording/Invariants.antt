@@ -1,0 +1,7 @@
+use Rattle.std.proofs.Common.{map}
+use Rattle.oberon_format.specs.CheckpointParts.{checkpoint_parts}
+use Rattle.oberon_session.specs.Walk.{IsRecorded, laid_view}
+use Rattle.oberon_session.proofs.recorder.make_recording.Given as goal
+
+abbrev pub invariant-loop-k : goal.invariant-loop-k
+invariant-loop-k l = IsRecorded l.session l.k (laid_view l.recorder.layout) (map checkpoint_parts l.recorder.checkpoints.items) l.recorder.sent
