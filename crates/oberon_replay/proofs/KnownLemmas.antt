@@ -1,20 +1,24 @@
 -- A command that was done answers all bytes of a reader that are known.
 use Rattle.std.proofs.Common.{◌≡◌, ◌<◌, ◌≤◌, ◌∙◌, inl, inr, ℕ, Bool, true, false, List, [], ◌∷◌, ◌++◌, Option, Some, None, arith, sym, refl, subst, ap, length, take, append-nil}
 use lib.Seq.{take-append_seam}
-use Rattle.std.proofs.lemmas.List.{take_all}
+use Rattle.std.proofs.lemmas.List.{length-take, take_all}
 use Rattle.std.proofs.lemmas.Bool.{ltb-true, ltb-false}
 use Rattle.std.specs.Prelude.{nat_lt}
 use Rattle.clap.proofs.OnLiterals.{clap_on_literals}
 use Rattle.clap.specs.Walk.{Text}
 use Rattle.clap.specs.declared.error.kind.ErrorKind.TheVariants.{DisplayHelp}
 use Rattle.oberon_check.specs.Headline.{IsLineOf, IsLineOfFault}
+use Rattle.oberon_session.specs.Session.{Breaks, Fits}
+use Rattle.oberon_session.specs.declared.fault.SessionFault.{SessionFault}
+use Rattle.oberon_session.specs.declared.fault.SessionFault.TheVariants as fault
 use Rattle.oberon_replay.specs.Answer.{IsAnswer, limit_of}
 use Rattle.oberon_replay.specs.Asked.{IsHelp, asked, faults}
 use Rattle.oberon_replay.specs.Reply.{AnswersAll, IsReplyTo, IsSent, Outcome, answer, failure, help}
+use Rattle.oberon_replay.specs.Record.{IsRecord}
 use Rattle.oberon_replay.specs.Screen.{IsScreen}
 use Rattle.oberon_replay.specs.Transfer.{IsReadUpTo}
 use Rattle.oberon_replay.specs.declared.words.Request.{Request}
-use Rattle.oberon_replay.specs.declared.words.Request.TheVariants.{Check, Screen}
+use Rattle.oberon_replay.specs.declared.words.Request.TheVariants.{Check, Record, Screen}
 use Rattle.oberon_replay.specs.declared.failure.Failure.TheVariants.{Memory, Read, Words}
 use Rattle.oberon_replay.proofs.CutLemmas.{cut_is_no_text, first_fault_of-take}
 use Rattle.oberon_replay.proofs.Parsed.{asked_none}
@@ -50,6 +54,25 @@ cut_screen : (n at : ℕ) (bytes text : List ℕ) (status : ℕ) → 101479581 �
 cut_screen n at bytes text status over within (inl is) = absurd (cut_is_no_text n bytes is.recording over within is.read)
 cut_screen n at bytes text status over within (inr is) = inr (cut_fault n bytes text status over within is)
 
+-- a text that is cut off behind more bytes than a session may have is too long
+not_cut : (n : ℕ) (bytes : List ℕ) → 67108865 ≤ n → n ≤ length bytes → Fits (take n bytes) → ⊥
+not_cut n bytes over within fits = omega (arith, simp length-take at fits)
+
+-- and the first rule that it breaks, its length, is that of the whole
+cut_breaks : (n : ℕ) (bytes : List ℕ) (f : SessionFault) → 67108865 ≤ n → n ≤ length bytes → Breaks (take n bytes) f → Breaks bytes f
+cut_breaks n bytes fault.Json over within is = absurd (not_cut n bytes over within is.0)
+cut_breaks n bytes fault.Shape over within is = absurd (not_cut n bytes over within is.0)
+cut_breaks n bytes fault.Range over within (inl long) = inl (omega arith)
+cut_breaks n bytes fault.Range over within (inr is) = absurd (not_cut n bytes over within is.1.0)
+cut_breaks n bytes fault.Order over within is = absurd (not_cut n bytes over within is.1.0)
+cut_breaks n bytes fault.Hex over within is = absurd (not_cut n bytes over within is.1.0)
+cut_breaks n bytes fault.Memory over within is = absurd (not_cut n bytes over within is)
+
+-- so the answer of `record` is that to the whole
+cut_record : (n : ℕ) (bytes text : List ℕ) (status : ℕ) → 67108865 ≤ n → n ≤ length bytes → IsRecord (take n bytes) text status → IsRecord bytes text status
+cut_record n bytes text status over within (inl is) = absurd (not_cut n bytes over within is.read.1.0)
+cut_record n bytes text status over within (inr is) = inr (record { fault = is.fault; first = cut_breaks n bytes is.fault over within is.first; refusal = is.refusal })
+
 -- a fact of the first n bytes that holds of all of them, where there are more
 whole : (P : List ℕ → Type 0) (n : ℕ) (bytes : List ℕ) → (n ≤ length bytes → P (take n bytes) → P bytes) → P (take n bytes) → P bytes
 whole P n bytes more first = go (nat_lt (length bytes) n) refl
@@ -64,6 +87,8 @@ whole P n bytes more first = go (nat_lt (length bytes) n) refl
 whole_answer : (request : Request) (bytes text : List ℕ) (status : ℕ) → IsAnswer request (take (limit_of request) bytes) text status → IsAnswer request bytes text status
 whole_answer (Check workers cut) bytes text status =
     whole (λ input. IsLineOf input text status) 101479581 bytes (λ within. cut_report 101479581 bytes text status (omega arith) within)
+whole_answer Record bytes text status =
+    whole (λ input. IsRecord input text status) 67108865 bytes (λ within. cut_record 67108865 bytes text status (omega arith) within)
 whole_answer (Screen at) bytes text status =
     whole (λ input. IsScreen at input text status) 101479581 bytes (λ within. cut_screen 101479581 at bytes text status (omega arith) within)
 

@@ -2,7 +2,7 @@
 use Rattle.std.proofs.Common.{◌≡◌, [], ◌∷◌, Some, None, refl, codes, inl}
 use Rattle.clap.proofs.OnLiterals.{clap_on_literals}
 use Rattle.oberon_replay.specs.Asked.{IsHelp, asked, faults, found}
-use Rattle.oberon_replay.specs.declared.words.Request.TheVariants.{Check, Screen}
+use Rattle.oberon_replay.specs.declared.words.Request.TheVariants.{Check, Record, Screen}
 
 pub check : asked (codes "check" ∷ []) ≡ Some (Check 2 1)
 unfolding clap_on_literals faults found
@@ -15,6 +15,14 @@ check_workers = refl
 pub check_both : asked (codes "check" ∷ codes "--cut=4096" ∷ codes "--workers=64" ∷ []) ≡ Some (Check 64 4096)
 unfolding clap_on_literals faults found
 check_both = refl
+
+pub recorder : asked (codes "record" ∷ []) ≡ Some Record
+unfolding clap_on_literals faults found
+recorder = refl
+
+pub record_surplus : asked (codes "record" ∷ codes "again" ∷ []) ≡ None
+unfolding clap_on_literals faults found
+record_surplus = refl
 
 pub screen : asked (codes "screen" ∷ codes "--at" ∷ codes "0" ∷ []) ≡ Some (Screen 0)
 unfolding clap_on_literals faults found

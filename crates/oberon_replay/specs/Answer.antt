@@ -1,13 +1,15 @@
 -- What each command answers to the bytes of an input.
 use Rattle.std.specs.Prelude.{ℕ, List, Option, Some, None}
 use Rattle.oberon_check.specs.Headline.{IsLineOf}
+use Rattle.oberon_replay.specs.Record.{IsRecord}
 use Rattle.oberon_replay.specs.Screen.{IsScreen}
 use Rattle.oberon_replay.specs.declared.words.Request.{Request}
-use Rattle.oberon_replay.specs.declared.words.Request.TheVariants.{Check, Screen}
+use Rattle.oberon_replay.specs.declared.words.Request.TheVariants.{Check, Record, Screen}
 
--- the most bytes that the command reads: one more than the longest text of version 1 has
+-- the most bytes that the command reads: one more than the longest text of a recording has, or that of a session may have
 abbrev pub limit_of : Request → ℕ
 limit_of (Check workers cut) = 101479581
+limit_of Record = 67108865
 limit_of (Screen at) = 101479581
 
 -- the most bytes that are read where the words ask for this: none where they ask for no command
@@ -18,4 +20,5 @@ limit_for None = 0
 -- the text with its status is the answer of the command to the input. Workers and cut don't occur in it
 abbrev pub IsAnswer : Request → List ℕ → List ℕ → ℕ → Type 0
 IsAnswer (Check workers cut) input text status = IsLineOf input text status
+IsAnswer Record input text status = IsRecord input text status
 IsAnswer (Screen at) input text status = IsScreen at input text status

@@ -12,7 +12,7 @@ use Rattle.clap.specs.declared.error.kind.ErrorKind.{ErrorKind}
 use Rattle.clap.specs.declared.error.kind.ErrorKind.TheVariants.{DisplayHelp, OutOfMemory}
 use Rattle.oberon_replay.specs.Program.{program_app}
 use Rattle.oberon_replay.specs.declared.words.Request.{Request}
-use Rattle.oberon_replay.specs.declared.words.Request.TheVariants.{Check, Screen}
+use Rattle.oberon_replay.specs.declared.words.Request.TheVariants.{Check, Record, Screen}
 use Rattle.oberon_replay.specs.declared.words.Refusal.{Refusal}
 use Rattle.oberon_replay.specs.declared.words.Refusal.TheVariants.{Help, Words, Memory}
 
@@ -32,12 +32,14 @@ check_of rows = option_and_then (λ workers. option_map (λ cut. Check workers c
 -- the numbers of a request are in their ranges
 abbrev pub IsWithinLimits : Request → Type 0
 IsWithinLimits (Check workers cut) = (1 ≤ workers) × (workers ≤ 64) × (1 ≤ cut) × (cut ≤ 4096)
+IsWithinLimits Record = ⊤
 IsWithinLimits (Screen at) = at ≤ 4096
 
 -- what a subcommand with its arguments asks for
 abbrev pub request_of : Text → List Row → Option Request
 request_of name rows =
     if bytes_eq name (codes "check") then check_of rows
+    else if bytes_eq name (codes "record") then Some Record
     else if bytes_eq name (codes "screen") then option_map Screen (number_at 0 4096 (codes "at") rows)
     else None
 

@@ -39,15 +39,20 @@ at_rule = record (new_rule (codes "at")) {
 abbrev pub check_app : App
 check_app = with_rule (with_rule (new_app (codes "check")) workers_rule) cut_rule
 
+-- `record`, with none
+abbrev pub record_app : App
+record_app = new_app (codes "record")
+
 -- `screen`, with its option
 abbrev pub screen_app : App
 screen_app = with_rule (new_app (codes "screen")) at_rule
 
--- one of two commands has to stand there, with no program's name before it
+-- one of three commands has to stand there, with no program's name before it
 abbrev pub program_shape : Shape
 program_shape =
     record (new_shape (codes "oberon_replay")) { no_binary_name = true; subcommand_required = true }
 
 abbrev pub program_app : App
-program_app = with_subcommand (with_subcommand (record { top = program_shape; subs = [] }) check_app.top)
+program_app =
+    with_subcommand (with_subcommand (with_subcommand (record { top = program_shape; subs = [] }) check_app.top) record_app.top)
     screen_app.top

@@ -4,6 +4,7 @@ ghost use Rattle.oberon_check.specs.Headline.{IsLineOf};
 ghost use Rattle.oberon_replay.specs.Answer.{IsAnswer, limit_of};
 ghost use Rattle.oberon_replay.specs.Asked.{IsWithinLimits};
 
+use crate::record::record;
 use crate::reply::Reply;
 use crate::screen::screen;
 use crate::words::Request;
@@ -14,7 +15,10 @@ use std::thread::Threads;
 
 /// One byte more than the longest text of a recording has. A longer input has a fault within so many bytes, and none of them is
 /// looked at further on.
-const TEXT_LIMIT: usize = 101_479_581;
+const RECORDING_LIMIT: usize = 101_479_581;
+
+/// One byte more than the text of a session may have. A longer input is refused for its length alone.
+const SESSION_LIMIT: usize = 67_108_865;
 
 impl Request {
     /// The most bytes that the command reads.
@@ -22,7 +26,8 @@ impl Request {
         ensures { result ≡ limit_of self }
     {
         match self {
-            Request::Check { .. } | Request::Screen { .. } => TEXT_LIMIT,
+            Request::Check { .. } | Request::Screen { .. } => RECORDING_LIMIT,
+            Request::Record => SESSION_LIMIT,
         }
     }
 }
@@ -39,6 +44,7 @@ pub fn answer<H: Threads + Wait + Sync>(
 {
     match request {
         Request::Check { workers, cut } => check(rt, alloc, bytes, workers, cut),
+        Request::Record => record(alloc, bytes),
         Request::Screen { at } => screen(alloc, bytes, at),
     }
 }

@@ -2,21 +2,24 @@
 //! What the words of a run ask for is in `words`.
 ghost use Rattle.std.specs.Prelude.{◌≡◌, IfOk, false};
 ghost use Rattle.clap.specs.Words.{app_of, rule_of};
-ghost use Rattle.oberon_replay.specs.Program.{at_rule, check_app, cut_rule, program_app, screen_app, workers_rule};
+ghost use Rattle.oberon_replay.specs.Program.{at_rule, check_app, cut_rule, program_app, record_app, screen_app, workers_rule};
 ghost use Rattle.clap.specs.declared.builder.command.Command.TheViews.{out-Command as fields_of};
 
 use clap::{Arg, ArgAction, Command, value_parser};
 use std::alloc::{AllocError, Global};
 
-/// The command line of the program: one of two commands, with no program's name before it.
+/// The command line of the program: one of three commands, with no program's name before it.
 pub fn program<'a>(alloc: Global) -> Result<Command<'a>, AllocError>
     ensures app { IfOk result (λ command. app_of command ≡ program_app) }
 {
     Command::new(alloc, "oberon_replay")
-        .about("Checks recordings of a Project Oberon workstation, and shows their screens")
+        .about(
+            "Records sessions of a Project Oberon workstation, checks recordings, and shows their screens",
+        )
         .no_binary_name(true)
         .subcommand_required(true)
         .subcommand(check(alloc)?)?
+        .subcommand(record(alloc))?
         .subcommand(screen(alloc)?)
 }
 
@@ -30,6 +33,15 @@ fn check<'a>(alloc: Global) -> Result<Command<'a>, AllocError>
         )
         .arg(workers(alloc))?
         .arg(cut(alloc))
+}
+
+fn record<'a>(alloc: Global) -> Command<'a>
+    ensures app { app_of result ≡ record_app }
+    ensures local { (fields_of result).has_globals ≡ false }
+{
+    Command::new(alloc, "record").about(
+        "Runs the session on standard input, in JSON, and prints its recording, whose check is accepted",
+    )
 }
 
 fn screen<'a>(alloc: Global) -> Result<Command<'a>, AllocError>

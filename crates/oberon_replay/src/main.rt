@@ -1,4 +1,4 @@
-//! The program `oberon_replay`: checks recordings of a Project Oberon workstation, and shows their screens.
+//! The program `oberon_replay`: records sessions of a Project Oberon workstation, checks recordings, and shows their screens.
 //!
 //! It reads standard input, writes standard output and nothing on standard error, and ends with the status of `serve`, which is the
 //! whole program as a function over any reader and writer. Here is only what binds it to the process.
@@ -8,6 +8,7 @@ mod answer;
 mod command;
 mod failure;
 mod reading;
+mod record;
 mod reply;
 mod screen;
 mod serve;

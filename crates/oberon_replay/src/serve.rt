@@ -21,13 +21,15 @@ use std::thread::Threads;
 /// | words | what is written | status |
 /// |---|---|---|
 /// | none, or `check` with its options | the line of the check | 0 accepted, 1 false, 2 refused |
+/// | `record` | the text of the recording of a session; or the line of its fault | 0; 2 |
 /// | `screen --at k` | the picture of the screen that checkpoint k claims; the line of a fault; or `no checkpoint k` | 0; 2; 2 |
 /// | a request for help | `clap`'s text | 0 |
 /// | others | `words refused` | 4 |
 ///
-/// It waits for nothing but the workers of a check. The words are read before the input, and no more than the longest text of a recording and one byte is read of it. Where a read
-/// fails only `read fault` is written, where memory is wanting only `no memory`; the status is 3. Where a write fails what went out
-/// is a front of the text, nothing else is written, and the status is 3.
+/// It waits for nothing but the workers of a check. The words are read before the input, and of the input no more than one byte
+/// beyond the longest text that the command takes. Where a read fails only `read fault` is written, where memory is wanting only
+/// `no memory`; the status is 3. Where a write fails what went out is a front of the text, nothing else is written, and the
+/// status is 3.
 pub fn serve<'a, H: Threads + Wait + Sync, R: Read, W: Write>(
     rt: &H,
     alloc: Global,

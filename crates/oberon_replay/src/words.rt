@@ -13,6 +13,8 @@ use std::alloc::{AllocError, Global};
 pub enum Request {
     /// Check the recording that is read: with 1 to 64 workers, each job of 1 to 4,096 segments in a row.
     Check { workers: u32, cut: u32 },
+    /// Record the session that is read.
+    Record,
     /// Show the screen that checkpoint `at`, of 0 to 4,096, of the recording that is read claims.
     Screen { at: u32 },
 }
@@ -77,6 +79,7 @@ fn request_of(matches: &ArgMatches<'_>) -> Option<Request>
             workers: whole_number(inner, "workers", 1, 64)?,
             cut: whole_number(inner, "cut", 1, 4096)?,
         }),
+        "record" => Some(Request::Record),
         "screen" => Some(Request::Screen {
             at: whole_number(inner, "at", 0, 4096)?,
         }),

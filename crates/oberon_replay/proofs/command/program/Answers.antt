@@ -20,9 +20,11 @@ returns c =
     ∙ ap with_settings c.new.ensures.app in
     let one = c.in_ok-subcommand.ensures.shape c.in_ok-check.ensures.local
     ∙ ap₂ with_subcommand start_is (ap (λ (a : App). a.top) c.in_ok-check.ensures.app) in
+    let two = c.in_ok-subcommand-2.ensures.shape c.record.ensures.local
+    ∙ ap₂ with_subcommand one (ap (λ (a : App). a.top) c.record.ensures.app) in
     record {
-      app = IfOk-weaker c.subcommand-2.result _ _
+      app = IfOk-weaker c.subcommand-3.result _ _
           (λ r h. h.shape c.in_ok-screen.ensures.local
-          ∙ ap₂ with_subcommand one (ap (λ (a : App). a.top) c.in_ok-screen.ensures.app))
-          c.subcommand-2.ensures;
+          ∙ ap₂ with_subcommand two (ap (λ (a : App). a.top) c.in_ok-screen.ensures.app))
+          c.subcommand-3.ensures;
     }

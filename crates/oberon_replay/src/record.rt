@@ -1,0 +1,48 @@
+//! What the command `record` answers: the text of the recording of a session.
+ghost use Rattle.std.specs.Prelude.{◌≡◌, IfOk};
+ghost use Rattle.oberon_replay.specs.Record.{IsRecord, IsRecordOf, IsRefusal};
+
+use crate::reply::Reply;
+use oberon_format::write;
+use oberon_session::{Session, make_recording, read_session};
+use std::alloc::{AllocError, Global};
+
+/// The text of the recording of the session that a text says. A text that is no session gets the line `session refused` with the
+/// number and the name of the first rule that it breaks, and a session whose recording would be too large the line
+/// `record refused` with those of the recorder's fault.
+pub fn record(alloc: Global, text: &[u8]) -> Result<Reply, AllocError>
+    ensures { IfOk result (λ reply. IsRecord text.now reply.text.items reply.status) }
+{
+    match read_session(alloc, text) {
+        Ok(session) => record_of(alloc, &session),
+        Err(fault) => refused(alloc, "session", fault.number(), fault.name()),
+    }
+}
+
+/// The answer on a session.
+fn record_of(alloc: Global, session: &Session) -> Result<Reply, AllocError>
+    ensures { IfOk result (λ reply. IsRecordOf session.now reply.text.items reply.status) }
+{
+    match make_recording(alloc, session) {
+        Ok(recording) => {
+            let text = write(alloc, &recording)?;
+            Ok(Reply { text, status: 0 })
+        }
+        Err(fault) => refused(alloc, "record", fault.number(), fault.name()),
+    }
+}
+
+/// The answer where there is a fault of this number and this name. One without a number is want of memory.
+fn refused(alloc: Global, what: &str, number: Option<u8>, name: &str) -> Result<Reply, AllocError>
+    ensures { IfOk result (λ reply.
+        IsRefusal what.now number name.now reply.text.items reply.status) }
+{
+    let Some(number) = number else {
+        return Err(AllocError);
+    };
+    let line = format!(in alloc; "{what} refused {number} {name}\n")?;
+    Ok(Reply {
+        text: line.into_bytes(),
+        status: 2,
+    })
+}
