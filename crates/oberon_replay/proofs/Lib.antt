@@ -7,4 +7,5 @@ mod Literals
 mod Numbers
 mod Parsed
 mod RuleLemmas
+mod TruthLemmas
 mod TurnLemmas

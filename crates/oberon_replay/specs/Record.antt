@@ -1,7 +1,11 @@
 -- What the command `record` answers.
 use Rattle.std.specs.Prelude.{◌≡◌, ◌⊎◌, ℕ, List, Option, Some, None, ◌++◌, codes}
 use Rattle.std.specs.Fmt.{decimal}
+use Rattle.oberon_format.specs.Recording.{RecordingParts, count_at, last_of}
 use Rattle.oberon_format.specs.Text.{Text}
+use Rattle.oberon_check.specs.Headline.{IsLineOf}
+use Rattle.oberon_check.specs.Line.{line_of}
+use Rattle.oberon_check.specs.declared.verdict.Verdict.TheVariants.{Accepted}
 use Rattle.oberon_session.specs.FaultNames.{record_fault_name, record_fault_number, session_fault_name, session_fault_number}
 use Rattle.oberon_session.specs.Recorded.{record_fault_of, recording_of}
 use Rattle.oberon_session.specs.Session.{Breaks, IsSession}
@@ -20,10 +24,15 @@ pub record IsRefusal (what : List ℕ) (number : Option ℕ) (name text : List �
   pub text_is : text ≡ refused_line what known name
   pub status_is : status ≡ 2
 
--- the text of the session's recording
+-- the check of the text of a recording answers `accepted`, with the number and the count of the last checkpoint
+abbrev pub IsAccepted : RecordingParts → List ℕ → Type 0
+IsAccepted r text = IsLineOf text (line_of (Accepted (last_of r) (count_at r (last_of r)))) 0
+
+-- the text of the session's recording, all of whose checkpoints are true
 pub record IsRecording (session : SessionParts) (text : List ℕ) (status : ℕ) : Type 0 where
   pub no_fault : record_fault_of session ≡ None
   pub text_is : Text text (recording_of session)
+  pub accepted : IsAccepted (recording_of session) text
   pub status_is : status ≡ 0
 
 -- the session has no recording: the line of the recorder's fault

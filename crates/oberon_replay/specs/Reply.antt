@@ -38,11 +38,11 @@ outcome_status (answer request input text status) = status
 outcome_status (help text) = 0
 outcome_status (failure why) = failure_status why
 
--- when a failure may be the reply: the words are refused only where they ask for nothing; a read fault and want of memory may come
--- at any time
+-- when a failure may be the reply: the words are refused only where they ask for nothing, and a read fails only where they ask for
+-- a command. Want of memory may come at any time
 abbrev pub MayFail : List Text → Failure → Type 0
 MayFail words Words = IsRefused words
-MayFail words Read = ⊤
+MayFail words Read = (request : Request) × (asked words ≡ Some request)
 MayFail words Memory = ⊤
 
 -- the reply is one to the words, for the bytes that were taken from the reader

@@ -20,6 +20,7 @@ pub fn record(alloc: Global, text: &[u8]) -> Result<Reply, AllocError>
 }
 
 /// The answer on a session.
+#[tactic(auto, using(crate::proofs::TruthLemmas::accepted))]
 fn record_of(alloc: Global, session: &Session) -> Result<Reply, AllocError>
     ensures { IfOk result (λ reply. IsRecordOf session.now reply.text.items reply.status) }
 {

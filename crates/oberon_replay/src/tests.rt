@@ -5,5 +5,6 @@ mod draft;
 mod ends;
 mod faults;
 mod helped;
+mod records;
 mod screens;
 mod served;

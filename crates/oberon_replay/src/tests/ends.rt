@@ -90,7 +90,11 @@ impl Write for Narrow {
 #[test]
 fn a_failed_read_leaves_its_line_alone(rt: HostRuntime) {
     let alloc = rt.alloc();
-    for words in [["check", "--cut=1"].as_slice(), &["screen", "--at=0"]] {
+    for words in [
+        ["check", "--cut=1"].as_slice(),
+        &["record"],
+        &["screen", "--at=0"],
+    ] {
         let mut input = Failing {
             left: 3,
             with: ErrorKind::Other,
@@ -130,15 +134,16 @@ fn an_interrupted_reader_is_read_to_its_end(rt: HostRuntime) -> Result<(), Fail>
 
 #[test]
 fn a_reader_without_end_is_read_up_to_the_limit(rt: HostRuntime) {
-    let alloc = rt.alloc();
-    let mut input = Endless { given: 0 };
-    let mut output = Vec::new(alloc);
-    assert_eq!(rt; serve(&rt, alloc, &[], &mut input, &mut output), 2);
-    assert_eq!(rt;
-        output.as_slice(),
-        b"refused 2 magic at byte 0\n".as_slice()
-    );
-    assert_eq!(rt; input.given, 101_479_581);
+    for (words, line, limit) in [
+        (["check"], "refused 2 magic at byte 0\n", 101_479_581),
+        (["record"], "session refused 3 range\n", 67_108_865),
+    ] {
+        let mut input = Endless { given: 0 };
+        let mut output = Vec::new(rt.alloc());
+        assert_eq!(rt; serve(&rt, rt.alloc(), &words, &mut input, &mut output), 2);
+        assert_eq!(rt; output.as_slice(), line.as_bytes());
+        assert_eq!(rt; input.given, limit);
+    }
 }
 
 #[test]

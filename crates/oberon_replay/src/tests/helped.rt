@@ -6,7 +6,7 @@ use std::sync::Wait;
 use std::thread::Threads;
 
 /// Words that ask for nothing.
-const REFUSED: [&[&str]; 9] = [
+const REFUSED: [&[&str]; 11] = [
     &["screen"],
     &["screen", "--at", "4097"],
     &["check", "--workers", "65"],
@@ -15,11 +15,18 @@ const REFUSED: [&[&str]; 9] = [
     &["check", "--cut", "0"],
     &["bogus"],
     &["check", "again"],
+    &["record", "again"],
+    &["record", "--at", "0"],
     &["migrate"],
 ];
 
 /// Words that ask for help.
-const ASKING: [&[&str]; 3] = [&["--help"], &["check", "--help"], &["help", "screen"]];
+const ASKING: [&[&str]; 4] = [
+    &["--help"],
+    &["check", "--help"],
+    &["record", "-h"],
+    &["help", "screen"],
+];
 
 #[test]
 fn refuses_words(rt: HostRuntime) {

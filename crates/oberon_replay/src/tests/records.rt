@@ -1,0 +1,170 @@
+//! Sessions that are recorded: each with its recording, or with the line of its fault.
+
+use super::draft::Spot::{Count, Flags, Pc, Place, Register, Word};
+use super::draft::{Draft, JUMP, STORED_RUN};
+use super::served::served;
+use std::alloc::{AllocError, Global};
+use std::process::Abort;
+use std::sync::Wait;
+use std::test::Fail;
+use std::thread::Threads;
+
+/// The text of a session, up to the digits of the one page that it begins with.
+const BEFORE_DIGITS: &str = concat!(
+    "{\"format\":\"oberon-session\",\"version\":1,",
+    "\"start\":{\"R\":[0,0,0,0,0,0,0,0,0,0,0,0,0,0,0,0],\"H\":0,\"PC\":0,\"flags\":0},",
+    "\"pages\":[{\"at\":0,\"hex\":\""
+);
+
+/// From there up to the counts of its checkpoints.
+const BEFORE_COUNTS: &str = "\"}],\"inputs\":[],\"checkpoints\":[";
+
+/// From there to the end.
+const END: &str = "]}";
+
+fn session(alloc: Global, digits: &str, counts: &str) -> Result<String, AllocError> {
+    format!(in alloc; "{BEFORE_DIGITS}{digits}{BEFORE_COUNTS}{counts}{END}")
+}
+
+/// Serves `record` with this input.
+fn record(rt: &(impl Abort + AllocGlobal + Threads + Wait + Sync), input: &[u8]) -> (Vec<u8>, u8) {
+    served(rt, &["record"], input)
+}
+
+/// The recording of the session is this text, and its check gives this line.
+fn gives(
+    rt: &(impl Abort + AllocGlobal + Threads + Wait + Sync),
+    session: &str,
+    recording: &[u8],
+    line: &str,
+) {
+    let (written, ended) = record(rt, session.as_bytes());
+    assert_eq!(rt; ended, 0);
+    assert!(rt; written.as_slice() == recording);
+    let (checked, ended) = served(rt, &[], &written);
+    assert_eq!(rt; checked.as_slice(), line.as_bytes());
+    assert_eq!(rt; ended, 0);
+}
+
+/// The session is refused with this line.
+fn refuses(rt: &(impl Abort + AllocGlobal + Threads + Wait + Sync), session: &str, line: &str) {
+    let (written, ended) = record(rt, session.as_bytes());
+    assert_eq!(rt; written.as_slice(), line.as_bytes());
+    assert_eq!(rt; ended, 2);
+}
+
+#[test]
+fn records_the_stored_run(rt: HostRuntime) -> Result<(), Fail> {
+    let text = session(rt.alloc(), "05000040", "100")?;
+    let recording = STORED_RUN.text(rt.alloc(), &[])?;
+    gives(&rt, &text, &recording, "accepted 1 checkpoints 100 steps\n");
+    Ok(())
+}
+
+/// Parts of the text of the stored run's session that are written otherwise, and the lines that this gives. The last one breaks
+/// two rules.
+const CHANGES: [(&str, &str, &str); 6] = [
+    (
+        "\"version\":1",
+        "\"version\":3",
+        "session refused 2 shape\n",
+    ),
+    ("[100]", "[0]", "session refused 3 range\n"),
+    ("[100]", "[100,100]", "session refused 4 order\n"),
+    ("05000040", "0500004", "session refused 5 hex\n"),
+    ("[100]}", "[100]", "session refused 1 json\n"),
+    (
+        "05000040\"}],\"inputs\":[],\"checkpoints\":[100]",
+        "0500004\"}],\"inputs\":[],\"checkpoints\":[100,99]",
+        "session refused 4 order\n",
+    ),
+];
+
+#[test]
+fn refuses_what_is_no_session(rt: HostRuntime) -> Result<(), Fail> {
+    let text = session(rt.alloc(), "05000040", "100")?;
+    refuse_each(&rt, &text, &CHANGES)
+}
+
+fn refuse_each(
+    rt: &(impl Abort + AllocGlobal + Threads + Wait + Sync),
+    text: &str,
+    changes: &[(&str, &str, &str)],
+) -> Result<(), Fail> {
+    for (old, new, line) in changes {
+        let (before, after) = text.split_once(*old).ok_or("no such part")?;
+        let changed = format!(in rt.alloc(); "{before}{new}{after}")?;
+        refuses(rt, &changed, line);
+    }
+    Ok(())
+}
+
+/// The digits of a page that stores 5 into the first word of the next page, then 0, and then jumps to itself.
+const STORES: &str = "05000040000410a000000040000410a0ffffffe7";
+
+/// Its recording. The changed page is new in the pool at checkpoint 1; at checkpoint 2 it is all zeros again.
+const STORED: Draft<'static> = Draft {
+    pages: 2,
+    events: 0,
+    checkpoints: 4,
+    numbers: &[
+        (Word(0, 0), 0x4000_0005),
+        (Word(0, 1), 0xA010_0400),
+        (Word(0, 2), 0x4000_0000),
+        (Word(0, 3), 0xA010_0400),
+        (Word(0, 4), JUMP),
+        (Word(1, 0), 5),
+        (Place(0, 0), 1),
+        (Count(1), 2),
+        (Register(1, 0), 5),
+        (Pc(1), 2),
+        (Place(1, 0), 1),
+        (Place(1, 1), 2),
+        (Count(2), 4),
+        (Pc(2), 4),
+        (Flags(2), 4),
+        (Place(2, 0), 1),
+        (Count(3), 5),
+        (Pc(3), 4),
+        (Flags(3), 4),
+        (Place(3, 0), 1),
+    ],
+    output: &[],
+};
+
+#[test]
+fn lays_only_pages_that_changed(rt: HostRuntime) -> Result<(), Fail> {
+    let text = session(rt.alloc(), STORES, "2,4,5")?;
+    let recording = STORED.text(rt.alloc(), &[])?;
+    assert_eq!(rt; recording.len(), 18_984);
+    gives(&rt, &text, &recording, "accepted 3 checkpoints 5 steps\n");
+    Ok(())
+}
+
+/// The digits of a page that sends a byte of zeros at every second step, without end.
+const SENDS: &str = "c8ff0051000010a0feffffe7";
+
+#[test]
+fn records_as_much_output_as_a_recording_may_have(rt: HostRuntime) -> Result<(), Fail> {
+    let text = session(rt.alloc(), SENDS, "2097152")?;
+    let (written, ended) = record(&rt, text.as_bytes());
+    assert_eq!(rt; ended, 0);
+    // A header, a page, two checkpoints, and 1,048,576 bytes of output.
+    assert_eq!(rt; written.len(), 24 + 1024 + 2 * 4228 + 1_048_576);
+    let (checked, ended) = served(&rt, &["check"], &written);
+    assert_eq!(rt;
+        checked.as_slice(),
+        b"accepted 1 checkpoints 2097152 steps\n".as_slice()
+    );
+    assert_eq!(rt; ended, 0);
+    Ok(())
+}
+
+#[test]
+fn refuses_more_output(rt: HostRuntime) -> Result<(), Fail> {
+    for counts in ["2097154", "1099511627776"] {
+        let text = session(rt.alloc(), SENDS, counts)?;
+        refuses(&rt, &text, "record refused 1 output\n");
+    }
+    Ok(())
+}
