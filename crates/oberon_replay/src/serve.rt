@@ -21,7 +21,7 @@ use std::thread::Threads;
 /// | words | what is written | status |
 /// |---|---|---|
 /// | none, or `check` with its options | the line of the check | 0 accepted, 1 false, 2 refused |
-/// | `record` | the text of the recording of a session; or the line of its fault | 0; 2 |
+/// | `record` | the text of the session's recording; the line of a fault of the session; or the line of the recorder's fault | 0; 2; 2 |
 /// | `screen --at k` | the picture of the screen that checkpoint k claims; the line of a fault; or `no checkpoint k` | 0; 2; 2 |
 /// | a request for help | `clap`'s text | 0 |
 /// | others | `words refused` | 4 |
@@ -37,7 +37,8 @@ pub fn serve<'a, H: Threads + Wait + Sync, R: Read, W: Write>(
     input: &mut R,
     output: &mut W,
 ) -> u8
-    // Whatever the reader and the writer do, it is some reply to the words that is written.
+    // Whatever the reader and the writer do, some reply to the words is written: an answer to bytes that were read up to the end or
+    // to the limit, help, or the line of a failure alone. After a failed write it is a front of the reply.
     ensures replies { Replies (map (λ word. word.now) words.entry.now) (R.remaining input.old)
         (R.remaining input.new) (W.contents output.old) (W.contents output.new) result }
     // Where nothing fails it is the answer to the whole input.
