@@ -50,10 +50,10 @@ impl From<AllocError> for Failure {
 }
 
 impl From<ReadFault> for Failure {
-    ghost use Rattle.std.specs.Prelude.{◌≢◌};
-    ghost use Rattle.oberon_replay.specs.declared.failure.Failure.{Failure};
+    ghost use Rattle.std.specs.Prelude.{◌≡◌};
+    ghost use Rattle.oberon_replay.specs.Reply.{failure_by};
 
-    ghost from_gives = { λ _ failure. failure ≢ Failure.Words };
+    ghost from_gives = { λ fault failure. failure ≡ failure_by fault };
 
     fn from(fault: ReadFault) -> Failure {
         match fault {

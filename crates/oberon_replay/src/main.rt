@@ -4,6 +4,8 @@
 //! whole program as a function over any reader and writer. Here is only what binds it to the process.
 #![tactic(auto)]
 
+ghost use Rattle.std.specs.Prelude.{◌≡◌, ◌≢◌};
+
 mod answer;
 mod command;
 mod failure;
@@ -46,7 +48,10 @@ fn run<H: AllocGlobal + Env + Print + Sync + Threads + Wait, R: Read>(
 }
 
 /// Why the words of the process can't be had.
-fn unread(kind: ErrorKind) -> Failure {
+fn unread(kind: ErrorKind) -> Failure
+    ensures memory { kind ≡ ErrorKind.OutOfMemory → result ≡ Failure.Memory }
+    ensures words { kind ≢ ErrorKind.OutOfMemory → result ≡ Failure.Words }
+{
     match kind {
         ErrorKind::OutOfMemory => Failure::Memory,
         _ => Failure::Words,

@@ -19,6 +19,10 @@ pub enum ReadFault {
 }
 
 impl From<AllocError> for ReadFault {
+    ghost use Rattle.oberon_replay.specs.declared.reading.ReadFault.{ReadFault};
+
+    ghost from_gives = { λ _ fault. fault ≡ ReadFault.Memory };
+
     fn from(_refused: AllocError) -> ReadFault {
         ReadFault::Memory
     }
