@@ -1,0 +1,34 @@
+//! The program `refused_growth`: what stands after a growth was refused.
+//!
+//! It runs two small machines and reads texts with faults, and prints what it met. With ample memory nothing is refused, and
+//! what it then prints stands in the file `stdout`. `tests/refused-growth` runs it with each request for memory refused in turn.
+//! Where the library answers, nothing is taught by this crate: it is a test.
+#![tactic(auto)]
+
+mod texts;
+mod trial;
+
+use std::io;
+use texts::texts;
+use trial::Trial;
+
+/// A jump to itself.
+const JUMP: u32 = 0xE7FF_FFFF;
+
+/// Sends one byte, 41 hexadecimal: the growth that can be refused is that of the output.
+const SENDER: Trial = Trial {
+    name: "sender",
+    program: [0x5100_FFC8, 0x4000_0041, 0xA010_0000, JUMP],
+};
+
+/// Stores 5 in word 256, which lies in another page: the growth that can be refused is that page's copy.
+const WRITER: Trial = Trial {
+    name: "writer",
+    program: [0x4000_0005, 0xA010_0400, JUMP, 0],
+};
+
+fn main(rt: HostRuntime) -> io::Result<()> {
+    SENDER.run(&rt)?;
+    WRITER.run(&rt)?;
+    texts(&rt)
+}

@@ -1,0 +1,134 @@
+//! A machine of four instructions that runs for four, and goes on after a refusal.
+
+ghost use Rattle.std.specs.Prelude.{◌≡◌, ◌≤◌, ◌<◌, All, IfOk, length};
+
+use risc_devices::Devices;
+use risc_machine::{Cpu, Flags, Inputs, Machine, RunFault};
+use risc_pages::{Page, Pool, Table};
+use std::alloc::{AllocError, Global};
+use std::io;
+
+/// How many instructions a trial runs.
+const STEPS: u64 = 4;
+
+/// A program from word 0 on, in a memory that is zero elsewhere.
+#[derive(Clone, Copy)]
+pub struct Trial {
+    pub name: &'static str,
+    pub program: [u32; 4],
+}
+
+impl Trial {
+    /// Runs the program, prints what was refused and what then stood, goes on from there, and prints where it came to.
+    pub fn run<H: AllocGlobal + Print>(&self, rt: &H) -> io::Result<()> {
+        let alloc = rt.alloc();
+        let mut output = Vec::new(alloc);
+        let Ok(pool) = self.pool(alloc) else {
+            return println!(rt; "{}: no room to begin", self.name);
+        };
+        let Ok(inputs) = Inputs::new(Vec::new(alloc)) else {
+            return println!(rt; "{}: no inputs are out of order", self.name);
+        };
+        let Ok(mut machine) = start(alloc, &pool) else {
+            return println!(rt; "{}: no room to begin", self.name);
+        };
+        match machine.run(&inputs, 0, STEPS, &mut output) {
+            Ok(()) => println!(rt; "{}: not refused", self.name)?,
+            Err(fault) => {
+                println!(rt; "{}: refused at {}", self.name, fault.at)?;
+                self.show(rt, &machine, &output)?;
+                let went_on = go_on(&mut machine, &inputs, fault, &mut output);
+                if went_on.is_err() {
+                    return println!(rt; "{}: refused again", self.name);
+                }
+            }
+        }
+        self.show(rt, &machine, &output)
+    }
+
+    /// The pool with the one page of the program.
+    fn pool(&self, alloc: Global) -> Result<Pool, AllocError>
+        ensures { IfOk result (λ pool. length pool ≡ 1) }
+    {
+        let mut pool = Pool::new(alloc);
+        let mut page = *pool.page(0);
+        write(&mut page, 0, self.program[0]);
+        write(&mut page, 1, self.program[1]);
+        write(&mut page, 2, self.program[2]);
+        write(&mut page, 3, self.program[3]);
+        pool.push(page)?;
+        Ok(pool)
+    }
+
+    /// Prints the parts of the machine that its program changes, and what it sent.
+    fn show<H: Print>(&self, rt: &H, machine: &Machine, output: &[u8]) -> io::Result<()> {
+        let cpu = machine.cpu();
+        let memory = machine.memory();
+        println!(rt;
+            "{}: R0 {:08X}, PC {}, word 256 {:08X}, place 1 owned {}, sent {:?}",
+            self.name,
+            cpu.r[0],
+            cpu.pc,
+            memory.read(256),
+            memory.owned(1),
+            output
+        )
+    }
+}
+
+/// Writes a word of a page.
+fn write(page: &mut Page, place: usize, word: u32)
+    requires { place < 256 }
+{
+    page.words[place] = word;
+}
+
+/// The table with the pool's first page at place 0 and zeros elsewhere.
+fn first_place() -> Table
+    ensures { All (λ n. n ≤ 1) result }
+{
+    let mut table = Table::zeros();
+    table.set(0, 1);
+    table
+}
+
+/// The machine with all zeros but for the page of the program at place 0.
+fn start(alloc: Global, pool: &Pool) -> Result<Machine<'_>, AllocError>
+    requires { length pool.now ≡ 1 }
+{
+    let Ok(devices) = Devices::new(0, 0, 0, 0, 0, &[]) else {
+        return Err(AllocError);
+    };
+    let flags = Flags {
+        n: false,
+        z: false,
+        c: false,
+        v: false,
+    };
+    let cpu = Cpu {
+        r: [0; 16],
+        h: 0,
+        pc: 0,
+        flags,
+        stop: 0,
+    };
+    Machine::start(alloc, pool, &first_place(), cpu, devices)
+}
+
+/// Goes on after a refusal: does the instruction that was refused, whose inputs were taken, and runs on from the next.
+fn go_on(
+    machine: &mut Machine,
+    inputs: &Inputs,
+    fault: RunFault,
+    output: &mut Vec<u8>,
+) -> Result<(), AllocError>
+    requires { fault.at < 4 }
+{
+    if let Some(byte) = machine.step()? {
+        output.push(byte)?;
+    }
+    match machine.run(inputs, fault.at + 1, STEPS, output) {
+        Ok(()) => Ok(()),
+        Err(_) => Err(AllocError),
+    }
+}
