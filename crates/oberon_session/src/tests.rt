@@ -1,5 +1,7 @@
 //! The session of the documents, each fault once, and the order of faults where two rules are broken.
 
+mod recorded;
+
 use crate::{SessionFault, read_session};
 use std::alloc::Global;
 use std::test::Fail;
