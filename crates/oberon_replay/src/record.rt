@@ -1,5 +1,5 @@
 //! What the command `record` answers: the text of the recording of a session.
-ghost use Rattle.std.specs.Prelude.{◌≡◌, IfOk};
+ghost use Rattle.std.specs.Prelude.{IfOk};
 ghost use Rattle.oberon_replay.specs.Record.{IsRecord, IsRecordOf, IsRefusal};
 
 use crate::reply::Reply;
