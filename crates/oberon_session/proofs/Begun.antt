@@ -12,18 +12,18 @@ use Rattle.risc_pages.specs.Pages.{ArePages, IsPage}
 use Rattle.risc_pages.specs.Tables.{zero_numbers}
 use Rattle.oberon_format.specs.CheckpointParts.{CheckpointParts, no_checkpoint}
 use Rattle.oberon_format.specs.Recording.{IsFit, IsLawful, output_of}
-use Rattle.oberon_session.proofs.Contents.{IsTableOf}
 use Rattle.oberon_session.proofs.Next.{Recorded, so-recorded}
 use Rattle.oberon_session.proofs.Steps.{between-none, count_of-zero, first_fault-zero, laid_of-zero, output_up_to-zero, state_at-zero}
 use Rattle.oberon_session.specs.Digits.{PlacedWords}
 use Rattle.oberon_session.specs.Laid.{Laid}
+use Rattle.oberon_session.specs.Laws.{IsTableOf}
 use Rattle.oberon_session.specs.Recorded.{checkpoint_of, count_of, first_laid, first_state, laid_of, no_devices, numbered, output_between, output_up_to, state_at, state_of}
 use Rattle.oberon_session.specs.SessionParts.{SessionParts, places_in, IsLawful as IsLawfulSession}
-use Rattle.oberon_session.specs.Walk.{IsContentOf, IsRecorded, checkpoints_to}
+use Rattle.oberon_session.specs.Progress.{IsContentOf, IsRecorded, checkpoints_to}
 
 -- ---- the first table
 
-length-numbered : (pages : List PlacedWords) (n : ℕ) → length (numbered pages n) ≡ 1024
+pub length-numbered : (pages : List PlacedWords) (n : ℕ) → length (numbered pages n) ≡ 1024
 unfolding numbered zero_numbers
 length-numbered pages zero = length-replicate {A = ℕ} 1024 0
 length-numbered pages (suc n) = length-set (numbered pages n) (slice_index (places_in pages) n) (suc n) ∙ length-numbered pages n

@@ -17,6 +17,7 @@ use Rattle.risc_pages.specs.Content.{IsNamed, table_words}
 use Rattle.risc_pages.specs.Delta.{changed_below}
 use Rattle.risc_pages.specs.Pages.{ArePages, page_at, page_of, zero_page}
 use Rattle.oberon_session.specs.Laid.{Laid, changed_pages, is_blank, lay, lay_page, lay_pages}
+use Rattle.oberon_session.specs.Laws.{IsTableOf}
 
 -- ---- pools that grow
 
@@ -101,17 +102,22 @@ content-of pool table words n count whole shown =
 abbrev IsShown : List ℕ → Laid → ℕ → Type 0
 IsShown words laid p = page_of laid.pool (slice_index laid.table p) ≡ page_at words p
 
--- as many numbers as a memory has places, each that of a page
-pub record IsTableOf (laid : Laid) : Type 0 where
-  pub count : length laid.table ≡ 1024
-  pub named : IsNamed laid.pool laid.table
-
 -- the pool has grown, the table is still one, and what it showed of the memory it still shows
 pub record Leads (words : List ℕ) (old new : Laid) : Type 0 where
   pub extra : List (List ℕ)
   pub grown : new.pool ≡ old.pool ++ extra
   pub table : IsTableOf new
   pub kept : (p : ℕ) → p < 1024 → IsShown words old p → IsShown words new p
+
+module _ (words : List ℕ) (old : Laid) (place : ℕ) where
+  pub blank-is : is_blank (page_at words place) ≡ true → lay_page old (place, page_at words place) ≡ record old { table = slice_set old.table place 0 }
+  unfolding lay_page
+  blank-is blank = rw blank refl
+
+  pub other-is : is_blank (page_at words place) ≡ false
+      → lay_page old (place, page_at words place) ≡ record { pool = old.pool ++ page_at words place ∷ []; table = slice_set old.table place (length old.pool + 1) }
+  unfolding lay_page
+  other-is other = rw other refl
 
 module _ (words : List ℕ) (old : Laid) (good : IsTableOf old) (place : ℕ) (inside : place < 1024) where
   -- a place shows its page once the number of that page is set there, over a pool that has only grown
@@ -143,15 +149,6 @@ module _ (words : List ℕ) (old : Laid) (good : IsTableOf old) (place : ℕ) (i
       kept = kept;
     }
 
-  blank-is : is_blank (page_at words place) ≡ true → lay_page old (place, page_at words place) ≡ record old { table = slice_set old.table place 0 }
-  unfolding lay_page
-  blank-is blank = rw blank refl
-
-  other-is : is_blank (page_at words place) ≡ false
-      → lay_page old (place, page_at words place) ≡ record { pool = old.pool ++ page_at words place ∷ []; table = slice_set old.table place (length old.pool + 1) }
-  unfolding lay_page
-  other-is other = rw other refl
-
   -- a page was laid
   abbrev IsLaid : Laid → Type 0
   IsLaid new = Leads words old new × IsShown words new place
@@ -160,7 +157,7 @@ module _ (words : List ℕ) (old : Laid) (good : IsTableOf old) (place : ℕ) (i
   page-laid true blank whole =
       let same : old.pool ++ [] ≡ old.pool = append-nil old.pool in
       let after-is : lay_page old (place, page_at words place) ≡ record { pool = old.pool ++ []; table = slice_set old.table place 0 } =
-      blank-is blank ∙ ap (λ (pool : List (List ℕ)). record { pool = pool; table = slice_set old.table place 0 }) (sym same) in
+      blank-is words old place blank ∙ ap (λ (pool : List (List ℕ)). record { pool = pool; table = slice_set old.table place 0 }) (sym same) in
       let zeros-there : page_of (old.pool ++ []) 0 ≡ page_at words place =
       page_of-zero (old.pool ++ []) 0 refl ∙ sym (blank-page (page_at words place) (length-page_at words place whole inside) blank) in
       subst IsLaid (sym after-is) (set-leads [] 0 (omega arith) zeros-there, here [] 0 (omega arith) zeros-there)
@@ -168,7 +165,7 @@ module _ (words : List ℕ) (old : Laid) (good : IsTableOf old) (place : ℕ) (i
       let page : List ℕ = page_at words place in
       let fits : length old.pool + 1 ≤ length (old.pool ++ page ∷ []) = omega (arith, length_push old.pool page) in
       let last = page_of-last old.pool page in
-      subst IsLaid (sym (other-is other)) (set-leads (page ∷ []) (length old.pool + 1) fits last, here (page ∷ []) (length old.pool + 1) fits last)
+      subst IsLaid (sym (other-is words old place other)) (set-leads (page ∷ []) (length old.pool + 1) fits last, here (page ∷ []) (length old.pool + 1) fits last)
 
 module _ (words : List ℕ) (whole : length words ≡ 262144) where
   abbrev with-page : ℕ → ℕ × List ℕ

@@ -15,9 +15,9 @@ use Rattle.oberon_session.specs.Digits.{PlacedWords}
 use Rattle.oberon_session.specs.Laid.{changed_pages}
 use Rattle.oberon_session.specs.Recorded.{numbered}
 use Rattle.oberon_session.specs.SessionParts.{places_in}
-use Rattle.oberon_session.specs.Walk.{page_view}
+use Rattle.oberon_session.specs.Progress.{page_view}
 
-numbered-suc : (pages : List PlacedWords) (n : ℕ) → numbered pages (suc n) ≡ slice_set (numbered pages n) (slice_index (places_in pages) n) (suc n)
+pub numbered-suc : (pages : List PlacedWords) (n : ℕ) → numbered pages (suc n) ≡ slice_set (numbered pages n) (slice_index (places_in pages) n) (suc n)
 unfolding numbered
 numbered-suc pages n = refl
 

@@ -12,3 +12,5 @@ mod Next
 mod Reaching
 mod Begun
 mod Whole
+mod LaidLaws
+mod FirstTables

@@ -11,13 +11,14 @@ use Rattle.oberon_format.proofs.Output.{output_of_push}
 use Rattle.oberon_format.specs.CheckpointParts.{CheckpointParts, no_checkpoint}
 use Rattle.oberon_format.specs.Ranges.{max_output}
 use Rattle.oberon_format.specs.Recording.{IsFit, IsLawful, RecordingParts, count_at, output_of}
-use Rattle.oberon_session.proofs.Contents.{IsTableOf, Leads, memory-laid, table_words-grown}
+use Rattle.oberon_session.proofs.Contents.{Leads, memory-laid, table_words-grown}
 use Rattle.oberon_session.proofs.LawfulMore.{lawful-more}
 use Rattle.oberon_session.proofs.Steps.{count-fits, count-rises, laid_of-next, nothing-too-much, output-on}
 use Rattle.oberon_session.specs.Laid.{Laid}
+use Rattle.oberon_session.specs.Laws.{IsTableOf}
 use Rattle.oberon_session.specs.Recorded.{checkpoint_of, count_of, laid_of, output_between, output_up_to, state_of}
 use Rattle.oberon_session.specs.SessionParts.{SessionParts, IsLawful as IsLawfulSession}
-use Rattle.oberon_session.specs.Walk.{IsContentOf, IsRecorded, checkpoints_to}
+use Rattle.oberon_session.specs.Progress.{IsContentOf, IsRecorded, checkpoints_to}
 
 module _ (s : SessionParts) where
   -- what is recorded up to checkpoint k, in the words of the session

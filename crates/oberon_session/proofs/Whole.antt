@@ -13,7 +13,7 @@ use Rattle.oberon_session.proofs.Steps.{between-is}
 use Rattle.oberon_session.specs.Recorded.{checkpoint_of, count_of, first_state, last_of, output_between, record_fault_of, recording_of, state_at, state_of}
 use Rattle.oberon_session.specs.SessionParts.{SessionParts}
 use Rattle.oberon_session.specs.Laid.{Laid}
-use Rattle.oberon_session.specs.Walk.{IsRecorded}
+use Rattle.oberon_session.specs.Progress.{IsRecorded}
 
 module _ (s : SessionParts) where
   -- it is the recording

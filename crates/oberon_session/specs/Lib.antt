@@ -8,4 +8,5 @@ pub mod Tested
 pub mod FaultNames
 pub mod Laid
 pub mod Recorded
-pub mod Walk
+pub mod Progress
+pub mod Laws

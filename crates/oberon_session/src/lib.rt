@@ -9,6 +9,7 @@ mod digits;
 mod draft;
 mod events;
 mod fault;
+mod laws;
 mod layout;
 mod placed;
 mod range;
@@ -21,6 +22,7 @@ mod shape;
 mod walk;
 
 pub use fault::SessionFault;
+pub use laws::{first_table_law, laid_law};
 pub use reading::read_session;
 pub use record_fault::RecordFault;
 pub use recorder::make_recording;

@@ -7,7 +7,7 @@ ghost use Rattle.oberon_format.specs.Defined.{IsTrueAt};
 ghost use Rattle.oberon_format.specs.Parts.{parts_of};
 ghost use Rattle.oberon_format.specs.Recording.{IsLawful};
 ghost use Rattle.oberon_session.specs.Recorded.{no_devices, record_fault_of, recording_of};
-ghost use Rattle.oberon_session.specs.Walk.{IsRecorded, laid_view};
+ghost use Rattle.oberon_session.specs.Progress.{IsRecorded, laid_view};
 
 use crate::layout::{Layout, first_layout, lay_pages};
 use crate::record_fault::RecordFault;
@@ -108,7 +108,8 @@ fn record_next(
         return Err(RecordFault::Pages);
     }
     recorder.sent += reached.sent.bytes().len();
-    let _in_range = reached.devices.timer();
+    // Each read of devices says that they are in their ranges.
+    let _timer = reached.devices.timer();
     recorder.checkpoints.push(Checkpoint {
         count,
         cpu: reached.cpu,

@@ -6,7 +6,7 @@ ghost use Rattle.risc_machine.specs.Refusal.{Keeps};
 ghost use Rattle.risc_machine.specs.Replay.{run_of, sent_of};
 ghost use Rattle.oberon_format.specs.CheckpointParts.{checkpoint_parts};
 ghost use Rattle.oberon_format.specs.Defined.{claim_of};
-ghost use Rattle.oberon_session.specs.Walk.{IsReached};
+ghost use Rattle.oberon_session.specs.Progress.{IsReached};
 
 use crate::record_fault::RecordFault;
 use oberon_format::{Checkpoint, Sent};
@@ -50,6 +50,7 @@ pub fn reach(
 {
     let mut machine = Machine::start(alloc, pool, &last.table, last.cpu, last.devices.copy())?;
     let sent = run_in_pieces(alloc, &mut machine, inputs, last.count, to, room)?;
+    // Each read of a memory says that it is whole.
     let _owned = machine.memory().owned(0);
     let (cpu, devices, delta) = machine.close()?;
     Ok(Reached {

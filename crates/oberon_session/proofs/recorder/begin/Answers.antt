@@ -6,7 +6,7 @@ use Rattle.oberon_session.proofs.Mapped.{unmapped}
 use Rattle.oberon_session.specs.Digits.{PlacedWords, placed_view}
 use Rattle.oberon_session.specs.Laid.{Laid}
 use Rattle.oberon_session.specs.Recorded.{first_laid}
-use Rattle.oberon_session.specs.Walk.{laid_view}
+use Rattle.oberon_session.specs.Progress.{laid_view}
 use Rattle.oberon_session.proofs.recorder.begin.Goals as goal
 
 pub first_layout-requires-clause-places : goal.first_layout-requires-clause-places

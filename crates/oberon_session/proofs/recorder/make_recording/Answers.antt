@@ -7,7 +7,7 @@ use Rattle.oberon_format.specs.Parts.{parts_of}
 use Rattle.oberon_format.specs.Recording.{RecordingParts}
 use Rattle.oberon_session.proofs.Whole.{made, recording-of, truth-of}
 use Rattle.oberon_session.specs.Recorded.{last_of, recording_of}
-use Rattle.oberon_session.specs.Walk.{laid_view}
+use Rattle.oberon_session.specs.Progress.{laid_view}
 use Rattle.oberon_session.proofs.recorder.make_recording.Goals as goal
 
 pub returns-clause-recording : goal.returns-clause-recording

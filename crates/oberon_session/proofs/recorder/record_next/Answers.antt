@@ -5,7 +5,7 @@ use Rattle.oberon_session.proofs.Layouts.{few-changes, low-changes}
 use Rattle.oberon_session.proofs.Reaching.{inside-of, last-count, last-fit, recorded-more, refused-output, refused-pages}
 use Rattle.oberon_session.proofs.Steps.{count-rises, count_of-next}
 use Rattle.oberon_session.specs.Recorded.{count_of}
-use Rattle.oberon_session.specs.Walk.{laid_view}
+use Rattle.oberon_session.specs.Progress.{laid_view}
 use Rattle.oberon_session.specs.declared.record_fault.RecordFault.{RecordFault}
 use Rattle.oberon_session.proofs.recorder.record_next.Goals as goal
 
@@ -109,7 +109,7 @@ returns-clause-recorded c =
     recorded-more s k laid items c.args.recorder.now.sent so c.index-last.result.now inside c.index-last.ensures
     c.inputs.result.now c.inputs.ensures.inputs (get_or c.counts.result.now k 0) next on r c.in_ok-reached.ensures.reached
     (laid_view c.lay_pages.new.layout) laid-so c.in_ok-reached.ensures.room (omega (arith, so.long, ap length so.output, so.lawful.output))
-    c.counts.ensures.lawful c.requires.inside (omega arith) c.len.ensures.pages c.timer-in_range.ensures.ranges c.bytes.ensures.bytes
+    c.counts.ensures.lawful c.requires.inside (omega arith) c.len.ensures.pages c.timer-timer.ensures.ranges c.bytes.ensures.bytes
     c.push.new.self.items _ c.in_ok-push.ensures.items
     (ap (λ (table : List ℕ). record { count = count; cpu = cpu_state r.cpu; devices = r.devices; sent = r.sent; table = table }) c.copy.ensures)
     (c.args.recorder.now.sent + length c.bytes.result.now) (ap (λ (l : List ℕ). c.args.recorder.now.sent + length l) c.bytes.ensures.sent)

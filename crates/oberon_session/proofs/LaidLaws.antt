@@ -1,0 +1,141 @@
+-- The laws of what is laid.
+use Rattle.std.proofs.Common.{◌≡◌, ◌≢◌, ℕ, zero, suc, ◌+◌, ◌<◌, ◌≤◌, ◌⊎◌, inl, inr, Bool, true, false, cond, List, [], ◌∷◌, ◌++◌, ap, append_assoc, arith, get_or-set_other, length, length-set, map, not, refl, subst, sym, ◌∙◌}
+use Rattle.std.proofs.lemmas.Bool.{false≢true}
+use Rattle.std.proofs.lemmas.Bool.Decides.{eqb_tells}
+use Rattle.std.proofs.lemmas.Grind.{get_or-set_at}
+use Rattle.std.proofs.lemmas.List.{append-nil, length_push}
+use Rattle.std.specs.List.{All, Contains, filter}
+use Rattle.std.specs.Prelude.{slice_index}
+use Rattle.risc_pages.proofs.DeltaLemmas.{AreDifferences-changed_below}
+use Rattle.risc_pages.specs.Delta.{changed_below}
+use Rattle.risc_pages.specs.Pages.{page_at}
+use Rattle.oberon_session.proofs.Contents.{blank-is, memory-laid, other-is}
+use Rattle.oberon_session.specs.Laid.{Laid, is_blank, lay, lay_page, lay_pages}
+use Rattle.oberon_session.specs.Laws.{LaidLaw}
+
+module _ (words : List ℕ) where
+  abbrev with-page : ℕ → ℕ × List ℕ
+  with-page place = (place, page_at words place)
+
+  abbrev new-pages : List ℕ → List (List ℕ)
+  new-pages places = filter (λ page. not (is_blank page)) (map (page_at words) places)
+
+  -- what the pages at these places come to, laid one after another
+  pub record Steps (old new : Laid) (places : List ℕ) (n : ℕ) : Type 0 where
+    pub pool : new.pool ≡ old.pool ++ new-pages places
+    pub kept : (p : ℕ) → ¬ (Contains places p) → slice_index new.table p ≡ slice_index old.table p
+    pub zeros : (p : ℕ) → is_blank (page_at words p) ≡ true → Contains places p ⊎ (slice_index old.table p ≡ 0) → slice_index new.table p ≡ 0
+    pub fresh : (p : ℕ) → is_blank (page_at words p) ≡ false → Contains places p ⊎ (n < slice_index old.table p) → n < slice_index new.table p
+
+  -- in a list that begins with q, p is q or in the rest
+  first-or-rest : (q p : ℕ) (places : List ℕ) → Contains (q ∷ places) p → (q ≡ p) ⊎ Contains places p
+  first-or-rest q p places (zero, lt, is) = inl is
+  first-or-rest q p places (suc k, lt, is) = inr (k, omega arith, is)
+
+  -- what one page at place q comes to
+  record One (old mid : Laid) (q n : ℕ) : Type 0 where
+    pub pool : mid.pool ≡ old.pool ++ new-pages (q ∷ [])
+    pub count : length mid.table ≡ 1024
+    pub grown : n ≤ length mid.pool
+    pub other : (p : ℕ) → p ≢ q → slice_index mid.table p ≡ slice_index old.table p
+    pub zero-there : is_blank (page_at words q) ≡ true → slice_index mid.table q ≡ 0
+    pub new-there : is_blank (page_at words q) ≡ false → n < slice_index mid.table q
+
+  module _ (old : Laid) (count : length old.table ≡ 1024) (q : ℕ) (low : q < 1024) (n : ℕ) (bound : n ≤ length old.pool) where
+    one : (b : Bool) → is_blank (page_at words q) ≡ b → One old (lay_page old (q, page_at words q)) q n
+    one true blank =
+        subst (λ (l : Laid). One old l q n) (sym (blank-is words old q blank)) (record {
+          pool = rw blank (sym (append-nil old.pool));
+          count = length-set old.table q 0 ∙ count;
+          grown = bound;
+          other = λ p apart. get_or-set_other old.table q p 0 0 apart;
+          zero-there = λ _. get_or-set_at old.table q q 0 0 refl (omega arith);
+          new-there = λ other. absurd (false≢true (sym other ∙ blank));
+        })
+    one false other =
+        let page : List ℕ = page_at words q in
+        let long = length_push old.pool page in
+        subst (λ (l : Laid). One old l q n) (sym (other-is words old q other)) (record {
+          pool = rw other refl;
+          count = length-set old.table q (length old.pool + 1) ∙ count;
+          grown = omega arith;
+          other = λ p apart. get_or-set_other old.table q p (length old.pool + 1) 0 apart;
+          zero-there = λ blank. absurd (false≢true (sym other ∙ blank));
+          new-there = λ _.
+              let there = get_or-set_at old.table q q (length old.pool + 1) 0 refl (omega arith) in
+              omega arith;
+        })
+
+  one-more : (b : Bool) (page : List ℕ) (rest : List (List ℕ)) → cond b (page ∷ rest) rest ≡ cond b (page ∷ []) [] ++ rest
+  one-more true page rest = refl
+  one-more false page rest = refl
+
+  not-there : {X : Type 0} (p : ℕ) → Contains [] p ⊎ X → X
+  not-there p (inl there) = absurd (omega (arith, there.1))
+  not-there p (inr before) = before
+
+  steps : (places : List ℕ) → All (λ p. p < 1024) places → (old : Laid) → length old.table ≡ 1024 → (n : ℕ) → n ≤ length old.pool
+      → Steps old (lay_pages old (map with-page places)) places n
+  steps [] low old count n bound = record {
+    pool = sym (append-nil old.pool);
+    kept = λ p none. refl;
+    zeros = λ p blank before. not-there p before;
+    fresh = λ p other before. not-there p before;
+  }
+  steps (q ∷ places) low old count n bound =
+      let first = one old count q (low 0 q (omega arith)) n bound (is_blank (page_at words q)) refl in
+      let mid : Laid = lay_page old (q, page_at words q) in
+      let rest = steps places (λ k d lt. low (suc k) d (omega arith)) mid first.count n first.grown in
+      record {
+        pool =
+            rest.pool ∙ ap (λ (pool : List (List ℕ)). pool ++ new-pages places) first.pool
+            ∙ append_assoc old.pool (new-pages (q ∷ [])) (new-pages places)
+            ∙ ap (λ (l : List (List ℕ)). old.pool ++ l) (sym (one-more (not (is_blank (page_at words q))) (page_at words q) (new-pages places)));
+        kept = λ p none.
+            let apart : p ≢ q = λ same. none (0, omega arith, sym same) in
+            rest.kept p (λ there. none (suc there.0, omega (arith, there.1), there.2)) ∙ first.other p apart;
+        zeros = λ p blank before. rest.zeros p blank (zeros-on q p places old mid first.other first.zero-there blank before);
+        fresh = λ p other before. rest.fresh p other (fresh-on q p places n old mid first.other first.new-there other before);
+      }
+    where
+      zeros-on : (q p : ℕ) (places : List ℕ) (old mid : Laid) → ((p : ℕ) → p ≢ q → slice_index mid.table p ≡ slice_index old.table p)
+          → (is_blank (page_at words q) ≡ true → slice_index mid.table q ≡ 0) → is_blank (page_at words p) ≡ true
+          → Contains (q ∷ places) p ⊎ (slice_index old.table p ≡ 0) → Contains places p ⊎ (slice_index mid.table p ≡ 0)
+      zeros-on q p places old mid other here blank before = elim (eqb_tells p q) [
+        | inl same ↦ inr (subst (λ (x : ℕ). slice_index mid.table x ≡ 0) (sym same.1) (here (subst (λ (x : ℕ). is_blank (page_at words x) ≡ true) same.1 blank)))
+        | inr apart ↦ elim before [
+          | inl there ↦ elim (first-or-rest q p places there) [
+            | inl same ↦ absurd (apart.1 (sym same))
+            | inr later ↦ inl later
+          ]
+          | inr was ↦ inr (other p apart.1 ∙ was)
+        ]
+      ]
+
+      fresh-on : (q p : ℕ) (places : List ℕ) (n : ℕ) (old mid : Laid) → ((p : ℕ) → p ≢ q → slice_index mid.table p ≡ slice_index old.table p)
+          → (is_blank (page_at words q) ≡ false → n < slice_index mid.table q) → is_blank (page_at words p) ≡ false
+          → Contains (q ∷ places) p ⊎ (n < slice_index old.table p) → Contains places p ⊎ (n < slice_index mid.table p)
+      fresh-on q p places n old mid other here blank before = elim (eqb_tells p q) [
+        | inl same ↦ inr (subst (λ (x : ℕ). n < slice_index mid.table x) (sym same.1) (here (subst (λ (x : ℕ). is_blank (page_at words x) ≡ false) same.1 blank)))
+        | inr apart ↦ elim before [
+          | inl there ↦ elim (first-or-rest q p places there) [
+            | inl same ↦ absurd (apart.1 (sym same))
+            | inr later ↦ inl later
+          ]
+          | inr was ↦ inr (subst (λ (x : ℕ). n < x) (sym (other p apart.1)) was)
+        ]
+      ]
+
+pub laid-law : LaidLaw
+unfolding lay
+laid-law earlier words old good pages content whole =
+    let places : List ℕ = changed_below 1024 earlier words in
+    let differences = AreDifferences-changed_below earlier words (changed_below 1024 earlier words) refl in
+    let laid = steps words (changed_below 1024 earlier words) (λ k d lt. (differences.each k d lt).0) old good.count (length old.pool) (omega arith) in
+    record {
+      pool = laid.pool;
+      kept = λ p lt same. laid.kept p (λ there. (differences.each there.0 p there.1).1 (subst (λ (x : ℕ). page_at words x ≡ page_at earlier x) (sym there.2) same));
+      zeros = λ p lt differ blank. laid.zeros p blank (inl (differences.all p lt differ));
+      fresh = λ p lt differ other. laid.fresh p other (inl (differences.all p lt differ));
+      content = (memory-laid earlier words old good pages content whole).1;
+    }

@@ -1,0 +1,48 @@
+-- What laying comes to, in the words of pages and places. (own)
+use Rattle.std.specs.Prelude.{ℕ, ◌≡◌, ◌≢◌, ◌+◌, ◌<◌, true, false, List, ◌++◌, All, filter, length, map, not, slice_index}
+use Rattle.std.specs.List.Sorted.{IsStrictlyIncreasing}
+use Rattle.risc_pages.specs.Content.{IsNamed, table_words}
+use Rattle.risc_pages.specs.Delta.{changed_below}
+use Rattle.risc_pages.specs.Pages.{ArePages, page_at}
+use Rattle.oberon_session.specs.Digits.{PlacedWords}
+use Rattle.oberon_session.specs.Laid.{Laid, is_blank, lay}
+use Rattle.oberon_session.specs.Recorded.{numbered}
+use Rattle.oberon_session.specs.SessionParts.{places_in}
+
+-- a table of pages of the pool
+pub record IsTableOf (laid : Laid) : Type 0 where
+  pub count : length laid.table ≡ 1024
+  pub named : IsNamed laid.pool laid.table
+
+-- the pages that changed and are not all zeros, by rising place
+abbrev pub new_pages : List ℕ → List ℕ → List (List ℕ)
+new_pages earlier words = filter (λ page. not (is_blank page)) (map (page_at words) (changed_below 1024 earlier words))
+
+-- a memory was laid where an earlier one was laid last
+pub record IsLaidOut (earlier words : List ℕ) (old new : Laid) : Type 0 where
+  -- the new pages join the pool, and nothing else changes there
+  pub pool : new.pool ≡ old.pool ++ new_pages earlier words
+  -- a place that did not change keeps its number
+  pub kept : (p : ℕ) → p < 1024 → page_at words p ≡ page_at earlier p → slice_index new.table p ≡ slice_index old.table p
+  -- one that changed has number 0 where it is all zeros now
+  pub zeros : (p : ℕ) → p < 1024 → page_at words p ≢ page_at earlier p → is_blank (page_at words p) ≡ true → slice_index new.table p ≡ 0
+  -- and else the number of a new page
+  pub fresh : (p : ℕ) → p < 1024 → page_at words p ≢ page_at earlier p → is_blank (page_at words p) ≡ false → length old.pool < slice_index new.table p
+  -- and the memory is the content of the new table over the new pool
+  pub content : table_words new.pool new.table ≡ words
+
+-- so it is for each memory that differs from one that was laid
+abbrev pub LaidLaw : Type 0
+LaidLaw =
+    (earlier words : List ℕ) (old : Laid) → IsTableOf old → ArePages old.pool → table_words old.pool old.table ≡ earlier
+    → length words ≡ 262144 → IsLaidOut earlier words old (lay earlier words old)
+
+-- in a session's first table the place of page i has number i + 1, and each place where no page stands has number 0
+pub record IsFirstTable (pages : List PlacedWords) (table : List ℕ) : Type 0 where
+  pub pages_named : (i : ℕ) → i < length pages → slice_index table (slice_index (places_in pages) i) ≡ i + 1
+  pub others_zero : (p : ℕ) → All (λ place. place ≢ p) (places_in pages) → slice_index table p ≡ 0
+
+abbrev pub FirstTableLaw : Type 0
+FirstTableLaw =
+    (pages : List PlacedWords) → IsStrictlyIncreasing (places_in pages) → All (λ place. place < 1024) (places_in pages)
+    → IsFirstTable pages (numbered pages (length pages))
