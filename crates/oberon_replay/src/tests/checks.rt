@@ -179,7 +179,41 @@ const PAGE_WRITTEN: Draft<'static> = Draft {
     output: &[],
 };
 
-const EXAMPLES: [Example; 14] = [
+/// A jump to itself, with ten checkpoints, of which the third and the seventh claim a light that no one lit.
+const TWO_FALSE_CHECKPOINTS: Draft<'static> = Draft {
+    pages: 1,
+    events: 0,
+    checkpoints: 11,
+    numbers: &[
+        (Word(0, 0), JUMP),
+        (Place(0, 0), 1),
+        (Count(1), 10),
+        (Place(1, 0), 1),
+        (Count(2), 20),
+        (Place(2, 0), 1),
+        (Count(3), 30),
+        (Leds(3), 1),
+        (Place(3, 0), 1),
+        (Count(4), 40),
+        (Place(4, 0), 1),
+        (Count(5), 50),
+        (Place(5, 0), 1),
+        (Count(6), 60),
+        (Place(6, 0), 1),
+        (Count(7), 70),
+        (Leds(7), 1),
+        (Place(7, 0), 1),
+        (Count(8), 80),
+        (Place(8, 0), 1),
+        (Count(9), 90),
+        (Place(9, 0), 1),
+        (Count(10), 100),
+        (Place(10, 0), 1),
+    ],
+    output: &[],
+};
+
+const EXAMPLES: [Example; 15] = [
     (EMPTY_RECORDING, &[], "accepted 0 checkpoints 0 steps\n", 0),
     (MOVE_FIVE, &[], "accepted 1 checkpoints 1000 steps\n", 0),
     (DIVISOR_STOP, &[], "accepted 2 checkpoints 9 steps\n", 0),
@@ -229,10 +263,18 @@ const EXAMPLES: [Example; 14] = [
         "false checkpoint 1 at 100 part R0\n",
         1,
     ),
+    (
+        TWO_FALSE_CHECKPOINTS,
+        &[],
+        "false checkpoint 3 at 30 part LEDs\n",
+        1,
+    ),
 ];
 
 #[test]
-fn gives_each_recording_its_line(rt: HostRuntime) -> Result<(), Fail> {
+fn gives_each_recording_its_line_whatever_the_workers_and_the_cut(
+    rt: HostRuntime,
+) -> Result<(), Fail> {
     check_each(&rt, &EXAMPLES)
 }
 
@@ -245,62 +287,24 @@ fn check_each(
         let (written, ended) = served(rt, &[], &text);
         assert_eq!(rt; written.as_slice(), line.as_bytes());
         assert_eq!(rt; ended, *status, "{line}");
+        check_with_each(rt, &text, line, *status);
     }
     Ok(())
 }
 
-/// A jump to itself, with ten checkpoints, of which the third and the seventh claim a light that no one lit.
-const TWO_FALSE_CHECKPOINTS: Draft<'static> = Draft {
-    pages: 1,
-    events: 0,
-    checkpoints: 11,
-    numbers: &[
-        (Word(0, 0), JUMP),
-        (Place(0, 0), 1),
-        (Count(1), 10),
-        (Place(1, 0), 1),
-        (Count(2), 20),
-        (Place(2, 0), 1),
-        (Count(3), 30),
-        (Leds(3), 1),
-        (Place(3, 0), 1),
-        (Count(4), 40),
-        (Place(4, 0), 1),
-        (Count(5), 50),
-        (Place(5, 0), 1),
-        (Count(6), 60),
-        (Place(6, 0), 1),
-        (Count(7), 70),
-        (Leds(7), 1),
-        (Place(7, 0), 1),
-        (Count(8), 80),
-        (Place(8, 0), 1),
-        (Count(9), 90),
-        (Place(9, 0), 1),
-        (Count(10), 100),
-        (Place(10, 0), 1),
-    ],
-    output: &[],
-};
-
-#[test]
-fn gives_one_line_whatever_the_workers_and_the_cut(rt: HostRuntime) -> Result<(), Fail> {
-    let text = TWO_FALSE_CHECKPOINTS.text(rt.alloc(), &[])?;
-    check_with_each(&rt, &text, b"false checkpoint 3 at 30 part LEDs\n");
-    Ok(())
-}
-
+/// Checks the text with few workers and many, and with jobs of one segment and of more.
 fn check_with_each(
     rt: &(impl Abort + AllocGlobal + Threads + Wait + Sync),
     text: &[u8],
-    line: &[u8],
+    line: &str,
+    status: u8,
 ) {
     for workers in ["1", "2", "64"] {
         for cut in ["1", "4", "100"] {
             let words = ["check", "--workers", workers, "--cut", cut];
             let (written, ended) = served(rt, &words, text);
-            assert_eq!(rt; written.as_slice(), line);
-            assert_eq!(rt; ended, 1);
+            assert_eq!(rt; written.as_slice(), line.as_bytes());
+            assert_eq!(rt; ended, status, "{line}");
         }
     }
 }

@@ -6,21 +6,22 @@ use crate::serve::serve;
 use std::io::{self, Error, ErrorKind, Read, Write};
 use std::test::Fail;
 
-/// Gives one zero byte a turn, `left` in all, and then the error at each turn.
+/// Gives what it has, at most a thousand bytes a call, and the error at each call after so many.
 #[derive(Drop)]
-struct Failing {
-    left: usize,
-    with: ErrorKind,
+struct Failing<'a> {
+    rest: &'a [u8],
+    calls: u32,
+    then: ErrorKind,
 }
 
-impl Read for Failing {
+impl Read for Failing<'_> {
     fn read(&mut self, buf: &mut [u8]) -> io::Result<usize> {
-        if self.left == 0 || buf.is_empty() {
-            return Err(Error::from(self.with));
+        if self.calls == 0 {
+            return Err(Error::from(self.then));
         }
-        self.left -= 1;
-        buf[0] = 0;
-        Ok(1)
+        self.calls -= 1;
+        let most = buf.len().min(1000);
+        self.rest.read(&mut buf[..most])
     }
 }
 
@@ -65,15 +66,19 @@ impl Read for Endless {
     }
 }
 
-/// Takes one byte a turn, `room` in all, and then none.
+/// Takes one byte a call, `room` in all; then it takes none, or fails.
 #[derive(Drop)]
 struct Narrow {
     taken: Vec<u8>,
     room: usize,
+    fails: bool,
 }
 
 impl Write for Narrow {
     fn write(&mut self, buf: &[u8]) -> io::Result<usize> {
+        if self.room == 0 && self.fails {
+            return Err(Error::from(ErrorKind::Other));
+        }
         if self.room == 0 || buf.is_empty() {
             return Ok(0);
         }
@@ -88,28 +93,42 @@ impl Write for Narrow {
 }
 
 #[test]
-fn a_failed_read_leaves_its_line_alone(rt: HostRuntime) {
+fn a_read_that_fails_leaves_its_line_alone(rt: HostRuntime) -> Result<(), Fail> {
     let alloc = rt.alloc();
+    let text = STORED_RUN.text(alloc, &[])?;
     for words in [
         ["check", "--cut=1"].as_slice(),
         &["record"],
         &["screen", "--at=0"],
     ] {
-        let mut input = Failing {
-            left: 3,
-            with: ErrorKind::Other,
-        };
-        let mut output = Vec::new(alloc);
-        assert_eq!(rt; serve(&rt, alloc, words, &mut input, &mut output), 3);
-        assert_eq!(rt; output.as_slice(), b"read fault\n".as_slice());
+        // The text takes ten calls, and its end is seen at the eleventh.
+        for calls in 0..11 {
+            let mut input = Failing {
+                rest: &text,
+                calls,
+                then: ErrorKind::Other,
+            };
+            let mut output = Vec::new(alloc);
+            assert_eq!(rt; serve(&rt, alloc, words, &mut input, &mut output), 3);
+            assert_eq!(rt; output.as_slice(), b"read fault\n".as_slice());
+        }
     }
+    let mut input = Failing {
+        rest: &text,
+        calls: 11,
+        then: ErrorKind::Other,
+    };
+    let mut output = Vec::new(alloc);
+    assert_eq!(rt; serve(&rt, alloc, &["check"], &mut input, &mut output), 0);
+    Ok(())
 }
 
 #[test]
 fn a_reader_that_is_always_interrupted_is_a_read_fault(rt: HostRuntime) {
     let mut input = Failing {
-        left: 3,
-        with: ErrorKind::Interrupted,
+        rest: &[0; 3],
+        calls: 1,
+        then: ErrorKind::Interrupted,
     };
     let ended = read_up_to(rt.alloc(), &mut input, 100);
     assert!(rt; matches!(ended, Err(ReadFault::Failed)));
@@ -151,17 +170,21 @@ fn a_narrow_writer_gets_all_that_it_has_room_for(rt: HostRuntime) -> Result<(), 
     let alloc = rt.alloc();
     let text = STORED_RUN.text(alloc, &[])?;
     let line = b"accepted 1 checkpoints 100 steps\n".as_slice();
-    for (room, status) in [(33, 0), (32, 3), (8, 3), (0, 3)] {
-        let mut output = Narrow {
-            taken: Vec::new(alloc),
-            room,
-        };
-        assert_eq!(rt;
-            serve(&rt, alloc, &[], &mut text.as_slice(), &mut output),
-            status
-        );
-        assert_eq!(rt; output.taken.len(), room);
-        assert!(rt; line.starts_with(&output.taken));
+    for room in 0..34 {
+        for fails in [false, true] {
+            let mut output = Narrow {
+                taken: Vec::new(alloc),
+                room,
+                fails,
+            };
+            let status = if room == line.len() { 0 } else { 3 };
+            assert_eq!(rt;
+                serve(&rt, alloc, &[], &mut text.as_slice(), &mut output),
+                status
+            );
+            assert_eq!(rt; output.taken.len(), room);
+            assert!(rt; line.starts_with(&output.taken));
+        }
     }
     Ok(())
 }
