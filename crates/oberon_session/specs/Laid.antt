@@ -1,4 +1,4 @@
--- How memories are laid out as pages of a pool and tables of page numbers. (own)
+-- How memories are laid out as pages of a pool and tables of page numbers (this project's own choice).
 use Rattle.std.specs.Prelude.{ℕ, ◌+◌, ◌==◌, Bool, List, [], ◌∷◌, ◌++◌, length, map, slice_set, if◌then◌else◌}
 use Rattle.std.specs.List.{fold, list_all}
 use Rattle.risc_pages.specs.Delta.{changed_below}

@@ -1,4 +1,4 @@
--- What laying comes to, in the words of pages and places. (own)
+-- What laying comes to, in the words of pages and places.
 use Rattle.std.specs.Prelude.{ℕ, ◌≡◌, ◌≢◌, ◌+◌, ◌<◌, true, false, List, ◌++◌, All, filter, length, map, not, slice_index}
 use Rattle.std.specs.List.Sorted.{IsStrictlyIncreasing}
 use Rattle.risc_pages.specs.Content.{IsNamed, table_words}

@@ -1,4 +1,4 @@
--- The recording of a session, or why it has none. (own)
+-- The recording of a session, or why it has none. Limits, pages and their numbers are this project's own choice.
 use Rattle.std.specs.Prelude.{ℕ, zero, suc, ◌+◌, ◌-◌, nat_lt, false, List, [], length, map, slice_index, slice_set, Option, Some, None, if◌then◌else◌}
 use Rattle.std.specs.List.{range_with_len}
 use Rattle.std.specs.Option.{option_or}
