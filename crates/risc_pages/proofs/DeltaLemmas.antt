@@ -1,5 +1,5 @@
 -- The changes of a memory.
-use Rattle.std.proofs.Common.{◌≡◌, ◌≢◌, ℕ, zero, suc, ◌+◌, ◌<◌, List, [], ◌∷◌, ◌++◌, ◌⊎◌, inl, inr, Bool, true, false, not, cond, get_or, length, map, nat_eq, refl, ap, sym, subst, ◌∙◌, arith}
+use Rattle.std.proofs.Common.{◌≡◌, ◌≢◌, ℕ, zero, suc, ◌+◌, ◌<◌, List, [], ◌∷◌, ◌++◌, inl, inr, Bool, true, false, not, cond, get_or, length, map, nat_eq, refl, ap, sym, subst, ◌∙◌, arith}
 use Rattle.std.proofs.lemmas.Bool.{cases_lt, false≢true}
 use Rattle.std.proofs.lemmas.List.{append-nil, map-append, map-id}
 use Rattle.std.proofs.lemmas.List.Elements.{All-filter, Contains-append_left, Contains-push, filter_passes}
@@ -7,7 +7,7 @@ use Rattle.std.proofs.lemmas.List.FromFn.{filter_of_map_range_with_len_more, get
 use Rattle.std.proofs.lemmas.List.Kept.{IsStrictlyIncreasing-filter}
 use Rattle.std.specs.Bool.{MatchBool}
 use Rattle.std.specs.Cmp.Lexicographic.{pointwise, told_text}
-use Rattle.std.specs.List.{All, Contains, filter, range_with_len}
+use Rattle.std.specs.List.{All, Contains, range_with_len}
 use Rattle.std.specs.List.Sorted.{IsStrictlyIncreasing}
 use Rattle.risc_pages.specs.declared.page.Page.{Page}
 use Rattle.risc_pages.specs.Delta.{AreDifferences, changed_below, differs_at}

@@ -1,7 +1,7 @@
 -- Pages as their words.
 use Rattle.std.specs.Prelude.{ℕ, List}
-use Rattle.risc_pages.specs.declared.page.Page.{Page}
+use Rattle.risc_pages.specs.declared.page.Frame.{Frame}
 
--- the words of a page
-abbrev pub page_words : Page → List ℕ
-page_words page = page.words
+-- the words of a page as a pool keeps it
+abbrev pub frame_words : Frame → List ℕ
+frame_words frame = frame.page.words

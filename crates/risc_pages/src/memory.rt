@@ -64,8 +64,7 @@ impl<'a> Memory<'a> {
         let place = (word_no / 256) as usize;
         let index = (word_no % 256) as usize;
         match &self.places[place] {
-            Place::Zeros(blank) => blank.page.words[index],
-            Place::Shared(page) => page.words[index],
+            Place::Shared(frame) => frame.page.words[index],
             Place::Owned(own) => own.page.words[index],
         }
     }
@@ -90,21 +89,9 @@ impl<'a> Memory<'a> {
                 own.page.words[index] = value;
                 Ok(())
             }
-            Place::Shared(page) => {
-                let base = *page;
+            Place::Shared(frame) => {
+                let base = *frame;
                 copy_on_write(self.alloc, &mut self.places, place, base, index, value)?;
-                Ok(())
-            }
-            Place::Zeros(blank) => {
-                let zeros = *blank;
-                copy_on_write(
-                    self.alloc,
-                    &mut self.places,
-                    place,
-                    &zeros.page,
-                    index,
-                    value,
-                )?;
                 Ok(())
             }
         }

@@ -5,17 +5,15 @@ ghost use Rattle.std.specs.Prelude.{◌≡◌, ◌≢◌, ◌↔◌, ◌<◌, �
 ghost use Rattle.risc_pages.specs.Pages.{page_of, ArePages};
 ghost use Rattle.risc_pages.specs.Places.{content, base_of, TakesCopy};
 
-use crate::page::{Blank, Page};
+use crate::page::{Frame, Page};
 use crate::pool::Pool;
 use std::alloc::{AllocError, Global};
 
 /// The page at a place of a memory.
 #[derive(Drop)]
 pub(crate) enum Place<'a> {
-    /// The page of zeros, not yet written here.
-    Zeros(&'a Blank),
     /// A page of the pool, not yet written here.
-    Shared(&'a Page),
+    Shared(&'a Frame),
     /// A page that this place alone has.
     Owned(Box<Copied<'a>>),
 }
@@ -24,7 +22,7 @@ pub(crate) enum Place<'a> {
 #[derive(Drop)]
 pub(crate) struct Copied<'a> {
     pub(crate) page: Page,
-    pub(crate) base: &'a Page,
+    pub(crate) base: &'a Frame,
 }
 
 impl<'a> Place<'a> {
@@ -33,8 +31,7 @@ impl<'a> Place<'a> {
         ensures { result.now.words ≡ content self.now }
     {
         match self {
-            Place::Zeros(blank) => &blank.page,
-            Place::Shared(page) => page,
+            Place::Shared(frame) => &frame.page,
             Place::Owned(own) => &own.page,
         }
     }
@@ -47,7 +44,7 @@ impl<'a> Place<'a> {
     {
         let theirs = pool.page(page_no);
         match self {
-            Place::Zeros(_) if page_no == 0 => true,
+            Place::Shared(frame) if page_no == 0 && frame.is_blank => true,
             _ => self.page().words == theirs.words,
         }
     }
@@ -58,7 +55,7 @@ impl<'a> Place<'a> {
         ensures some { IfSome result (λ page. (page.now.words ≡ content self.now) × (content self.now ≢ base_of self.now)) }
     {
         match self {
-            Place::Owned(own) if own.page.words != own.base.words => Some(&own.page),
+            Place::Owned(own) if own.page.words != own.base.page.words => Some(&own.page),
             _ => None,
         }
     }
@@ -71,16 +68,16 @@ pub(crate) fn copy_on_write<'a>(
     alloc: Global,
     places: &mut Vec<Place<'a>>,
     place: usize,
-    base: &'a Page,
+    base: &'a Frame,
     index: usize,
     value: u32,
 ) -> Result<(), AllocError>
     requires place_inside { place < length places.old.items }
     requires index_inside { index < 256 }
-    ensures ok { OnOk result (TakesCopy places.old.items places.new.items place base.now.words (slice_set base.now.words index value)) }
+    ensures ok { OnOk result (TakesCopy places.old.items places.new.items place base.now.page.words (slice_set base.now.page.words index value)) }
     ensures err { OnErr result (places.new ≡ places.old) }
 {
-    let mut page = *base;
+    let mut page = base.page;
     page.words[index] = value;
     let own = Box::new(alloc, Copied { page, base })?;
     put(places, place, own);

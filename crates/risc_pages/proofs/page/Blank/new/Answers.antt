@@ -3,8 +3,12 @@ use Rattle.std.proofs.lemmas.List.Elements.{All-replicate}
 use Rattle.risc_pages.specs.Pages.{zero_page}
 use Rattle.risc_pages.proofs.page.Blank.new.Goals as goal
 
+pub invariant_of-page : goal.invariant_of-page
+invariant_of-page c = record { whole = refl; fit = All-replicate (λ w. w < 2 ^ 32) 256 0 (lit< tt) }
+
 pub invariant_of-result : goal.invariant_of-result
-invariant_of-result c = record { whole = refl; fit = All-replicate (λ w. w < 2 ^ 32) 256 0 (lit< tt) }
+unfolding zero_page
+invariant_of-result c = record { marked = λ _. refl }
 
 pub invariant_of-result-2 : goal.invariant_of-result-2
 unfolding zero_page

@@ -4,6 +4,6 @@ use Rattle.risc_pages.specs.declared.place.Place.{Place}
 use Rattle.risc_pages.specs.Places.{content}
 use Rattle.risc_pages.proofs.place.Place.is_same.Goals as goal
 
-pub returns-in-Zeros-clause-same : goal.returns-in-Zeros-clause-same
-returns-in-Zeros-clause-same c =
-    (λ _. ap (λ (p : Place). content p) c.in-Zeros.is ∙ c.in-Zeros.field-0.now.blank ∙ sym (page_of-zero _ _ c.if-page_no-eq0.true), λ _. refl)
+pub returns-in-Shared-clause-same : goal.returns-in-Shared-clause-same
+returns-in-Shared-clause-same c =
+    (λ _. ap (λ (p : Place). content p) c.in-Shared.is ∙ c.in-Shared.frame.now.marked c.if-frame.true ∙ sym (page_of-zero _ _ c.if-page_no-eq0.true), λ _. refl)
