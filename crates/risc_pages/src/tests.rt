@@ -110,7 +110,7 @@ fn contents_are_compared(rt: HostRuntime) -> Result<(), Fail> {
     let pool = three_pages(&rt)?;
     let table = table_of(&rt, &[(0, 1), (2, 2)]);
     assert!(rt; is_named(&pool, &table));
-    let mut memory = Memory::from_table(rt.alloc(), &pool, &table)?;
+    let memory = Memory::from_table(rt.alloc(), &pool, &table)?;
     assert_eq!(rt; memory.first_difference(&pool, &table), None);
 
     // Other numbers, and pages of another pool, name the same content.
@@ -128,6 +128,15 @@ fn contents_are_compared(rt: HostRuntime) -> Result<(), Fail> {
     let swapped = table_of(&rt, &[(0, 1), (2, 1), (9, 1)]);
     assert!(rt; is_named(&pool, &swapped));
     assert_eq!(rt; memory.first_difference(&pool, &swapped), Some(2));
+    Ok(())
+}
+
+#[test]
+fn a_write_makes_a_difference(rt: HostRuntime) -> Result<(), Fail> {
+    let pool = three_pages(&rt)?;
+    let table = table_of(&rt, &[(0, 1), (2, 2)]);
+    assert!(rt; is_named(&pool, &table));
+    let mut memory = Memory::from_table(rt.alloc(), &pool, &table)?;
     memory.write(1023 * 256, 1)?;
     assert_eq!(rt; memory.first_difference(&pool, &table), Some(1023));
     Ok(())
