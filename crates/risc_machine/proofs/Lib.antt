@@ -1,6 +1,5 @@
 pub mod OrderLemmas
 pub mod LaneLemmas
-pub mod KindLemmas
 pub mod DeviceLemmas
 pub mod DueLemmas
 pub mod RunLemmas
