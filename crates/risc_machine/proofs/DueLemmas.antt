@@ -1,5 +1,5 @@
 -- Which inputs are due, and what taking them does.
-use Rattle.std.proofs.Common.{◌≡◌, ◌≢◌, ℕ, zero, suc, ◌+◌, ◌-◌, ◌<◌, ◌≤◌, ◌^◌, Bool, true, false, List, [], ◌∷◌, length, get_or, drop, map, nat_eq, nat_lt, add-zero, add-one, drop-cons, cond, refl, ap, sym, ◌∙◌, arith, length-drop}
+use Rattle.std.proofs.Common.{◌≡◌, ◌≢◌, ℕ, zero, suc, ◌+◌, ◌-◌, ◌<◌, ◌≤◌, Bool, true, false, List, [], ◌∷◌, length, get_or, drop, map, nat_eq, nat_lt, add-zero, add-one, drop-cons, cond, refl, ap, sym, ◌∙◌, arith, length-drop}
 use Rattle.std.proofs.lemmas.List.{get_or-drop, drop-map}
 use Rattle.std.proofs.lemmas.Bool.{ne_eqb, eq-eqb}
 use Rattle.std.specs.List.Sorted.{IsNonDecreasingBy, IsPartitionPoint}
@@ -9,7 +9,7 @@ use Rattle.risc_devices.specs.Input.{taken_input}
 use Rattle.risc_machine.specs.declared.event.Event.{Event}
 use Rattle.risc_machine.specs.InputOrder.{AreOrdered, count_at}
 use Rattle.risc_machine.specs.Replay.{fed}
-use Rattle.risc_machine.specs.Due.{IsNextAt, IsDue}
+use Rattle.risc_machine.specs.Due.{IsNextAt}
 use Rattle.risc_machine.proofs.OrderLemmas.{count_at-is, count_before-next}
 
 -- the counts of inputs in order rise
@@ -85,21 +85,28 @@ fed-rest es p at d past = fed-others (drop p es) at d (λ k h same.
     let moved = count_at-drop es p k in
     omega arith)
 
--- where the next input is not due, none of this count is there
-pub fed-not_due : (es : List Event) (next due at : ℕ) (d : DeviceState) → IsNextAt es next at → IsDue es next due → at < 2 ^ 64 - 1 → at ≢ due → (IsNextAt es next (at + 1)) × (fed es at d ≡ d)
-fed-not_due es next due at d past is small other =
-    let least : (k : ℕ) → next ≤ k → k < length es → at + 1 ≤ count_at es k = λ k h l.
-    let up = counts-order es past.ordered next k h l in
-    let first = past.rest next (omega arith) (omega arith) in
-    let same = is.some (omega arith) in
-    omega arith in
+-- between two counts that have the same next input none comes
+pub fed-between : (es : List Event) (next from to at : ℕ) (d : DeviceState) → IsNextAt es next from → IsNextAt es next to → from ≤ at → at < to → fed es at d ≡ d
+fed-between es next from to at d first last low high =
     let after : IsNextAt es next (at + 1) = record {
-      ordered = past.ordered;
-      inside = past.inside;
-      before = λ k h. let b = past.before k h in omega arith;
-      rest = least;
+      ordered = first.ordered;
+      inside = first.inside;
+      before = λ k h. let b = first.before k h in omega arith;
+      rest = λ k h l. let r = last.rest k h l in omega arith;
     } in
-    (after, fed-drop next es at d past.inside past.before ∙ fed-rest es next at d after)
+    fed-drop next es at d first.inside (λ k h. let b = first.before k h in omega arith) ∙ fed-rest es next at d after
+
+-- up to the count of the next input, or up to an earlier one, it stays the next
+pub next-up_to : (es : List Event) (next at to : ℕ) → IsNextAt es next (at + 1) → at < to → (next < length es → to ≤ count_at es next) → IsNextAt es next to
+next-up_to es next at to past later least = record {
+  ordered = past.ordered;
+  inside = past.inside;
+  before = λ k h. let b = past.before k h in omega arith;
+  rest = λ k h l.
+      let up = counts-order es past.ordered next k h l in
+      let first = least (omega arith) in
+      omega arith;
+}
 
 -- the inputs of a count end at the first one of a later count
 pub next-after : (es : List Event) (first next at : ℕ) → IsNextAt es first at → first ≤ next → next < length es → ((k : ℕ) → k < next → count_at es k < at + 1) → count_at es next ≢ at → IsNextAt es next (at + 1)

@@ -1,5 +1,5 @@
 -- The inputs that a machine has still to take, by their places in the list.
-use Rattle.std.specs.Prelude.{ℕ, ◌≡◌, ◌≤◌, ◌<◌, ◌-◌, ◌^◌, List, length}
+use Rattle.std.specs.Prelude.{ℕ, ◌≤◌, ◌<◌, List, length}
 use Rattle.risc_machine.specs.declared.event.Event.{Event}
 use Rattle.risc_machine.specs.InputOrder.{AreOrdered, count_at}
 
@@ -9,8 +9,3 @@ pub record IsNextAt (es : List Event) (next at : ℕ) : Type 0 where
   pub inside : next ≤ length es
   pub before : (k : ℕ) → k < next → count_at es k < at
   pub rest : (k : ℕ) → next ≤ k → k < length es → at ≤ count_at es k
-
--- `due` is the count of the input at `next`, or the highest number of 64 bits where there is none
-pub record IsDue (es : List Event) (next due : ℕ) : Type 0 where
-  pub some : next < length es → due ≡ count_at es next
-  pub none : length es ≤ next → due ≡ 2 ^ 64 - 1

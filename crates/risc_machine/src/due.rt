@@ -2,7 +2,7 @@
 ghost use Rattle.std.specs.Prelude.{◌≡◌, ◌≤◌, ◌<◌, ◌+◌, ◌-◌, ◌^◌, length};
 ghost use Rattle.risc_machine.specs.InputOrder.{AreOrdered};
 ghost use Rattle.risc_machine.specs.Replay.{fed};
-ghost use Rattle.risc_machine.specs.Due.{IsNextAt, IsDue};
+ghost use Rattle.risc_machine.specs.Due.{IsNextAt};
 
 use crate::event::Event;
 use risc_devices::Devices;
@@ -15,19 +15,8 @@ pub(crate) fn first_from(events: &[Event], at: u64) -> usize
     events.partition_point(|event| event.count < at)
 }
 
-/// The count of the input at a place, or the highest number where there is none.
-#[inline]
-pub(crate) fn due_at(events: &[Event], place: usize) -> u64
-    ensures { IsDue events.now place result }
-{
-    if place < events.len() {
-        events[place].count
-    } else {
-        u64::MAX
-    }
-}
-
 /// Takes the inputs of the count `at`, the first of which is at a place, and answers the place behind them.
+#[cold]
 #[inline(never)]
 pub(crate) fn take_inputs(devices: &mut Devices, events: &[Event], place: usize, at: u64) -> usize
     requires { IsNextAt events.now place at }
@@ -44,24 +33,19 @@ pub(crate) fn take_inputs(devices: &mut Devices, events: &[Event], place: usize,
     events.len()
 }
 
-/// Takes the inputs of the count `at`, where some are due, and moves on to the next ones.
-#[inline(always)]
-pub(crate) fn feed_due(
-    devices: &mut Devices,
-    events: &[Event],
-    next: &mut usize,
-    due: &mut u64,
-    at: u64,
-)
-    requires next { IsNextAt events.now next.old at }
-    requires due { IsDue events.now next.old due.old }
-    requires small { at < 2 ^ 64 - 1 }
-    ensures devices { devices.new ≡ fed events.now at devices.old }
-    ensures next { IsNextAt events.now next.new (at + 1) }
-    ensures due { IsDue events.now next.new due.new }
+/// The count up to which no input comes: that of the input at a place, or `to` if this comes first.
+pub(crate) fn quiet_until(events: &[Event], place: usize, at: u64, to: u64) -> u64
+    requires next { IsNextAt events.now place (at + 1) }
+    requires more { at < to }
+    ensures later { at < result }
+    ensures inside { result ≤ to }
+    ensures next { IsNextAt events.now place result }
 {
-    if at == *due {
-        *next = take_inputs(devices, events, *next, at);
-        *due = due_at(events, *next);
+    if place < events.len() {
+        let due = events[place].count;
+        if due < to {
+            return due;
+        }
     }
+    to
 }
