@@ -1,6 +1,6 @@
 -- The definitions on worked examples, computed outright: the order of the parts, the lines of verdicts, and what the verdicts
 -- of segments come to.
-use Rattle.std.proofs.Common.{◌≡◌, ◌<◌, ◌≤◌, ℕ, zero, suc, [], ◌∷◌, List, get_or, Option, None, Some, map, refl, inl, inr, arith}
+use Rattle.std.proofs.Common.{◌≡◌, ◌<◌, ℕ, zero, suc, [], ◌∷◌, List, get_or, Option, None, Some, map, refl, inl, inr, arith}
 use Rattle.std.specs.Prelude.{codes, Contains}
 use Rattle.std.specs.Fmt.{digits}
 use Rattle.oberon_format.specs.Recording.{RecordingParts}
@@ -11,7 +11,6 @@ use Rattle.oberon_check.specs.Difference.{rank}
 use Rattle.oberon_check.specs.Line.{part_name, line_of, status_of}
 use Rattle.oberon_check.specs.Segment.{Finding}
 use Rattle.oberon_check.specs.Tally.{lesser_of, end_of}
-use Rattle.oberon_check.specs.Run.{IsRun}
 use Rattle.oberon_check.specs.Work.{IsBehind, IsJob, failed_of}
 
 -- registers first, then the processor's other parts, the devices, the output, and the pages last
