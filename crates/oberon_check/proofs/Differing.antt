@@ -7,7 +7,7 @@ use Rattle.risc_machine.specs.MachineState.{CpuState}
 use Rattle.oberon_format.specs.Defined.{Outcome}
 use Rattle.oberon_check.specs.declared.part.Part.{Part}
 use Rattle.oberon_check.specs.declared.part.Part.TheVariants.{R, H, Pc, Flags, Stop, Timer, Switches, Leds, Mouse, Serial, Keys, Sent, Page}
-use Rattle.oberon_check.specs.Difference.{rank, IsPart, IsSame, IsFirstDifference}
+use Rattle.oberon_check.specs.Difference.{rank, IsSame, IsFirstDifference}
 
 -- the same processor and devices have the same in each part before the output
 before_sent : (x y : Outcome) → x.state.cpu ≡ y.state.cpu → x.state.devices ≡ y.state.devices → (q : Part) → rank q < 26 → IsSame q x y

@@ -1,5 +1,5 @@
 -- A lawful recording has a verdict.
-use Rattle.std.proofs.Common.{◌≡◌, ◌⊎◌, ℕ, zero, suc, ◌+◌, ◌-◌, ◌*◌, ◌/◌, ◌%◌, ◌<◌, ◌≤◌, List, length, get_or, take, drop, refl, ap, sym, ◌∙◌, subst, arith, inl, inr, ⊎_elim, get_or-take, get_or-drop}
+use Rattle.std.proofs.Common.{◌≡◌, ◌⊎◌, ℕ, zero, suc, ◌+◌, ◌*◌, ◌/◌, ◌%◌, ◌<◌, ◌≤◌, List, length, get_or, drop, refl, ap, sym, ◌∙◌, subst, arith, inl, inr, ⊎_elim, get_or-take, get_or-drop}
 use Rattle.std.proofs.lemmas.List.{ext_get_or}
 use Rattle.std.proofs.Math.Bool.{Bool-discrete}
 use mathlib.Core.List.{List-discrete}
@@ -7,8 +7,7 @@ use mathlib.Core.Logic.{dite}
 use mathlib.Core.Logic.Dec as dec
 use native.Mathlib.Decide.{dec_lt, ℕ_discrete}
 use Rattle.risc_pages.specs.Pages.{page_at}
-use Rattle.risc_devices.specs.DeviceState.{DeviceState}
-use Rattle.risc_machine.specs.MachineState.{CpuState, State, Flags as FlagsState}
+use Rattle.risc_machine.specs.MachineState.{State, Flags as FlagsState}
 use Rattle.oberon_format.specs.Recording.{RecordingParts, IsLawful, checkpoint_at, count_at, last_of}
 use Rattle.oberon_format.specs.Defined.{Outcome, claimed, defined, IsTrueAt}
 use Rattle.oberon_check.specs.declared.part.Part.{Part}

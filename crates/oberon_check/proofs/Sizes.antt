@@ -1,12 +1,12 @@
 -- Steps and runs keep the number of registers and the number of words of the memory.
-use Rattle.std.proofs.Common.{◌≡◌, ℕ, zero, suc, ◌+◌, ◌*◌, ◌^◌, ◌<◌, ◌≤◌, Bool, true, false, List, [], ◌∷◌, length, None, Ok, Err, nat_eq, nat_lt, slice_index, cond, refl, ◌∙◌, arith, length-append}
+use Rattle.std.proofs.Common.{◌≡◌, ℕ, zero, suc, ◌+◌, ◌*◌, Bool, true, false, List, [], ◌∷◌, length, None, Ok, Err, nat_eq, cond, refl, ◌∙◌, arith, length-append}
 use Rattle.std.proofs.lemmas.List.{length-set}
 use Rattle.risc_pages.specs.Pages.{ArePages, page_of}
 use Rattle.risc_pages.specs.Content.{IsNamed, table_words}
 use Rattle.risc_pages.proofs.PoolLemmas.{IsPage-page_of}
 use Rattle.risc_machine.specs.declared.event.Event.{Event}
 use Rattle.risc_machine.specs.MachineState.{CpuState, State}
-use Rattle.risc_machine.specs.Exec.{moved_on, stopped_by, with_register, with_outcome, operated, branched, load_at, device_store, store_at, perform, fetched, exec}
+use Rattle.risc_machine.specs.Exec.{moved_on, with_register, with_outcome, operated, branched, load_at, device_store, store_at, perform, fetched, exec}
 use Rattle.risc_machine.specs.Replay.{feed, fed, run_of}
 
 -- as many registers, and as many words

@@ -1,5 +1,5 @@
 -- A recording has at most one verdict.
-use Rattle.std.proofs.Common.{◌≡◌, ℕ, zero, suc, ◌+◌, ◌-◌, ◌<◌, ◌≤◌, nat_lt, true, false, refl, ap, sym, ◌∙◌, subst, arith}
+use Rattle.std.proofs.Common.{◌≡◌, ℕ, zero, suc, ◌+◌, ◌-◌, ◌<◌, nat_lt, true, false, refl, ap, sym, ◌∙◌, subst, arith}
 use Rattle.std.specs.Prelude.{if◌then◌else◌}
 use Rattle.std.proofs.lemmas.Bool.Decides.{nat_tests}
 use mathlib.Core.Logic.{dite}
@@ -11,7 +11,7 @@ use Rattle.oberon_check.specs.declared.part.Part.TheVariants.{R, H, Pc, Flags, S
 use Rattle.oberon_check.specs.declared.verdict.Verdict.{Verdict}
 use Rattle.oberon_check.specs.declared.verdict.Verdict.TheVariants.{Accepted, FalseAt}
 use Rattle.oberon_check.specs.Difference.{rank, IsPart, IsSame, IsFirstDifference}
-use Rattle.oberon_check.specs.Verdict.{IsAccepted, IsFirstFalse, IsVerdict}
+use Rattle.oberon_check.specs.Verdict.{IsFirstFalse, IsVerdict}
 
 -- the parts between the registers and the pages
 abbrev middle : ℕ → Part

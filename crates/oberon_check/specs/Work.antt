@@ -62,11 +62,6 @@ pub record IsPartOf (r : RecordingParts) (cut : ℕ) (book : BookId) (d : DoneRe
   pub cut_is : d.cut ≡ cut
   pub book_is : d.pass.book ≡ book
 
--- A pass of this book and these verdicts make a whole part.
-pub record IsWork (r : RecordingParts) (cut : ℕ) (book : BookId) (p : PassRecord) (vs : List Finding) : Type 0 where
-  pub whole : IsDone (done_record r cut p vs)
-  pub book_is : p.book ≡ book
-
 -- What a pass and a list of verdicts become with the verdicts of one job more.
 pub record AddsJob (r : RecordingParts) (cut job : ℕ) (p q : PassRecord) (vs ws : List Finding) : Type 0 where
   pub book : q.book ≡ p.book

@@ -7,11 +7,10 @@ ghost use Rattle.std.specs.Int.{div_ceil};
 ghost use Rattle.oberon_claims.specs.Pass.{fresh_pass};
 ghost use Rattle.oberon_format.specs.Recording.{last_of};
 ghost use Rattle.oberon_check.specs.Verdict.{IsVerdict};
-ghost use Rattle.oberon_check.specs.Work.{IsPartOf, IsWork};
+ghost use Rattle.oberon_check.specs.Work.{IsPartOf};
 
 use crate::gate::Gate;
 use crate::gathering::gather;
-use crate::segment::SegmentVerdict;
 use crate::verdict::Verdict;
 use crate::worker::{Done, work};
 use oberon_claims::{Claims, Pass};
@@ -40,25 +39,8 @@ impl From<AllocError> for CheckFault {
     }
 }
 
-// One worker's part, in the two values that cross threads.
-fn work_apart<G: Gate>(
-    alloc: Global,
-    r: &Recording,
-    claims: &Claims,
-    pass: Pass,
-    cut: u32,
-    gate: &G,
-) -> Result<(Pass, Vec<SegmentVerdict>), AllocError>
-    requires cut { 1 ≤ cut }
-    requires fresh { pass ≡ fresh_pass claims.now }
-    requires jobs { claims.now.jobs ≡ div_ceil (last_of r.now) cut }
-    ensures { IfOk result (λ w. IsWork r.now cut claims.now w.0 w.1.items) }
-{
-    let done = work(alloc, r, claims, pass, cut, gate)?;
-    Ok(done.into_parts())
-}
-
-// Each pass in a thread of its own, over one recording and one book.
+// Each pass in a thread of its own, over one recording and one book. Each part comes back by its thread's join, with what its type
+// keeps.
 fn work_all<R: Threads + Sync, G: Gate + Sync>(
     rt: &R,
     alloc: Global,
@@ -67,20 +49,20 @@ fn work_all<R: Threads + Sync, G: Gate + Sync>(
     passes: Vec<Pass>,
     cut: u32,
     gate: &G,
-) -> Result<Vec<Result<(Pass, Vec<SegmentVerdict>), AllocError>>, AllocError>
+) -> Result<Vec<Result<Done, AllocError>>, AllocError>
     requires cut { 1 ≤ cut }
     requires fresh { All (λ p. p ≡ fresh_pass claims.now) passes.items }
     requires jobs { claims.now.jobs ≡ div_ceil (last_of r.now) cut }
     ensures len { IfOk result (λ v. vec_len v ≡ vec_len passes) }
-    ensures parts { IfOk result (λ v. All (λ d. IfOk d (λ w. IsWork r.now cut claims.now w.0 w.1.items)) v.items) }
+    ensures parts { IfOk result (λ v. All (λ d. IfOk d (IsPartOf r.now cut claims.now)) v.items) }
 {
     map_vec(
         rt,
         passes,
-        &|pass: Pass| -> Result<(Pass, Vec<SegmentVerdict>), AllocError>
+        &|pass: Pass| -> Result<Done, AllocError>
             requires { (1 ≤ cut) × (pass ≡ fresh_pass claims.now) × (claims.now.jobs ≡ div_ceil (last_of r.now) cut) }
-            ensures { IfOk result (λ w. IsWork r.entry.now cut claims.entry.now w.0 w.1.items) }
-        { work_apart(alloc, r, claims, pass, cut, gate) },
+            ensures { IfOk result (IsPartOf r.entry.now cut claims.entry.now) }
+        { work(alloc, r, claims, pass, cut, gate) },
     )
 }
 
@@ -90,17 +72,19 @@ fn all_done(
     r: &Recording,
     claims: &Claims,
     cut: u32,
-    results: Vec<Result<(Pass, Vec<SegmentVerdict>), AllocError>>,
+    results: Vec<Result<Done, AllocError>>,
 ) -> Result<Vec<Done>, AllocError>
-    requires { All (λ d. IfOk d (λ w. IsWork r.now cut claims.now w.0 w.1.items)) results.items }
+    requires { All (λ d. IfOk d (IsPartOf r.now cut claims.now)) results.items }
     ensures len { IfOk result (λ v. vec_len v ≡ vec_len results) }
     ensures parts { IfOk result (λ v. All (IsPartOf r.now cut claims.now) v.items) }
 {
+    let _ = r;
     let _ = claims;
+    let _ = cut;
     let mut done = Vec::new(alloc);
     for result in results {
-        let (pass, verdicts) = result?;
-        done.push(Done::from_parts(r, cut, pass, verdicts))?;
+        let one = result?;
+        done.push(one)?;
     }
     Ok(done)
 }

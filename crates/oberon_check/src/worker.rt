@@ -43,24 +43,6 @@ impl Model for Done {
 impl Done {
     ghost use Rattle.oberon_check.specs.Work.{IsDone, done_record};
 
-    /// The part of a pass and its verdicts.
-    pub(crate) fn from_parts(
-        r: &Recording,
-        cut: u32,
-        pass: Pass,
-        verdicts: Vec<SegmentVerdict>,
-    ) -> Done
-        requires { IsDone (done_record r.now cut pass verdicts.items) }
-        ensures { result ≡ done_record r.now cut pass verdicts.items }
-    {
-        Done {
-            recording: Snapshot::of(r),
-            cut,
-            pass,
-            verdicts,
-        }
-    }
-
     /// The pass and the verdicts.
     pub(crate) fn into_parts(self) -> (Pass, Vec<SegmentVerdict>)
         ensures parts { done_record self.recording self.cut result.0 result.1.items ≡ self }

@@ -1,31 +1,23 @@
-use Rattle.std.proofs.Common.{◌<◌, ◌++◌, ◌∷◌, [], List, ℕ, length, get_or, sym, ap, ◌∙◌, subst, arith, length-append, append_assoc, Vec, Global}
+use Rattle.std.proofs.Common.{◌<◌, ◌++◌, ◌∷◌, [], List, ℕ, length, get_or, sym, ap, ◌∙◌, subst, arith, length-append, append_assoc}
 use Rattle.std.specs.Prelude.{IfOk, Result}
 use Rattle.std.specs.declared.alloc.AllocError.{AllocError}
-use Rattle.oberon_claims.specs.declared.pass.Pass.{Pass}
-use Rattle.oberon_check.specs.declared.segment.SegmentVerdict.{SegmentVerdict}
 use Rattle.oberon_check.proofs.Tops.{all_snoc, next_of}
-use Rattle.oberon_check.specs.Work.{DoneRecord, IsPartOf, IsWork}
+use Rattle.oberon_check.specs.Work.{DoneRecord, IsPartOf}
 use Rattle.oberon_check.proofs.check.all_done.Goals as goal
 
 abbrev Answer : Type 0
-Answer = Result (Pass × Vec SegmentVerdict Global) AllocError
+Answer = Result DoneRecord AllocError
 
 pub loop-result-preserved : goal.loop-result-preserved
 loop-result-preserved c =
     let i = c.loop-result.invariant in
     let step = c.in-Some.ensures.steps in
     let at = ap (λ (l : List Answer). c.loop-result.yielded ++ l) (sym step.0) ∙ i.rest in
-    let P : Answer → Type 0 = λ x. IfOk x (λ w. IsWork c.args.r.now c.args.cut c.args.claims.now w.0 w.1.items) in
+    let P : Answer → Type 0 = λ x. IfOk x (IsPartOf c.args.r.now c.args.cut c.args.claims.now) in
     let part : P c.in-Some.result = next_of P _ _ _ _ at c.requires in
-    let work : IsWork c.args.r.now c.args.cut c.args.claims.now c.in_ok-pass.pass c.in_ok-pass.verdicts.items = subst P c.in_ok-pass.was part in
-    let is = c.from_parts.ensures in
-    let one : IsPartOf c.args.r.now c.args.cut c.args.claims.now c.from_parts.result = record {
-      recording_is = ap (λ (s : DoneRecord). s.recording) is;
-      cut_is = ap (λ (s : DoneRecord). s.cut) is;
-      book_is = ap (λ (s : DoneRecord). s.pass.book) is ∙ work.book_is;
-    } in
+    let one : IsPartOf c.args.r.now c.args.cut c.args.claims.now c.in_ok-one.one = subst P c.in_ok-one.was part in
     let p = c.in_ok-push.ensures.items in
-    let l = length-append c.loop-result.done.items (c.from_parts.result ∷ []) in
+    let l = length-append c.loop-result.done.items (c.in_ok-one.one ∷ []) in
     let l' = length-append c.loop-result.yielded (c.in-Some.result ∷ []) in
     let l'' = ap length p in record {
       parts = subst (λ (ss : List DoneRecord). (k : ℕ) (d : DoneRecord) → k < length ss → IsPartOf c.args.r.now c.args.cut c.args.claims.now (get_or ss k d)) (sym p)
