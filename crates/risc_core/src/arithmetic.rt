@@ -153,12 +153,12 @@ const fn overflows(number: i64) -> bool
     number < i32::MIN as i64 || number > i32::MAX as i64
 }
 
-/// ADD.
+/// ADD with this carry.
 #[inline(always)]
-const fn add(u: bool, b: u32, c: u32, h: u32, flags: Flags) -> AluOut
+const fn add_with(carry: u32, u: bool, b: u32, c: u32, h: u32, flags: Flags) -> AluOut
+    requires { carry ≡ carry_in u flags }
     ensures { result ≡ sum_of u b c h flags }
 {
-    let carry = carry_in(u, flags);
     let sum = b as u64 + c as u64 + carry as u64;
     let signed_sum = signed(b) + signed(c) + carry as i64;
     let after = Flags {
@@ -170,12 +170,27 @@ const fn add(u: bool, b: u32, c: u32, h: u32, flags: Flags) -> AluOut
     output((sum & WORD_MASK) as u32, h, after)
 }
 
-/// SUB.
+/// ADD.
+///
+/// A sum without a carry is apart, so that it need not wait for the carry of the sum before it.
 #[inline(always)]
-const fn subtract(u: bool, b: u32, c: u32, h: u32, flags: Flags) -> AluOut
+const fn add(u: bool, b: u32, c: u32, h: u32, flags: Flags) -> AluOut
+    ensures { result ≡ sum_of u b c h flags }
+{
+    if carry_in(u, flags) == 0 {
+        add_with(0, u, b, c, h, flags)
+    } else {
+        add_with(1, u, b, c, h, flags)
+    }
+}
+
+/// SUB with this borrow.
+#[inline(always)]
+const fn subtract_with(borrow: u32, u: bool, b: u32, c: u32, h: u32, flags: Flags) -> AluOut
+    requires flag { borrow ≡ carry_in u flags }
+    requires bound { borrow ≤ 1 }
     ensures { result ≡ difference_of u b c h flags }
 {
-    let borrow = carry_in(u, flags);
     let signed_difference = signed(b) - signed(c) - borrow as i64;
     let after = Flags {
         n: flags.n,
@@ -184,6 +199,20 @@ const fn subtract(u: bool, b: u32, c: u32, h: u32, flags: Flags) -> AluOut
         v: overflows(signed_difference),
     };
     output(b.wrapping_sub(c).wrapping_sub(borrow), h, after)
+}
+
+/// SUB.
+///
+/// A difference without a borrow is apart, as a sum without a carry is.
+#[inline(always)]
+const fn subtract(u: bool, b: u32, c: u32, h: u32, flags: Flags) -> AluOut
+    ensures { result ≡ difference_of u b c h flags }
+{
+    if carry_in(u, flags) == 0 {
+        subtract_with(0, u, b, c, h, flags)
+    } else {
+        subtract_with(1, u, b, c, h, flags)
+    }
 }
 
 /// The 64 bits of the product.

@@ -3,11 +3,11 @@ use Rattle.std.proofs.lemmas.Int.{ints}
 use Rattle.risc_core.specs.Word.{signed}
 use Rattle.risc_core.specs.Arithmetic.{overflows, carry_in}
 use Rattle.risc_core.proofs.WordLemmas.{difference_is}
-use Rattle.risc_core.proofs.arithmetic.subtract.Goals as goal
+use Rattle.risc_core.proofs.arithmetic.subtract_with.Goals as goal
 
 pub returns : goal.returns
 returns c =
     let over : c.overflows.result ≡ overflows (signed c.args.b -ℤ signed c.args.c -ℤ pos (carry_in c.args.u c.args.flags)) =
     c.overflows.ensures ∙ ap overflows (omega (arith, ints)) in
     c.output.ensures
-    ∙ difference_is c.args.u c.args.b c.args.c c.args.h c.carry_in-borrow.result _ c.args.flags (omega arith) (omega arith) (omega arith) c.carry_in-borrow.ensures.value over
+    ∙ difference_is c.args.u c.args.b c.args.c c.args.h c.args.borrow _ c.args.flags (omega arith) (omega arith) (omega arith) c.requires.flag over
