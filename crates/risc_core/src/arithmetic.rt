@@ -1,6 +1,6 @@
 //! The operations of formats F0 and F1 ("The RISC Architecture", N. Wirth): moves, shifts, logic, sums, products and
 //! quotients. Which registers they read and write is with the machine.
-ghost use Rattle.std.specs.Prelude.{◌≡◌, ◌<◌, ◌≤◌, ◌-◌, ◌^◌, pos, negsuc, ◌≤ℤ◌, ◌<ℤ◌, ◌↔◌, ◌≢◌};
+ghost use Rattle.std.specs.Prelude.{◌≡◌, ◌<◌, ◌≤◌, Ok, ◌-◌, ◌^◌, pos, negsuc, ◌≤ℤ◌, ◌<ℤ◌, ◌↔◌, ◌≢◌};
 ghost use Rattle.risc_core.specs.Word.{signed, floor_div, floor_mod};
 ghost use Rattle.risc_core.specs.Arithmetic.{outcome_of, output_of, moved_value, shifted_right, rotated, carry_in, overflows, sum_of, difference_of, product, product_of, dividend, quotient_of, flags_word};
 
@@ -34,7 +34,7 @@ pub struct AluOut {
 /// with `u`, and MOV of the flags are this project's own choice, as are the stops: `Float` comes exactly for operations 12
 /// to 15, and `Divisor` exactly for DIV by an operand whose signed value is below 1.
 #[inline(always)]
-#[tactic(auto, using(crate::proofs::BitLemmas::bitwise), unfolding(crate::specs::Arithmetic::outcome_of))]
+#[tactic(auto, unfolding(crate::specs::Arithmetic::outcome_of))]
 pub const fn alu(
     op: u8,
     u: bool,
@@ -51,19 +51,61 @@ pub const fn alu(
     ensures divisor { (result ≡ Err Stop.Divisor) ↔ ((op ≡ 11) × (signed c <ℤ pos 1)) }
 {
     match op {
-        0 => Ok(output(moved(u, imm, v, c, h, flags), h, flags)),
-        1 => Ok(output(b << (c & 31), h, flags)),
-        2 => Ok(output(shift_right(b, c), h, flags)),
-        3 => Ok(output(rotate(b, c), h, flags)),
-        4 => Ok(output(b & c, h, flags)),
-        5 => Ok(output(b & !c, h, flags)),
-        6 => Ok(output(b | c, h, flags)),
-        7 => Ok(output(b ^ c, h, flags)),
         8 => Ok(add(u, b, c, h, flags)),
         9 => Ok(subtract(u, b, c, h, flags)),
+        _ => alu_beside_sums(op, u, imm, v, b, c, h, flags),
+    }
+}
+
+/// The outcome of an operation other than ADD and SUB, as `alu` has it.
+#[inline(always)]
+#[tactic(auto, using(crate::proofs::BitLemmas::bitwise), unfolding(crate::specs::Arithmetic::outcome_of))]
+pub const fn alu_beside_sums(
+    op: u8,
+    u: bool,
+    imm: bool,
+    v: bool,
+    b: u32,
+    c: u32,
+    h: u32,
+    flags: Flags,
+) -> Result<AluOut, Stop>
+    requires op { op < 16 }
+    requires not_add { op ≢ 8 }
+    requires not_subtract { op ≢ 9 }
+    ensures value { result ≡ outcome_of op u imm v b c h flags }
+    ensures float { (result ≡ Err Stop.Float) ↔ (12 ≤ op) }
+    ensures divisor { (result ≡ Err Stop.Divisor) ↔ ((op ≡ 11) × (signed c <ℤ pos 1)) }
+{
+    match op {
         10 => Ok(multiply(u, b, c, flags)),
         11 => divide(u, b, c, flags),
-        _ => Err(Stop::Float),
+        _ => {
+            if op < 8 {
+                Ok(output(simple(op, u, imm, v, b, c, h, flags), h, flags))
+            } else {
+                Err(Stop::Float)
+            }
+        }
+    }
+}
+
+/// What MOV, a shift or a logical operation gives, operations 0 to 7, which leave H, C and V.
+#[inline(always)]
+#[tactic(auto, using(crate::proofs::BitLemmas::bitwise), unfolding(crate::specs::Arithmetic::outcome_of))]
+const fn simple(op: u8, u: bool, imm: bool, v: bool, b: u32, c: u32, h: u32, flags: Flags) -> u32
+    requires { op < 8 }
+    ensures { outcome_of op u imm v b c h flags ≡ Ok (output_of result h flags) }
+{
+    match op {
+        1 => b << (c & 31),
+        2 => shift_right(b, c),
+        3 => rotate(b, c),
+        4 => b & c,
+        5 => b & !c,
+        6 => b | c,
+        7 => b ^ c,
+        _ => moved(u, imm, v, c, h, flags),
     }
 }
 
@@ -96,7 +138,7 @@ const fn moved(u: bool, imm: bool, v: bool, c: u32, h: u32, flags: Flags) -> u32
 }
 
 /// The flags as a word.
-#[inline(always)]
+#[inline]
 #[tactic(auto, using(crate::proofs::WordLemmas::packed_is))]
 const fn packed(flags: Flags) -> u32
     ensures { result ≡ flags_word flags }
@@ -170,17 +212,17 @@ const fn add_with(carry: u32, u: bool, b: u32, c: u32, h: u32, flags: Flags) -> 
     output((sum & WORD_MASK) as u32, h, after)
 }
 
-/// ADD.
+/// What ADD leaves: the outcome of operation 8.
 ///
 /// A sum without a carry is apart, so that it need not wait for the carry of the sum before it.
 #[inline(always)]
-const fn add(u: bool, b: u32, c: u32, h: u32, flags: Flags) -> AluOut
+pub const fn add(u: bool, b: u32, c: u32, h: u32, flags: Flags) -> AluOut
     ensures { result ≡ sum_of u b c h flags }
 {
-    if carry_in(u, flags) == 0 {
-        add_with(0, u, b, c, h, flags)
+    if u {
+        add_with(carry_in(u, flags), u, b, c, h, flags)
     } else {
-        add_with(1, u, b, c, h, flags)
+        add_with(0, u, b, c, h, flags)
     }
 }
 
@@ -201,17 +243,17 @@ const fn subtract_with(borrow: u32, u: bool, b: u32, c: u32, h: u32, flags: Flag
     output(b.wrapping_sub(c).wrapping_sub(borrow), h, after)
 }
 
-/// SUB.
+/// What SUB leaves: the outcome of operation 9.
 ///
 /// A difference without a borrow is apart, as a sum without a carry is.
 #[inline(always)]
-const fn subtract(u: bool, b: u32, c: u32, h: u32, flags: Flags) -> AluOut
+pub const fn subtract(u: bool, b: u32, c: u32, h: u32, flags: Flags) -> AluOut
     ensures { result ≡ difference_of u b c h flags }
 {
-    if carry_in(u, flags) == 0 {
-        subtract_with(0, u, b, c, h, flags)
+    if u {
+        subtract_with(carry_in(u, flags), u, b, c, h, flags)
     } else {
-        subtract_with(1, u, b, c, h, flags)
+        subtract_with(0, u, b, c, h, flags)
     }
 }
 
@@ -228,7 +270,7 @@ const fn full_product(u: bool, b: u32, c: u32) -> u64
 }
 
 /// MUL.
-#[inline(always)]
+#[inline]
 #[tactic(auto, using(crate::proofs::WordLemmas::product_is))]
 const fn multiply(u: bool, b: u32, c: u32, flags: Flags) -> AluOut
     ensures { result ≡ product_of u b c flags }
@@ -256,8 +298,8 @@ const fn divide_down(u: bool, b: u32, c: u32) -> (u32, u32)
     )
 }
 
-/// DIV.
-#[inline(always)]
+/// DIV, which is seldom and slow: it stays out of the code of the others.
+#[inline(never)]
 const fn divide(u: bool, b: u32, c: u32, flags: Flags) -> Result<AluOut, Stop>
     ensures value { result ≡ quotient_of u b c flags }
     ensures not_float { result ≢ Err Stop.Float }

@@ -19,7 +19,7 @@ mod stop;
 mod word;
 
 pub use address::Place;
-pub use arithmetic::{AluOut, alu};
+pub use arithmetic::{AluOut, add, alu, alu_beside_sums, subtract};
 pub use branch::{link, reg_target, taken, target};
 pub use decoding::decode;
 pub use flags::{Flags, written};
