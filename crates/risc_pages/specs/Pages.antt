@@ -1,4 +1,4 @@
--- Pages: 256 words each, numbered in a pool from 1 on. (own)
+-- Pages: 256 words each, numbered in a pool from 1 on. They are this project's own choice.
 use Rattle.std.specs.Prelude.{ℕ, ◌≡◌, ◌-◌, ◌*◌, ◌^◌, ◌<◌, ◌==◌, List, All, drop, take, replicate, slice_index_or, if◌then◌else◌, length}
 
 -- the words of the page of zeros

@@ -1,4 +1,4 @@
--- Tables of page numbers. (own)
+-- Tables of page numbers. They are this project's own choice.
 use Rattle.std.specs.Prelude.{ℕ, ◌≡◌, ◌^◌, ◌<◌, List, All, length, replicate}
 
 -- the page of zeros at each place
