@@ -63,10 +63,7 @@ impl<'a> Memory<'a> {
     {
         let place = (word_no / 256) as usize;
         let index = (word_no % 256) as usize;
-        match &self.places[place] {
-            Place::Shared(frame) => frame.page.words[index],
-            Place::Owned(own) => own.page.words[index],
-        }
+        self.places[place].page().words[index]
     }
 
     /// Changes one word. The first write to a page that isn't owned makes a copy of it, which is owned from

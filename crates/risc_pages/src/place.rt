@@ -27,6 +27,7 @@ pub(crate) struct Copied<'a> {
 
 impl<'a> Place<'a> {
     /// The page that stands here.
+    #[inline(always)]
     pub(crate) fn page(&self) -> &Page
         ensures { result.now.words ≡ content self.now }
     {
