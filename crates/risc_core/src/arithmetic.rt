@@ -1,14 +1,12 @@
-//! The operations of formats F0 and F1 ("The RISC Architecture", N. Wirth): moves, shifts, logic, sums, products and
-//! quotients. Which registers they read and write is with the machine.
+//! The operations of formats F0 and F1 ("The RISC Architecture", N. Wirth): moves, shifts, logic, products and quotients.
+//! Sums and differences are in `sums`, and which registers an operation reads and writes is with the machine.
 ghost use Rattle.std.specs.Prelude.{◌≡◌, ◌<◌, ◌≤◌, Ok, ◌-◌, ◌^◌, pos, negsuc, ◌≤ℤ◌, ◌<ℤ◌, ◌↔◌, ◌≢◌};
 ghost use Rattle.risc_core.specs.Word.{signed, floor_div, floor_mod};
-ghost use Rattle.risc_core.specs.Arithmetic.{outcome_of, output_of, moved_value, shifted_right, rotated, carry_in, overflows, sum_of, difference_of, product, product_of, dividend, quotient_of, flags_word};
+ghost use Rattle.risc_core.specs.Arithmetic.{outcome_of, output_of, summed, moved_value, shifted_right, rotated, product, product_of, dividend, quotient_of, flags_word};
 
 use crate::flags::{Flags, written};
 use crate::stop::Stop;
-
-/// How many words there are.
-const WORDS: u64 = 1 << 32;
+use crate::sums::{Sum, add, signed, subtract};
 
 /// The low 32 bits of a number of 64.
 const WORD_MASK: u64 = 0xFFFF_FFFF;
@@ -34,7 +32,7 @@ pub struct AluOut {
 /// with `u`, and MOV of the flags are this project's own choice, as are the stops: `Float` comes exactly for operations 12
 /// to 15, and `Divisor` exactly for DIV by an operand whose signed value is below 1.
 #[inline(always)]
-#[tactic(auto, unfolding(crate::specs::Arithmetic::outcome_of))]
+#[tactic(auto, unfolding(crate::specs::Arithmetic::outcome_of, crate::specs::Arithmetic::sum_of, crate::specs::Arithmetic::difference_of))]
 pub const fn alu(
     op: u8,
     u: bool,
@@ -51,8 +49,8 @@ pub const fn alu(
     ensures divisor { (result ≡ Err Stop.Divisor) ↔ ((op ≡ 11) × (signed c <ℤ pos 1)) }
 {
     match op {
-        8 => Ok(add(u, b, c, h, flags)),
-        9 => Ok(subtract(u, b, c, h, flags)),
+        8 => Ok(summed(add(u, b, c, flags.c), h, flags)),
+        9 => Ok(summed(subtract(u, b, c, flags.c), h, flags)),
         _ => alu_beside_sums(op, u, imm, v, b, c, h, flags),
     }
 }
@@ -121,6 +119,20 @@ const fn output(value: u32, h: u32, flags: Flags) -> AluOut
     }
 }
 
+/// What ADD or SUB leaves.
+#[inline(always)]
+const fn summed(sum: Sum, h: u32, flags: Flags) -> AluOut
+    ensures { result ≡ summed sum h flags }
+{
+    let after = Flags {
+        n: flags.n,
+        z: flags.z,
+        c: sum.carry,
+        v: sum.overflow,
+    };
+    output(sum.value, h, after)
+}
+
 /// What MOV moves.
 #[inline(always)]
 const fn moved(u: bool, imm: bool, v: bool, c: u32, h: u32, flags: Flags) -> u32
@@ -167,96 +179,6 @@ const fn rotate(b: u32, c: u32) -> u32
     b.rotate_right(c & 31)
 }
 
-/// The signed value of a word, with room for sums and products.
-#[inline(always)]
-const fn signed(word: u32) -> i64
-    ensures value { result ≡ signed word }
-    ensures lower_bound { negsuc (2 ^ 31 - 1) ≤ℤ result }
-    ensures upper_bound { result ≤ℤ pos (2 ^ 31 - 1) }
-{
-    word.cast_signed() as i64
-}
-
-/// The carry that takes part in a sum or a difference.
-#[inline(always)]
-const fn carry_in(u: bool, flags: Flags) -> u32
-    ensures value { result ≡ carry_in u flags }
-    ensures bound { result ≤ 1 }
-{
-    (u && flags.c) as u32
-}
-
-/// Whether a number is not the signed value of any word.
-#[inline(always)]
-#[tactic(auto, unfolding(crate::specs::Arithmetic::overflows))]
-const fn overflows(number: i64) -> bool
-    ensures { result ≡ overflows number }
-{
-    number < i32::MIN as i64 || number > i32::MAX as i64
-}
-
-/// ADD with this carry.
-#[inline(always)]
-const fn add_with(carry: u32, u: bool, b: u32, c: u32, h: u32, flags: Flags) -> AluOut
-    requires { carry ≡ carry_in u flags }
-    ensures { result ≡ sum_of u b c h flags }
-{
-    let sum = b as u64 + c as u64 + carry as u64;
-    let signed_sum = signed(b) + signed(c) + carry as i64;
-    let after = Flags {
-        n: flags.n,
-        z: flags.z,
-        c: sum >= WORDS,
-        v: overflows(signed_sum),
-    };
-    output((sum & WORD_MASK) as u32, h, after)
-}
-
-/// What ADD leaves: the outcome of operation 8.
-///
-/// A sum without a carry is apart, so that it need not wait for the carry of the sum before it.
-#[inline(always)]
-pub const fn add(u: bool, b: u32, c: u32, h: u32, flags: Flags) -> AluOut
-    ensures { result ≡ sum_of u b c h flags }
-{
-    if u {
-        add_with(carry_in(u, flags), u, b, c, h, flags)
-    } else {
-        add_with(0, u, b, c, h, flags)
-    }
-}
-
-/// SUB with this borrow.
-#[inline(always)]
-const fn subtract_with(borrow: u32, u: bool, b: u32, c: u32, h: u32, flags: Flags) -> AluOut
-    requires flag { borrow ≡ carry_in u flags }
-    requires bound { borrow ≤ 1 }
-    ensures { result ≡ difference_of u b c h flags }
-{
-    let signed_difference = signed(b) - signed(c) - borrow as i64;
-    let after = Flags {
-        n: flags.n,
-        z: flags.z,
-        c: (b as u64) < c as u64 + borrow as u64,
-        v: overflows(signed_difference),
-    };
-    output(b.wrapping_sub(c).wrapping_sub(borrow), h, after)
-}
-
-/// What SUB leaves: the outcome of operation 9.
-///
-/// A difference without a borrow is apart, as a sum without a carry is.
-#[inline(always)]
-pub const fn subtract(u: bool, b: u32, c: u32, h: u32, flags: Flags) -> AluOut
-    ensures { result ≡ difference_of u b c h flags }
-{
-    if u {
-        subtract_with(carry_in(u, flags), u, b, c, h, flags)
-    } else {
-        subtract_with(0, u, b, c, h, flags)
-    }
-}
-
 /// The 64 bits of the product.
 #[inline(always)]
 const fn full_product(u: bool, b: u32, c: u32) -> u64
@@ -299,6 +221,7 @@ const fn divide_down(u: bool, b: u32, c: u32) -> (u32, u32)
 }
 
 /// DIV, which is seldom and slow: it stays out of the code of the others.
+#[cold]
 #[inline(never)]
 const fn divide(u: bool, b: u32, c: u32, flags: Flags) -> Result<AluOut, Stop>
     ensures value { result ≡ quotient_of u b c flags }

@@ -1,53 +1,96 @@
 //! From a word to its instruction ("The RISC Architecture", N. Wirth; formats F0 to F3).
 ghost use Rattle.std.specs.Prelude.{◌≡◌, ◌%◌, ◌^◌};
 ghost use Rattle.risc_core.specs.Word.{field};
-ghost use Rattle.risc_core.specs.Instruction.{extended, instruction_of, HasFields};
+ghost use Rattle.risc_core.specs.Instruction.{extended, register_instruction, immediate_instruction, memory_instruction, branch_instruction, instruction_of, HasFields};
 
 use crate::instruction::Instr;
 use crate::word::{is_set, nibble, signed_20, signed_22};
 
 /// The one instruction of a word. Every word has one; bits that its format does not name have no effect.
 ///
-/// Bits 31 and 30 choose the format, and in F2 and F3 bit 29 chooses between load and store, and between a branch to a
-/// register and one by an offset.
+/// Bits 31 and 30 choose the format.
 #[inline(always)]
 pub const fn decode(w: u32) -> Instr
     ensures value { result ≡ instruction_of w }
     ensures fields { HasFields result }
 {
-    let u = is_set(w, 29);
+    if is_set(w, 31) {
+        if is_set(w, 30) {
+            branch_instruction(w)
+        } else {
+            memory_instruction(w)
+        }
+    } else if is_set(w, 30) {
+        immediate_instruction(w)
+    } else {
+        register_instruction(w)
+    }
+}
+
+/// The instruction of a word of format F0.
+#[inline(always)]
+const fn register_instruction(w: u32) -> Instr
+    ensures value { result ≡ register_instruction w }
+    ensures fields { HasFields result }
+{
+    Instr::Reg {
+        op: nibble(w, 16),
+        u: is_set(w, 29),
+        v: is_set(w, 28),
+        a: nibble(w, 24),
+        b: nibble(w, 20),
+        c: nibble(w, 0),
+    }
+}
+
+/// The instruction of a word of format F1.
+#[inline(always)]
+const fn immediate_instruction(w: u32) -> Instr
+    ensures value { result ≡ immediate_instruction w }
+    ensures fields { HasFields result }
+{
     let v = is_set(w, 28);
+    Instr::Imm {
+        op: nibble(w, 16),
+        u: is_set(w, 29),
+        v,
+        a: nibble(w, 24),
+        b: nibble(w, 20),
+        im: immediate(w, v),
+    }
+}
+
+/// The instruction of a word of format F2, in which bit 29 chooses between a load and a store.
+#[inline(always)]
+const fn memory_instruction(w: u32) -> Instr
+    ensures value { result ≡ memory_instruction w }
+    ensures fields { HasFields result }
+{
+    let byte = is_set(w, 28);
     let a = nibble(w, 24);
     let b = nibble(w, 20);
-    let op = nibble(w, 16);
-    let c = nibble(w, 0);
-    if !is_set(w, 31) {
-        if !is_set(w, 30) {
-            Instr::Reg { op, u, v, a, b, c }
-        } else {
-            let im = immediate(w, v);
-            Instr::Imm { op, u, v, a, b, im }
-        }
-    } else if !is_set(w, 30) {
-        let off = signed_20(w);
-        if u {
-            Instr::Store { byte: v, a, b, off }
-        } else {
-            Instr::Load { byte: v, a, b, off }
-        }
-    } else if u {
-        let off = signed_22(w);
-        Instr::BranchOff {
-            cond: a,
-            link: v,
-            off,
-        }
+    let off = signed_20(w);
+    if is_set(w, 29) {
+        Instr::Store { byte, a, b, off }
     } else {
-        Instr::BranchReg {
-            cond: a,
-            link: v,
-            c,
-        }
+        Instr::Load { byte, a, b, off }
+    }
+}
+
+/// The instruction of a word of format F3, in which bit 29 chooses between a branch by an offset and one to a register.
+#[inline(always)]
+const fn branch_instruction(w: u32) -> Instr
+    ensures value { result ≡ branch_instruction w }
+    ensures fields { HasFields result }
+{
+    let cond = nibble(w, 24);
+    let link = is_set(w, 28);
+    if is_set(w, 29) {
+        let off = signed_22(w);
+        Instr::BranchOff { cond, link, off }
+    } else {
+        let c = nibble(w, 0);
+        Instr::BranchReg { cond, link, c }
     }
 }
 

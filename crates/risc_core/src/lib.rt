@@ -16,17 +16,19 @@ mod instruction;
 mod laws;
 mod locate;
 mod stop;
+mod sums;
 mod word;
 
 pub use address::Place;
-pub use arithmetic::{AluOut, add, alu, alu_beside_sums, subtract};
-pub use branch::{link, reg_target, taken, target};
+pub use arithmetic::{AluOut, alu, alu_beside_sums};
+pub use branch::{condition, link, reg_target, taken, target};
 pub use decoding::decode;
 pub use flags::{Flags, written};
 pub use instruction::Instr;
 pub use laws::{bits_law, division_law, instruction_law};
 pub use locate::place;
 pub use stop::Stop;
+pub use sums::{Sum, add, subtract};
 
 #[cfg(test)]
 mod tests;

@@ -8,3 +8,4 @@ pub mod KeepLemmas
 pub mod LawLemmas
 pub mod OutcomeLemmas
 pub mod Examples
+pub mod SilentLemmas

@@ -6,5 +6,7 @@ pub mod Replay
 pub mod Refusal
 pub mod Due
 pub mod Boards
+pub mod Destinations
+pub mod Rests
 pub mod Matched
 pub mod Laws

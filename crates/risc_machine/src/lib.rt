@@ -8,6 +8,7 @@
 mod board;
 mod bus;
 mod cpu;
+mod destination;
 mod due;
 mod event;
 mod inputs;
