@@ -1,6 +1,6 @@
 //! The operations of formats F0 and F1 ("The RISC Architecture", N. Wirth): moves, shifts, logic, products and quotients.
 //! Sums and differences are in `sums`, and which registers an operation reads and writes is with the machine.
-ghost use Rattle.std.specs.Prelude.{◌≡◌, ◌<◌, ◌≤◌, Ok, ◌-◌, ◌^◌, pos, negsuc, ◌≤ℤ◌, ◌<ℤ◌, ◌↔◌, ◌≢◌};
+ghost use Rattle.std.specs.Prelude.{◌≡◌, ◌<◌, ◌≤◌, Ok, ◌-◌, ◌^◌, pos, ◌<ℤ◌, ◌↔◌, ◌≢◌};
 ghost use Rattle.risc_core.specs.Word.{signed, floor_div, floor_mod};
 ghost use Rattle.risc_core.specs.Arithmetic.{outcome_of, output_of, summed, moved_value, shifted_right, rotated, product, product_of, dividend, quotient_of, flags_word};
 
