@@ -1,0 +1,262 @@
+/* Makes recordings to measure with, of programs that never end. Their states are those of the plain machine in machine.h.
+ *
+ *   record PROGRAM STEPS CHECKPOINTS    writes a recording of so many steps, with so many checkpoints after the first
+ *
+ *   sort      fills an array with random numbers, makes one pass of a bubble sort through a procedure with a frame, and sieves
+ *             primes in bytes
+ *   calls     computes Fibonacci numbers by two calls for each, one of them through a procedure variable, with parameters and
+ *             results in frames
+ *   poll      asks for keys, serial bytes, switches and the time, over and over; a key comes each ten thousand counts
+ *   display   fills the screen word by word, and then inverts it word by word
+ *   inputs    jumps to itself while a switch moves at each count: at most 1,000,000 steps
+ *   sends     sends a byte with nearly each instruction: at most 1,000,000 steps
+ */
+#include "machine.h"
+
+/* ---- a small assembler ---- */
+
+static uint32_t imm(uint32_t op, uint32_t a, uint32_t b, int32_t im) {
+    return 0x40000000u | (im < 0) << 28 | a << 24 | b << 20 | op << 16 | (im & 0xffff);
+}
+static uint32_t reg(uint32_t op, uint32_t a, uint32_t b, uint32_t c) { return a << 24 | b << 20 | op << 16 | c; }
+static uint32_t high(uint32_t a, uint32_t im) { return 0x60000000u | a << 24 | im; }
+static uint32_t load(uint32_t a, uint32_t b, int32_t off) { return 0x80000000u | a << 24 | b << 20 | (off & 0xfffff); }
+static uint32_t store(uint32_t a, uint32_t b, int32_t off) { return 0x20000000u | load(a, b, off); }
+static uint32_t jump_by_register(uint32_t link, uint32_t c) { return 0xC7000000u | link << 28 | c; }
+enum { BYTE = 1 << 28, MOV = 0, LSL, ASR, ROR, AND, ANN, IOR, XOR, ADD, SUB, MUL, DIV };
+enum { EQ = 1, LT = 5, LE = 6, ALWAYS = 7, NE = 9, GE = 13 };
+enum { STACK = 14, LINK = 15 };
+enum { DEVICES = -64, SWITCHES = 4, SERIAL = 8, STATUS = 12, MOUSE = 24, KEYBOARD = 28 };
+enum { SCREEN = 0xE7F00, SCREEN_WORDS = 24576 };
+
+typedef struct { uint32_t *words; uint32_t at; } Code;
+static void emit(Code *code, uint32_t w) { code->words[code->at++] = w; }
+static uint32_t branch_word(uint32_t from, uint32_t condition, uint32_t link, uint32_t to) {
+    return 0xE0000000u | link << 28 | condition << 24 | ((to - from - 1) & 0x3fffff);
+}
+static void jump(Code *code, uint32_t condition, uint32_t to) { emit(code, branch_word(code->at, condition, 0, to)); }
+static void call(Code *code, uint32_t to) { emit(code, branch_word(code->at, ALWAYS, 1, to)); }
+/* A word that becomes a branch to what follows once `land` is called for it. */
+static uint32_t later(Code *code) { return code->at++; }
+static void land(Code *code, uint32_t word, uint32_t condition) {
+    code->words[word] = branch_word(word, condition, 0, code->at);
+}
+
+/* ---- the programs ---- */
+
+/* R13 and R12 point to the array and to the bytes. */
+static void sort(uint32_t *memory) {
+    Code c = {memory, 0};
+    uint32_t pass, sieve, loop, skip, done, inner, outer;
+    jump(&c, ALWAYS, 64);
+    c.at = 3;
+    pass = c.at;
+    emit(&c, imm(SUB, STACK, STACK, 8)); emit(&c, store(LINK, STACK, 0)); emit(&c, imm(MOV, 0, 0, 0));
+    loop = c.at;
+    emit(&c, imm(LSL, 3, 0, 2)); emit(&c, reg(ADD, 3, 3, 13)); emit(&c, load(5, 3, 0)); emit(&c, load(6, 3, 4));
+    emit(&c, reg(SUB, 7, 5, 6));
+    skip = later(&c);
+    emit(&c, store(6, 3, 0)); emit(&c, store(5, 3, 4));
+    land(&c, skip, LE);
+    emit(&c, imm(ADD, 0, 0, 1)); emit(&c, imm(SUB, 4, 0, 1023)); jump(&c, LT, loop);
+    emit(&c, load(LINK, STACK, 0)); emit(&c, imm(ADD, STACK, STACK, 8)); emit(&c, jump_by_register(0, LINK));
+    sieve = c.at;
+    emit(&c, imm(MOV, 0, 0, 0)); emit(&c, imm(MOV, 1, 0, 1));
+    loop = c.at;
+    emit(&c, reg(ADD, 2, 12, 0)); emit(&c, store(1, 2, 0) | BYTE); emit(&c, imm(ADD, 0, 0, 1)); emit(&c, imm(SUB, 3, 0, 8192));
+    jump(&c, LT, loop);
+    emit(&c, imm(MOV, 0, 0, 2));
+    outer = c.at;
+    emit(&c, reg(ADD, 2, 12, 0)); emit(&c, load(3, 2, 0) | BYTE);
+    skip = later(&c);
+    emit(&c, reg(ADD, 4, 0, 0)); emit(&c, imm(MOV, 6, 0, 0));
+    inner = c.at;
+    emit(&c, imm(SUB, 5, 4, 8192));
+    done = later(&c);
+    emit(&c, reg(ADD, 2, 12, 4)); emit(&c, store(6, 2, 0) | BYTE); emit(&c, reg(ADD, 4, 4, 0));
+    jump(&c, ALWAYS, inner);
+    land(&c, skip, EQ); land(&c, done, GE);
+    emit(&c, imm(ADD, 0, 0, 1)); emit(&c, imm(SUB, 5, 0, 91)); jump(&c, LT, outer);
+    emit(&c, jump_by_register(0, LINK));
+    c.at = 64;
+    emit(&c, high(STACK, 8)); emit(&c, high(13, 1)); emit(&c, high(12, 2));
+    emit(&c, high(11, 0x41C6)); emit(&c, imm(IOR, 11, 11, 0x4E6D));
+    outer = c.at;
+    emit(&c, imm(MOV, 0, 0, 0));
+    loop = c.at;
+    emit(&c, reg(MUL, 10, 10, 11)); emit(&c, imm(ADD, 10, 10, 12345)); emit(&c, imm(ROR, 9, 10, 7)); emit(&c, reg(XOR, 9, 9, 10));
+    emit(&c, imm(LSL, 3, 0, 2)); emit(&c, reg(ADD, 3, 3, 13)); emit(&c, store(9, 3, 0));
+    emit(&c, imm(ADD, 0, 0, 1)); emit(&c, imm(SUB, 4, 0, 1024)); jump(&c, LT, loop);
+    call(&c, pass);
+    call(&c, sieve);
+    jump(&c, ALWAYS, outer);
+}
+
+/* R13 points to the module's variables: the result, and the procedure variable. */
+static void calls(uint32_t *memory) {
+    enum { FRAME = 12, RETURN = 0, PARAMETER = 4, FIRST = 8, RESULT = 0, PROCEDURE = 4 };
+    Code c = {memory, 0};
+    uint32_t fibonacci, further, out, loop;
+    jump(&c, ALWAYS, 64);
+    fibonacci = c.at;
+    emit(&c, imm(SUB, STACK, STACK, FRAME)); emit(&c, store(LINK, STACK, RETURN)); emit(&c, store(0, STACK, PARAMETER));
+    emit(&c, load(0, STACK, PARAMETER)); emit(&c, imm(SUB, 1, 0, 2));
+    further = later(&c);
+    emit(&c, load(0, STACK, PARAMETER));
+    out = later(&c);
+    land(&c, further, GE);
+    emit(&c, load(0, STACK, PARAMETER)); emit(&c, imm(SUB, 0, 0, 1)); call(&c, fibonacci);
+    emit(&c, store(0, STACK, FIRST));
+    emit(&c, load(0, STACK, PARAMETER)); emit(&c, imm(SUB, 0, 0, 2));
+    emit(&c, load(2, 13, PROCEDURE)); emit(&c, jump_by_register(1, 2));
+    emit(&c, load(1, STACK, FIRST)); emit(&c, reg(ADD, 0, 1, 0));
+    land(&c, out, ALWAYS);
+    emit(&c, load(LINK, STACK, RETURN)); emit(&c, imm(ADD, STACK, STACK, FRAME)); emit(&c, jump_by_register(0, LINK));
+    c.at = 64;
+    emit(&c, high(STACK, 8)); emit(&c, high(13, 1));
+    emit(&c, imm(MOV, 0, 0, (int32_t)(4 * fibonacci))); emit(&c, store(0, 13, PROCEDURE));
+    loop = c.at;
+    emit(&c, imm(MOV, 0, 0, 20)); call(&c, fibonacci); emit(&c, store(0, 13, RESULT));
+    jump(&c, ALWAYS, loop);
+}
+
+/* R13 points to the variables: keys so far, serial bytes so far, the switches, the time, and a ring of the last 256 keys. */
+static void poll(uint32_t *memory) {
+    enum { KEYS_SEEN = 0, BYTES_SEEN = 4, SWITCHES_SEEN = 8, TIME_SEEN = 12, RING = 1024 };
+    Code c = {memory, 0};
+    uint32_t loop, no_key, no_byte, no_time;
+    emit(&c, high(13, 1)); emit(&c, imm(MOV, 12, 0, DEVICES)); emit(&c, high(11, 0x1000));
+    loop = c.at;
+    emit(&c, load(0, 12, MOUSE)); emit(&c, reg(AND, 1, 0, 11));
+    no_key = later(&c);
+    emit(&c, load(2, 12, KEYBOARD));
+    emit(&c, load(3, 13, KEYS_SEEN)); emit(&c, imm(AND, 4, 3, 255)); emit(&c, reg(ADD, 4, 4, 13)); emit(&c, store(2, 4, RING) | BYTE);
+    emit(&c, imm(ADD, 3, 3, 1)); emit(&c, store(3, 13, KEYS_SEEN));
+    land(&c, no_key, EQ);
+    emit(&c, load(0, 12, STATUS)); emit(&c, imm(AND, 1, 0, 1));
+    no_byte = later(&c);
+    emit(&c, load(2, 12, SERIAL)); emit(&c, load(3, 13, BYTES_SEEN)); emit(&c, imm(ADD, 3, 3, 1)); emit(&c, store(3, 13, BYTES_SEEN));
+    land(&c, no_byte, EQ);
+    emit(&c, load(0, 12, SWITCHES)); emit(&c, imm(AND, 0, 0, 255)); emit(&c, store(0, 13, SWITCHES_SEEN));
+    emit(&c, load(0, 12, 0)); emit(&c, load(1, 13, TIME_SEEN)); emit(&c, reg(SUB, 2, 0, 1));
+    no_time = later(&c);
+    emit(&c, store(0, 13, TIME_SEEN));
+    land(&c, no_time, EQ);
+    jump(&c, ALWAYS, loop);
+}
+
+/* R12 points to the screen, R10 holds what is drawn. */
+static void display(uint32_t *memory) {
+    Code c = {memory, 0};
+    uint32_t outer, fill, invert;
+    emit(&c, high(12, SCREEN >> 16)); emit(&c, imm(IOR, 12, 12, SCREEN & 0xffff)); emit(&c, imm(MOV, 11, 0, -1));
+    outer = c.at;
+    emit(&c, imm(ADD, 10, 10, 0x1357)); emit(&c, reg(MOV, 1, 0, 12)); emit(&c, imm(MOV, 2, 0, SCREEN_WORDS));
+    fill = c.at;
+    emit(&c, store(10, 1, 0)); emit(&c, imm(ADD, 1, 1, 4)); emit(&c, imm(SUB, 2, 2, 1)); jump(&c, NE, fill);
+    emit(&c, reg(MOV, 1, 0, 12)); emit(&c, imm(MOV, 2, 0, SCREEN_WORDS));
+    invert = c.at;
+    emit(&c, load(3, 1, 0)); emit(&c, reg(XOR, 3, 3, 11)); emit(&c, store(3, 1, 0));
+    emit(&c, imm(ADD, 1, 1, 4)); emit(&c, imm(SUB, 2, 2, 1)); jump(&c, NE, invert);
+    jump(&c, ALWAYS, outer);
+}
+
+static void inputs(uint32_t *memory) { memory[0] = 0xE7FFFFFFu; }
+
+static void sends(uint32_t *memory) {
+    Code c = {memory, 0};
+    emit(&c, imm(MOV, 12, 0, DEVICES));
+    while (c.at < WORDS - 1) emit(&c, store(12, 12, SERIAL));
+    jump(&c, ALWAYS, 1);
+}
+
+typedef struct {
+    const char *name;
+    void (*assemble)(uint32_t *memory);
+    uint32_t input_kind; /* of the inputs that come, 0 for none */
+    uint64_t apart;      /* how many counts lie between two of them */
+} Program;
+
+static const Program programs[] = {
+    {"sort", sort, 0, 0}, {"calls", calls, 0, 0}, {"poll", poll, 4, 10000}, {"display", display, 0, 0},
+    {"inputs", inputs, 2, 1}, {"sends", sends, 0, 0},
+};
+
+/* ---- their recordings ---- */
+
+typedef struct { uint64_t count; uint32_t fields[26], table[PAGES], sent; uint8_t keys[KEYS]; } Checkpoint;
+typedef struct { uint32_t *words, *before, pages; } Pool;
+
+static void write_number(uint64_t n, int bytes) { while (bytes--) { putchar((int)(n & 255)); n >>= 8; } }
+
+static void *room_for(size_t many, size_t size) {
+    void *room = calloc(many + 1, size);
+    if (!room) die("no memory");
+    return room;
+}
+
+/* Adds the pages of memory that changed to the pool, under new numbers in the table. */
+static void lay_pages(const uint32_t *memory, Pool *pool, uint32_t *table) {
+    for (uint32_t p = 0; p < PAGES; p++) {
+        const uint32_t *page = memory + PAGE * p;
+        if (!memcmp(page, pool->before + PAGE * p, 4 * PAGE)) continue;
+        if (pool->pages == 65536) die("too many pages");
+        memcpy(pool->words + (size_t)PAGE * pool->pages++, page, 4 * PAGE);
+        table[p] = pool->pages;
+    }
+    memcpy(pool->before, memory, 4 * WORDS);
+}
+
+static Event *events_of(const Program *program, uint64_t steps, size_t *many) {
+    *many = program->apart ? steps / program->apart : 0;
+    if (*many > 1000000) die("too many inputs");
+    Event *events = room_for(*many, sizeof *events);
+    for (size_t i = 0; i < *many; i++) events[i] = (Event){program->apart * i, program->input_kind, (uint32_t)(i & 255)};
+    return events;
+}
+
+static void write_checkpoint(const Checkpoint *c) {
+    write_number(c->count, 8);
+    for (int i = 0; i < 26; i++) write_number(c->fields[i], 4);
+    fwrite(c->keys, 1, KEYS, stdout);
+    write_number(c->sent, 4);
+    for (uint32_t p = 0; p < PAGES; p++) write_number(c->table[p], 4);
+}
+
+static int make(const Program *program, uint64_t steps, uint32_t segments) {
+    Machine m = {.memory = room_for(WORDS, 4)};
+    Pool pool = {room_for((size_t)PAGE * 65536, 4), room_for(WORDS, 4), 0};
+    Checkpoint *list = room_for(segments + 1, sizeof *list);
+    size_t many, next = 0;
+    Event *events = events_of(program, steps, &many);
+    program->assemble(m.memory);
+    uint64_t at = 0, sent = 0;
+    for (uint32_t k = 0; k <= segments; k++) {
+        list[k].count = steps / segments * k;
+        run(&m, events, many, &next, at, list[k].count);
+        at = list[k].count;
+        lay_out(&m, list[k].fields);
+        memcpy(list[k].keys, m.keys, KEYS);
+        list[k].sent = (uint32_t)(m.sent_length - sent);
+        sent = m.sent_length;
+        if (k) memcpy(list[k].table, list[k - 1].table, sizeof list[k].table);
+        lay_pages(m.memory, &pool, list[k].table);
+    }
+    if (m.stop || sent > 1048576) die("the program stopped, or sent too much");
+    fwrite("ORSR", 1, 4, stdout);
+    write_number(1, 4); write_number(pool.pages, 4); write_number(many, 4); write_number(segments + 1, 4); write_number(0, 4);
+    for (size_t i = 0; i < (size_t)PAGE * pool.pages; i++) write_number(pool.words[i], 4);
+    for (size_t i = 0; i < many; i++) {
+        write_number(events[i].count, 8); write_number(events[i].kind, 4); write_number(events[i].value, 4);
+    }
+    for (uint32_t k = 0; k <= segments; k++) write_checkpoint(&list[k]);
+    fwrite(m.sent, 1, sent, stdout);
+    return 0;
+}
+
+int main(int argc, char **argv) {
+    for (size_t i = 0; argc == 4 && i < sizeof programs / sizeof *programs; i++)
+        if (!strcmp(argv[1], programs[i].name))
+            return make(&programs[i], strtoull(argv[2], NULL, 10), (uint32_t)strtoul(argv[3], NULL, 10));
+    die("usage: record sort|calls|poll|display|inputs|sends STEPS CHECKPOINTS");
+}
