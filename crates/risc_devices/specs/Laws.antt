@@ -1,4 +1,4 @@
--- What the definitions mean, in other words.
+-- What the definitions mean, in other words. Nothing here is chosen or restated: the law is proved of the definition.
 use Rattle.std.specs.Prelude.{ℕ, ◌≡◌, ◌/◌, ◌%◌, ◌^◌, ◌<◌, ◌↔◌, IsTrue}
 use Rattle.risc_devices.specs.InputKind.{is_mouse}
 
