@@ -1,9 +1,8 @@
 -- A mouse word's fields, and the bits of its mask.
-use Rattle.std.proofs.Common.{◌≡◌, ℕ, ◌+◌, ◌-◌, ◌*◌, ◌/◌, ◌%◌, ◌^◌, ◌<◌, ◌≤◌, inl, inr, refl, sym, ap, subst, ◌∙◌, arith}
+use Rattle.std.proofs.Common.{◌≡◌, ℕ, ◌+◌, ◌-◌, ◌*◌, ◌/◌, ◌%◌, ◌^◌, ◌<◌, inl, inr, refl, sym, subst, ◌∙◌, arith}
 use Rattle.std.specs.Prelude.{IsTrue}
 use Rattle.std.specs.Int.{bit_at}
 use Rattle.std.proofs.lemmas.Bool.{cases_lt}
-use Rattle.std.proofs.lemmas.Nat.{mod_below, shr_split}
 use Rattle.std.proofs.lemmas.Nat.Bits.{bit_at_ones, bit_at_above, bit_at_cat_low, bit_at_cat_high}
 use Rattle.risc_devices.specs.InputKind.{is_mouse}
 use Rattle.risc_devices.specs.Laws.{HasBit, IsInside, MouseLaw}
