@@ -8,9 +8,9 @@ pub struct Flags {
     pub n: bool,
     /// Zero: whether the value written last is 0.
     pub z: bool,
-    /// Carry of the last sum, or borrow of the last difference.
+    /// Carry of the last sum, or borrow of the last difference (this project's own choice).
     pub c: bool,
-    /// Overflow of the last sum or difference of signed values.
+    /// Overflow of the last sum or difference of signed values (this project's own choice).
     pub v: bool,
 }
 

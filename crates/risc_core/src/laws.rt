@@ -1,5 +1,5 @@
 //! The laws of this crate's definitions, each the contract of a function that does nothing.
-ghost use Rattle.risc_core.specs.Laws.{DivisionLaw, BitsLaw, InstructionLaw};
+ghost use Rattle.risc_core.specs.Laws.{DivisionLaw, BitsLaw, WidthLaw, InstructionLaw};
 
 /// Quotient and remainder are the one pair of their definition.
 pub const fn division_law()
@@ -9,6 +9,11 @@ pub const fn division_law()
 /// A number given bit by bit has those bits.
 pub const fn bits_law()
     ensures { BitsLaw }
+{}
+
+/// A number given bit by bit is below 2 to the power of its width.
+pub const fn width_law()
+    ensures { WidthLaw }
 {}
 
 /// Each word is a word of one instruction, its fields' sum, and of no other.

@@ -16,9 +16,9 @@ const HALF: i64 = 1 << 31;
 pub struct Sum {
     /// The value for the register R.a.
     pub value: u32,
-    /// C: the carry of a sum, or the borrow of a difference.
+    /// C: the carry of a sum, or the borrow of a difference (this project's own choice).
     pub carry: bool,
-    /// V: whether the sum or the difference of the signed values is not a signed value of 32 bits.
+    /// V: whether the sum or the difference of the signed values is not a signed value of 32 bits (this project's own choice).
     pub overflow: bool,
 }
 

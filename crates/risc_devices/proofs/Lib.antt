@@ -1,4 +1,5 @@
 pub mod InputLemmas
 pub mod DeviceLemmas
 pub mod PictureLemmas
+pub mod MouseLemmas
 mod Examples

@@ -1,9 +1,11 @@
--- The state of the devices.
+-- The state of the devices ("Project Oberon" 2013, the hardware chapters: a timer, buttons and switches, LEDs, a mouse, a
+-- serial line and a keyboard). What each of them holds is this project's own choice where this is said.
 use Rattle.std.specs.Prelude.{ℕ, ◌+◌, ◌/◌, ◌%◌, ◌^◌, ◌<◌, ◌≤◌, Bool, ◌==◌, if◌then◌else◌, IsTrue, List, length, All}
 use Rattle.risc_devices.specs.InputKind.{is_mouse}
 
 -- What the devices hold. The buttons are bits 11 to 8 of `switches`, and the switches bits 7 to 0. `serial` is the byte that
--- the serial line holds, and `received` whether it came since the last read. `keys` are the key codes that wait, oldest first.
+-- the serial line holds, and `received` whether it came since the last read: that the line holds one byte, and keeps it once
+-- it was read, is this project's own choice. `keys` are the key codes that wait, oldest first.
 pub record DeviceState : Type 0 where
   pub timer : ℕ
   pub switches : ℕ
@@ -13,7 +15,7 @@ pub record DeviceState : Type 0 where
   pub received : Bool
   pub keys : List ℕ
 
--- Each part is in its range.
+-- Each part is in its range. That at most sixteen key codes wait is this project's own choice, as is the mouse word's layout.
 pub record IsDeviceState (d : DeviceState) : Type 0 where
   pub timer : d.timer < 2 ^ 32
   pub switches : d.switches < 2 ^ 12
@@ -23,11 +25,11 @@ pub record IsDeviceState (d : DeviceState) : Type 0 where
   pub keys : length d.keys ≤ 16
   pub codes : All (λ code. code < 2 ^ 8) d.keys
 
--- The byte held and "received" as one number, whose bit 8 is "received".
+-- The byte held and "received" as one number, whose bit 8 is "received" (this project's own choice).
 abbrev pub serial_number : DeviceState → ℕ
 serial_number d = d.serial + (if d.received then 2 ^ 8 else 0)
 
--- The devices with these parts, the serial line's given as one number.
+-- The devices with these parts, the serial line's given as one number (this project's own choice).
 abbrev pub state_of_parts : ℕ → ℕ → ℕ → ℕ → ℕ → List ℕ → DeviceState
 state_of_parts timer switches leds mouse serial keys = record {
   timer = timer;
@@ -39,7 +41,8 @@ state_of_parts timer switches leds mouse serial keys = record {
   keys = keys;
 }
 
--- The parts whose numbers can be out of their range in the words that bring them: these are in it.
+-- The parts whose numbers can be out of their range in the words that bring them: these are in it (this project's own
+-- choice).
 pub record AreParts (switches mouse serial : ℕ) (keys : List ℕ) : Type 0 where
   pub switches_fit : switches < 2 ^ 12
   pub mouse_fits : IsTrue (is_mouse mouse)

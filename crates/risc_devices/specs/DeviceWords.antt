@@ -1,5 +1,7 @@
 -- What the sixteen device words read, and what reads and writes of them do ("Project Oberon" 2013, the hardware chapters, for
--- words 0 to 3, 6 and 7; what the other words do, and what writes elsewhere do, is this project's own choice).
+-- words 0 to 3, 6 and 7). This project's own choice are: the constants of words 4 and 5; the zeros of words 8 to 15, and of
+-- word 7 where no key code waits; that a byte of the serial line may always be sent, and that the one received stays readable;
+-- and that writes to words other than 1 and 2 do nothing.
 use Rattle.std.specs.Prelude.{ℕ, ◌+◌, ◌%◌, ◌^◌, false, ◌==◌, if◌then◌else◌, drop, Option, Some, None}
 use Rattle.risc_devices.specs.DeviceState.{DeviceState}
 use Rattle.risc_devices.specs.KeyCodes.{oldest, key_bit}

@@ -1,4 +1,4 @@
--- Inputs, and what they do to the devices.
+-- Inputs, and what they do to the devices. Inputs are this project's own choice: what comes from outside as a number of a kind.
 use Rattle.std.specs.Prelude.{ℕ, true}
 use Rattle.risc_devices.specs.declared.input.Input.{Input}
 use Rattle.risc_devices.specs.declared.kind.Kind.{Kind}

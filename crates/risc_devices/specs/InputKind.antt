@@ -1,9 +1,9 @@
--- The kinds of inputs, their numbers, and the values that an input of each kind may have.
+-- The kinds of inputs, their numbers, and the values that an input of each kind may have (this project's own choice).
 use Rattle.std.specs.Prelude.{ℕ, ◌/◌, ◌%◌, ◌^◌, Bool, ◌&&◌, ◌||◌, ◌==◌, nat_lt, IsTrue}
 use Rattle.risc_devices.specs.declared.kind.Kind.{Kind}
 use Rattle.risc_devices.specs.declared.kind.Kind.TheVariants.{Timer, Switches, Mouse, Key, Serial}
 
--- The number of a kind (this project's own choice).
+-- The number of a kind.
 abbrev pub kind_number : Kind → ℕ
 kind_number Timer = 1
 kind_number Switches = 2
@@ -12,7 +12,7 @@ kind_number Key = 4
 kind_number Serial = 5
 
 -- A mouse word has x in bits 0 to 9, y in bits 12 to 21, three keys in bits 24 to 26, and no other bit: it lies inside the
--- mask 073FF3FF (this project's own choice).
+-- mask 073FF3FF.
 unfoldable pub is_mouse : ℕ → Bool
 is_mouse word = nat_lt (word % 2 ^ 12) (2 ^ 10) && nat_lt (word / 2 ^ 12 % 2 ^ 12) (2 ^ 10) && nat_lt (word / 2 ^ 24) (2 ^ 3)
 

@@ -5,3 +5,4 @@ pub mod Input
 pub mod DeviceWords
 pub mod Shown
 pub mod Picture
+pub mod Laws

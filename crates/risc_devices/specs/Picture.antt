@@ -1,6 +1,6 @@
 -- The picture of a display: 1,024 by 768 dots, 32 words a line, line 0 lowest, bit 0 of a word its leftmost dot ("Project
 -- Oberon" 2013, the hardware chapters), as a binary PBM, whose rows go from the top down, and whose bytes hold eight dots
--- each, the leftmost in the highest bit.
+-- each, the leftmost in the highest bit (this project's own choice).
 use Rattle.std.specs.Prelude.{◌≡◌, ℕ, ◌+◌, ◌-◌, ◌*◌, ◌/◌, ◌%◌, ◌^◌, ◌<◌, List, length, take, slice_index, All, codes}
 
 -- The first twelve bytes: `P4`, a line feed, `1024 768`, a line feed.

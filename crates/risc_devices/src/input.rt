@@ -15,7 +15,8 @@ use crate::kind::Kind;
 /// | 4 | key | below 256 | joins the end of the key queue, or is dropped where sixteen wait |
 /// | 5 | serial | below 256 | replaces the serial line's byte, which is then "received" |
 ///
-/// The numbers are this project's own choice.
+/// The numbers of the kinds, the layout of the mouse word, the length of the key queue, and that a byte of the serial line
+/// replaces the one before are this project's own choice.
 #[derive(Clone, Copy, Debug, PartialEq, Eq)]
 pub struct Input {
     pub(crate) kind: Kind,

@@ -10,12 +10,14 @@ mod fault;
 mod input;
 mod key_queue;
 mod kind;
+mod laws;
 
 pub use devices::Devices;
 pub use display::picture;
 pub use fault::RangeFault;
 pub use input::Input;
 pub use kind::is_mouse_word;
+pub use laws::mouse_law;
 
 #[cfg(test)]
 mod tests;

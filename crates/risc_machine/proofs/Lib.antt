@@ -1,5 +1,6 @@
 pub mod OrderLemmas
 pub mod LaneLemmas
+pub mod StoredLemmas
 pub mod DeviceLemmas
 pub mod DueLemmas
 pub mod RunLemmas

@@ -1,4 +1,4 @@
--- Comparing what is sent with what is expected, byte by byte.
+-- Comparing what is sent with what is expected, byte by byte (this project's own choice). No public contract cites this.
 use Rattle.std.specs.Prelude.{◌≡◌, ◌++◌, List, ℕ, Bool, true, false, ◌≤◌, length, take}
 
 -- so many of the expected bytes were sent and nothing else; or what was sent is no beginning of them

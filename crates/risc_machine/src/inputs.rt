@@ -35,6 +35,17 @@ pub struct Unordered {
     pub at: usize,
 }
 
+impl Unordered {
+    ghost use Rattle.std.specs.Prelude.{◌≡◌};
+
+    /// The refusal's number, which is 1.
+    pub fn number(&self) -> u8
+        ensures { result ≡ 1 }
+    {
+        1
+    }
+}
+
 impl Inputs {
     /// The inputs of a list, whose counts don't fall and are at most 2^40.
     ///

@@ -24,7 +24,7 @@ mod status;
 pub use cpu::Cpu;
 pub use event::Event;
 pub use inputs::{Inputs, Unordered};
-pub use laws::{run_law, stop_law, stopped_law};
+pub use laws::{lane_law, run_law, stop_law, stopped_law};
 pub use machine::Machine;
 pub use replay::RunFault;
 pub use risc_core::Flags;

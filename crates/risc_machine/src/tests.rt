@@ -371,3 +371,50 @@ fn hands_back_inputs_that_are_out_of_order(rt: HostRuntime) {
         }
     }
 }
+
+#[test]
+fn keeps_the_first_sixteen_keys_in_order(rt: HostRuntime) {
+    let jump = example_of([JUMP, 0, 0, 0], [0; 4]);
+    let pool = pool_of(rt.alloc(), jump).expect(&rt, "there is room");
+    let mut machine = machine_of(&rt, rt.alloc(), &pool, jump);
+    let rows = [
+        (0, 4, 1),
+        (0, 4, 2),
+        (0, 4, 3),
+        (0, 4, 4),
+        (0, 4, 5),
+        (0, 4, 6),
+        (0, 4, 7),
+        (0, 4, 8),
+        (0, 4, 9),
+        (0, 4, 10),
+        (0, 4, 11),
+        (0, 4, 12),
+        (0, 4, 13),
+        (0, 4, 14),
+        (0, 4, 15),
+        (0, 4, 16),
+        (0, 4, 17),
+    ];
+    match inputs_of(&rt, rt.alloc(), &rows) {
+        Ok(inputs) => {
+            assert_eq!(rt; inputs.events().len(), 17);
+            assert!(rt;
+                machine
+                    .run_matching(&inputs, 0, 1, &[])
+                    .expect(&rt, "there is room")
+            );
+        }
+        Err(_) => panic!(rt; "the inputs are in order"),
+    }
+    let want = [1, 2, 3, 4, 5, 6, 7, 8, 9, 10, 11, 12, 13, 14, 15, 16];
+    assert_eq!(rt; machine.devices().keys(), &want[..]);
+}
+
+#[test]
+fn numbers_the_refusal_of_a_wrong_order(rt: HostRuntime) {
+    match inputs_of(&rt, rt.alloc(), &[(1, 1, 0), (0, 1, 0)]) {
+        Ok(_) => panic!(rt; "the counts fall"),
+        Err(unordered) => assert_eq!(rt; (unordered.number(), unordered.at), (1, 1)),
+    }
+}

@@ -1,4 +1,4 @@
--- What a table over a pool holds.
+-- What a table over a pool holds. Pools, tables and their pages are this project's own choice.
 use Rattle.std.specs.Prelude.{ℕ, ◌≡◌, ◌/◌, ◌%◌, ◌<◌, ◌≤◌, List, All, length, slice_index}
 use Rattle.std.specs.List.{flat_map}
 use Rattle.risc_pages.specs.Pages.{page_of}

@@ -1,4 +1,5 @@
--- A memory, as contracts see it.
+-- A memory, as contracts see it. It has the words of the RAM of Project Oberon (2013, hardware chapters: 1 MB); its places
+-- and their pages are this project's own choice.
 use Rattle.std.specs.Prelude.{ℕ, ◌≡◌, ◌^◌, ◌<◌, Bool, List, All, length}
 
 -- what a memory holds

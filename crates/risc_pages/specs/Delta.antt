@@ -1,4 +1,4 @@
--- The changes of a memory since it was made.
+-- The changes of a memory since it was made. They are this project's own choice.
 use Rattle.std.specs.Prelude.{ℕ, ◌≡◌, ◌≢◌, ◌<◌, Bool, List, All, Contains, filter, map, nat_eq, not}
 use Rattle.std.specs.Cmp.Lexicographic.{pointwise}
 use Rattle.std.specs.List.{range_with_len}

@@ -1,4 +1,4 @@
--- The first page in which two memories differ.
+-- The first page in which two memories differ. Comparing memories page by page is this project's own choice.
 use Rattle.std.specs.Prelude.{ℕ, ◌≡◌, ◌≢◌, ◌<◌, List}
 use Rattle.risc_pages.specs.Pages.{page_at}
 

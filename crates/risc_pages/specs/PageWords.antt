@@ -1,4 +1,4 @@
--- Pages as their words.
+-- Pages as their words (this project's own choice).
 use Rattle.std.specs.Prelude.{ℕ, List}
 use Rattle.risc_pages.specs.declared.page.Frame.{Frame}
 

@@ -1,4 +1,4 @@
--- The places of a memory. No public contract cites these.
+-- The places of a memory (this project's own choice). No public contract cites these.
 use Rattle.std.specs.Prelude.{ℕ, ◌≡◌, List, Bool, true, false, map, slice_set}
 use Rattle.std.specs.List.{flat_map}
 use Rattle.risc_pages.specs.declared.place.Place.{Place}
