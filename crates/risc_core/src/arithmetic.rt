@@ -91,7 +91,16 @@ pub const fn alu_beside_sums(
 /// What MOV, a shift or a logical operation gives, operations 0 to 7, which leave H, C and V.
 #[inline(always)]
 #[tactic(auto, using(crate::proofs::BitLemmas::bitwise), unfolding(crate::specs::Arithmetic::outcome_of))]
-const fn simple(op: u8, u: bool, imm: bool, v: bool, b: u32, c: u32, h: u32, flags: Flags) -> u32
+pub const fn simple(
+    op: u8,
+    u: bool,
+    imm: bool,
+    v: bool,
+    b: u32,
+    c: u32,
+    h: u32,
+    flags: Flags,
+) -> u32
     requires { op < 8 }
     ensures { outcome_of op u imm v b c h flags ≡ Ok (output_of result h flags) }
 {

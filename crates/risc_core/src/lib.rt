@@ -20,7 +20,7 @@ mod sums;
 mod word;
 
 pub use address::Place;
-pub use arithmetic::{AluOut, alu, alu_beside_sums};
+pub use arithmetic::{AluOut, alu, alu_beside_sums, simple};
 pub use branch::{condition, link, reg_target, taken, target};
 pub use decoding::decode;
 pub use flags::{Flags, written};

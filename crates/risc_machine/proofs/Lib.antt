@@ -9,3 +9,5 @@ pub mod LawLemmas
 pub mod OutcomeLemmas
 pub mod Examples
 pub mod SilentLemmas
+pub mod FlatLemmas
+pub mod EntryLemmas

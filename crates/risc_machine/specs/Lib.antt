@@ -10,3 +10,5 @@ pub mod Destinations
 pub mod Rests
 pub mod Matched
 pub mod Laws
+pub mod Flats
+pub mod Entries
