@@ -10,11 +10,13 @@
 mod address;
 mod arithmetic;
 mod branch;
+pub mod conditions;
 mod decoding;
 mod flags;
 mod instruction;
 mod laws;
 mod locate;
+pub mod operations;
 mod stop;
 mod sums;
 mod word;

@@ -9,5 +9,4 @@ pub mod LawLemmas
 pub mod OutcomeLemmas
 pub mod Examples
 pub mod SilentLemmas
-pub mod FlatLemmas
 pub mod EntryLemmas

@@ -10,5 +10,6 @@ pub mod Destinations
 pub mod Rests
 pub mod Matched
 pub mod Laws
-pub mod Flats
+pub mod Operands
+pub mod Actions
 pub mod Entries

@@ -5,6 +5,8 @@
 //! `specs/`, are one machine of whole numbers over a flat map of words; each contract cites them.
 #![tactic(auto)]
 
+mod act;
+mod action;
 mod board;
 mod bus;
 mod cpu;
@@ -12,17 +14,17 @@ mod destination;
 mod due;
 mod entry;
 mod event;
-mod flat;
-mod flatten;
 mod inputs;
 mod lane;
 mod laws;
 mod machine;
+mod operand;
 mod operate;
 mod ram;
 mod registers;
 mod replay;
 mod sink;
+mod sorting;
 mod status;
 
 pub use cpu::Cpu;
