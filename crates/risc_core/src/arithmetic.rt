@@ -5,6 +5,7 @@ ghost use Rattle.risc_core.specs.Word.{signed, floor_div, floor_mod};
 ghost use Rattle.risc_core.specs.Arithmetic.{outcome_of, output_of, summed, moved_value, shifted_right, rotated, product, product_of, dividend, quotient_of, flags_word};
 
 use crate::flags::{Flags, written};
+use crate::operations::{ADD, AND, ANN, ASR, DIV, IOR, LSL, MUL, ROR, SUB, XOR};
 use crate::stop::Stop;
 use crate::sums::{Sum, add, signed, subtract};
 
@@ -49,8 +50,8 @@ pub const fn alu(
     ensures divisor { (result ≡ Err Stop.Divisor) ↔ ((op ≡ 11) × (signed c <ℤ pos 1)) }
 {
     match op {
-        8 => Ok(summed(add(u, b, c, flags.c), h, flags)),
-        9 => Ok(summed(subtract(u, b, c, flags.c), h, flags)),
+        ADD => Ok(summed(add(u, b, c, flags.c), h, flags)),
+        SUB => Ok(summed(subtract(u, b, c, flags.c), h, flags)),
         _ => alu_beside_sums(op, u, imm, v, b, c, h, flags),
     }
 }
@@ -76,10 +77,10 @@ pub const fn alu_beside_sums(
     ensures divisor { (result ≡ Err Stop.Divisor) ↔ ((op ≡ 11) × (signed c <ℤ pos 1)) }
 {
     match op {
-        10 => Ok(multiply(u, b, c, flags)),
-        11 => divide(u, b, c, flags),
+        MUL => Ok(multiply(u, b, c, flags)),
+        DIV => divide(u, b, c, flags),
         _ => {
-            if op < 8 {
+            if op < ADD {
                 Ok(output(simple(op, u, imm, v, b, c, h, flags), h, flags))
             } else {
                 Err(Stop::Float)
@@ -91,18 +92,27 @@ pub const fn alu_beside_sums(
 /// What MOV, a shift or a logical operation gives, operations 0 to 7, which leave H, C and V.
 #[inline(always)]
 #[tactic(auto, using(crate::proofs::BitLemmas::bitwise), unfolding(crate::specs::Arithmetic::outcome_of))]
-const fn simple(op: u8, u: bool, imm: bool, v: bool, b: u32, c: u32, h: u32, flags: Flags) -> u32
+pub const fn simple(
+    op: u8,
+    u: bool,
+    imm: bool,
+    v: bool,
+    b: u32,
+    c: u32,
+    h: u32,
+    flags: Flags,
+) -> u32
     requires { op < 8 }
     ensures { outcome_of op u imm v b c h flags ≡ Ok (output_of result h flags) }
 {
     match op {
-        1 => b << (c & 31),
-        2 => shift_right(b, c),
-        3 => rotate(b, c),
-        4 => b & c,
-        5 => b & !c,
-        6 => b | c,
-        7 => b ^ c,
+        LSL => b << (c & 31),
+        ASR => shift_right(b, c),
+        ROR => rotate(b, c),
+        AND => b & c,
+        ANN => b & !c,
+        IOR => b | c,
+        XOR => b ^ c,
         _ => moved(u, imm, v, c, h, flags),
     }
 }

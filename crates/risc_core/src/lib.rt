@@ -10,17 +10,19 @@
 mod address;
 mod arithmetic;
 mod branch;
+pub mod conditions;
 mod decoding;
 mod flags;
 mod instruction;
 mod laws;
 mod locate;
+pub mod operations;
 mod stop;
 mod sums;
 mod word;
 
 pub use address::Place;
-pub use arithmetic::{AluOut, alu, alu_beside_sums};
+pub use arithmetic::{AluOut, alu, alu_beside_sums, simple};
 pub use branch::{condition, link, reg_target, taken, target};
 pub use decoding::decode;
 pub use flags::{Flags, written};

@@ -10,3 +10,4 @@ pub mod LawLemmas
 pub mod OutcomeLemmas
 pub mod Examples
 pub mod SilentLemmas
+pub mod EntryLemmas

@@ -10,3 +10,6 @@ pub mod Destinations
 pub mod Rests
 pub mod Matched
 pub mod Laws
+pub mod Operands
+pub mod Actions
+pub mod Entries

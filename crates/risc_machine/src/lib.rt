@@ -5,20 +5,26 @@
 //! `specs/`, are one machine of whole numbers over a flat map of words; each contract cites them.
 #![tactic(auto)]
 
+mod act;
+mod action;
 mod board;
 mod bus;
 mod cpu;
 mod destination;
 mod due;
+mod entry;
 mod event;
 mod inputs;
 mod lane;
 mod laws;
 mod machine;
+mod operand;
 mod operate;
+mod ram;
 mod registers;
 mod replay;
 mod sink;
+mod sorting;
 mod status;
 
 pub use cpu::Cpu;

@@ -418,3 +418,154 @@ fn numbers_the_refusal_of_a_wrong_order(rt: HostRuntime) {
         Err(unordered) => assert_eq!(rt; (unordered.number(), unordered.at), (1, 1)),
     }
 }
+
+/// An example that writes its own code, the steps after which it is looked at, and what it comes to.
+type Rewriting = (Example, u64, Outcome);
+
+/// Adds 1 to R2, stores R0 where R1 points, a word or a byte, and goes back to word 0.
+const fn rewrites_what_has_run(store: u32, r0: u32) -> Example {
+    example_of([0x4228_0001, store, 0xE7FF_FFFD, 0], [r0, 0, 0, 0])
+}
+
+/// R2 becomes 1, and once the addition of 1 has become one of 16, by a word or by a byte, 17 and 33.
+fn by_word() -> Rewriting {
+    (
+        rewrites_what_has_run(0xA010_0000, 0x4228_0010),
+        7,
+        Outcome {
+            registers: [0x4228_0010, 0, 33, 0],
+            pc: 1,
+            word_64: 0x4433_2211,
+            ..STILL
+        },
+    )
+}
+
+fn by_byte() -> Rewriting {
+    (
+        rewrites_what_has_run(0xB010_0000, 0x10),
+        7,
+        Outcome {
+            registers: [0x10, 0, 33, 0],
+            pc: 1,
+            word_64: 0x4433_2211,
+            ..STILL
+        },
+    )
+}
+
+/// A byte in lane 2 makes the addition of 1 a subtraction, so that R2 is 0 again.
+fn by_byte_of_the_operation() -> Rewriting {
+    (
+        rewrites_what_has_run(0xB010_0002, 0x29),
+        4,
+        Outcome {
+            registers: [0x29, 0, 0, 0],
+            pc: 1,
+            flags: 4,
+            word_64: 0x4433_2211,
+            ..STILL
+        },
+    )
+}
+
+/// The store overwrites the next instruction, which has not run yet: 2 is added to R2, not 1.
+fn next() -> Rewriting {
+    (
+        example_of([0xA010_0004, 0x4228_0001, JUMP, 0], [0x4228_0002, 0, 0, 0]),
+        2,
+        Outcome {
+            registers: [0x4228_0002, 0, 2, 0],
+            pc: 2,
+            word_64: 0x4433_2211,
+            ..STILL
+        },
+    )
+}
+
+/// The store reaches word 64, and in its second round the next instruction, which has run: 1 and then 16 are added to R2.
+fn next_that_has_run() -> Rewriting {
+    (
+        example_of(
+            [0xA010_0004, 0x4228_0001, 0x4100_0000, 0xE7FF_FFFC],
+            [0x4228_0010, 0xFC, 0, 0],
+        ),
+        6,
+        Outcome {
+            registers: [0x4228_0010, 0, 17, 0],
+            pc: 2,
+            word_64: 0x4228_0010,
+            ..STILL
+        },
+    )
+}
+
+/// A program that stores R0 where R1 points, goes there, comes back to word 2 and does the same with what R2 held.
+const VISITOR: [u32; 4] = [0xA010_0000, 0xC700_0001, 0x0000_0002, 0xE7FF_FFFC];
+
+/// What it comes to, if what R2 held adds 7 to R15, which was 8, and stands below the word `pc`.
+const fn visited(r1: u32, pc: u32) -> Outcome {
+    Outcome {
+        registers: [0x4FF8_0007, r1, 0x4FF8_0007, 15],
+        pc,
+        word_64: 0x4433_2211,
+        ..STILL
+    }
+}
+
+/// At first the visitor finds a branch back to R15, and in its second round an addition.
+const fn visits(r1: u32, pc: u32) -> Rewriting {
+    (
+        example_of(VISITOR, [0xC700_000F, r1, 0x4FF8_0007, 8]),
+        8,
+        visited(r1, pc),
+    )
+}
+
+/// All of them: the visitor goes to another page, to the page of word 1,024, to the display and to the last word.
+fn rewritings() -> [Rewriting; 9] {
+    [
+        by_word(),
+        by_byte(),
+        by_byte_of_the_operation(),
+        next(),
+        next_that_has_run(),
+        visits(0x400, 257),
+        visits(0x1000, 1025),
+        visits(0xE_7F00, 237_505),
+        visits(0xF_FFFC, 262_144),
+    ]
+}
+
+/// What an example comes to in two runs, the first of which ends after `cut` steps.
+fn run_in_two(rt: &impl Abort, alloc: Global, example: Example, cut: u64, steps: u64) -> Outcome {
+    let pool = pool_of(alloc, example).expect(rt, "there is room");
+    let mut machine = machine_of(rt, alloc, &pool, example);
+    match inputs_of(rt, alloc, &[]) {
+        Ok(inputs) => {
+            let cut = cut.min(steps);
+            for (from, to) in [(0, cut), (cut, steps)] {
+                let same = machine.run_matching(&inputs, from, to, &[]);
+                assert!(rt; same.expect(rt, "there is room"));
+            }
+        }
+        Err(_) => panic!(rt; "the inputs are in order"),
+    }
+    outcome_of(&machine, 0)
+}
+
+#[test]
+fn runs_code_that_it_wrote(rt: HostRuntime) {
+    for (example, steps, want) in rewritings() {
+        assert_eq!(rt; run_of(&rt, rt.alloc(), example, &[], steps), want);
+    }
+}
+
+#[test]
+fn runs_code_that_it_wrote_across_a_checkpoint(rt: HostRuntime) {
+    for (example, steps, want) in rewritings() {
+        for cut in 0..steps {
+            assert_eq!(rt; run_in_two(&rt, rt.alloc(), example, cut, steps), want);
+        }
+    }
+}
