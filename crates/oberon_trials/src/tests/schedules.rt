@@ -52,7 +52,10 @@ fn the_stored_run_and_its_false_form(rt: HostRuntime) -> Result<(), Fail> {
     for (r0, expected) in [(5, (accepted, 0)), (6, (false_r0, 1))] {
         let text = stored_run(alloc, r0)?;
         let cuts = [1, 4, 100];
-        assert_eq!(rt; dissenter(&rt, alloc, text.as_slice(), &cuts, expected)?, None);
+        assert_eq!(rt;
+            dissenter(&rt, alloc, text.as_slice(), &cuts, expected)?,
+            None
+        );
     }
     Ok(())
 }
@@ -67,7 +70,10 @@ fn one_false_checkpoint_of_ten(rt: HostRuntime) -> Result<(), Fail> {
         let line = format!(in alloc; "false checkpoint {checkpoint} at {checkpoint}0 part LEDs\n")?;
         let text = jump_text(alloc, &leds)?;
         let expected = (line.as_bytes(), 1);
-        assert_eq!(rt; dissenter(&rt, alloc, text.as_slice(), &CUTS, expected)?, None);
+        assert_eq!(rt;
+            dissenter(&rt, alloc, text.as_slice(), &CUTS, expected)?,
+            None
+        );
     }
     Ok(())
 }
@@ -79,7 +85,10 @@ fn the_first_of_many_false_checkpoints(rt: HostRuntime) -> Result<(), Fail> {
     for leds in [[1; 10], rising] {
         let text = jump_text(alloc, &leds)?;
         let expected = (FALSE_AT_ONCE, 1);
-        assert_eq!(rt; dissenter(&rt, alloc, text.as_slice(), &CUTS, expected)?, None);
+        assert_eq!(rt;
+            dissenter(&rt, alloc, text.as_slice(), &CUTS, expected)?,
+            None
+        );
     }
     Ok(())
 }
