@@ -1,7 +1,7 @@
 //! What all workers' parts come to.
 //!
 //! Here lives the end of a shared check. A single worker's part lives in `worker`.
-ghost use Rattle.std.specs.Prelude.{◌≡◌, ℕ, vec_len, All, IfOk, OnOk};
+ghost use Rattle.std.specs.Prelude.{◌≡◌, ℕ, vec_len, All, IfOk};
 ghost use Rattle.oberon_format.specs.Recording.{IsLawful};
 ghost use Rattle.oberon_check.specs.declared.collector.CollectFault.{CollectFault};
 ghost use Rattle.oberon_check.specs.declared.verdict.Verdict.{Verdict};

@@ -207,7 +207,10 @@ fn texts_of_faults(rt: HostRuntime) -> Result<(), Fail> {
         assert_eq!(rt; format!(in alloc; "{fault}")?.as_str(), expected);
     }
     let memory = CheckFault::Memory;
-    assert_eq!(rt; format!(in alloc; "{memory}")?.as_str(), "there is no memory");
+    assert_eq!(rt;
+        format!(in alloc; "{memory}")?.as_str(),
+        "there is no memory"
+    );
     Ok(())
 }
 
@@ -274,10 +277,8 @@ fn counters(alloc: Global, count: u32) -> Result<Vec<AtomicU64>, AllocError> {
 
 // Whether each of so many jobs has begun once, and no other has begun.
 fn each_begun_once(begun: &[AtomicU64], jobs: u32) -> bool {
-    begun
-        .iter()
-        .enumerate()
-        .all(|(job, begun)| begun.load(Ordering::SeqCst) == u64::from(job < jobs as usize))
+    begun.iter().enumerate().all(|(job, begun)| begun.load(Ordering::SeqCst)
+        == u64::from(job < jobs as usize))
 }
 
 // The verdict by so many workers, where each of the recording's jobs begins once and no other does.
