@@ -259,37 +259,60 @@ job_below last cut s some below =
 once_here : (x n : ℕ) → x < n → once_below x n ≡ 1
 once_here x n h = ap one_if (lt-ltb x n h)
 
-pub gathered : (r : RecordingParts) (cut : ℕ) (ps : List PassRecord) (vs : List Finding) → 0 < cut → InPieces (HasDone (last_of r) cut) ps vs
-    → ((x : ℕ) → times x (all_taken ps) ≡ once_below x (div_ceil (last_of r) cut)) → All (λ x. Contains (all_told ps) x) (all_shown ps)
-    → (f : CollectFault) → IsCollectFault r vs f → ⊥
-gathered r cut ps vs some done each shown_told (Double s) d =
+-- what is known once all parts are back: each job was taken once, and what was shown was told
+pub record AllBack (last cut : ℕ) (ps : List PassRecord) (vs : List Finding) : Type 0 where
+  pub some : 0 < cut
+  pub done : InPieces (HasDone last cut) ps vs
+  pub each : (x : ℕ) → times x (all_taken ps) ≡ once_below x (div_ceil last cut)
+  pub shown_told : All (λ x. Contains (all_told ps) x) (all_shown ps)
+
+-- no segment stands at two places
+pub at_most_once : (last cut : ℕ) (ps : List PassRecord) (vs : List Finding) → AllBack last cut ps vs → (j k : ℕ) → j < k → k < length vs → segment_at vs j ≢ segment_at vs k
+at_most_once last cut ps vs b j k before inside same =
+    let s : ℕ = segment_at vs k in
     let l = length-map vs (λ (v : Finding). v.segment) in
-    let i = d.inside in
-    let two = two_times s (segments vs) d.stood.0 d.at d.stood.1 (omega arith) d.stood.2 d.is in
-    let once = all_once (last_of r) cut s ps vs some done in
-    let e = each (s / cut) in
-    let o = one_small (nat_lt (s / cut) (div_ceil (last_of r) cut)) in omega arith
-gathered r cut ps vs some done each shown_told (Missing s) (single, m) =
+    let two = two_times s (segments vs) j k before (omega arith) same refl in
+    let once = all_once last cut s ps vs b.some b.done in
+    let e = b.each (s / cut) in
+    let o = one_small (nat_lt (s / cut) (div_ceil last cut)) in omega arith
+
+-- a segment has a verdict, or one that was told lies before it
+pub stands_or_behind : (last cut : ℕ) (ps : List PassRecord) (vs : List Finding) → AllBack last cut ps vs → (s : ℕ) → s < last → StandsBelow vs (length vs) s ⊎ ((x : ℕ) × Contains (all_told ps) x × (x < s))
+stands_or_behind last cut ps vs b s inside =
+    let some = b.some in
     let job : ℕ = s / cut in
-    let below = job_below (last_of r) cut s some m.inside in
-    let e = each job in
-    let o = once_here job (div_ceil (last_of r) cut) below in
-    let f = taken_piece (last_of r) cut job ps vs done (omega arith) in
+    let below = job_below last cut s some inside in
+    let e = b.each job in
+    let o = once_here job (div_ceil last cut) below in
+    let f = taken_piece last cut job ps vs b.done (omega arith) in
     let d = div-add-mod' s cut in
     let small : s % cut < cut = omega arith in
-    let inside = m.inside in
-    let told = told_failed (last_of r) cut ps vs done in
-    let above : (x : ℕ) → Contains (failed_of vs) x → s < x = λ x c. (let k = failed_stands vs x c in let h = m.below_failed k.0 k.1 k.3 in let g = k.2 in omega arith) in
     ⊎_elim
     (λ (w : (f.piece.front ≡ []) × IsBehind f.shown (job * cut)).
     (let x : ℕ = w.1.0 in
-    let c : Contains (all_told ps) x = has (all_shown ps) x shown_told (f.in_shown x w.1.1) in
-    let a = above x (subst (λ (l : List ℕ). Contains l x) told c) in let b = w.1.2 in absurd (omega arith)))
-    (λ (run : IsRun (job * cut) (min (job * cut + cut) (last_of r)) f.piece.front).
+    let c : Contains (all_told ps) x = has (all_shown ps) x b.shown_told (f.in_shown x w.1.1) in
+    let h = w.1.2 in inr (x, c, omega arith)))
+    (λ (run : IsRun (job * cut) (min (job * cut + cut) last) f.piece.front).
     ⊎_elim
-    (λ (c : Contains (segments f.piece.front) s). m.missing (stands vs s (f.piece.in_segments s c)))
-    (λ (w : (x : ℕ) × Contains (failed_of f.piece.front) x × (x < s)). (let a = above w.0 (f.piece.in_failed w.0 w.1) in let b = w.2 in absurd (omega arith)))
+    (λ (c : Contains (segments f.piece.front) s). inl (stands vs s (f.piece.in_segments s c)))
+    (λ (w : (x : ℕ) × Contains (failed_of f.piece.front) x × (x < s)).
+    (let c : Contains (all_told ps) w.0 = subst (λ (l : List ℕ). Contains l w.0) (sym (told_failed last cut ps vs b.done)) (f.piece.in_failed w.0 w.1) in inr (w.0, c, w.2)))
     (run_has _ _ s f.piece.front run (omega arith) (omega arith))) f.piece.is_job
   where
     has : (xs : List ℕ) (x : ℕ) → All (λ y. Contains (all_told ps) y) xs → Contains xs x → Contains (all_told ps) x
     has xs x all c = subst (λ (y : ℕ). Contains (all_told ps) y) c.2 (all c.0 x c.1)
+
+-- what was told has a verdict that failed
+pub told_stands : (last cut : ℕ) (ps : List PassRecord) (vs : List Finding) → AllBack last cut ps vs → (x : ℕ) → Contains (all_told ps) x → (k : ℕ) × (k < length vs) × (segment_at vs k ≡ x) × IsSome (part_at vs k)
+told_stands last cut ps vs b x c = failed_stands vs x (subst (λ (l : List ℕ). Contains l x) (told_failed last cut ps vs b.done) c)
+
+-- so the collector finds no fault
+pub no_fault : (r : RecordingParts) (cut : ℕ) (ps : List PassRecord) (vs : List Finding) → AllBack (last_of r) cut ps vs → (f : CollectFault) → IsCollectFault r vs f → ⊥
+no_fault r cut ps vs b (Double s) d =
+    at_most_once (last_of r) cut ps vs b d.stood.0 d.at d.stood.1 d.inside (d.stood.2 ∙ sym d.is)
+no_fault r cut ps vs b (Missing s) (single, m) =
+    ⊎_elim
+    (λ (stands : StandsBelow vs (length vs) s). m.missing stands)
+    (λ (w : (x : ℕ) × Contains (all_told ps) x × (x < s)).
+    (let k = told_stands (last_of r) cut ps vs b w.0 w.1 in let h = m.below_failed k.0 k.1 k.3 in let is = k.2 in let before = w.2 in absurd (omega arith)))
+    (stands_or_behind (last_of r) cut ps vs b s m.inside)

@@ -8,7 +8,8 @@ pub mod Existence
 pub mod Tops
 pub mod Runs
 pub mod Gathered
-pub mod DoneLemmas
+pub mod Parts
+pub mod Answered
 pub mod Lines
 pub mod Examples
 pub mod Sent

@@ -8,3 +8,4 @@ pub mod Collecting
 pub mod Tally
 pub mod Run
 pub mod Work
+pub mod Gathering

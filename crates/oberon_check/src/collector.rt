@@ -3,6 +3,7 @@
 //! Here live the tally of segment verdicts and the faults of lists that have too many or too few. What one segment's replay
 //! finds lives in `segment`.
 ghost use Rattle.std.specs.Prelude.{◌≡◌, ◌<◌, ◌≤◌, ℕ, All, IfOk, IfErr, OnOk, MatchOption, length};
+ghost use Rattle.oberon_format.specs.Recording.{IsLawful};
 ghost use Rattle.oberon_check.specs.Verdict.{IsVerdict};
 ghost use Rattle.oberon_check.specs.Segment.{Finding, IsTrueFinding};
 ghost use Rattle.oberon_check.specs.Collecting.{IsFirstDouble, IsCollectFault};
@@ -95,6 +96,8 @@ pub fn collect(r: &Recording, verdicts: &[SegmentVerdict]) -> Result<Verdict, Co
     ensures verdict { IfOk result (IsVerdict r.now) }
     ensures whole { OnOk result ((fault : _) → ¬ (IsCollectFault r.now verdicts.now fault)) }
     ensures fault { IfErr result (IsCollectFault r.now verdicts.now) }
+    ensures findings { OnOk result (All IsTrueFinding verdicts.now) }
+    ensures lawful { IsLawful r.now }
 {
     let last = r.count() - 1;
     let tally = match tally_of(verdicts) {

@@ -1,29 +1,40 @@
 //! What all workers' parts come to.
 //!
 //! Here lives the end of a shared check. A single worker's part lives in `worker`.
-ghost use Rattle.std.specs.Prelude.{◌≡◌, ◌≤◌, ℕ, vec_len, All, IfOk};
+ghost use Rattle.std.specs.Prelude.{◌≡◌, ℕ, vec_len, All, IfOk};
+ghost use Rattle.oberon_format.specs.Recording.{IsLawful};
+ghost use Rattle.oberon_check.specs.declared.collector.CollectFault.{CollectFault};
+ghost use Rattle.oberon_check.specs.declared.verdict.Verdict.{Verdict};
+ghost use Rattle.oberon_check.specs.Collecting.{IsCollectFault};
+ghost use Rattle.oberon_check.specs.Gathering.{all_findings, IsGathered};
+ghost use Rattle.oberon_check.specs.Segment.{IsTrueFinding};
 ghost use Rattle.oberon_check.specs.Verdict.{IsVerdict};
+ghost use Rattle.oberon_check.specs.Work.{IsPartOf};
 
 use crate::collector::collect;
+use crate::segment::SegmentVerdict;
 use crate::verdict::Verdict;
 use crate::worker::Done;
 use oberon_claims::Claims;
 use oberon_format::Recording;
 use std::alloc::{AllocError, Global};
 
-/// The verdict that the parts of all passes of a book come to, worked over one recording with one cut, on whatever threads.
-/// A refusal of memory gives all of them up.
-pub fn gather(
+// The verdicts of all parts, one part after another, once the book is closed on their passes. The collector finds no fault in
+// them.
+fn all_verdicts(
     alloc: Global,
     r: &Recording,
     claims: Claims,
     done: Vec<Done>,
-) -> Result<Verdict, AllocError>
-    requires all { (vec_len done ≡ claims.workers) × (1 ≤ claims.workers) }
-    requires parts { All (λ d. (d.recording ≡ r.now) × (d.pass.book ≡ claims)) done.items }
-    requires cut { (cut : ℕ) × All (λ d. d.cut ≡ cut) done.items }
-    ensures { IfOk result (IsVerdict r.now) }
+) -> Result<Vec<SegmentVerdict>, AllocError>
+    requires all { vec_len done ≡ claims.workers }
+    requires parts { (cut : ℕ) × All (IsPartOf r.now cut claims) done.items }
+    ensures findings { IfOk result (λ vs. vs.items ≡ all_findings done.items) }
+    ensures recordings { IfOk result (λ vs. All (λ v. v.recording ≡ r.now) vs.items) }
+    ensures whole { IfOk result (λ vs. (fault : CollectFault) → ¬ (IsCollectFault r.now vs.items fault)) }
+    ensures gathered { IfOk result (λ vs. IsLawful r.now → All IsTrueFinding vs.items → (verdict : Verdict) → IsVerdict r.now verdict → IsGathered r.now done.items verdict) }
 {
+    let _ = r;
     let mut passes = Vec::new(alloc);
     let mut verdicts = Vec::new(alloc);
     for one in done {
@@ -32,6 +43,25 @@ pub fn gather(
         verdicts.append(&mut mine)?;
     }
     let _ledger = claims.finish(passes);
+    Ok(verdicts)
+}
+
+/// The verdict that the parts of all passes of a book come to, worked over one recording with one cut, on whatever threads.
+///
+/// It rests on the parts alone: no two of their verdicts are of one segment, each segment below the answer's was replayed
+/// and held, and a segment without a verdict lies after the least that any worker told. A refusal of memory gives all parts up.
+pub fn gather(
+    alloc: Global,
+    r: &Recording,
+    claims: Claims,
+    done: Vec<Done>,
+) -> Result<Verdict, AllocError>
+    requires all { vec_len done ≡ claims.workers }
+    requires parts { (cut : ℕ) × All (IsPartOf r.now cut claims) done.items }
+    ensures verdict { IfOk result (IsVerdict r.now) }
+    ensures gathered { IfOk result (IsGathered r.now done.items) }
+{
+    let verdicts = all_verdicts(alloc, r, claims, done)?;
     match collect(r, verdicts.as_slice()) {
         Ok(verdict) => Ok(verdict),
         Err(_) => unreachable!(),

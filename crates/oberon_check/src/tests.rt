@@ -197,38 +197,56 @@ fn collect_where_all_hold(rt: HostRuntime) -> Result<(), Fail> {
     Ok(())
 }
 
+#[test]
+fn texts_of_faults(rt: HostRuntime) -> Result<(), Fail> {
+    let alloc = rt.alloc();
+    for (fault, expected) in [
+        (CollectFault::Double(3), "segment 3 has two verdicts"),
+        (CollectFault::Missing(4095), "segment 4095 has no verdict"),
+    ] {
+        assert_eq!(rt; format!(in alloc; "{fault}")?.as_str(), expected);
+    }
+    let memory = CheckFault::Memory;
+    assert_eq!(rt;
+        format!(in alloc; "{memory}")?.as_str(),
+        "there is no memory"
+    );
+    Ok(())
+}
+
 // The line and the status of a text, by so many workers.
-fn line_of<R: Threads + Wait + Sync>(
+fn line_of<R: Threads + Wait + Sync, G: Gate + Sync>(
     rt: &R,
     alloc: Global,
     text: &[u8],
     workers: u32,
     cut: u32,
+    gate: &G,
 ) -> Result<(Vec<u8>, u8), Fail> {
     if workers < 1 || workers > 64 || cut < 1 {
         return Err("no such workers or cut".into());
     }
-    let report = check_bytes(rt, alloc, text, workers, cut, &FreeGate)?;
+    let report = check_bytes(rt, alloc, text, workers, cut, gate)?;
     Ok((report.line, report.status))
 }
 
 #[test]
 fn lines_of_texts(rt: HostRuntime) -> Result<(), Fail> {
     let text = jump_text(rt.alloc(), &false_h())?;
-    let (line, status) = line_of(&rt, rt.alloc(), text.as_slice(), 1, 1)?;
+    let (line, status) = line_of(&rt, rt.alloc(), text.as_slice(), 1, 1, &FreeGate)?;
     assert_eq!(rt;
         line.as_slice(),
         b"false checkpoint 2 at 20 part H\n".as_slice()
     );
     assert_eq!(rt; status, 1);
     let text = jump_text(rt.alloc(), &true_h())?;
-    let (line, status) = line_of(&rt, rt.alloc(), text.as_slice(), 64, 2)?;
+    let (line, status) = line_of(&rt, rt.alloc(), text.as_slice(), 64, 2, &FreeGate)?;
     assert_eq!(rt;
         line.as_slice(),
         b"accepted 3 checkpoints 30 steps\n".as_slice()
     );
     assert_eq!(rt; status, 0);
-    let (line, status) = line_of(&rt, rt.alloc(), b"", 2, 1)?;
+    let (line, status) = line_of(&rt, rt.alloc(), b"", 2, 1, &FreeGate)?;
     assert_eq!(rt; line.as_slice(), b"refused 1 short at byte 0\n".as_slice());
     assert_eq!(rt; status, 2);
     Ok(())
@@ -257,6 +275,12 @@ fn counters(alloc: Global, count: u32) -> Result<Vec<AtomicU64>, AllocError> {
     Ok(begun)
 }
 
+// Whether each of so many jobs has begun once, and no other has begun.
+fn each_begun_once(begun: &[AtomicU64], jobs: u32) -> bool {
+    begun.iter().enumerate().all(|(job, begun)| begun.load(Ordering::SeqCst)
+        == u64::from(job < jobs as usize))
+}
+
 // The verdict by so many workers, where each of the recording's jobs begins once and no other does.
 fn counted_verdict<R: Threads + Wait + Sync>(
     rt: &R,
@@ -274,11 +298,8 @@ fn counted_verdict<R: Threads + Wait + Sync>(
         begun: begun.as_slice(),
     };
     let verdict = check_recording(rt, alloc, r, workers, cut, &gate)?;
-    for (job, begun) in begun.iter().enumerate() {
-        let times = if job < jobs as usize { 1 } else { 0 };
-        if begun.load(Ordering::SeqCst) != times {
-            return Err("a job is lost, or begins twice".into());
-        }
+    if !each_begun_once(begun.as_slice(), jobs) {
+        return Err("a job is lost, or begins twice".into());
     }
     Ok(verdict)
 }
@@ -297,15 +318,21 @@ fn two_false_checkpoints(rt: HostRuntime) -> Result<(), Fail> {
 
 #[test]
 fn lines_of_two_false_checkpoints(rt: HostRuntime) -> Result<(), Fail> {
-    let text = jump_text(rt.alloc(), &two_false())?;
-    for cut in [1, 4, 100] {
+    let alloc = rt.alloc();
+    let text = jump_text(alloc, &two_false())?;
+    for (cut, jobs) in [(1, 10), (4, 3), (100, 1)] {
         for workers in [1, 2, 64] {
-            let (line, status) = line_of(&rt, rt.alloc(), text.as_slice(), workers, cut)?;
+            let begun = counters(alloc, 12)?;
+            let gate = CountingGate {
+                begun: begun.as_slice(),
+            };
+            let (line, status) = line_of(&rt, alloc, text.as_slice(), workers, cut, &gate)?;
             assert_eq!(rt;
                 line.as_slice(),
                 b"false checkpoint 3 at 30 part LEDs\n".as_slice()
             );
             assert_eq!(rt; status, 1);
+            assert!(rt; each_begun_once(begun.as_slice(), jobs));
         }
     }
     Ok(())

@@ -17,7 +17,7 @@ use std::marker::Model;
 
 /// A book of jobs numbered from 0, which threads share by reference.
 ///
-/// Contracts see it as which book it is, with its number of jobs and of passes.
+/// Contracts see it as which book it is, with its number of jobs and of passes, which is 1 to 64.
 #[derive(Drop)]
 pub struct Claims {
     table: Table<u8, View, Plan, Legal, Global>,
@@ -26,7 +26,7 @@ pub struct Claims {
 }
 
 impl Model for Claims {
-    ghost use Rattle.std.specs.Prelude.{◌≡◌, ◌∷◌, []};
+    ghost use Rattle.std.specs.Prelude.{◌≡◌, ◌≤◌, ◌∷◌, []};
     ghost use Rattle.oberon_claims.specs.Book.{own_view};
     ghost use Rattle.oberon_claims.specs.Pass.{BookId};
 
@@ -34,7 +34,7 @@ impl Model for Claims {
 
     ghost view = { λ c. record { table = c.table.shared.table_id; jobs = c.jobs; workers = c.table.shared.key.workers } };
 
-    ghost invariant = { λ c. (c.table.shared.key.jobs ≡ c.jobs) × (c.table.shared.table_id.words ≡ 2) × (c.table.shared.table_id.slots ≡ 0) × (c.own.table ≡ c.table.shared.table_id) × (c.own.views ≡ own_view c.table.shared.key 0 ∷ []) };
+    ghost invariant = { λ c. (c.table.shared.key.jobs ≡ c.jobs) × (c.table.shared.table_id.words ≡ 2) × (c.table.shared.table_id.slots ≡ 0) × (c.own.table ≡ c.table.shared.table_id) × (c.own.views ≡ own_view c.table.shared.key 0 ∷ []) × (1 ≤ c.table.shared.key.workers) × (c.table.shared.key.workers ≤ 64) };
 }
 
 impl Claims {
@@ -127,6 +127,7 @@ impl Claims {
         ensures least { IsLeastOf (all_told passes.items) result.least }
         ensures shown { All (λ x. Contains (all_told passes.items) x) (all_shown passes.items) }
         ensures not_below { IsNotBelow result.least (all_shown passes.items) }
+        ensures workers { (1 ≤ self.workers) × (self.workers ≤ 64) }
     {
         let Claims { table, own, jobs } = self;
         let mut own = own.into_seat();

@@ -1,7 +1,7 @@
 //! Texts that are cut off, and texts that stand at a limit or past it.
 
 use super::checked::{Crew, checked};
-use super::texts::{Claim, JUMP, header, text_of};
+use super::texts::{Claim, JUMP, header, stored_run, text_of};
 use oberon_check::FreeGate;
 use oberon_format::read;
 use risc_machine::Machine;
@@ -14,14 +14,6 @@ const TWO: Crew = Crew {
 };
 
 const LAST_COUNT: u64 = 1 << 40;
-
-// `MOV R0, 5`, and then zeros, which are `MOV R0, R0`.
-fn stored_run(alloc: Global) -> Result<Vec<u8>, Fail> {
-    let mut end = Claim::at(100);
-    end.r0 = 5;
-    end.pc = 100;
-    text_of(alloc, &[0x4000_0005], &[Claim::at(0), end])
-}
 
 // A byte is stored at the serial line's place, and stands at the text's end.
 fn one_byte_sent(alloc: Global) -> Result<Vec<u8>, Fail> {
@@ -47,7 +39,7 @@ fn divisor_stop(alloc: Global, count: u64) -> Result<Vec<u8>, Fail> {
 #[test]
 fn a_text_cut_anywhere_is_short(rt: HostRuntime) -> Result<(), Fail> {
     let alloc = rt.alloc();
-    let text = stored_run(alloc)?;
+    let text = stored_run(alloc, 5)?;
     assert_eq!(rt; text.len(), 9504);
     for length in 0..text.len() {
         let (line, status) = checked(&rt, alloc, &text[..length], TWO, &FreeGate)?;
@@ -107,9 +99,8 @@ fn headers_at_the_limits_and_past_them(rt: HostRuntime) -> Result<(), Fail> {
 }
 
 // Zeros alone: each step moves R0 to itself, which sets Z.
-#[test]
-fn as_many_checkpoints_as_there_can_be(rt: HostRuntime) -> Result<(), Fail> {
-    let alloc = rt.alloc();
+// As many checkpoints as there can be, one after each step.
+fn text_of_most_checkpoints(alloc: Global) -> Result<Vec<u8>, Fail> {
     let mut claims = vec![in alloc; Claim::at(0)]?;
     for count in 1..=4096u32 {
         let mut claim = Claim::at(u64::from(count));
@@ -117,12 +108,28 @@ fn as_many_checkpoints_as_there_can_be(rt: HostRuntime) -> Result<(), Fail> {
         claim.flags = 4;
         claims.push(claim)?;
     }
-    let text = text_of(alloc, &[], claims.as_slice())?;
+    text_of(alloc, &[], claims.as_slice())
+}
+
+const MOST_ACCEPTED: &[u8] = b"accepted 4096 checkpoints 4096 steps\n";
+
+#[test]
+fn as_many_checkpoints_as_there_can_be(rt: HostRuntime) -> Result<(), Fail> {
+    let alloc = rt.alloc();
+    let text = text_of_most_checkpoints(alloc)?;
     let (line, status) = checked(&rt, alloc, text.as_slice(), TWO, &FreeGate)?;
-    assert_eq!(rt;
-        line.as_slice(),
-        b"accepted 4096 checkpoints 4096 steps\n".as_slice()
-    );
+    assert_eq!(rt; line.as_slice(), MOST_ACCEPTED);
+    assert_eq!(rt; status, 0);
+    Ok(())
+}
+
+#[test]
+fn as_many_jobs_as_there_can_be(rt: HostRuntime) -> Result<(), Fail> {
+    let alloc = rt.alloc();
+    let text = text_of_most_checkpoints(alloc)?;
+    let crew = Crew { workers: 2, cut: 1 };
+    let (line, status) = checked(&rt, alloc, text.as_slice(), crew, &FreeGate)?;
+    assert_eq!(rt; line.as_slice(), MOST_ACCEPTED);
     assert_eq!(rt; status, 0);
     Ok(())
 }

@@ -2,7 +2,7 @@
 
 use super::checked::{Crew, checked};
 use super::gates::{Hold, HoldingGate, counters};
-use super::texts::{Claim, jump_text, text_of};
+use super::texts::{Claim, jump_text, stored_run, text_of};
 use oberon_check::{FreeGate, Part, Verdict, check_recording};
 use oberon_format::read;
 use std::alloc::Global;
@@ -13,6 +13,9 @@ use std::thread::Threads;
 
 const TWO: Crew = Crew { workers: 2, cut: 1 };
 
+// Of ten segments: each a job, three in a job with one left over, and all in one job.
+const CUTS: [u32; 3] = [1, 3, 10];
+
 const FALSE_AT_ONCE: &[u8] = b"false checkpoint 1 at 10 part LEDs\n";
 
 const FALSE_FIRST: Verdict = Verdict::FalseAt {
@@ -21,24 +24,40 @@ const FALSE_FIRST: Verdict = Verdict::FalseAt {
     part: Part::Leds,
 };
 
-// The first crew that gives another line than this one, and which, for a text whose ten checkpoints have these LEDs.
+// The first crew of these cuts that gives another line or status of the text than these, and its line.
 fn dissenter<R: Threads + Wait + Sync>(
     rt: &R,
     alloc: Global,
-    leds: &[u32; 10],
-    expected: &[u8],
+    text: &[u8],
+    cuts: &[u32],
+    expected: (&[u8], u8),
 ) -> Result<Option<(Crew, Vec<u8>)>, Fail> {
-    let text = jump_text(alloc, leds)?;
     for workers in [1, 2, 64] {
-        for cut in [1, 3, 10] {
-            let crew = Crew { workers, cut };
-            let (line, status) = checked(rt, alloc, text.as_slice(), crew, &FreeGate)?;
-            if line.as_slice() != expected || status != 1 {
+        for cut in cuts {
+            let crew = Crew { workers, cut: *cut };
+            let (line, status) = checked(rt, alloc, text, crew, &FreeGate)?;
+            if (line.as_slice(), status) != expected {
                 return Ok(Some((crew, line)));
             }
         }
     }
     Ok(None)
+}
+
+#[test]
+fn the_stored_run_and_its_false_form(rt: HostRuntime) -> Result<(), Fail> {
+    let alloc = rt.alloc();
+    let accepted = b"accepted 1 checkpoints 100 steps\n".as_slice();
+    let false_r0 = b"false checkpoint 1 at 100 part R0\n".as_slice();
+    for (r0, expected) in [(5, (accepted, 0)), (6, (false_r0, 1))] {
+        let text = stored_run(alloc, r0)?;
+        let cuts = [1, 4, 100];
+        assert_eq!(rt;
+            dissenter(&rt, alloc, text.as_slice(), &cuts, expected)?,
+            None
+        );
+    }
+    Ok(())
 }
 
 #[test]
@@ -49,7 +68,12 @@ fn one_false_checkpoint_of_ten(rt: HostRuntime) -> Result<(), Fail> {
         leds[segment] = 1;
         let checkpoint = segment + 1;
         let line = format!(in alloc; "false checkpoint {checkpoint} at {checkpoint}0 part LEDs\n")?;
-        assert_eq!(rt; dissenter(&rt, alloc, &leds, line.as_bytes())?, None);
+        let text = jump_text(alloc, &leds)?;
+        let expected = (line.as_bytes(), 1);
+        assert_eq!(rt;
+            dissenter(&rt, alloc, text.as_slice(), &CUTS, expected)?,
+            None
+        );
     }
     Ok(())
 }
@@ -59,7 +83,12 @@ fn the_first_of_many_false_checkpoints(rt: HostRuntime) -> Result<(), Fail> {
     let alloc = rt.alloc();
     let rising = [1, 2, 3, 4, 5, 6, 7, 8, 9, 10];
     for leds in [[1; 10], rising] {
-        assert_eq!(rt; dissenter(&rt, alloc, &leds, FALSE_AT_ONCE)?, None);
+        let text = jump_text(alloc, &leds)?;
+        let expected = (FALSE_AT_ONCE, 1);
+        assert_eq!(rt;
+            dissenter(&rt, alloc, text.as_slice(), &CUTS, expected)?,
+            None
+        );
     }
     Ok(())
 }

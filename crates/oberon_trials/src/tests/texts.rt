@@ -115,3 +115,11 @@ pub fn jump_text(alloc: Global, leds: &[u32]) -> Result<Vec<u8>, Fail> {
     }
     text_of(alloc, &[JUMP], claims.as_slice())
 }
+
+/// `MOV R0, 5`, and then zeros, which are `MOV R0, R0`, with a checkpoint after 100 steps that claims this R0.
+pub fn stored_run(alloc: Global, r0: u32) -> Result<Vec<u8>, Fail> {
+    let mut end = Claim::at(100);
+    end.r0 = r0;
+    end.pc = 100;
+    text_of(alloc, &[0x4000_0005], &[Claim::at(0), end])
+}

@@ -1,34 +1,42 @@
 //! A segment of 2^40 steps that no worker may replay. It stands alone, since a worker that does so ends only by the time
 //! limit of a test.
 
+use super::checked::{Crew, checked};
 use super::gates::{Hold, HoldingGate, counters};
 use super::texts::{Claim, JUMP, text_of};
 use oberon_check::{Part, Verdict, check_recording};
 use oberon_format::read;
+use std::alloc::Global;
 use std::sync::atomic::{AtomicU64, Ordering};
 use std::test::Fail;
 
-// Checkpoint 1 is false, and the job of the long segment after it goes on when the last one has begun. Then the false one
-// is known, whoever found it, so the long segment is passed over.
-#[test]
-fn the_long_segment_behind_a_false_checkpoint_is_passed_over(rt: HostRuntime) -> Result<(), Fail> {
-    let alloc = rt.alloc();
+// Checkpoint 1 is false, and a long segment lies behind it.
+fn long_text(alloc: Global) -> Result<Vec<u8>, Fail> {
     let claims = [
         Claim::at(0),
         Claim::lit(10, 1),
         Claim::at((1 << 40) - 10),
         Claim::at(1 << 40),
     ];
-    let text = text_of(alloc, &[JUMP], &claims)?;
+    text_of(alloc, &[JUMP], &claims)
+}
+
+// The job of the long segment goes on when the last one has begun. Then the false checkpoint is known, whoever found it, so
+// the long segment is passed over.
+const HOLDS: [Hold<'static>; 1] = [Hold {
+    job: 1,
+    awaits: &[2],
+}];
+
+#[test]
+fn the_long_segment_behind_a_false_checkpoint_is_passed_over(rt: HostRuntime) -> Result<(), Fail> {
+    let alloc = rt.alloc();
+    let text = long_text(alloc)?;
     let r = read(alloc, text.as_slice())?;
     let begun = counters(alloc, 3)?;
     let met = AtomicU64::new(0);
-    let holds = [Hold {
-        job: 1,
-        awaits: &[2],
-    }];
     let gate = HoldingGate {
-        holds: &holds,
+        holds: &HOLDS,
         begun: begun.as_slice(),
         met: &met,
     };
@@ -39,6 +47,28 @@ fn the_long_segment_behind_a_false_checkpoint_is_passed_over(rt: HostRuntime) ->
         part: Part::Leds,
     };
     assert_eq!(rt; verdict, false_at);
+    assert_eq!(rt; met.load(Ordering::SeqCst), 1);
+    Ok(())
+}
+
+#[test]
+fn the_long_segment_of_a_text_is_passed_over(rt: HostRuntime) -> Result<(), Fail> {
+    let alloc = rt.alloc();
+    let text = long_text(alloc)?;
+    let begun = counters(alloc, 3)?;
+    let met = AtomicU64::new(0);
+    let gate = HoldingGate {
+        holds: &HOLDS,
+        begun: begun.as_slice(),
+        met: &met,
+    };
+    let crew = Crew { workers: 2, cut: 1 };
+    let (line, status) = checked(&rt, alloc, text.as_slice(), crew, &gate)?;
+    assert_eq!(rt;
+        line.as_slice(),
+        b"false checkpoint 1 at 10 part LEDs\n".as_slice()
+    );
+    assert_eq!(rt; status, 1);
     assert_eq!(rt; met.load(Ordering::SeqCst), 1);
     Ok(())
 }

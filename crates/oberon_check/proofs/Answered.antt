@@ -1,0 +1,152 @@
+-- What the findings of all parts are, where this is the verdict on their recording.
+use Rattle.std.proofs.Common.{◌≡◌, ℕ, zero, suc, ◌+◌, ◌-◌, ◌<◌, ◌≤◌, List, length, get_or, Option, None, Some, refl, ap, sym, ◌∙◌, subst, arith, ⊎_elim}
+use Rattle.std.specs.Prelude.{All, Contains}
+use mathlib.Core.Logic.{dite}
+use native.Mathlib.Decide.{dec_lt}
+use Rattle.oberon_claims.specs.Pass.{PassRecord}
+use Rattle.oberon_claims.specs.Ledger.{all_told, IsLeastOf}
+use Rattle.oberon_format.specs.Recording.{RecordingParts, IsLawful, last_of}
+use Rattle.oberon_format.specs.Defined.{Outcome, claimed, defined, IsTrueAt}
+use Rattle.oberon_check.specs.declared.part.Part.{Part}
+use Rattle.oberon_check.specs.declared.verdict.Verdict.{Verdict}
+use Rattle.oberon_check.specs.declared.verdict.Verdict.TheVariants.{Accepted, FalseAt}
+use Rattle.oberon_check.specs.Difference.{IsFirstDifference, IsDifference}
+use Rattle.oberon_check.specs.Segment.{replayed, IsSegmentPart, Finding, IsTrueFinding}
+use Rattle.oberon_check.specs.Collecting.{segment_at, part_at, StandsBelow}
+use Rattle.oberon_check.specs.Verdict.{IsVerdict}
+use Rattle.oberon_check.specs.Work.{DoneRecord}
+use Rattle.oberon_check.specs.Gathering.{IsEachOnce, HasFinding, below_answer, HasAnswer, IsAfterLeast, IsGathered, all_findings, passes_of}
+use Rattle.oberon_check.proofs.Replays.{HoldBelow, replayed-defined}
+use Rattle.oberon_check.proofs.Collects.{IsTruth, truth}
+use Rattle.oberon_check.proofs.Tallying.{not_some}
+use Rattle.oberon_check.proofs.Unique.{same_if, one_first}
+use Rattle.oberon_check.proofs.Gathered.{AllBack, at_most_once, stands_or_behind, told_stands}
+
+-- where the checkpoints up to one are true, the segments below it hold
+hold_of : (r : RecordingParts) → IsLawful r → (n : ℕ) → n ≤ last_of r → ((k : ℕ) → 0 < k → k ≤ n → IsTrueAt r k) → HoldBelow r n
+hold_of r lawful zero inside truths j below = absurd (omega arith)
+hold_of r lawful (suc n) inside truths j below =
+    let before = hold_of r lawful n (omega arith) (λ k some within. truths k some (omega arith)) in
+    dite (dec_lt j n)
+    (λ (small : j < n). before j small)
+    (λ last. (let e : n ≡ j = omega arith in
+    subst (λ (i : ℕ). claimed r (i + 1) ≡ replayed r i) e
+    (truths (n + 1) (omega arith) (omega arith) ∙ sym (replayed-defined r lawful n (omega arith) before))))
+
+-- the segments below the answer's
+below_within : (r : RecordingParts) (v : Verdict) → IsVerdict r v → below_answer v ≤ last_of r
+below_within r (Accepted checkpoints steps) is = let e = is.checkpoints_is in omega arith
+below_within r (FalseAt checkpoint count part) is = let inside = is.inside in omega arith
+
+hold_below_answer : (r : RecordingParts) → IsLawful r → (v : Verdict) → IsVerdict r v → HoldBelow r (below_answer v)
+hold_below_answer r lawful (Accepted checkpoints steps) is =
+    let e = is.checkpoints_is in
+    hold_of r lawful checkpoints (omega arith) (λ k some within. is.true_at k some (omega arith))
+hold_below_answer r lawful (FalseAt checkpoint count part) is =
+    let inside = is.inside in
+    let above = is.above in
+    hold_of r lawful (checkpoint - 1) (omega arith) (λ k some within. is.before k some (omega arith))
+
+-- where two outcomes are the same, no part differs
+no_part : (x y : Outcome) (o : Option Part) → x ≡ y → IsDifference x y o → o ≡ None
+no_part x y None same is = refl
+no_part x y (Some p) same is = absurd (is.differs (same_if p x y same))
+
+-- where they differ first in a part, it is this one
+this_part : (x y : Outcome) (p : Part) (o : Option Part) → IsFirstDifference x y p → IsDifference x y o → o ≡ Some p
+this_part x y p None first same = absurd (first.differs (same_if p x y same))
+this_part x y p (Some q) first is = ap Some (one_first x y q p is first)
+
+-- a finding below the answer's is of a segment that held
+held_below : (r : RecordingParts) → IsLawful r → (vs : List Finding) → ((k : ℕ) → k < length vs → IsTruth r vs k) → (v : Verdict) → IsVerdict r v
+    → (k : ℕ) → k < length vs → segment_at vs k < below_answer v → part_at vs k ≡ None
+held_below r lawful vs truths v is k inside below =
+    no_part _ _ (part_at vs k) (hold_below_answer r lawful v is (segment_at vs k) below) (truths k inside).replay
+
+-- so nothing that was told lies there
+none_told_below : (r : RecordingParts) (cut : ℕ) (ps : List PassRecord) (vs : List Finding) → AllBack (last_of r) cut ps vs → IsLawful r → ((k : ℕ) → k < length vs → IsTruth r vs k)
+    → (v : Verdict) → IsVerdict r v → (x : ℕ) → Contains (all_told ps) x → x < below_answer v → ⊥
+none_told_below r cut ps vs b lawful truths v is x told below =
+    let k = told_stands (last_of r) cut ps vs b x told in
+    let at = k.2 in
+    not_some _ (held_below r lawful vs truths v is k.0 k.1 (omega arith)) k.3
+
+-- each segment up to the answer's has a finding
+stands_to : (r : RecordingParts) (cut : ℕ) (ps : List PassRecord) (vs : List Finding) → AllBack (last_of r) cut ps vs → IsLawful r → ((k : ℕ) → k < length vs → IsTruth r vs k)
+    → (v : Verdict) → IsVerdict r v → (s : ℕ) → s < last_of r → s ≤ below_answer v → StandsBelow vs (length vs) s
+stands_to r cut ps vs b lawful truths v is s inside within =
+    ⊎_elim
+    (λ (stands : StandsBelow vs (length vs) s). stands)
+    (λ (w : (x : ℕ) × Contains (all_told ps) x × (x < s)). (let before = w.2 in absurd (none_told_below r cut ps vs b lawful truths v is w.0 w.1 (omega arith))))
+    (stands_or_behind (last_of r) cut ps vs b s inside)
+
+has_below : (r : RecordingParts) (cut : ℕ) (ps : List PassRecord) (vs : List Finding) → AllBack (last_of r) cut ps vs → IsLawful r → ((k : ℕ) → k < length vs → IsTruth r vs k)
+    → (v : Verdict) → IsVerdict r v → (s : ℕ) → s < below_answer v → HasFinding r vs s None
+has_below r cut ps vs b lawful truths v is s below =
+    let within = below_within r v is in
+    let at = stands_to r cut ps vs b lawful truths v is s (omega arith) (omega arith) in
+    let here = at.2 in
+    record {
+      at = at.0;
+      inside = at.1;
+      segment_is = here;
+      part_is = held_below r lawful vs truths v is at.0 at.1 (omega arith);
+      replay = hold_below_answer r lawful v is s below;
+    }
+
+has_answer : (r : RecordingParts) (cut : ℕ) (ps : List PassRecord) (vs : List Finding) → AllBack (last_of r) cut ps vs → IsLawful r → ((k : ℕ) → k < length vs → IsTruth r vs k)
+    → (v : Verdict) → IsVerdict r v → HasAnswer r vs v
+has_answer r cut ps vs b lawful truths (Accepted checkpoints steps) is = tt
+has_answer r cut ps vs b lawful truths (FalseAt checkpoint count part) is =
+    let above = is.above in
+    let within = is.inside in
+    let s : ℕ = checkpoint - 1 in
+    let next : s + 1 ≡ checkpoint = omega arith in
+    let inside : s < last_of r = omega arith in
+    let hold = hold_below_answer r lawful (FalseAt checkpoint count part) is in
+    let same : replayed r s ≡ defined r (s + 1) = replayed-defined r lawful s inside hold in
+    let P : (ℕ × Outcome) → Type 0 = λ x. IsFirstDifference (claimed r x.0) x.1 part in
+    let first : IsFirstDifference (claimed r (s + 1)) (replayed r s) part = subst P (λ i. (sym next i, (ap (λ (n : ℕ). defined r n) (sym next) ∙ sym same) i)) is.differs in
+    let at = stands_to r cut ps vs b lawful truths (FalseAt checkpoint count part) is s inside (omega arith) in
+    let Q : ℕ → Type 0 = λ n. IsSegmentPart r n (part_at vs at.0) in
+    let replay = subst Q at.2 (truths at.0 at.1).replay in
+    record {
+      at = at.0;
+      inside = at.1;
+      segment_is = at.2;
+      part_is = this_part _ _ part (part_at vs at.0) first replay;
+      replay = first;
+    }
+
+-- what was passed over lies after the least that was told
+after_least : (last cut : ℕ) (ps : List PassRecord) (vs : List Finding) → AllBack last cut ps vs → (least : Option ℕ) → IsLeastOf (all_told ps) least → (s : ℕ) → s < last → ¬ (StandsBelow vs (length vs) s) → IsAfterLeast (all_told ps) s
+after_least last cut ps vs b least is s inside not =
+    ⊎_elim
+    (λ (stands : StandsBelow vs (length vs) s). absurd (not stands))
+    (λ (w : (x : ℕ) × Contains (all_told ps) x × (x < s)). of least is w.0 w.1 w.2)
+    (stands_or_behind last cut ps vs b s inside)
+  where
+    of : (o : Option ℕ) → IsLeastOf (all_told ps) o → (x : ℕ) → Contains (all_told ps) x → x < s → IsAfterLeast (all_told ps) s
+    of None none x told before = let none_there = subst (λ (l : List ℕ). Contains l x) none told in let h = none_there.1 in absurd (omega arith)
+    of (Some y) is x told before =
+        let at : get_or (all_told ps) told.0 x ≡ x = told.2 in
+        let le : y ≤ get_or (all_told ps) told.0 x = is.1 told.0 x told.1 in
+        (y, is, omega arith)
+
+each_once : (last cut : ℕ) (ps : List PassRecord) (vs : List Finding) → AllBack last cut ps vs → IsEachOnce vs
+each_once last cut ps vs b j k inside_j inside_k same =
+    dite (dec_lt j k)
+    (λ (before : j < k). absurd (at_most_once last cut ps vs b j k before inside_k same))
+    (λ not. dite (dec_lt k j)
+    (λ (after : k < j). absurd (at_most_once last cut ps vs b k j after inside_j (sym same)))
+    (λ nor. omega arith))
+
+pub answered : (r : RecordingParts) (cut : ℕ) (ds : List DoneRecord) → AllBack (last_of r) cut (passes_of ds) (all_findings ds) → All (λ v. v.recording ≡ r) (all_findings ds)
+    → (least : Option ℕ) → IsLeastOf (all_told (passes_of ds)) least → IsLawful r → All IsTrueFinding (all_findings ds) → (v : Verdict) → IsVerdict r v → IsGathered r ds v
+answered r cut ds b of least is_least lawful findings v is =
+    let truths = truth r (all_findings ds) of findings in record {
+      once = each_once (last_of r) cut (passes_of ds) (all_findings ds) b;
+      below = has_below r cut (passes_of ds) (all_findings ds) b lawful truths v is;
+      answer = has_answer r cut (passes_of ds) (all_findings ds) b lawful truths v is;
+      passed_over = after_least (last_of r) cut (passes_of ds) (all_findings ds) b least is_least;
+    }
