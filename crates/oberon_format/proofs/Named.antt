@@ -7,7 +7,7 @@ use Rattle.oberon_format.specs.FirstFault.{Rule, each, first_broken}
 use Rattle.oberon_format.specs.Line.{IsNamedFault}
 use Rattle.oberon_format.specs.PartFields.{fields_of_parts, fault_of_parts}
 use Rattle.oberon_format.specs.Recording.{RecordingParts}
-use Rattle.oberon_format.specs.Rules.{checkpoint_rules, end_rules, event_rules, header_rules, number_rules, rules, rules_at}
+use Rattle.oberon_format.specs.Rules.{checkpoint_rules, end_rules, event_rules, header_rules, rules, rules_at}
 use Rattle.oberon_format.specs.TextFields.{fields_of, first_fault_of}
 
 -- the first broken rule names a fault
