@@ -1,14 +1,13 @@
 -- Each range and each order holds or does not.
-use Rattle.std.proofs.Common.{◌≡◌, ◌⊎◌, ◌<◌, ◌≤◌, ◌+◌, ◌-◌, ◌^◌, ℕ, zero, suc, Bool, true, false, List, [], ◌∷◌, arith, inl, inr, length, map, refl, subst, sym, ⊎_elim, get_or}
+use Rattle.std.proofs.Common.{◌≡◌, ◌⊎◌, ◌<◌, ◌≤◌, ◌+◌, ◌-◌, ◌^◌, ℕ, zero, suc, Bool, true, false, List, [], ◌∷◌, arith, inl, inr, length, refl, subst, sym, ⊎_elim}
 use Rattle.std.proofs.lemmas.Bool.{false≢true}
 use Rattle.std.proofs.lemmas.Bool.Decides.{eqb_tells, leb_tells}
 use Rattle.std.proofs.lemmas.List.Elements.{All-cons, All-head, All-nil, All-tail}
 use Rattle.std.specs.List.{All}
-use Rattle.std.specs.List.Sorted.{IsStrictlyIncreasing}
 use Rattle.std.specs.Prelude.{slice_index}
-use Rattle.risc_devices.specs.InputKind.{IsInput, is_input}
+use Rattle.risc_devices.specs.InputKind.{is_input}
 use Rattle.oberon_session.specs.Draft.{Draft, InputNumbers, PageText, Start}
-use Rattle.oberon_session.specs.Ranges.{CountFits, CountsFit, InOrder, InRange, InputFits, InputsFit, NeverFalls, PageFits, PagesFit, StartFits, input_counts, places_of}
+use Rattle.oberon_session.specs.Ranges.{CountFits, CountsFit, InOrder, InRange, InputFits, InputsFit, PageFits, PagesFit, StartFits, input_counts, places_of}
 
 -- it holds, or it does not
 abbrev pub Decided : Type 0 → Type 0

@@ -1,5 +1,5 @@
 -- A text has one answer: a session, or one first rule that it breaks.
-use Rattle.std.proofs.Common.{◌≡◌, ◌≢◌, ◌⊎◌, ◌<◌, ◌≤◌, ◌^◌, ◌∙◌, ℕ, Bool, true, false, List, [], ◌∷◌, Option, Some, None, arith, ap, inl, inr, length, map, refl, subst, sym, ⊎_elim, lt_of_not-le}
+use Rattle.std.proofs.Common.{◌≡◌, ◌⊎◌, ◌<◌, ◌∙◌, ℕ, Bool, true, false, List, [], ◌∷◌, Option, Some, None, arith, ap, inl, inr, length, map, refl, subst, sym, ⊎_elim, lt_of_not-le}
 use Rattle.std.proofs.lemmas.List.Elements.{All-head, All-tail}
 use Rattle.std.specs.List.{All}
 use Rattle.std.specs.Prelude.{IsUtf8, Result, Ok, Err}
@@ -15,7 +15,7 @@ use Rattle.oberon_session.specs.Digits.{PlacedWords, all_placed_of}
 use Rattle.oberon_session.specs.Draft.{Draft, InputNumbers, draft_of}
 use Rattle.oberon_session.specs.Laws.{IsAnswer}
 use Rattle.oberon_session.specs.Ranges.{InOrder, InRange, InputFits}
-use Rattle.oberon_session.specs.Session.{Breaks, Fits, IsJson, IsSession, IsShaped, Says, cpu_of, numbers_of_event}
+use Rattle.oberon_session.specs.Session.{Fits, IsJson, IsShaped, Says, cpu_of, numbers_of_event}
 use Rattle.oberon_session.specs.SessionParts.{SessionParts}
 use Rattle.oberon_session.specs.declared.fault.SessionFault.{SessionFault}
 use Rattle.oberon_session.specs.declared.fault.SessionFault.TheVariants.{Json, Shape, Range, Order, Hex, Memory}
