@@ -8,7 +8,7 @@ use Rattle.oberon_format.specs.CheckpointParts.{CheckpointParts, no_checkpoint}
 use Rattle.oberon_format.specs.Layout.{word_at, event_place, checkpoint_place}
 use Rattle.oberon_format.specs.PartFields.{fields_of_parts, fault_of_parts, event_fields, checkpoint_fields}
 use Rattle.oberon_format.specs.Recording.{RecordingParts, checkpoint_at}
-use Rattle.oberon_format.specs.Tested.{AreFormed}
+use Rattle.oberon_format.specs.Formed.{AreFormed}
 use Rattle.oberon_format.specs.Text.{IsEvent, IsDevices, IsCheckpoint, IsLaidOut}
 use Rattle.oberon_format.specs.TextFields.{fields_of, event_of, checkpoint_of, first_fault_of}
 use Rattle.oberon_format.proofs.Keys.{range-split, length-range}

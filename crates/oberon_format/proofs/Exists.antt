@@ -19,7 +19,8 @@ use Rattle.oberon_format.specs.FlagsNumber.{bits_number}
 use Rattle.oberon_format.specs.Layout.{word_at, long_at, pages, events, checkpoints, page_place, event_place, checkpoint_place, output_place}
 use Rattle.oberon_format.specs.Ranges.{in_ranges, are_keys}
 use Rattle.oberon_format.specs.Recording.{RecordingParts, output_of}
-use Rattle.oberon_format.specs.Tested.{Meets, IsFormed, AreFormed}
+use Rattle.oberon_format.specs.Formed.{IsFormed, AreFormed}
+use Rattle.oberon_format.specs.Tested.{Meets}
 use Rattle.oberon_format.specs.Text.{EachAt, AreWords, AreBytes, IsPageAt, IsEventAt, IsCpu, IsDevices, IsCheckpoint, IsCheckpointAt, IsLaidOut, Text}
 use Rattle.oberon_format.specs.TextFields.{checkpoint_of}
 use Rattle.oberon_format.proofs.Back.{all_bytes}

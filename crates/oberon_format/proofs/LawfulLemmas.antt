@@ -24,7 +24,7 @@ use Rattle.oberon_format.specs.PartFields.{fields_of_parts, fault_of_parts, even
 use Rattle.oberon_format.specs.Ranges.{is_count, is_output, in_ranges, are_keys, is_checkpoint, max_count, max_output}
 use Rattle.oberon_format.specs.Recording.{RecordingParts, IsLawful, checkpoint_at, count_at, output_of}
 use Rattle.oberon_format.specs.Rules.{header_rules, event_rules, event_floor, place_of_checkpoint, number_rules, rules_at, count_before, checkpoint_rules}
-use Rattle.oberon_format.specs.Tested.{IsFormed, AreFormed}
+use Rattle.oberon_format.specs.Formed.{IsFormed, AreFormed}
 use Rattle.oberon_format.proofs.RuleLemmas.{any_in_end, any_in_checkpoints, AreMet, met_parts, parts_met, each_holds, each_all, rule_holds, and_left, and_right}
 use Rattle.oberon_format.proofs.PartLemmas.{member, event_here, checkpoint_here, before_more, sent_none, sent_more, total_le, sent_all, rules_here, ends_met}
 

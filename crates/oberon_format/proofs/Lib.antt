@@ -16,4 +16,5 @@ pub mod Back
 pub mod One
 pub mod Exists
 pub mod LawLemmas
+pub mod Named
 mod Examples

@@ -33,7 +33,7 @@ same_words text place xs ys len a b = same_members xs ys len (λ i d lt. sym (a 
 event_of_parts : (count : ℕ) (input : Input) → count < 2 ^ 64 → Event
 event_of_parts count input range = record { count = count; input = input; range = range }
 
-same_event : (e f : Event) → e.count ≡ f.count → e.input ≡ f.input → e ≡ f
+pub same_event : (e f : Event) → e.count ≡ f.count → e.input ≡ f.input → e ≡ f
 unfolding event_of_parts
 same_event e f counts inputs =
     let facts : IsProp (e.count < 2 ^ 64) = hlevel props in

@@ -12,7 +12,8 @@ use Rattle.oberon_format.specs.Layout.{long_at, pages, events, checkpoints, even
 use Rattle.oberon_format.specs.Ranges.{is_event, max_count}
 use Rattle.oberon_format.specs.Recording.{RecordingParts, IsLawful, output_of}
 use Rattle.oberon_format.specs.Rules.{event_rules, event_floor}
-use Rattle.oberon_format.specs.Tested.{Meets, AreFormed}
+use Rattle.oberon_format.specs.Formed.{AreFormed}
+use Rattle.oberon_format.specs.Tested.{Meets}
 use Rattle.oberon_format.specs.Text.{EachAt, IsPageAt, IsEventAt, IsCheckpointAt, IsLaidOut}
 use Rattle.oberon_format.specs.TextFields.{fields_of, event_of}
 use Rattle.oberon_format.proofs.Agree.{text_agrees}

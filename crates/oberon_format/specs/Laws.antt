@@ -1,10 +1,11 @@
 -- Laws of texts and recordings.
-use Rattle.std.specs.Prelude.{ℕ, ◌≡◌, ◌↔◌, List, None, MatchOption}
+use Rattle.std.specs.Prelude.{ℕ, ◌≡◌, ◌↔◌, List, None, IfSome, MatchOption}
 use Rattle.risc_machine.specs.InputOrder.{AreOrdered}
 use Rattle.risc_pages.specs.Pages.{ArePages}
+use Rattle.oberon_format.specs.Formed.{AreFormed}
+use Rattle.oberon_format.specs.Line.{IsNamedFault}
 use Rattle.oberon_format.specs.PartFields.{fault_of_parts}
 use Rattle.oberon_format.specs.Recording.{RecordingParts, IsLawful}
-use Rattle.oberon_format.specs.Tested.{AreFormed}
 use Rattle.oberon_format.specs.Text.{AreBytes, IsLaidOut, Text}
 use Rattle.oberon_format.specs.TextFields.{first_fault_of}
 
@@ -25,6 +26,10 @@ HasOneText = (r : RecordingParts) → IsLawful r → (text : List ℕ) × IsOnly
 -- each text has a recording exactly where it has no first fault
 abbrev pub HasTextOrFault : Type 0
 HasTextOrFault = (text : List ℕ) → AreBytes text → MatchOption (first_fault_of text) ((r : RecordingParts) × Text text r) (λ fault. (r : RecordingParts) → ¬ (Text text r))
+
+-- the first fault of a text is one of the eight, and never want of memory
+abbrev pub HasNamedFault : Type 0
+HasNamedFault = (text : List ℕ) → IfSome (first_fault_of text) IsNamedFault
 
 -- a text that is laid out of parts has the fault of the parts
 abbrev pub HasFaultOfParts : Type 0

@@ -6,6 +6,7 @@ pub mod Rules
 pub mod TextFields
 pub mod FlagsNumber
 pub mod CheckpointParts
+pub mod Formed
 pub mod Recording
 pub mod Parts
 pub mod PartFields

@@ -2,7 +2,7 @@
 
 ghost use Rattle.std.specs.Prelude.{map};
 ghost use Rattle.oberon_format.specs.CheckpointParts.{checkpoint_parts};
-ghost use Rattle.oberon_format.specs.Tested.{IsFormed, AreFormed};
+ghost use Rattle.oberon_format.specs.Formed.{IsFormed, AreFormed};
 
 use crate::checkpoint::Checkpoint;
 

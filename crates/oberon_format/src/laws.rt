@@ -1,6 +1,6 @@
 //! Laws of the format, over its definitions alone.
 
-ghost use Rattle.oberon_format.specs.Laws.{HasOneRecording, HasOneText, HasTextOrFault, HasFaultOfParts, IsMadeOfParts};
+ghost use Rattle.oberon_format.specs.Laws.{HasOneRecording, HasOneText, HasTextOrFault, HasFaultOfParts, HasNamedFault, IsMadeOfParts};
 
 /// A text is that of at most one recording.
 pub fn one_recording()
@@ -15,6 +15,11 @@ pub fn one_text()
 /// Each text has a recording or a first fault, and not both.
 pub fn text_or_fault()
     ensures { HasTextOrFault }
+{}
+
+/// The first fault of a text is never want of memory.
+pub fn named_fault()
+    ensures { HasNamedFault }
 {}
 
 /// A text that is laid out of parts, lawful or not, has the first fault of these parts.

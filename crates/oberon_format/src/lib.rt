@@ -23,7 +23,7 @@ mod writing;
 
 pub use checkpoint::Checkpoint;
 pub use fault::Fault;
-pub use laws::{fault_of_parts, lawful_parts, one_recording, one_text, text_or_fault};
+pub use laws::{fault_of_parts, lawful_parts, named_fault, one_recording, one_text, text_or_fault};
 pub use line::refusal;
 pub use reading::read;
 pub use recording::Recording;

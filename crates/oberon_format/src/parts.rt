@@ -23,7 +23,8 @@ use risc_machine::{Cpu, Inputs};
 use risc_pages::{Pool, Table};
 
 impl Recording {
-    ghost use Rattle.std.specs.Prelude.{◌≡◌, ◌↔◌, Some, IfOk, IfErr, IsOk};
+    ghost use Rattle.std.specs.Prelude.{◌≡◌, ◌↔◌, IfErr, IsOk, MatchOption};
+    ghost use Rattle.oberon_format.specs.Line.{IsNamedFault};
     ghost use Rattle.oberon_format.specs.PartFields.{fault_of_parts};
     ghost use Rattle.oberon_format.specs.Parts.{parts_of};
     ghost use Rattle.oberon_format.specs.Recording.{IsLawful};
@@ -37,12 +38,13 @@ impl Recording {
         inputs: Inputs,
         checkpoints: Vec<Checkpoint>,
     ) -> Result<Recording, Fault>
-        // The recording has these parts.
-        ensures parts { IfOk result (λ r. r ≡ parts_of pool inputs checkpoints.items) }
+        // The recording has these parts; where their text has a fault, the first one is the answer.
+        ensures parts { let parts = parts_of pool inputs checkpoints.items in
+            MatchOption (fault_of_parts parts) (result ≡ Ok parts) (λ f. result ≡ Err f) }
         // It is made exactly where they are lawful.
         ensures lawful { IsOk result ↔ IsLawful (parts_of pool inputs checkpoints.items) }
-        // Else the fault is the first one of their text.
-        ensures refused { IfErr result (λ f. fault_of_parts (parts_of pool inputs checkpoints.items) ≡ Some f) }
+        // No memory is taken, and none is wanting.
+        ensures named { IfErr result IsNamedFault }
     {
         if let Some(fault) = parts_fault(&pool, &inputs, &checkpoints) {
             return Err(fault);

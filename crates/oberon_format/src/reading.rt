@@ -1,13 +1,13 @@
 //! The recording of a text without fault. Whether a text has one is tested before, in `rules`.
 
-ghost use Rattle.std.specs.Prelude.{◌≡◌, ◌≤◌, ◌<◌, ◌+◌, ◌*◌, ◌^◌, ℕ, All, true, length, IfOk, IfErr, slice_index, slice_range, drop, map, MatchOption};
+ghost use Rattle.std.specs.Prelude.{◌≡◌, ◌≤◌, ◌<◌, ◌+◌, ◌*◌, ◌^◌, ℕ, All, true, length, IfOk, slice_index, slice_range, drop, map, MatchOption, MatchResult};
 ghost use Rattle.oberon_format.specs.CheckpointParts.{checkpoint_parts};
 ghost use Rattle.oberon_format.specs.FlagsNumber.{bits_number};
 ghost use Rattle.oberon_format.specs.Layout.{word_at, pages, events, checkpoints, output_place};
 ghost use Rattle.oberon_format.specs.Parts.{parts_of};
 ghost use Rattle.oberon_format.specs.Ranges.{in_ranges, are_keys};
 ghost use Rattle.oberon_format.specs.Recording.{output_of};
-ghost use Rattle.oberon_format.specs.Tested.{IsSized, Meets, IsRefused};
+ghost use Rattle.oberon_format.specs.Tested.{IsSized, Meets};
 ghost use Rattle.oberon_format.specs.Text.{EachAt, AreWords, IsPageAt, IsEvent, IsEventAt, IsCpu, IsDevices, IsCheckpoint, IsCheckpointAt, Text};
 ghost use Rattle.oberon_format.specs.TextFields.{first_fault_of, checkpoint_of};
 ghost use Rattle.risc_devices.specs.InputKind.{IsInput};
@@ -31,12 +31,10 @@ use std::alloc::{AllocError, Global};
 /// The recording of a text, or its first fault. `Memory` is answered only for a text without fault: the whole text is tested
 /// before anything grows, and the test takes no memory.
 pub fn read(alloc: Global, bytes: &[u8]) -> Result<Recording, Fault>
-    // What is read is the recording of the text.
-    ensures found { IfOk result (λ r. Text bytes.now r) }
-    // A text with a fault is answered with its first one.
-    ensures fault { MatchOption (first_fault_of bytes.now) (Unit {0}) (λ f. result ≡ Err f) }
-    // What is refused has that first fault, or has none and there was no room.
-    ensures refused { IfErr result (λ f. IsRefused bytes.now f) }
+    // A text without fault gives its recording, or there was no room; any other gives its first fault.
+    ensures { MatchOption (first_fault_of bytes.now)
+        (MatchResult result (λ r. Text bytes.now r) (λ f. f ≡ Fault.Memory))
+        (λ f. result ≡ Err f) }
 {
     if let Some(fault) = first_fault(bytes) {
         return Err(fault);

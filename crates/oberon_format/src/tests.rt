@@ -352,6 +352,112 @@ fn refuses_a_text_cut_or_with_bytes_after_it(rt: HostRuntime) -> Result<(), Fail
     Ok(())
 }
 
+#[test]
+fn gives_the_first_of_two_faults(rt: HostRuntime) -> Result<(), Fail> {
+    let rows = [
+        // a page number of checkpoint 0, and a field of checkpoint 1
+        ([(1180, 2), (5276, 0)], Fault::Page(1180)),
+        // a field of checkpoint 0, and a page number of checkpoint 1
+        ([(1048, 1), (5408, 2)], Fault::Checkpoint(1048)),
+        // a page number and a field of one checkpoint
+        ([(5408, 2), (5356, 16)], Fault::Checkpoint(5276)),
+        // two page numbers
+        ([(5272, 2), (1184, 2)], Fault::Page(1184)),
+        // a field of the last checkpoint, and output that isn't there
+        ([(5404, 1), (5360, 5)], Fault::Checkpoint(5276)),
+        // the header's last number, and too many pages; and events that aren't there
+        ([(20, 1), (8, 65_537)], Fault::Limit(8)),
+        ([(20, 1), (12, 1_000)], Fault::Limit(20)),
+        // the version, and the first four bytes
+        ([(4, 2), (0, 0)], Fault::Magic(0)),
+    ];
+    for (words, fault) in rows {
+        let mut text = stored_run(rt.alloc())?;
+        for (place, word) in words {
+            put_word(&mut text, place, word);
+        }
+        assert_eq!(rt; read(rt.alloc(), &text).err(), Some(fault));
+    }
+    let mut text = two_events(rt.alloc(), &[(1056, 6), (1064, 1), (1068, 0x101)])?;
+    put_word(&mut text, 1080, 1);
+    assert_eq!(rt; read(rt.alloc(), &text).err(), Some(Fault::Event(1048)));
+    Ok(())
+}
+
+#[test]
+fn reads_as_many_pages_and_events_as_there_can_be(rt: HostRuntime) -> Result<(), Fail> {
+    let alloc = rt.alloc();
+    let mut text = vec![in alloc; 0; 83_113_116]?;
+    for (place, word) in [
+        (0, MAGIC),
+        (4, 1),
+        (8, 65_536),
+        (12, 1_000_000),
+        (16, 1),
+        (24, JUMP),
+    ] {
+        put_word(&mut text, place, word);
+    }
+    // The last word of the last page, the kind and the value of each event, and the last number of the table.
+    put_byte(&mut text, 67_108_884, 7);
+    for i in 0..1_000_000usize {
+        put_byte(&mut text, 67_108_896 + 16 * i, 1);
+        put_byte(&mut text, 67_108_900 + 16 * i, 9);
+    }
+    put_byte(&mut text, 83_113_114, 1);
+    let recording = read(alloc, &text)?;
+    assert_eq!(rt; recording.pool().len(), 65_536);
+    assert_eq!(rt; recording.pool().page(1).words[0], JUMP);
+    assert_eq!(rt; recording.pool().page(65_536).words[255], 7);
+    assert_eq!(rt; recording.inputs().events().len(), 1_000_000);
+    assert_eq!(rt; recording.inputs().events()[999_999].input.value(), 9);
+    assert_eq!(rt; recording.count(), 1);
+    assert_eq!(rt; recording.checkpoint(0).table.entry(1023), 65_536);
+    let again = write(alloc, &recording)?;
+    assert!(rt; again.as_slice() == text.as_slice());
+    Ok(())
+}
+
+/// The text of each fault.
+const TEXTS: [(Fault, &str); 9] = [
+    (Fault::Short(1), "the text ends too early, at byte 1"),
+    (
+        Fault::Magic(0),
+        "the text is not that of a recording, at byte 0",
+    ),
+    (Fault::Version(4), "the version is not known, at byte 4"),
+    (
+        Fault::Limit(16),
+        "a number of the header is out of its range, at byte 16",
+    ),
+    (
+        Fault::Event(1048),
+        "an event is out of its ranges, at byte 1048",
+    ),
+    (
+        Fault::Checkpoint(24),
+        "a checkpoint is out of its ranges, at byte 24",
+    ),
+    (
+        Fault::Page(156),
+        "a page number is out of its range, at byte 156",
+    ),
+    (
+        Fault::Trailing(4252),
+        "the text goes on after its end, at byte 4252",
+    ),
+    (Fault::Memory, "no memory"),
+];
+
+#[test]
+fn shows_each_fault(rt: HostRuntime) -> Result<(), Fail> {
+    for (fault, text) in TEXTS {
+        let shown = format!(in rt.alloc(); "{fault}")?;
+        assert_eq!(rt; shown.as_str(), text);
+    }
+    Ok(())
+}
+
 /// Count, program counter, stop, bytes sent, a place and its page number, of a checkpoint that is otherwise zeros.
 type Row = (u64, u32, u8, usize, u16, u32);
 
@@ -428,6 +534,14 @@ fn refuses_parts_by_the_first_fault_of_their_text(rt: HostRuntime) -> Result<(),
             Some(Fault::Checkpoint(4252)),
         ),
         (zero, (10, 0, 0, 0, 1023, 1), Some(Fault::Page(8476))),
+        // two faults: a page number first, a field first, and both in one checkpoint
+        ((0, 0, 0, 0, 0, 1), zero, Some(Fault::Page(156))),
+        (
+            (0, 0, 5, 0, 0, 0),
+            (10, 0, 0, 0, 0, 1),
+            Some(Fault::Checkpoint(24)),
+        ),
+        (zero, (10, 0, 5, 0, 0, 1), Some(Fault::Checkpoint(4252))),
     ];
     for (first, last, fault) in rows {
         assert_eq!(rt; fault_of(&rt, rt.alloc(), first, last)?, fault);

@@ -14,3 +14,5 @@ mod Begun
 mod Whole
 mod LaidLaws
 mod FirstTables
+pub mod Deciding
+pub mod OneAnswers

@@ -1,5 +1,5 @@
--- What laying comes to, in the words of pages and places.
-use Rattle.std.specs.Prelude.{ℕ, ◌≡◌, ◌≢◌, ◌+◌, ◌<◌, true, false, List, ◌++◌, All, filter, length, map, not, slice_index}
+-- Laws of the definitions: what laying comes to, in the words of pages and places, and that a text has one answer.
+use Rattle.std.specs.Prelude.{ℕ, ◌≡◌, ◌≢◌, ◌+◌, ◌<◌, true, false, List, ◌++◌, All, Result, Ok, Err, filter, length, map, not, slice_index}
 use Rattle.std.specs.List.Sorted.{IsStrictlyIncreasing}
 use Rattle.risc_pages.specs.Content.{IsNamed, table_words}
 use Rattle.risc_pages.specs.Delta.{changed_below}
@@ -7,7 +7,10 @@ use Rattle.risc_pages.specs.Pages.{ArePages, page_at}
 use Rattle.oberon_session.specs.Digits.{PlacedWords}
 use Rattle.oberon_session.specs.Laid.{Laid, is_blank, lay}
 use Rattle.oberon_session.specs.Recorded.{numbered}
-use Rattle.oberon_session.specs.SessionParts.{places_in}
+use Rattle.oberon_session.specs.Session.{Breaks, IsSession}
+use Rattle.oberon_session.specs.SessionParts.{SessionParts, places_in}
+use Rattle.oberon_session.specs.declared.fault.SessionFault.{SessionFault}
+use Rattle.oberon_session.specs.declared.fault.SessionFault.TheVariants.{Memory}
 
 -- a table of pages of the pool
 pub record IsTableOf (laid : Laid) : Type 0 where
@@ -46,3 +49,15 @@ abbrev pub FirstTableLaw : Type 0
 FirstTableLaw =
     (pages : List PlacedWords) → IsStrictlyIncreasing (places_in pages) → All (λ place. place < 1024) (places_in pages)
     → IsFirstTable pages (numbered pages (length pages))
+
+-- what a text says, where memory suffices: its session, or the first rule that it breaks
+abbrev pub IsAnswer : List ℕ → Result SessionParts SessionFault → Type 0
+IsAnswer bytes (Ok session) = IsSession bytes session
+IsAnswer bytes (Err fault) = (fault ≢ Memory) × Breaks bytes fault
+
+-- each text has an answer, and no other one
+abbrev pub OneAnswer : Type 0
+OneAnswer =
+    (bytes : List ℕ)
+    → (answer : Result SessionParts SessionFault) × IsAnswer bytes answer
+    × ((other : Result SessionParts SessionFault) → IsAnswer bytes other → other ≡ answer)

@@ -1,6 +1,6 @@
 //! Pages read from hexadecimal digits.
 
-ghost use Rattle.std.specs.Prelude.{◌≡◌, ◌<◌, ◌≤◌, ◌^◌, length, map, slice_index};
+ghost use Rattle.std.specs.Prelude.{◌≡◌, ◌≢◌, ◌↔◌, ◌<◌, ◌≤◌, ◌^◌, length, map, slice_index};
 ghost use Rattle.std.specs.List.{All};
 ghost use Rattle.oberon_session.specs.Shape.{GivesOr};
 ghost use Rattle.oberon_session.specs.Draft.{page_view};
@@ -38,8 +38,18 @@ fn placed_page(alloc: Global, draft: &PageDraft<'_>) -> Result<PlacedPage, Sessi
             at: draft.at as u16,
             page: page_of(&bytes),
         }),
-        Err(FromHexError::OutOfMemory) => Err(SessionFault::Memory),
-        Err(_) => Err(SessionFault::Hex),
+        Err(refused) => Err(hex_fault(&refused)),
+    }
+}
+
+/// The fault of digits that `hex` refuses: want of memory where it says so, and else wrong digits.
+fn hex_fault(refused: &FromHexError) -> SessionFault
+    ensures memory { (result ≡ SessionFault.Memory) ↔ (refused.now ≡ FromHexError.OutOfMemory) }
+    ensures hex { (result ≡ SessionFault.Hex) ↔ (refused.now ≢ FromHexError.OutOfMemory) }
+{
+    match refused {
+        FromHexError::OutOfMemory => SessionFault::Memory,
+        _ => SessionFault::Hex,
     }
 }
 

@@ -1,6 +1,11 @@
-//! Laws of how recordings are laid out, over the definitions alone.
+//! Laws of how sessions are read and recordings are laid out, over the definitions alone.
 
-ghost use Rattle.oberon_session.specs.Laws.{FirstTableLaw, LaidLaw};
+ghost use Rattle.oberon_session.specs.Laws.{FirstTableLaw, LaidLaw, OneAnswer};
+
+/// A text has one answer: a session, or one first rule that it breaks.
+pub fn answer_law()
+    ensures { OneAnswer }
+{}
 
 /// In a session's first table the place of page i has number i + 1, and a place where no page stands has number 0.
 pub fn first_table_law()

@@ -1,6 +1,7 @@
 //! Reading a session from its text.
 
-ghost use Rattle.std.specs.Prelude.{◌≡◌, ◌<◌, ◌^◌, IfOk, IfErr, IsTrue, length, slice_index};
+ghost use Rattle.std.specs.Prelude.{◌≡◌, ◌↔◌, ◌<◌, ◌^◌, IfOk, IfErr, IsTrue, length, slice_index};
+ghost use Rattle.serde_json.specs.Errors.{IsMemory};
 ghost use Rattle.serde_json.specs.View.{view};
 ghost use Rattle.risc_machine.specs.MachineState.{cpu_state};
 ghost use Rattle.oberon_session.specs.Draft.{draft_view, start_view};
@@ -16,7 +17,7 @@ use crate::range::{is_in_range, is_rising};
 use crate::session::Session;
 use crate::shape::read_draft;
 use risc_machine::{Cpu, Flags, Inputs};
-use serde_json::Value;
+use serde_json::{Error, Value};
 use std::alloc::Global;
 
 /// The longest text of a session, in bytes.
@@ -37,8 +38,19 @@ pub fn read_session(alloc: Global, bytes: &[u8]) -> Result<Session, SessionFault
     }
     match Value::from_slice(alloc, bytes) {
         Ok(value) => session_in(alloc, &value),
-        Err(e) if e.is_memory() => Err(SessionFault::Memory),
-        Err(_) => Err(SessionFault::Json),
+        Err(refused) => Err(json_fault(&refused)),
+    }
+}
+
+/// The fault of a text that `serde_json` refuses: want of memory where it says so, and else no JSON.
+fn json_fault(refused: &Error) -> SessionFault
+    ensures memory { (result ≡ SessionFault.Memory) ↔ IsMemory refused.now }
+    ensures json { (result ≡ SessionFault.Json) ↔ (IsMemory refused.now → ⊥) }
+{
+    if refused.is_memory() {
+        SessionFault::Memory
+    } else {
+        SessionFault::Json
     }
 }
 

@@ -2,7 +2,7 @@
 
 ghost use Rattle.std.specs.Prelude.{◌≡◌, ◌≢◌, ◌-◌, ◌<◌, ◌≤◌, ◌^◌, IfOk, IfErr, OnOk, length};
 ghost use Rattle.risc_pages.specs.Content.{IsNamed};
-ghost use Rattle.risc_machine.specs.Refusal.{Keeps};
+ghost use Rattle.risc_machine.specs.Refusal.{Keeps, MayFail};
 ghost use Rattle.risc_machine.specs.Replay.{run_of, sent_of};
 ghost use Rattle.oberon_format.specs.CheckpointParts.{checkpoint_parts};
 ghost use Rattle.oberon_format.specs.Defined.{claim_of};
@@ -76,6 +76,7 @@ fn run_in_pieces(
     ensures room { IfOk result (λ sent. length sent.items ≤ room) }
     ensures kept { machine.new.base ≡ machine.old.base }
     ensures refused { IfErr result (λ fault. fault ≢ RecordFault.Memory → (fault ≡ RecordFault.Output) × (room < length (sent_of inputs.now from (to - from) machine.old.state))) }
+    ensures memory { IfErr result (λ fault. fault ≡ RecordFault.Memory → MayFail machine.new) }
 {
     let mut sent = Vec::new(alloc);
     let mut at = from;

@@ -11,7 +11,7 @@ const START: &str =
     "{\"format\":\"oberon-session\",\"version\":1,\"start\":{\"R\":[0,0,0,0,0,0,0,0,0,0,0,0,0,0,0,0],\"H\":0,\"PC\":0,\"flags\":0},";
 
 /// What follows, and the first fault of the whole.
-const FAULTS_AFTER_START: [(&str, SessionFault); 22] = [
+const FAULTS_AFTER_START: [(&str, SessionFault); 29] = [
     // one rule broken
     (
         "\"pages\":[{\"at\":0,\"hex\":\"05000040\"}],\"inputs\":[],\"checkpoints\":[100]",
@@ -23,6 +23,31 @@ const FAULTS_AFTER_START: [(&str, SessionFault); 22] = [
     ),
     (
         "\"pages\":[],\"inputs\":[],\"checkpoints\":[-1]}",
+        SessionFault::Shape,
+    ),
+    (
+        "\"pages\":[],\"inputs\":[],\"checkpoints\":[1.0]}",
+        SessionFault::Shape,
+    ),
+    (
+        "\"pages\":[],\"inputs\":[],\"checkpoints\":[1e2]}",
+        SessionFault::Shape,
+    ),
+    (
+        "\"pages\":[],\"inputs\":[],\"checkpoints\":[\"1\"]}",
+        SessionFault::Shape,
+    ),
+    (
+        "\"pages\":[],\"inputs\":[],\"checkpoints\":[18446744073709551616]}",
+        SessionFault::Shape,
+    ),
+    ("\"pages\":[],\"inputs\":[]}", SessionFault::Shape),
+    (
+        "\"pages\":[],\"inputs\":[],\"checkpoint\":[1]}",
+        SessionFault::Shape,
+    ),
+    (
+        "\"pages\":[{\"at\":0}],\"inputs\":[],\"checkpoints\":[]}",
         SessionFault::Shape,
     ),
     (
@@ -105,9 +130,29 @@ const FAULTS_AFTER_START: [(&str, SessionFault); 22] = [
 ];
 
 /// Whole texts that break a rule at their start.
-const FAULTS_AT_START: [(&str, SessionFault); 6] = [
+const FAULTS_AT_START: [(&str, SessionFault); 11] = [
     ("", SessionFault::Json),
     ("[]", SessionFault::Shape),
+    (
+        "{\"format\":\"oberon-recording\",\"version\":1,\"start\":{\"R\":[0,0,0,0,0,0,0,0,0,0,0,0,0,0,0,0],\"H\":0,\"PC\":0,\"flags\":0},\"pages\":[],\"inputs\":[],\"checkpoints\":[]}",
+        SessionFault::Shape,
+    ),
+    (
+        "{\"format\":1,\"version\":1,\"start\":{\"R\":[0,0,0,0,0,0,0,0,0,0,0,0,0,0,0,0],\"H\":0,\"PC\":0,\"flags\":0},\"pages\":[],\"inputs\":[],\"checkpoints\":[]}",
+        SessionFault::Shape,
+    ),
+    (
+        "{\"format\":\"oberon-session\",\"version\":1,\"start\":{\"R\":[0,0,0,0,0,0,0,0,0,0,0,0,0,0,0,0],\"PC\":0,\"flags\":0},\"pages\":[],\"inputs\":[],\"checkpoints\":[]}",
+        SessionFault::Shape,
+    ),
+    (
+        "{\"format\":\"oberon-session\",\"version\":1,\"start\":{\"R\":[0,0,0,0,0,0,0,0,0,0,0,0,0,0,0,0],\"H\":4294967296,\"PC\":0,\"flags\":0},\"pages\":[],\"inputs\":[],\"checkpoints\":[]}",
+        SessionFault::Range,
+    ),
+    (
+        "{\"format\":\"oberon-session\",\"version\":1,\"start\":{\"R\":[0,0,0,0,0,0,0,0,0,0,0,0,0,0,0,0],\"H\":0,\"PC\":0,\"flags\":16},\"pages\":[],\"inputs\":[],\"checkpoints\":[]}",
+        SessionFault::Range,
+    ),
     (
         "{\"format\":\"oberon-session\",\"version\":3,\"start\":{\"R\":[0,0,0,0,0,0,0,0,0,0,0,0,0,0,0,0],\"H\":0,\"PC\":0,\"flags\":0},\"pages\":[],\"inputs\":[],\"checkpoints\":[]}",
         SessionFault::Shape,
@@ -185,6 +230,84 @@ fn gives_the_first_fault(rt: HostRuntime) -> Result<(), Fail> {
         assert!(rt; fault_of(alloc, text.as_bytes()) == Some(*fault));
     }
     assert!(rt; fault_of(alloc, &[123, 255, 125]) == Some(SessionFault::Json));
+    Ok(())
+}
+
+/// So many copies of a text.
+fn repeated(alloc: Global, text: &str, count: u32) -> Result<String, Fail> {
+    let mut all = String::new(alloc);
+    for _ in 0..count {
+        all.push_str(text)?;
+    }
+    Ok(all)
+}
+
+#[test]
+fn measures_digits_in_bytes(rt: HostRuntime) -> Result<(), Fail> {
+    let alloc = rt.alloc();
+    let rows = [
+        // as many digits as a page has, and one pair more
+        ("f", 2_048, None),
+        ("f", 2_050, Some(SessionFault::Range)),
+        // a letter of two bytes is no digit, and 1,025 of them are too long
+        ("\u{e9}", 1_024, Some(SessionFault::Hex)),
+        ("\u{e9}", 1_025, Some(SessionFault::Range)),
+    ];
+    for (digit, count, fault) in rows {
+        let digits = repeated(alloc, digit, count)?;
+        let text = format!(in alloc;
+            "{START}\"pages\":[{{\"at\":0,\"hex\":\"{digits}\"}}],\"inputs\":[],\"checkpoints\":[]}}"
+        )?;
+        assert_eq!(rt; fault_of(alloc, text.as_bytes()), fault);
+    }
+    Ok(())
+}
+
+#[test]
+fn takes_arrays_nested_127_deep(rt: HostRuntime) -> Result<(), Fail> {
+    let alloc = rt.alloc();
+    let rows = [
+        // with the object around them 127 and 128
+        (126, SessionFault::Shape),
+        (127, SessionFault::Json),
+        (200, SessionFault::Json),
+    ];
+    for (depth, fault) in rows {
+        let open = repeated(alloc, "[", depth)?;
+        let close = repeated(alloc, "]", depth)?;
+        let text = format!(in alloc;
+            "{START}\"pages\":{open}{close},\"inputs\":[],\"checkpoints\":[]}}"
+        )?;
+        assert_eq!(rt; fault_of(alloc, text.as_bytes()), Some(fault));
+    }
+    Ok(())
+}
+
+/// The text of each fault.
+const TEXTS: [(SessionFault, &str); 6] = [
+    (SessionFault::Json, "the text is no JSON"),
+    (
+        SessionFault::Shape,
+        "the text has not the shape of a session",
+    ),
+    (
+        SessionFault::Range,
+        "a number of the session is out of its range",
+    ),
+    (SessionFault::Order, "the session is out of order"),
+    (
+        SessionFault::Hex,
+        "a page of the session is not written in hexadecimal digits",
+    ),
+    (SessionFault::Memory, "no memory"),
+];
+
+#[test]
+fn shows_each_fault(rt: HostRuntime) -> Result<(), Fail> {
+    for (fault, text) in TEXTS {
+        let shown = format!(in rt.alloc(); "{fault}")?;
+        assert_eq!(rt; shown.as_str(), text);
+    }
     Ok(())
 }
 

@@ -1,44 +1,60 @@
-//! Texts with a fault, which have that fault whatever memory there is.
+//! A text without fault, and texts with a fault, which have that fault whatever memory there is.
+
+ghost use Rattle.std.specs.Prelude.{◌<◌};
 
 use oberon_format::{Fault, read};
 use std::io;
 
-/// A header of 24 bytes with these numbers of pages, events and checkpoints.
-const fn header(pages: u8, events: u8, checkpoints: u8) -> [u8; 24] {
-    [
-        b'O',
-        b'R',
-        b'S',
-        b'R',
-        1,
-        0,
-        0,
-        0,
-        pages,
-        0,
-        0,
-        0,
-        events,
-        0,
-        0,
-        0,
-        checkpoints,
-        0,
-        0,
-        0,
-        0,
-        0,
-        0,
-        0,
-    ]
+/// The length of a text with one page, one event and one checkpoint.
+const LENGTH: usize = 5_292;
+
+/// A text with a page of zeros, a timer's event at count 0 and a checkpoint that is all zeros, and one byte more.
+fn sound() -> [u8; LENGTH + 1] {
+    let mut text = [0; LENGTH + 1];
+    text[0] = b'O';
+    text[1] = b'R';
+    text[2] = b'S';
+    text[3] = b'R';
+    text[4] = 1;
+    text[8] = 1;
+    text[12] = 1;
+    text[16] = 1;
+    text[1_056] = 1;
+    text
 }
 
-/// Reads each text and prints its fault.
+/// Reads a text without fault, and texts with each of the eight faults, and prints what came of each.
 pub fn texts<H: AllocGlobal + Print>(rt: &H) -> io::Result<()> {
+    let text = sound();
+    match read(rt.alloc(), &text[..LENGTH]) {
+        Ok(_) => println!(rt; "sound: read")?,
+        Err(fault) => println!(rt; "sound: {fault}")?,
+    }
     show(rt, &[])?;
-    show(rt, &[0; 24])?;
-    show(rt, &header(0, 0, 0))?;
-    show(rt, &header(1, 2, 3))
+    show(rt, &text[..24])?;
+    show(rt, &text[..LENGTH - 1])?;
+    // the magic, the version, and each number of the header
+    broken(rt, 0, b'o')?;
+    broken(rt, 4, 2)?;
+    broken(rt, 11, 1)?;
+    broken(rt, 15, 1)?;
+    broken(rt, 16, 0)?;
+    broken(rt, 20, 1)?;
+    // the kind of the event, the count of the checkpoint, and its first and its last page number
+    broken(rt, 1_056, 6)?;
+    broken(rt, 1_064, 1)?;
+    broken(rt, 1_196, 2)?;
+    broken(rt, 5_288, 2)?;
+    show(rt, &text)
+}
+
+/// Prints the fault of the text with another byte at a place.
+fn broken<H: AllocGlobal + Print>(rt: &H, place: usize, byte: u8) -> io::Result<()>
+    requires { place < 5292 }
+{
+    let mut text = sound();
+    text[place] = byte;
+    show(rt, &text[..LENGTH])
 }
 
 /// Prints the fault of a text.

@@ -131,3 +131,16 @@ fn numbers_and_names_faults_of_recordings(rt: HostRuntime) {
     assert!(rt; RecordFault::Pages.number() == Some(2) && RecordFault::Pages.name() == "pages");
     assert!(rt; RecordFault::Memory.number().is_none() && RecordFault::Memory.name() == "memory");
 }
+
+#[test]
+fn shows_each_fault_of_recordings(rt: HostRuntime) -> Result<(), Fail> {
+    for (fault, text) in [
+        (RecordFault::Output, "the session sends too much"),
+        (RecordFault::Pages, "the session changes too many pages"),
+        (RecordFault::Memory, "no memory"),
+    ] {
+        let shown = format!(in rt.alloc(); "{fault}")?;
+        assert_eq!(rt; shown.as_str(), text);
+    }
+    Ok(())
+}

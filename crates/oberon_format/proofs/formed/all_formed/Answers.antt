@@ -1,7 +1,7 @@
 use Rattle.std.proofs.Common.{arith}
 use Rattle.std.proofs.lemmas.List.Elements.{All-map}
 use Rattle.oberon_format.specs.CheckpointParts.{checkpoint_parts}
-use Rattle.oberon_format.specs.Tested.{IsFormed}
+use Rattle.oberon_format.specs.Formed.{IsFormed}
 use Rattle.oberon_format.proofs.formed.all_formed.Goals as goal
 
 pub returns : goal.returns
