@@ -4,6 +4,7 @@ use lib.Seq.{take-append_seam}
 use Rattle.std.proofs.lemmas.List.{length-take, take_all}
 use Rattle.std.proofs.lemmas.Bool.{ltb-true, ltb-false}
 use Rattle.std.specs.Prelude.{nat_lt}
+use Rattle.std.specs.Io.KnownBytes.{Consumes, IsAtEnd}
 use Rattle.clap.proofs.OnLiterals.{clap_on_literals}
 use Rattle.clap.specs.Walk.{Text}
 use Rattle.clap.specs.declared.error.kind.ErrorKind.TheVariants.{DisplayHelp}
@@ -16,7 +17,8 @@ use Rattle.oberon_replay.specs.Asked.{IsHelp, asked, faults}
 use Rattle.oberon_replay.specs.Reply.{AnswersAll, IsReplyTo, IsSent, Outcome, answer, failure, help}
 use Rattle.oberon_replay.specs.Record.{IsRecord}
 use Rattle.oberon_replay.specs.Screen.{IsScreen}
-use Rattle.oberon_replay.specs.Transfer.{IsReadUpTo}
+use Rattle.oberon_replay.specs.Known.{Known}
+use Rattle.oberon_replay.specs.Transfer.{Fails, GainsFront, GainsWhole, Goes}
 use Rattle.oberon_replay.specs.declared.words.Request.{Request}
 use Rattle.oberon_replay.specs.declared.words.Request.TheVariants.{Check, Record, Screen}
 use Rattle.oberon_replay.specs.declared.failure.Failure.TheVariants.{Memory, Read, Words}
@@ -24,20 +26,21 @@ use Rattle.oberon_replay.proofs.CutLemmas.{cut_is_no_text, first_fault_of-take}
 use Rattle.oberon_replay.proofs.Parsed.{asked_none}
 
 -- of a reader whose bytes are known, the first `limit` of them
-known_bytes : (limit : ℕ) (xs bytes : List ℕ) (new : Option (List ℕ)) → IsReadUpTo limit (Some xs) new bytes → bytes ≡ take limit xs
-known_bytes limit xs bytes None h = absurd h.taken
-known_bytes limit xs bytes (Some rest) h = go (nat_lt (length bytes) limit) refl
+known_bytes : (limit : ℕ) (xs bytes : List ℕ) (rest : Option (List ℕ)) → Consumes (Some xs) rest bytes → length bytes ≤ limit → (length bytes < limit → IsAtEnd rest)
+    → bytes ≡ take limit xs
+known_bytes limit xs bytes None taken within end = absurd taken
+known_bytes limit xs bytes (Some rest) taken within end = go (nat_lt (length bytes) limit) refl
   where
     go : (b : Bool) → nat_lt (length bytes) limit ≡ b → bytes ≡ take limit xs
     go true e =
         let short : length bytes < limit = ltb-true _ _ e in
-        let all : xs ≡ bytes = h.taken ∙ ap (λ l. bytes ++ l) (h.whole short) ∙ append-nil bytes in
+        let all : xs ≡ bytes = taken ∙ ap (λ l. bytes ++ l) (end short) ∙ append-nil bytes in
         let fits : length bytes ≤ limit = omega arith in
         sym (ap (take limit) all ∙ take_all limit bytes fits)
     go false e =
         let full : limit ≤ length bytes = ltb-false _ _ e in
-        let same : limit ≡ length bytes = omega (arith, h.within) in
-        rw (h.taken, same) (sym (take-append_seam bytes rest))
+        let same : limit ≡ length bytes = omega (arith, within) in
+        rw (taken, same) (sym (take-append_seam bytes rest))
 
 -- the line of the fault of a text that is cut off is that of the whole
 cut_fault : (n : ℕ) (bytes line : List ℕ) (status : ℕ) → 101479581 ≤ n → n ≤ length bytes → IsLineOfFault (take n bytes) line status → IsLineOfFault bytes line status
@@ -105,19 +108,20 @@ help_asks_nothing (word ∷ words) is request asks =
     let bad : None ≡ Some request = sym none ∙ asks in
     cc
 
-pub known_answer : (words : List Text) (input rest old new : Option (List ℕ)) (outcome : Outcome) (status : ℕ) → IsReplyTo words input rest outcome → IsSent outcome old new status
+pub known_answer : (words : List Text) (input rest old new : Known) (outcome : Outcome) (status : ℕ) → IsReplyTo words input rest outcome → IsSent outcome old new status
     → AnswersAll words input old new status
 known_answer words input rest old new outcome status is (inr failed) = λ request bytes asks known held. absurd (held failed.1)
 known_answer words input rest old new (answer asked_for taken text own) status is (inl sent) = λ request bytes asks known held.
     let same_answer : Some asked_for ≡ Some request = sym is.0 ∙ asks in
     let same : asked_for ≡ request = cc in
-    let reads : IsReadUpTo (limit_of request) (Some bytes) rest taken = rw (← same, ← known) is.1 in
-    let front : taken ≡ take (limit_of request) bytes = known_bytes _ _ _ _ reads in
+    let consumed : Consumes (Some bytes) rest.bytes taken = rw (← known) is.1.taken in
+    let front_asked : taken ≡ take (limit_of asked_for) bytes = known_bytes _ _ _ _ consumed is.1.within is.1.whole in
+    let front : taken ≡ take (limit_of request) bytes = rw (← same) front_asked in
     let first : IsAnswer request (take (limit_of request) bytes) text status = rw (← front, ← same, sent.1) is.2 in
-    (text, whole_answer request bytes text status first, sent.0)
-known_answer words input rest old new (help text) status is (inl sent) = λ request bytes asks known held. absurd (help_asks_nothing words is request asks)
+    (text, whole_answer request bytes text status first, sent.0.0)
+known_answer words input rest old new (help text) status is (inl sent) = λ request bytes asks known held. absurd (help_asks_nothing words is.0 request asks)
 known_answer words input rest old new (failure Words) status is (inl sent) = λ request bytes asks known held.
-    let bad : None ≡ Some request = sym is.0 ∙ asks in
+    let bad : None ≡ Some request = sym is.0.0 ∙ asks in
     cc
 known_answer words input rest old new (failure Read) status is (inl sent) = λ request bytes asks known held. absurd (held sent.1)
 known_answer words input rest old new (failure Memory) status is (inl sent) = λ request bytes asks known held. absurd (held sent.1)

@@ -7,5 +7,6 @@ mod Literals
 mod Numbers
 mod Parsed
 mod RuleLemmas
+mod ThreeLemmas
 mod TruthLemmas
 mod TurnLemmas

@@ -1,6 +1,7 @@
 -- What the program reads and writes.
 pub mod Answer
 pub mod Asked
+pub mod Known
 pub mod Program
 pub mod Record
 pub mod Reply

@@ -1,10 +1,11 @@
 -- What the program writes for its words and its input, and the status that it ends with.
-use Rattle.std.specs.Prelude.{◌≡◌, ◌≢◌, ◌⊎◌, ⊤, ℕ, List, Option, Some, codes}
+use Rattle.std.specs.Prelude.{◌≡◌, ◌≢◌, ◌⊎◌, ℕ, List, Some, codes, false}
 use Rattle.std.specs.Io.KnownBytes.{Appends}
 use Rattle.clap.specs.Walk.{Text}
 use Rattle.oberon_replay.specs.Answer.{IsAnswer, limit_of}
 use Rattle.oberon_replay.specs.Asked.{IsHelp, IsRefused, asked}
-use Rattle.oberon_replay.specs.Transfer.{AppendsFrontOf, IsReadUpTo}
+use Rattle.oberon_replay.specs.Known.{Known}
+use Rattle.oberon_replay.specs.Transfer.{Fails, GainsFront, GainsWhole, Goes, IsReadUpTo}
 use Rattle.oberon_replay.specs.declared.reading.ReadFault.{ReadFault}
 use Rattle.oberon_replay.specs.declared.reading.ReadFault.TheVariants as fault
 use Rattle.oberon_replay.specs.declared.words.Request.{Request}
@@ -45,35 +46,40 @@ outcome_status (answer request input text status) = status
 outcome_status (help text) = 0
 outcome_status (failure why) = failure_status why
 
--- when a failure may be the reply: the words are refused only where they ask for nothing, and a read fails only where they ask for
--- a command. Want of memory may come at any time
-abbrev pub MayFail : List Text → Failure → Type 0
-MayFail words Words = IsRefused words
-MayFail words Read = (request : Request) × (asked words ≡ Some request)
-MayFail words Memory = ⊤
+-- when a failure may be the reply: the words are refused only where they ask for nothing, and `read fault` stands only where they ask
+-- for a command and a read failed. Want of memory may come at any time, but in place of no failed read
+abbrev pub MayFail : List Text → Known → Known → Failure → Type 0
+MayFail words old new Words = IsRefused words × Goes old new
+MayFail words old new Read = (request : Request) × (asked words ≡ Some request) × Fails new
+MayFail words old new Memory = Goes old new
 
--- the reply is one to the words, for the bytes that were taken from the reader
-abbrev pub IsReplyTo : List Text → Option (List ℕ) → Option (List ℕ) → Outcome → Type 0
+-- the reply is one to the words, for the bytes that were taken from the reader. Where a read failed it is `read fault`
+abbrev pub IsReplyTo : List Text → Known → Known → Outcome → Type 0
 IsReplyTo words old new (answer request input text status) =
     (asked words ≡ Some request) × IsReadUpTo (limit_of request) old new input × IsAnswer request input text status
-IsReplyTo words old new (help text) = IsHelp words
-IsReplyTo words old new (failure why) = MayFail words why
+IsReplyTo words old new (help text) = IsHelp words × Goes old new
+IsReplyTo words old new (failure why) = MayFail words old new why
 
 -- all of the text was written and the status is its own; or a write failed after a front of it, and the status is 3
-abbrev pub IsSentText : List ℕ → ℕ → Option (List ℕ) → Option (List ℕ) → ℕ → Type 0
-IsSentText text own old new status =
-    (Appends old new text × (status ≡ own)) ⊎ (AppendsFrontOf text old new × (status ≡ 3))
+abbrev pub IsSentText : List ℕ → ℕ → Known → Known → ℕ → Type 0
+IsSentText text own old new status = (GainsWhole text old new × (status ≡ own)) ⊎ (GainsFront text old new × (status ≡ 3))
 
-abbrev pub IsSent : Outcome → Option (List ℕ) → Option (List ℕ) → ℕ → Type 0
+abbrev pub IsSent : Outcome → Known → Known → ℕ → Type 0
 IsSent outcome = IsSentText (outcome_text outcome) (outcome_status outcome)
 
 -- some reply to the words was sent
-abbrev pub Replies : List Text → Option (List ℕ) → Option (List ℕ) → Option (List ℕ) → Option (List ℕ) → ℕ → Type 0
-Replies words input input' output output' status =
-    (outcome : Outcome) × IsReplyTo words input input' outcome × IsSent outcome output output' status
+abbrev pub Replies : List Text → Known → Known → Known → Known → ℕ → Type 0
+Replies words input input' output output' status = (outcome : Outcome) × IsReplyTo words input input' outcome × IsSent outcome output output' status
 
 -- where the words ask for a command, the reader's bytes are known, and nothing failed, the command's answer to ALL of these bytes
 -- was written, however many they are
-abbrev pub AnswersAll : List Text → Option (List ℕ) → Option (List ℕ) → Option (List ℕ) → ℕ → Type 0
-AnswersAll words input old new status = (request : Request) (bytes : List ℕ) → asked words ≡ Some request → input ≡ Some bytes
-    → status ≢ 3 → (text : List ℕ) × IsAnswer request bytes text status × Appends old new text
+abbrev pub AnswersAll : List Text → Known → Known → Known → ℕ → Type 0
+AnswersAll words input old new status = (request : Request) (bytes : List ℕ) → asked words ≡ Some request → input.bytes ≡ Some bytes
+    → status ≢ 3 → (text : List ℕ) × IsAnswer request bytes text status × Appends old.bytes new.bytes text
+
+-- the status 3 stands for a read or a write that failed, or for want of memory, whose line was then written; and for each of the two
+-- where it is the first that failed
+pub record IsThreeForFaults (input input' output output' : Known) (status : ℕ) : Type 0 where
+  pub only : status ≡ 3 → Fails input' ⊎ (Fails output' ⊎ GainsWhole (failure_line Memory) output output')
+  pub reads : input.failed ≡ false → Fails input' → status ≡ 3
+  pub writes : output.failed ≡ false → Fails output' → status ≡ 3

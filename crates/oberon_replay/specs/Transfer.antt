@@ -1,17 +1,38 @@
 -- What a loop over a reader or a writer leaves of the bytes that are known to be in them.
-use Rattle.std.specs.Prelude.{◌<◌, ◌≤◌, ℕ, List, length, take, Option}
+use Rattle.std.specs.Prelude.{◌≡◌, ◌<◌, ◌≤◌, IsTrue, ℕ, List, length, take}
 use Rattle.std.specs.Io.KnownBytes.{Appends, Consumes, IsAtEnd}
+use Rattle.oberon_replay.specs.Known.{Known}
+use Rattle.oberon_replay.specs.declared.reading.ReadFault.{ReadFault}
+use Rattle.oberon_replay.specs.declared.reading.ReadFault.TheVariants.{Failed, Memory}
 
--- the bytes were taken from the reader: all that it had, or the first `limit` of them
-pub record IsReadUpTo (limit : ℕ) (old new : Option (List ℕ)) (bytes : List ℕ) : Type 0 where
-  pub taken : Consumes old new bytes
+-- no call failed on the way from the one to the other
+abbrev pub Goes : Known → Known → Type 0
+Goes old new = new.failed ≡ old.failed
+
+-- a call failed on the way to it
+abbrev pub Fails : Known → Type 0
+Fails new = IsTrue new.failed
+
+-- the bytes were taken from the reader: all that it had, or the first `limit` of them. No read failed
+pub record IsReadUpTo (limit : ℕ) (old new : Known) (bytes : List ℕ) : Type 0 where
+  pub taken : Consumes old.bytes new.bytes bytes
   pub within : length bytes ≤ limit
-  pub whole : length bytes < limit → IsAtEnd new
+  pub whole : length bytes < limit → IsAtEnd new.bytes
+  pub goes : Goes old new
 
 -- no more than `limit` bytes were taken from the reader
-abbrev pub TakesAtMost : ℕ → Option (List ℕ) → Option (List ℕ) → Type 0
-TakesAtMost limit old new = (bytes : List ℕ) × (length bytes ≤ limit) × Consumes old new bytes
+abbrev pub TakesAtMost : ℕ → Known → Known → Type 0
+TakesAtMost limit old new = (bytes : List ℕ) × (length bytes ≤ limit) × Consumes old.bytes new.bytes bytes
 
--- the writer gained a front of the text, and nothing else
-abbrev pub AppendsFrontOf : List ℕ → Option (List ℕ) → Option (List ℕ) → Type 0
-AppendsFrontOf text old new = (n : ℕ) × (n ≤ length text) × Appends old new (take n text)
+-- a read failed where the fault says so, and nowhere else
+abbrev pub IsReadFault : Known → Known → ReadFault → Type 0
+IsReadFault old new Failed = Fails new
+IsReadFault old new Memory = Goes old new
+
+-- the writer gained all of the text, and no write failed
+abbrev pub GainsWhole : List ℕ → Known → Known → Type 0
+GainsWhole text old new = Appends old.bytes new.bytes text × Goes old new
+
+-- a write failed after a front of the text, and the writer gained nothing else
+abbrev pub GainsFront : List ℕ → Known → Known → Type 0
+GainsFront text old new = (n : ℕ) × (n ≤ length text) × Appends old.bytes new.bytes (take n text) × Fails new

@@ -4,7 +4,9 @@
 //! whole program as a function over any reader and writer. Here is only what binds it to the process.
 #![tactic(auto)]
 
-ghost use Rattle.std.specs.Prelude.{◌≡◌, ◌≢◌};
+ghost use Rattle.std.specs.Prelude.{◌≡◌, ◌≢◌, IfOk, drop, map, string_bytes};
+ghost use Rattle.std.specs.Process.{exit_status};
+ghost use Rattle.oberon_replay.specs.Reply.{AnswersAll, IsSentText, IsThreeForFaults, Replies, failure_line, failure_status};
 
 mod answer;
 mod command;
@@ -14,12 +16,17 @@ mod record;
 mod reply;
 mod screen;
 mod serve;
+mod sink;
+mod source;
 mod words;
 mod writing;
 
 use failure::Failure;
 use serve::{refuse, serve};
-use std::io::{ErrorKind, Read};
+use sink::Sink;
+use source::Source;
+use std::alloc::{AllocError, Global};
+use std::io::ErrorKind;
 use std::process::ExitCode;
 use std::rt::Env;
 use std::sync::Wait;
@@ -27,24 +34,24 @@ use std::thread::Threads;
 use std::{env, io};
 
 fn main(rt: HostRuntime) -> ExitCode {
-    let status = run(&rt, &mut rt.stdin()).unwrap_or_else(|failure| refuse(
-        &mut io::writer(&rt),
-        failure,
-    ));
-    ExitCode::from(status)
+    let output = &mut io::writer(&rt);
+    let words = match process_words(&rt) {
+        Ok(words) => words,
+        Err(failure) => return fail(output, failure),
+    };
+    match texts(rt.alloc(), &words) {
+        Ok(words) => run(&rt, rt.alloc(), &words, &mut rt.stdin(), output),
+        Err(refused) => fail(output, Failure::from(refused)),
+    }
 }
 
-/// Serves the words of the process, but for the program's own name.
-fn run<H: AllocGlobal + Env + Print + Sync + Threads + Wait, R: Read>(
-    rt: &H,
-    input: &mut R,
-) -> Result<u8, Failure> {
-    let words: Vec<String> = env::args(rt)
-        .map_err(|error| unread(error.kind()))?
-        .skip(1)
-        .collect(rt.alloc())?;
-    let words: Vec<&str> = words.iter().map(String::as_str).collect(rt.alloc())?;
-    Ok(serve(rt, rt.alloc(), &words, input, &mut io::writer(rt)))
+/// The words of the process, the program's own name before them.
+fn process_words<H: AllocGlobal + Env>(rt: &H) -> Result<Vec<String>, Failure> {
+    Ok(
+        env::args(rt)
+            .map_err(|error| unread(error.kind()))?
+            .collect(rt.alloc())?,
+    )
 }
 
 /// Why the words of the process can't be had.
@@ -56,6 +63,50 @@ fn unread(kind: ErrorKind) -> Failure
         ErrorKind::OutOfMemory => Failure::Memory,
         _ => Failure::Words,
     }
+}
+
+/// The texts of the words.
+fn texts<'a>(alloc: Global, words: &'a [String]) -> Result<Vec<&'a str>, AllocError>
+    ensures { IfOk result (λ texts. map (λ text. text.now) texts.items ≡ map string_bytes words.now) }
+{
+    let mut texts = Vec::new(alloc);
+    for word in words {
+        texts.push(word.as_str())?;
+    }
+    Ok(texts)
+}
+
+/// Serves the words behind the first, which is the program's own name, and ends with the status that this answers.
+fn run<'a, H: Threads + Wait + Sync, R: Source, W: Sink>(
+    rt: &H,
+    alloc: Global,
+    words: &'a [&'a str],
+    input: &mut R,
+    output: &mut W,
+) -> ExitCode
+    ensures replies { Replies (map (λ word. word.now) (drop 1 words.entry.now)) (R.known input.old) (R.known input.new)
+        (W.known output.old) (W.known output.new) (exit_status result) }
+    ensures answers { AnswersAll (map (λ word. word.now) (drop 1 words.entry.now)) (R.known input.old) (W.known output.old)
+        (W.known output.new) (exit_status result) }
+    ensures three { IsThreeForFaults (R.known input.old) (R.known input.new) (W.known output.old) (W.known output.new)
+        (exit_status result) }
+{
+    ExitCode::from(serve(rt, alloc, behind_name(words), input, output))
+}
+
+/// The words behind the first.
+fn behind_name<'a>(words: &'a [&'a str]) -> &'a [&'a str]
+    ensures { result.now ≡ drop 1 words.now }
+{
+    &words[words.len().min(1)..]
+}
+
+/// Writes the line of a failure, and ends with the status that this answers.
+fn fail<W: Sink>(output: &mut W, failure: Failure) -> ExitCode
+    ensures { IsSentText (failure_line failure) (failure_status failure) (W.known output.old) (W.known output.new)
+        (exit_status result) }
+{
+    ExitCode::from(refuse(output, failure))
 }
 
 #[cfg(test)]

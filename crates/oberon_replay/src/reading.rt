@@ -1,10 +1,10 @@
 //! Reading an input to its end, or up to a limit, by a loop that counts its turns. What the bytes mean is not known here.
-ghost use Rattle.std.specs.Prelude.{◌≡◌, ◌<◌, ◌≤◌, ◌++◌, ◌^◌, List, ℕ, length, IfOk, OnErr, true};
+ghost use Rattle.std.specs.Prelude.{◌≡◌, ◌<◌, ◌≤◌, ◌++◌, ◌^◌, List, ℕ, length, IfErr, IfOk, OnErr, OnOk, true, false};
 ghost use Rattle.std.specs.Io.KnownBytes.{Consumes, IsAtEnd};
-ghost use Rattle.oberon_replay.specs.Transfer.{IsReadUpTo, TakesAtMost};
+ghost use Rattle.oberon_replay.specs.Transfer.{Goes, IsReadFault, IsReadUpTo, TakesAtMost};
 
+use crate::source::Source;
 use std::alloc::{AllocError, Global};
-use std::io::{ErrorKind, Read};
 
 /// The most bytes that one read asks for: what a pipe holds.
 const CHUNK: usize = 65_536;
@@ -12,7 +12,7 @@ const CHUNK: usize = 65_536;
 /// Why an input was not read.
 #[derive(Clone, Copy, Debug, PartialEq, Eq)]
 pub enum ReadFault {
-    /// A read failed, or the reader went on being interrupted.
+    /// A read failed.
     Failed,
     /// There was no memory for the bytes.
     Memory,
@@ -28,13 +28,17 @@ impl From<AllocError> for ReadFault {
     }
 }
 
-/// Reads the input to its end, or `limit` bytes of it where it has more. A reader that has come to neither after
-/// `limit + 1` turns has failed. Whatever happens, no more than `limit` bytes are taken from it.
-pub fn read_up_to<R: Read>(alloc: Global, input: &mut R, limit: usize) -> Result<Vec<u8>, ReadFault>
+/// Reads the input to its end, or `limit` bytes of it where it has more, in at most `limit + 1` turns. The first read that
+/// fails ends it. Whatever happens, no more than `limit` bytes are taken from the input.
+pub fn read_up_to<R: Source>(
+    alloc: Global,
+    input: &mut R,
+    limit: usize,
+) -> Result<Vec<u8>, ReadFault>
     requires { limit < 2 ^ 32 }
-    ensures read { IfOk result (λ bytes.
-        IsReadUpTo limit (R.remaining input.old) (R.remaining input.new) bytes.items) }
-    ensures most { TakesAtMost limit (R.remaining input.old) (R.remaining input.new) }
+    ensures read { IfOk result (λ bytes. IsReadUpTo limit (R.known input.old) (R.known input.new) bytes.items) }
+    ensures most { TakesAtMost limit (R.known input.old) (R.known input.new) }
+    ensures fault { IfErr result (IsReadFault (R.known input.old) (R.known input.new)) }
 {
     let mut bytes = Vec::new(alloc);
     let mut chunk = [0u8; CHUNK];
@@ -50,27 +54,27 @@ pub fn read_up_to<R: Read>(alloc: Global, input: &mut R, limit: usize) -> Result
     Err(ReadFault::Failed)
 }
 
-/// One turn: the bytes of one read go to the end of `bytes`. Answers whether the input has ended.
-fn read_turn<R: Read>(
+/// One turn: the bytes of one read go to the end of `bytes`, at least one where the input has not ended. Answers whether it has.
+fn read_turn<R: Source>(
     input: &mut R,
     chunk: &mut [u8],
     bytes: &mut Vec<u8>,
 ) -> Result<bool, ReadFault>
     requires { 0 < length chunk.old }
-    ensures gained { IfOk result (λ _. (got : List ℕ) × (bytes.new.items ≡ bytes.old.items ++ got)
-        × (length got ≤ length chunk.old)
-        × Consumes (R.remaining input.old) (R.remaining input.new) got) }
-    ensures end { IfOk result (λ ended. ended ≡ true → IsAtEnd (R.remaining input.new)) }
-    ensures lost { OnErr result
-        (TakesAtMost (length chunk.old) (R.remaining input.old) (R.remaining input.new)) }
+    ensures gained { IfOk result (λ ended. (got : List ℕ) × (bytes.new.items ≡ bytes.old.items ++ got)
+        × (length got ≤ length chunk.old) × (ended ≡ false → 0 < length got)
+        × Consumes (R.known input.old).bytes (R.known input.new).bytes got) }
+    ensures end { IfOk result (λ ended. ended ≡ true → IsAtEnd (R.known input.new).bytes) }
+    ensures lost { OnErr result (TakesAtMost (length chunk.old) (R.known input.old) (R.known input.new)) }
+    ensures goes { OnOk result (Goes (R.known input.old) (R.known input.new)) }
+    ensures fault { IfErr result (IsReadFault (R.known input.old) (R.known input.new)) }
 {
-    match input.read(chunk) {
+    match input.pull(chunk) {
         Ok(0) => Ok(true),
         Ok(n) => {
             bytes.extend_from_slice(&chunk[..n])?;
             Ok(false)
         }
-        Err(e) if e.kind() == ErrorKind::Interrupted => Ok(false),
         Err(_) => Err(ReadFault::Failed),
     }
 }

@@ -1,5 +1,5 @@
 //! What the command `record` answers: the text of the recording of a session.
-ghost use Rattle.std.specs.Prelude.{IfOk};
+ghost use Rattle.std.specs.Prelude.{◌≡◌, IfOk, None, OnErr, Some};
 ghost use Rattle.oberon_replay.specs.Record.{IsRecord, IsRecordOf, IsRefusal};
 
 use crate::reply::Reply;
@@ -38,12 +38,21 @@ fn refused(alloc: Global, what: &str, number: Option<u8>, name: &str) -> Result<
     ensures { IfOk result (λ reply.
         IsRefusal what.now number name.now reply.text.items reply.status) }
 {
-    let Some(number) = number else {
-        return Err(AllocError);
-    };
+    let number = numbered(number)?;
     let line = format!(in alloc; "{what} refused {number} {name}\n")?;
     Ok(Reply {
         text: line.into_bytes(),
         status: 2,
     })
+}
+
+/// The number of a fault. One without a number is want of memory.
+fn numbered(number: Option<u8>) -> Result<u8, AllocError>
+    ensures ok { IfOk result (λ known. number ≡ Some known) }
+    ensures err { OnErr result (number ≡ None) }
+{
+    match number {
+        Some(known) => Ok(known),
+        None => Err(AllocError),
+    }
 }

@@ -1,5 +1,5 @@
 //! What the command `screen` answers: the screen that a checkpoint claims. The recording isn't replayed.
-ghost use Rattle.std.specs.Prelude.{◌≡◌, ◌≢◌, ◌<◌, length, IfOk};
+ghost use Rattle.std.specs.Prelude.{◌≡◌, ◌≢◌, ◌<◌, length, IfOk, OnErr};
 ghost use Rattle.risc_devices.specs.Picture.{IsPicture};
 ghost use Rattle.oberon_format.specs.Line.{fault_line};
 ghost use Rattle.oberon_replay.specs.Screen.{IsScreen, IsScreenOf, display_of, missing_line};
@@ -23,8 +23,7 @@ pub fn screen(alloc: Global, text: &[u8], at: u32) -> Result<Reply, AllocError>
 {
     match read(alloc, text) {
         Ok(recording) => screen_of(alloc, &recording, at),
-        Err(Fault::Memory) => Err(AllocError),
-        Err(fault) => refused(alloc, fault),
+        Err(fault) => refused(alloc, of_text(fault)?),
     }
 }
 
@@ -62,6 +61,17 @@ fn missing(alloc: Global, at: u32) -> Result<Reply, AllocError>
         text: line.into_bytes(),
         status: 2,
     })
+}
+
+/// The fault of a text. Want of memory is none.
+fn of_text(fault: Fault) -> Result<Fault, AllocError>
+    ensures ok { IfOk result (λ same. (same ≡ fault) × (fault ≢ Fault.Memory)) }
+    ensures err { OnErr result (fault ≡ Fault.Memory) }
+{
+    match fault {
+        Fault::Memory => Err(AllocError),
+        fault => Ok(fault),
+    }
 }
 
 /// The answer where the text has a fault.

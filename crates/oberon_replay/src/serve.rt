@@ -2,17 +2,18 @@
 ghost use Rattle.std.specs.Prelude.{◌≡◌, map, IfOk, IfErr};
 ghost use Rattle.oberon_replay.specs.Answer.{limit_for};
 ghost use Rattle.oberon_replay.specs.Asked.{asked};
-ghost use Rattle.oberon_replay.specs.Reply.{AnswersAll, IsReplyTo, IsSentText, MayFail, Outcome, Replies, failure_line, failure_status, outcome_status, outcome_text};
+ghost use Rattle.oberon_replay.specs.Reply.{AnswersAll, IsReplyTo, IsSentText, IsThreeForFaults, MayFail, Outcome, Replies, failure_line, failure_status, outcome_status, outcome_text};
 ghost use Rattle.oberon_replay.specs.Transfer.{TakesAtMost};
 
 use crate::answer::answer;
 use crate::failure::Failure;
 use crate::reading::read_up_to;
 use crate::reply::Reply;
+use crate::sink::{Sink, WriteFault};
+use crate::source::Source;
 use crate::words::{Refusal, asked};
-use crate::writing::{WriteFault, write_whole};
+use crate::writing::write_whole;
 use std::alloc::Global;
-use std::io::{Read, Write};
 use std::sync::Wait;
 use std::thread::Threads;
 
@@ -27,10 +28,10 @@ use std::thread::Threads;
 /// | others | `words refused` | 4 |
 ///
 /// It waits for nothing but the workers of a check. The words are read before the input, and of the input no more than one byte
-/// beyond the longest text that the command takes. Where a read fails only `read fault` is written, where memory is wanting only
-/// `no memory`; the status is 3. Where a write fails what went out is a front of the text, nothing else is written, and the
-/// status is 3.
-pub fn serve<'a, H: Threads + Wait + Sync, R: Read, W: Write>(
+/// beyond the longest text that the command takes. Where a read fails, for whatever cause, only `read fault` is written, where
+/// memory is wanting only `no memory`; the status is 3. Where a write fails, or takes nothing, what went out is a front of the
+/// text, nothing else is written, and the status is 3. It is 3 nowhere else.
+pub fn serve<'a, H: Threads + Wait + Sync, R: Source, W: Sink>(
     rt: &H,
     alloc: Global,
     words: &'a [&'a str],
@@ -39,13 +40,15 @@ pub fn serve<'a, H: Threads + Wait + Sync, R: Read, W: Write>(
 ) -> u8
     // Whatever the reader and the writer do, some reply to the words is written: an answer to bytes that were read up to the end or
     // to the limit, help, or the line of a failure alone. After a failed write it is a front of the reply.
-    ensures replies { Replies (map (λ word. word.now) words.entry.now) (R.remaining input.old)
-        (R.remaining input.new) (W.contents output.old) (W.contents output.new) result }
+    ensures replies { Replies (map (λ word. word.now) words.entry.now) (R.known input.old) (R.known input.new)
+        (W.known output.old) (W.known output.new) result }
     // Where nothing fails it is the answer to the whole input.
-    ensures answers { AnswersAll (map (λ word. word.now) words.entry.now) (R.remaining input.old)
-        (W.contents output.old) (W.contents output.new) result }
+    ensures answers { AnswersAll (map (λ word. word.now) words.entry.now) (R.known input.old) (W.known output.old)
+        (W.known output.new) result }
+    ensures three { IsThreeForFaults (R.known input.old) (R.known input.new) (W.known output.old) (W.known output.new)
+        result }
     ensures reads { TakesAtMost (limit_for (asked (map (λ word. word.now) words.entry.now)))
-        (R.remaining input.old) (R.remaining input.new) }
+        (R.known input.old) (R.known input.new) }
 {
     match reply(rt, alloc, words, input) {
         Ok(reply) => send(output, &reply.text, reply.status),
@@ -54,16 +57,16 @@ pub fn serve<'a, H: Threads + Wait + Sync, R: Read, W: Write>(
 }
 
 /// Writes the line of a failure, and answers its status, or 3 after a write fault. Takes no memory.
-pub fn refuse<W: Write>(output: &mut W, failure: Failure) -> u8
-    ensures { IsSentText (failure_line failure) (failure_status failure) (W.contents output.old)
-        (W.contents output.new) result }
+pub fn refuse<W: Sink>(output: &mut W, failure: Failure) -> u8
+    ensures { IsSentText (failure_line failure) (failure_status failure) (W.known output.old)
+        (W.known output.new) result }
 {
     send(output, failure.line().as_bytes(), failure.status())
 }
 
 /// Writes the text, and answers its status, or 3 after a write fault.
-fn send<W: Write>(output: &mut W, text: &[u8], status: u8) -> u8
-    ensures { IsSentText text.now status (W.contents output.old) (W.contents output.new) result }
+fn send<W: Sink>(output: &mut W, text: &[u8], status: u8) -> u8
+    ensures { IsSentText text.now status (W.known output.old) (W.known output.new) result }
 {
     match write_whole(output, text) {
         Ok(()) => status,
@@ -72,19 +75,19 @@ fn send<W: Write>(output: &mut W, text: &[u8], status: u8) -> u8
 }
 
 /// What there is to write, and its status. The input is read only where the words ask for a command.
-fn reply<'a, H: Threads + Wait + Sync, R: Read>(
+fn reply<'a, H: Threads + Wait + Sync, R: Source>(
     rt: &H,
     alloc: Global,
     words: &'a [&'a str],
     input: &mut R,
 ) -> Result<Reply, Failure>
     ensures ok { IfOk result (λ reply. (outcome : Outcome)
-        × IsReplyTo (map (λ word. word.now) words.entry.now) (R.remaining input.old)
-        (R.remaining input.new) outcome
+        × IsReplyTo (map (λ word. word.now) words.entry.now) (R.known input.old) (R.known input.new) outcome
         × (reply.text.items ≡ outcome_text outcome) × (reply.status ≡ outcome_status outcome)) }
-    ensures err { IfErr result (MayFail (map (λ word. word.now) words.entry.now)) }
+    ensures err { IfErr result (MayFail (map (λ word. word.now) words.entry.now) (R.known input.old)
+        (R.known input.new)) }
     ensures reads { TakesAtMost (limit_for (asked (map (λ word. word.now) words.entry.now)))
-        (R.remaining input.old) (R.remaining input.new) }
+        (R.known input.old) (R.known input.new) }
 {
     match asked(alloc, words) {
         Ok(request) => {

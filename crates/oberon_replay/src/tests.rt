@@ -8,3 +8,4 @@ mod helped;
 mod records;
 mod screens;
 mod served;
+mod watched;

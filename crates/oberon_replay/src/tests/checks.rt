@@ -14,6 +14,15 @@ use std::thread::Threads;
 /// A recording with changes, the line of its check, and the status.
 type Example = (Draft<'static>, &'static [(Spot, u32)], &'static str, u8);
 
+/// The flags in their field.
+const NEGATIVE: u32 = 8;
+
+const ZERO: u32 = 4;
+
+const CARRY: u32 = 2;
+
+const OVERFLOW: u32 = 1;
+
 const EMPTY_RECORDING: Draft<'static> = Draft {
     pages: 0,
     events: 0,
@@ -34,6 +43,92 @@ const MOVE_FIVE: Draft<'static> = Draft {
         (Register(1, 0), 5),
         (Pc(1), 1),
         (Place(1, 0), 1),
+    ],
+    output: &[],
+};
+
+/// Adds R1, FFFFFFFF hexadecimal, and the carry to 5.
+const ADD_WITH_CARRY: Draft<'static> = Draft {
+    pages: 1,
+    events: 0,
+    checkpoints: 2,
+    numbers: &[
+        (Word(0, 0), 0x2008_0001),
+        (Register(0, 0), 5),
+        (Register(0, 1), 0xFFFF_FFFF),
+        (Flags(0), CARRY),
+        (Place(0, 0), 1),
+        (Count(1), 1),
+        (Register(1, 0), 5),
+        (Register(1, 1), 0xFFFF_FFFF),
+        (Pc(1), 1),
+        (Flags(1), CARRY),
+        (Place(1, 0), 1),
+    ],
+    output: &[],
+};
+
+/// Jumps from word 2 to word 16, and keeps in R15 where it came from.
+const LINK_AND_JUMP: Draft<'static> = Draft {
+    pages: 1,
+    events: 0,
+    checkpoints: 2,
+    numbers: &[
+        (Word(0, 2), 0xD700_000F),
+        (Register(0, 15), 0x40),
+        (Pc(0), 2),
+        (Flags(0), ZERO),
+        (Place(0, 0), 1),
+        (Count(1), 1),
+        (Register(1, 15), 0x0C),
+        (Pc(1), 16),
+        (Place(1, 0), 1),
+    ],
+    output: &[],
+};
+
+/// Subtracts 1 from 0.
+const BORROW: Draft<'static> = Draft {
+    pages: 1,
+    events: 0,
+    checkpoints: 2,
+    numbers: &[
+        (Word(0, 0), 0x4009_0001),
+        (Place(0, 0), 1),
+        (Count(1), 1),
+        (Register(1, 0), 0xFFFF_FFFF),
+        (Pc(1), 1),
+        (Flags(1), NEGATIVE | CARRY),
+        (Place(1, 0), 1),
+    ],
+    output: &[],
+};
+
+/// What changes where 1 is subtracted from 80000000 hexadecimal.
+const BORROW_FROM_THE_LEAST: [(Spot, u32); 3] = [
+    (Register(0, 0), 0x8000_0000),
+    (Register(1, 0), 0x7FFF_FFFF),
+    (Flags(1), OVERFLOW),
+];
+
+/// Jumps to the first word behind the memory, and stops there.
+const JUMP_OFF_THE_END: Draft<'static> = Draft {
+    pages: 1,
+    events: 0,
+    checkpoints: 3,
+    numbers: &[
+        (Word(0, 0), 0xC700_0001),
+        (Register(0, 1), 0x0010_0000),
+        (Place(0, 0), 1),
+        (Count(1), 1),
+        (Register(1, 1), 0x0010_0000),
+        (Pc(1), 262_144),
+        (Place(1, 0), 1),
+        (Count(2), 2),
+        (Register(2, 1), 0x0010_0000),
+        (Pc(2), 262_144),
+        (Stop(2), 3),
+        (Place(2, 0), 1),
     ],
     output: &[],
 };
@@ -62,7 +157,7 @@ const OFF_THE_END: Draft<'static> = Draft {
     numbers: &[
         (Count(1), 262_145),
         (Pc(1), 262_144),
-        (Flags(1), 4),
+        (Flags(1), ZERO),
         (Stop(1), 3),
     ],
     output: &[],
@@ -213,9 +308,37 @@ const TWO_FALSE_CHECKPOINTS: Draft<'static> = Draft {
     output: &[],
 };
 
-const EXAMPLES: [Example; 15] = [
+const EXAMPLES: [Example; 24] = [
     (EMPTY_RECORDING, &[], "accepted 0 checkpoints 0 steps\n", 0),
     (MOVE_FIVE, &[], "accepted 1 checkpoints 1000 steps\n", 0),
+    (ADD_WITH_CARRY, &[], "accepted 1 checkpoints 1 steps\n", 0),
+    (
+        ADD_WITH_CARRY,
+        &[(Flags(1), 0)],
+        "false checkpoint 1 at 1 part flags\n",
+        1,
+    ),
+    (LINK_AND_JUMP, &[], "accepted 1 checkpoints 1 steps\n", 0),
+    (
+        LINK_AND_JUMP,
+        &[(Register(1, 15), 0x08)],
+        "false checkpoint 1 at 1 part R15\n",
+        1,
+    ),
+    (BORROW, &[], "accepted 1 checkpoints 1 steps\n", 0),
+    (
+        BORROW,
+        &BORROW_FROM_THE_LEAST,
+        "accepted 1 checkpoints 1 steps\n",
+        0,
+    ),
+    (JUMP_OFF_THE_END, &[], "accepted 2 checkpoints 2 steps\n", 0),
+    (
+        JUMP_OFF_THE_END,
+        &[(Stop(1), 3)],
+        "false checkpoint 1 at 1 part stop\n",
+        1,
+    ),
     (DIVISOR_STOP, &[], "accepted 2 checkpoints 9 steps\n", 0),
     (OFF_THE_END, &[], "accepted 1 checkpoints 262145 steps\n", 0),
     (EQUAL_PAGES, &[], "accepted 1 checkpoints 10 steps\n", 0),
@@ -257,6 +380,7 @@ const EXAMPLES: [Example; 15] = [
         "false checkpoint 1 at 2 part page 0\n",
         1,
     ),
+    (STORED_RUN, &[], "accepted 1 checkpoints 100 steps\n", 0),
     (
         STORED_RUN,
         &[(Register(1, 0), 6)],

@@ -1,51 +1,44 @@
 //! Readers and writers that fail, that never end, or that take one byte at a time.
 
 use super::draft::STORED_RUN;
-use crate::reading::{ReadFault, read_up_to};
+use super::watched::Watched;
 use crate::serve::serve;
 use std::io::{self, Error, ErrorKind, Read, Write};
 use std::test::Fail;
 
-/// Gives what it has, at most a thousand bytes a call, and the error at each call after so many.
+/// The line of the stored run.
+const LINE: &[u8] = b"accepted 1 checkpoints 100 steps\n";
+
+/// Gives what it has, at most a thousand bytes a call. The call after so many fails, and no other.
 #[derive(Drop)]
 struct Failing<'a> {
     rest: &'a [u8],
     calls: u32,
-    then: ErrorKind,
+    why: ErrorKind,
 }
 
 impl Read for Failing<'_> {
     fn read(&mut self, buf: &mut [u8]) -> io::Result<usize> {
-        if self.calls == 0 {
-            return Err(Error::from(self.then));
+        let before = self.calls;
+        self.calls = before.wrapping_sub(1);
+        if before == 0 {
+            return Err(Error::from(self.why));
         }
-        self.calls -= 1;
         let most = buf.len().min(1000);
         self.rest.read(&mut buf[..most])
     }
 }
 
-/// Gives what it has, one byte a turn, with an interrupted turn before each.
+/// Gives what it has, one byte a call.
 #[derive(Drop)]
 struct Dripping<'a> {
     rest: &'a [u8],
-    interrupted: bool,
 }
 
 impl Read for Dripping<'_> {
     fn read(&mut self, buf: &mut [u8]) -> io::Result<usize> {
-        self.interrupted = !self.interrupted;
-        if self.interrupted {
-            return Err(Error::from(ErrorKind::Interrupted));
-        }
-        match (self.rest.split_first(), buf.first_mut()) {
-            (Some((byte, rest)), Some(there)) => {
-                *there = *byte;
-                self.rest = rest;
-                Ok(1)
-            }
-            _ => Ok(0),
-        }
+        let most = buf.len().min(1);
+        self.rest.read(&mut buf[..most])
     }
 }
 
@@ -66,29 +59,49 @@ impl Read for Endless {
     }
 }
 
-/// Takes one byte a call, `room` in all; then it takes none, or fails.
+/// What a call does that takes no bytes.
+#[derive(Clone, Copy)]
+enum Refusal {
+    TakesNone,
+    Fails(ErrorKind),
+}
+
+impl Refusal {
+    fn answer<T: Drop>(self, none: T) -> io::Result<T> {
+        match self {
+            Refusal::TakesNone => Ok(none),
+            Refusal::Fails(why) => Err(Error::from(why)),
+        }
+    }
+}
+
+/// Takes one byte a call. The call after so many is refused, and no other, and so is each flush, if it is to be.
 #[derive(Drop)]
 struct Narrow {
     taken: Vec<u8>,
-    room: usize,
-    fails: bool,
+    calls: usize,
+    refusal: Refusal,
+    flush: Refusal,
 }
 
 impl Write for Narrow {
     fn write(&mut self, buf: &[u8]) -> io::Result<usize> {
-        if self.room == 0 && self.fails {
-            return Err(Error::from(ErrorKind::Other));
+        let before = self.calls;
+        self.calls = before.wrapping_sub(1);
+        if before == 0 {
+            return self.refusal.answer(0);
         }
-        if self.room == 0 || buf.is_empty() {
-            return Ok(0);
+        match buf.first() {
+            Some(byte) => {
+                self.taken.push(*byte)?;
+                Ok(1)
+            }
+            None => Ok(0),
         }
-        self.taken.push(buf[0])?;
-        self.room -= 1;
-        Ok(1)
     }
 
     fn flush(&mut self) -> io::Result<()> {
-        Ok(())
+        self.flush.answer(())
     }
 }
 
@@ -101,53 +114,48 @@ fn a_read_that_fails_leaves_its_line_alone(rt: HostRuntime) -> Result<(), Fail> 
         &["record"],
         &["screen", "--at=0"],
     ] {
-        // The text takes ten calls, and its end is seen at the eleventh.
-        for calls in 0..11 {
-            let mut input = Failing {
-                rest: &text,
-                calls,
-                then: ErrorKind::Other,
-            };
-            let mut output = Vec::new(alloc);
-            assert_eq!(rt; serve(&rt, alloc, words, &mut input, &mut output), 3);
-            assert_eq!(rt; output.as_slice(), b"read fault\n".as_slice());
+        for why in [ErrorKind::Other, ErrorKind::Interrupted] {
+            // The text takes ten calls, and its end is seen at the eleventh.
+            for calls in 0..11 {
+                let mut input = Watched::new(Failing {
+                    rest: &text,
+                    calls,
+                    why,
+                });
+                let mut output = Watched::new(Vec::new(alloc));
+                assert_eq!(rt; serve(&rt, alloc, words, &mut input, &mut output), 3);
+                assert!(rt; input.has_failed() && !output.has_failed());
+                assert_eq!(rt; output.into_inner().as_slice(), b"read fault\n".as_slice());
+            }
         }
     }
-    let mut input = Failing {
-        rest: &text,
-        calls: 11,
-        then: ErrorKind::Other,
-    };
-    let mut output = Vec::new(alloc);
-    assert_eq!(rt; serve(&rt, alloc, &["check"], &mut input, &mut output), 0);
     Ok(())
 }
 
 #[test]
-fn a_reader_that_is_always_interrupted_is_a_read_fault(rt: HostRuntime) {
-    let mut input = Failing {
-        rest: &[0; 3],
-        calls: 1,
-        then: ErrorKind::Interrupted,
-    };
-    let ended = read_up_to(rt.alloc(), &mut input, 100);
-    assert!(rt; matches!(ended, Err(ReadFault::Failed)));
+fn a_read_that_would_fail_behind_the_end_is_not_made(rt: HostRuntime) -> Result<(), Fail> {
+    let alloc = rt.alloc();
+    let text = STORED_RUN.text(alloc, &[])?;
+    let mut input = Watched::new(Failing {
+        rest: &text,
+        calls: 11,
+        why: ErrorKind::Other,
+    });
+    let mut output = Watched::new(Vec::new(alloc));
+    assert_eq!(rt; serve(&rt, alloc, &["check"], &mut input, &mut output), 0);
+    assert!(rt; !input.has_failed() && !output.has_failed());
+    assert_eq!(rt; output.into_inner().as_slice(), LINE);
+    Ok(())
 }
 
 #[test]
-fn an_interrupted_reader_is_read_to_its_end(rt: HostRuntime) -> Result<(), Fail> {
+fn a_reader_of_one_byte_a_call_is_read_to_its_end(rt: HostRuntime) -> Result<(), Fail> {
     let alloc = rt.alloc();
     let text = STORED_RUN.text(alloc, &[])?;
-    let mut input = Dripping {
-        rest: &text,
-        interrupted: false,
-    };
+    let mut input = Dripping { rest: &text };
     let mut output = Vec::new(alloc);
     assert_eq!(rt; serve(&rt, alloc, &[], &mut input, &mut output), 0);
-    assert_eq!(rt;
-        output.as_slice(),
-        b"accepted 1 checkpoints 100 steps\n".as_slice()
-    );
+    assert_eq!(rt; output.as_slice(), LINE);
     Ok(())
 }
 
@@ -166,25 +174,53 @@ fn a_reader_without_end_is_read_up_to_the_limit(rt: HostRuntime) {
 }
 
 #[test]
-fn a_narrow_writer_gets_all_that_it_has_room_for(rt: HostRuntime) -> Result<(), Fail> {
+fn a_write_that_fails_leaves_a_front_of_the_text(rt: HostRuntime) -> Result<(), Fail> {
     let alloc = rt.alloc();
     let text = STORED_RUN.text(alloc, &[])?;
-    let line = b"accepted 1 checkpoints 100 steps\n".as_slice();
-    for room in 0..34 {
-        for fails in [false, true] {
-            let mut output = Narrow {
+    for calls in 0..LINE.len() {
+        for refusal in [
+            Refusal::TakesNone,
+            Refusal::Fails(ErrorKind::Other),
+            Refusal::Fails(ErrorKind::Interrupted),
+        ] {
+            let mut output = Watched::new(Narrow {
                 taken: Vec::new(alloc),
-                room,
-                fails,
-            };
-            let status = if room == line.len() { 0 } else { 3 };
+                calls,
+                refusal,
+                flush: Refusal::TakesNone,
+            });
             assert_eq!(rt;
                 serve(&rt, alloc, &[], &mut text.as_slice(), &mut output),
-                status
+                3
             );
-            assert_eq!(rt; output.taken.len(), room);
-            assert!(rt; line.starts_with(&output.taken));
+            assert!(rt; output.has_failed());
+            assert_eq!(rt; output.into_inner().taken.as_slice(), &LINE[..calls]);
         }
+    }
+    Ok(())
+}
+
+#[test]
+fn a_flush_that_fails_is_a_write_fault(rt: HostRuntime) -> Result<(), Fail> {
+    let alloc = rt.alloc();
+    let text = STORED_RUN.text(alloc, &[])?;
+    for (flush, status) in [
+        (Refusal::TakesNone, 0),
+        (Refusal::Fails(ErrorKind::Other), 3),
+        (Refusal::Fails(ErrorKind::Interrupted), 3),
+    ] {
+        let mut output = Watched::new(Narrow {
+            taken: Vec::new(alloc),
+            calls: LINE.len(),
+            refusal: Refusal::TakesNone,
+            flush,
+        });
+        assert_eq!(rt;
+            serve(&rt, alloc, &[], &mut text.as_slice(), &mut output),
+            status
+        );
+        assert_eq!(rt; output.has_failed(), status == 3);
+        assert_eq!(rt; output.into_inner().taken.as_slice(), LINE);
     }
     Ok(())
 }

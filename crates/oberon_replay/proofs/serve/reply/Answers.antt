@@ -15,4 +15,4 @@ returns-in_ok-answer-in-Ok-clause-ok g c = (
 )
 
 pub returns-in_ok-to_string-in-Err-Help-clause-ok : goal.returns-in_ok-to_string-in-Err-Help-clause-ok
-returns-in_ok-to_string-in-Err-Help-clause-ok g c = (help c.into_bytes.result.items, rw c.in-Err-Help.field-0-is at c.in-Err-Help.ensures.err, refl, refl)
+returns-in_ok-to_string-in-Err-Help-clause-ok g c = (help c.into_bytes.result.items, (rw c.in-Err-Help.field-0-is at c.in-Err-Help.ensures.err, refl), refl, refl)
