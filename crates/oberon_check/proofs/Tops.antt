@@ -1,7 +1,6 @@
 -- Lists: one more than the greatest number, and facts of all elements.
 use Rattle.std.proofs.Common.{◌≡◌, ℕ, zero, suc, ◌+◌, ◌<◌, ◌≤◌, List, [], ◌∷◌, ◌++◌, length, get_or, max, sym, refl, subst, arith}
 use Rattle.std.specs.Prelude.{All}
-use Rattle.oberon_claims.specs.Pass.{PassRecord}
 
 abbrev pub top : List ℕ → ℕ
 top [] = 0
@@ -38,6 +37,3 @@ module _ {A : Type 0} where
   pub nil_if : (xs : List A) → length xs ≡ 0 → xs ≡ []
   nil_if [] e = refl
   nil_if (x ∷ xs) e = absurd (omega arith)
-
-pub get_first : (P : PassRecord → Type 0) (ps : List PassRecord) → 0 < length ps → All P ps → (k : ℕ) × (k < length ps) × ((d : PassRecord) → P (get_or ps k d))
-get_first P ps some all = (0, some, λ d. all 0 d some)
