@@ -274,6 +274,35 @@ const PAGE_WRITTEN: Draft<'static> = Draft {
     output: &[],
 };
 
+/// Adds 1 to R2, makes an addition of 16 of that and goes back to it. One checkpoint stands before the new instruction is run,
+/// and one after it.
+const CODE_WRITTEN: Draft<'static> = Draft {
+    pages: 2,
+    events: 0,
+    checkpoints: 3,
+    numbers: &[
+        (Word(0, 0), 0x4228_0001),
+        (Word(0, 1), 0xA010_0000),
+        (Word(0, 2), 0xE7FF_FFFD),
+        (Word(1, 0), 0x4228_0010),
+        (Word(1, 1), 0xA010_0000),
+        (Word(1, 2), 0xE7FF_FFFD),
+        (Register(0, 0), 0x4228_0010),
+        (Place(0, 0), 1),
+        (Count(1), 2),
+        (Register(1, 0), 0x4228_0010),
+        (Register(1, 2), 1),
+        (Pc(1), 2),
+        (Place(1, 0), 2),
+        (Count(2), 4),
+        (Register(2, 0), 0x4228_0010),
+        (Register(2, 2), 17),
+        (Pc(2), 1),
+        (Place(2, 0), 2),
+    ],
+    output: &[],
+};
+
 /// A jump to itself, with ten checkpoints, of which the third and the seventh claim a light that no one lit.
 const TWO_FALSE_CHECKPOINTS: Draft<'static> = Draft {
     pages: 1,
@@ -308,7 +337,7 @@ const TWO_FALSE_CHECKPOINTS: Draft<'static> = Draft {
     output: &[],
 };
 
-const EXAMPLES: [Example; 24] = [
+const EXAMPLES: [Example; 26] = [
     (EMPTY_RECORDING, &[], "accepted 0 checkpoints 0 steps\n", 0),
     (MOVE_FIVE, &[], "accepted 1 checkpoints 1000 steps\n", 0),
     (ADD_WITH_CARRY, &[], "accepted 1 checkpoints 1 steps\n", 0),
@@ -378,6 +407,13 @@ const EXAMPLES: [Example; 24] = [
         PAGE_WRITTEN,
         &[(Place(1, 0), 2)],
         "false checkpoint 1 at 2 part page 0\n",
+        1,
+    ),
+    (CODE_WRITTEN, &[], "accepted 2 checkpoints 4 steps\n", 0),
+    (
+        CODE_WRITTEN,
+        &[(Register(2, 2), 2)],
+        "false checkpoint 2 at 4 part R2\n",
         1,
     ),
     (STORED_RUN, &[], "accepted 1 checkpoints 100 steps\n", 0),
