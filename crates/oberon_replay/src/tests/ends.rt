@@ -67,9 +67,9 @@ enum Refusal {
 }
 
 impl Refusal {
-    fn answer<T: Drop>(self, none: T) -> io::Result<T> {
+    fn answer(self) -> io::Result<()> {
         match self {
-            Refusal::TakesNone => Ok(none),
+            Refusal::TakesNone => Ok(()),
             Refusal::Fails(why) => Err(Error::from(why)),
         }
     }
@@ -89,7 +89,8 @@ impl Write for Narrow {
         let before = self.calls;
         self.calls = before.wrapping_sub(1);
         if before == 0 {
-            return self.refusal.answer(0);
+            self.refusal.answer()?;
+            return Ok(0);
         }
         match buf.first() {
             Some(byte) => {
@@ -101,7 +102,7 @@ impl Write for Narrow {
     }
 
     fn flush(&mut self) -> io::Result<()> {
-        self.flush.answer(())
+        self.flush.answer()
     }
 }
 
