@@ -23,16 +23,21 @@ fn sound() -> [u8; LENGTH + 1] {
     text
 }
 
+/// So many bytes from the front of a text, or all that it has.
+fn front(text: &[u8], length: usize) -> &[u8] {
+    &text[..length.min(text.len())]
+}
+
 /// Reads a text without fault, and texts with each of the eight faults, and prints what came of each.
 pub fn texts<H: AllocGlobal + Print>(rt: &H) -> io::Result<()> {
     let text = sound();
-    match read(rt.alloc(), &text[..LENGTH]) {
+    match read(rt.alloc(), front(&text, LENGTH)) {
         Ok(_) => println!(rt; "sound: read")?,
         Err(fault) => println!(rt; "sound: {fault}")?,
     }
     show(rt, &[])?;
-    show(rt, &text[..24])?;
-    show(rt, &text[..LENGTH - 1])?;
+    show(rt, front(&text, 24))?;
+    show(rt, front(&text, LENGTH - 1))?;
     // the magic, the version, and each number of the header
     broken(rt, 0, b'o')?;
     broken(rt, 4, 2)?;
@@ -54,7 +59,7 @@ fn broken<H: AllocGlobal + Print>(rt: &H, place: usize, byte: u8) -> io::Result<
 {
     let mut text = sound();
     text[place] = byte;
-    show(rt, &text[..LENGTH])
+    show(rt, front(&text, LENGTH))
 }
 
 /// Prints the fault of a text.
