@@ -98,8 +98,7 @@ fn headers_at_the_limits_and_past_them(rt: HostRuntime) -> Result<(), Fail> {
     Ok(())
 }
 
-// Zeros alone: each step moves R0 to itself, which sets Z.
-// As many checkpoints as there can be, one after each step.
+// As many checkpoints as there can be, one after each step. The memory is zeros alone, so each step moves R0 to itself, which sets Z.
 fn text_of_most_checkpoints(alloc: Global) -> Result<Vec<u8>, Fail> {
     let mut claims = vec![in alloc; Claim::at(0)]?;
     for count in 1..=4096u32 {
