@@ -25,11 +25,11 @@ joined-All code keys byte bytes = grind (arith, common_steps)
 -- an input leaves the devices in their ranges
 pub taken_value-range : (kind : Kind) (value : ℕ) (d : DeviceState) → IsInput (kind_number kind) value → IsDeviceState d → IsDeviceState (taken_value kind value d)
 unfolding taken_value
-taken_value-range Timer value d lawful fits = record { timer = timer_fits value lawful; switches = fits.switches; leds = fits.leds; mouse = fits.mouse; serial = fits.serial; keys = fits.keys; codes = fits.codes }
-taken_value-range Switches value d lawful fits = record { timer = fits.timer; switches = switches_fit value lawful; leds = fits.leds; mouse = fits.mouse; serial = fits.serial; keys = fits.keys; codes = fits.codes }
-taken_value-range Mouse value d lawful fits = record { timer = fits.timer; switches = fits.switches; leds = fits.leds; mouse = mouse_fits value lawful; serial = fits.serial; keys = fits.keys; codes = fits.codes }
-taken_value-range Key value d lawful fits = record { timer = fits.timer; switches = fits.switches; leds = fits.leds; mouse = fits.mouse; serial = fits.serial; keys = joined-length value d.keys fits.keys; codes = joined-All value d.keys (key_fits value lawful) fits.codes }
-taken_value-range Serial value d lawful fits = record { timer = fits.timer; switches = fits.switches; leds = fits.leds; mouse = fits.mouse; serial = serial_fits value lawful; keys = fits.keys; codes = fits.codes }
+taken_value-range Timer value d lawful fits = record { timer = timer_fits value lawful; rate = fits.rate; phase = fits.phase; switches = fits.switches; leds = fits.leds; mouse = fits.mouse; serial = fits.serial; keys = fits.keys; codes = fits.codes }
+taken_value-range Switches value d lawful fits = record { timer = fits.timer; rate = fits.rate; phase = fits.phase; switches = switches_fit value lawful; leds = fits.leds; mouse = fits.mouse; serial = fits.serial; keys = fits.keys; codes = fits.codes }
+taken_value-range Mouse value d lawful fits = record { timer = fits.timer; rate = fits.rate; phase = fits.phase; switches = fits.switches; leds = fits.leds; mouse = mouse_fits value lawful; serial = fits.serial; keys = fits.keys; codes = fits.codes }
+taken_value-range Key value d lawful fits = record { timer = fits.timer; rate = fits.rate; phase = fits.phase; switches = fits.switches; leds = fits.leds; mouse = fits.mouse; serial = fits.serial; keys = joined-length value d.keys fits.keys; codes = joined-All value d.keys (key_fits value lawful) fits.codes }
+taken_value-range Serial value d lawful fits = record { timer = fits.timer; rate = fits.rate; phase = fits.phase; switches = fits.switches; leds = fits.leds; mouse = fits.mouse; serial = serial_fits value lawful; keys = fits.keys; codes = fits.codes }
 
 pub taken_input-range : (i : Input) (d : DeviceState) → IsDeviceState d → IsDeviceState (taken_input i d)
 unfolding taken_input
@@ -44,8 +44,8 @@ pub after_read-range : (d : DeviceState) (word : ℕ) → IsDeviceState d → Is
 unfolding after_read
 after_read-range d word fits =
     let fewer : length (drop 1 d.keys) ≤ 16 = grind (arith, common_steps) in
-    let cleared : IsDeviceState (record d { received = false }) = record { timer = fits.timer; switches = fits.switches; leds = fits.leds; mouse = fits.mouse; serial = fits.serial; keys = fits.keys; codes = fits.codes } in
-    let left : IsDeviceState (record d { keys = drop 1 d.keys }) = record { timer = fits.timer; switches = fits.switches; leds = fits.leds; mouse = fits.mouse; serial = fits.serial; keys = fewer; codes = All-drop (λ k. k < 2 ^ 8) 1 d.keys fits.codes } in
+    let cleared : IsDeviceState (record d { received = false }) = record { timer = fits.timer; rate = fits.rate; phase = fits.phase; switches = fits.switches; leds = fits.leds; mouse = fits.mouse; serial = fits.serial; keys = fits.keys; codes = fits.codes } in
+    let left : IsDeviceState (record d { keys = drop 1 d.keys }) = record { timer = fits.timer; rate = fits.rate; phase = fits.phase; switches = fits.switches; leds = fits.leds; mouse = fits.mouse; serial = fits.serial; keys = fewer; codes = All-drop (λ k. k < 2 ^ 8) 1 d.keys fits.codes } in
     either (word == 2) _ _ cleared (either (word == 7) _ _ left fits)
 
 -- and a write
@@ -53,7 +53,7 @@ pub after_write-range : (d : DeviceState) (word value : ℕ) → IsDeviceState d
 unfolding after_write
 after_write-range d word value fits =
     let byte : value % 2 ^ 8 < 2 ^ 8 = grind arith in
-    let lit : IsDeviceState (record d { leds = value % 2 ^ 8 }) = record { timer = fits.timer; switches = fits.switches; leds = byte; mouse = fits.mouse; serial = fits.serial; keys = fits.keys; codes = fits.codes } in
+    let lit : IsDeviceState (record d { leds = value % 2 ^ 8 }) = record { timer = fits.timer; rate = fits.rate; phase = fits.phase; switches = fits.switches; leds = byte; mouse = fits.mouse; serial = fits.serial; keys = fits.keys; codes = fits.codes } in
     either (word == 1) _ _ lit fits
 
 -- a device word is a word
@@ -84,9 +84,9 @@ serial_parts x y true false x_fits y_fits e = absurd (omega arith)
 serial_parts x y false true x_fits y_fits e = absurd (omega arith)
 
 -- devices in their ranges are the same where their parts are, the serial line's as one number
-pub same_devices : (a b : DeviceState) → IsDeviceState a → IsDeviceState b → a.timer ≡ b.timer → a.switches ≡ b.switches → a.leds ≡ b.leds → a.mouse ≡ b.mouse → serial_number a ≡ serial_number b → a.keys ≡ b.keys → a ≡ b
-same_devices a b fits_a fits_b timer switches leds mouse serial keys =
+pub same_devices : (a b : DeviceState) → IsDeviceState a → IsDeviceState b → a.timer ≡ b.timer → a.rate ≡ b.rate → a.phase ≡ b.phase → a.switches ≡ b.switches → a.leds ≡ b.leds → a.mouse ≡ b.mouse → serial_number a ≡ serial_number b → a.keys ≡ b.keys → a ≡ b
+same_devices a b fits_a fits_b timer rate phase switches leds mouse serial keys =
     let line : (a.serial ≡ b.serial) × (a.received ≡ b.received) = serial_parts a.serial b.serial a.received b.received fits_a.serial fits_b.serial serial in
     let byte : a.serial ≡ b.serial = line.0 in
     let received : a.received ≡ b.received = line.1 in
-    λ i. record { timer = timer i; switches = switches i; leds = leds i; mouse = mouse i; serial = byte i; received = received i; keys = keys i }
+    λ i. record { timer = timer i; rate = rate i; phase = phase i; switches = switches i; leds = leds i; mouse = mouse i; serial = byte i; received = received i; keys = keys i }

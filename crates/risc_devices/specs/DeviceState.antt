@@ -1,13 +1,16 @@
 -- The state of the devices ("Project Oberon" 2013, the hardware chapters: a timer, buttons and switches, LEDs, a mouse, a
 -- serial line and a keyboard). What each of them holds is this project's own choice where this is said.
-use Rattle.std.specs.Prelude.{ℕ, ◌+◌, ◌/◌, ◌%◌, ◌^◌, ◌<◌, ◌≤◌, Bool, ◌==◌, if◌then◌else◌, IsTrue, List, length, All}
+use Rattle.std.specs.Prelude.{ℕ, ◌+◌, ◌/◌, ◌%◌, ◌^◌, ◌<◌, ◌≤◌, Bool, ◌==◌, nat_lt, if◌then◌else◌, IsTrue, List, length, All}
 use Rattle.risc_devices.specs.InputKind.{is_mouse}
 
--- What the devices hold. The buttons are bits 11 to 8 of `switches`, and the switches bits 7 to 0. `serial` is the byte that
+-- What the devices hold. The timer counts milliseconds: `rate` is how many instructions a millisecond has, 0 for a timer that
+-- does not count by itself, and `phase` how many of them are done (both are this project's own choice). The buttons are bits 11 to 8 of `switches`, and the switches bits 7 to 0. `serial` is the byte that
 -- the serial line holds, and `received` whether it came since the last read: that the line holds one byte, and keeps it once
 -- it was read, is this project's own choice. `keys` are the key codes that wait, oldest first.
 pub record DeviceState : Type 0 where
   pub timer : ℕ
+  pub rate : ℕ
+  pub phase : ℕ
   pub switches : ℕ
   pub leds : ℕ
   pub mouse : ℕ
@@ -15,9 +18,18 @@ pub record DeviceState : Type 0 where
   pub received : Bool
   pub keys : List ℕ
 
+-- A phase is below its rate, or 0 where the rate is 0 (this project's own choice).
+unfoldable pub is_phase : ℕ → ℕ → Bool
+is_phase rate phase = if rate == 0 then phase == 0 else nat_lt phase rate
+
+abbrev pub IsPhase : ℕ → ℕ → Type 0
+IsPhase rate phase = IsTrue (is_phase rate phase)
+
 -- Each part is in its range. That at most sixteen key codes wait is this project's own choice, as is the mouse word's layout.
 pub record IsDeviceState (d : DeviceState) : Type 0 where
   pub timer : d.timer < 2 ^ 32
+  pub rate : d.rate < 2 ^ 32
+  pub phase : IsPhase d.rate d.phase
   pub switches : d.switches < 2 ^ 12
   pub leds : d.leds < 2 ^ 8
   pub mouse : IsTrue (is_mouse d.mouse)
@@ -30,9 +42,11 @@ abbrev pub serial_number : DeviceState → ℕ
 serial_number d = d.serial + (if d.received then 2 ^ 8 else 0)
 
 -- The devices with these parts, the serial line's given as one number (this project's own choice).
-abbrev pub state_of_parts : ℕ → ℕ → ℕ → ℕ → ℕ → List ℕ → DeviceState
-state_of_parts timer switches leds mouse serial keys = record {
+abbrev pub state_of_parts : ℕ → ℕ → ℕ → ℕ → ℕ → ℕ → ℕ → List ℕ → DeviceState
+state_of_parts timer rate phase switches leds mouse serial keys = record {
   timer = timer;
+  rate = rate;
+  phase = phase;
   switches = switches;
   leds = leds;
   mouse = mouse;
@@ -43,7 +57,8 @@ state_of_parts timer switches leds mouse serial keys = record {
 
 -- The parts whose numbers can be out of their range in the words that bring them: these are in it (this project's own
 -- choice).
-pub record AreParts (switches mouse serial : ℕ) (keys : List ℕ) : Type 0 where
+pub record AreParts (rate phase switches mouse serial : ℕ) (keys : List ℕ) : Type 0 where
+  pub phase_fits : IsPhase rate phase
   pub switches_fit : switches < 2 ^ 12
   pub mouse_fits : IsTrue (is_mouse mouse)
   pub serial_fits : serial < 2 ^ 9

@@ -1,6 +1,7 @@
 pub mod InputKind
 pub mod KeyCodes
 pub mod DeviceState
+pub mod Ticks
 pub mod Input
 pub mod DeviceWords
 pub mod Shown

@@ -11,6 +11,7 @@ mod input;
 mod key_queue;
 mod kind;
 mod laws;
+mod phase;
 
 pub use devices::Devices;
 pub use display::picture;
@@ -18,6 +19,7 @@ pub use fault::RangeFault;
 pub use input::Input;
 pub use kind::is_mouse_word;
 pub use laws::mouse_law;
+pub use phase::is_phase_at;
 
 #[cfg(test)]
 mod tests;

@@ -6,7 +6,7 @@ use std::process::Abort;
 
 /// Devices that hold nothing, with this mouse word.
 fn idle(rt: &impl Abort, mouse: u32) -> Devices {
-    Devices::new(0, 0, 0, mouse, 0, &[]).expect(rt, "the parts are in range")
+    Devices::new(0, 0, 0, 0, 0, mouse, 0, &[]).expect(rt, "the parts are in range")
 }
 
 /// Takes an input of a kind's number and a value.
@@ -127,18 +127,69 @@ fn writes_leds_and_sends(rt: HostRuntime) {
 #[test]
 fn makes_devices_of_parts_in_range(rt: HostRuntime) {
     let keys = [9; 17];
-    assert!(rt; Devices::new(0, 4096, 0, 0, 0, &[]).is_err());
-    assert!(rt; Devices::new(0, 0, 0, 0x0800_0000, 0, &[]).is_err());
-    assert!(rt; Devices::new(0, 0, 0, 0, 512, &[]).is_err());
-    assert!(rt; Devices::new(0, 0, 0, 0, 0, &keys).is_err());
-    let made = Devices::new(0xFFFF_FFFF, 4095, 255, 0x073F_F3FF, 511, &keys[..16]);
+    assert!(rt; Devices::new(0, 0, 1, 0, 0, 0, 0, &[]).is_err());
+    assert!(rt; Devices::new(0, 10, 10, 0, 0, 0, 0, &[]).is_err());
+    assert!(rt; Devices::new(0, 0, 0, 4096, 0, 0, 0, &[]).is_err());
+    assert!(rt; Devices::new(0, 0, 0, 0, 0, 0x0800_0000, 0, &[]).is_err());
+    assert!(rt; Devices::new(0, 0, 0, 0, 0, 0, 512, &[]).is_err());
+    assert!(rt; Devices::new(0, 0, 0, 0, 0, 0, 0, &keys).is_err());
+    let made = Devices::new(0xFFFF_FFFF, 10, 9, 4095, 255, 0x073F_F3FF, 511, &keys[..16]);
     let devices = made.expect(&rt, "the parts are in range").copy();
     assert_eq!(rt; devices.timer(), 0xFFFF_FFFF);
+    assert_eq!(rt; (devices.rate(), devices.phase()), (10, 9));
     assert_eq!(rt; devices.switches(), 4095);
     assert_eq!(rt; devices.leds(), 255);
     assert_eq!(rt; devices.mouse(), 0x073F_F3FF);
     assert_eq!(rt; devices.serial(), 511);
     assert_eq!(rt; devices.keys(), &keys[..16]);
+}
+
+/// Devices with this timer, rate and phase, and nothing else.
+fn timed(rt: &impl Abort, timer: u32, rate: u32, phase: u32) -> Devices {
+    Devices::new(timer, rate, phase, 0, 0, 0, 0, &[]).expect(rt, "the phase is below the rate")
+}
+
+#[test]
+fn counts_instructions_one_by_one_and_at_once(rt: HostRuntime) {
+    let rows = [
+        (0, 10, 0, 25, 2, 5),
+        (7, 0, 0, 25, 7, 0),
+        (7, 1, 0, 3, 10, 0),
+        (0xFFFF_FFFF, 3, 2, 1, 0, 0),
+        (0xFFFF_FFFE, 3, 1, 8, 1, 0),
+        (0xFFFF_FFFF, 0xFFFF_FFFF, 0xFFFF_FFFE, 1, 0, 0),
+    ];
+    for (timer, rate, phase, count, want_timer, want_phase) in rows {
+        let mut slow = timed(&rt, timer, rate, phase);
+        for _ in 0..count {
+            slow.tick();
+        }
+        let mut fast = timed(&rt, timer, rate, phase);
+        fast.tick_times(count);
+        assert_eq!(rt;
+            (slow.timer(), slow.rate(), slow.phase()),
+            (want_timer, rate, want_phase)
+        );
+        assert_eq!(rt;
+            (fast.timer(), fast.rate(), fast.phase()),
+            (want_timer, rate, want_phase)
+        );
+    }
+    let mut devices = timed(&rt, 0, 10, 5);
+    devices.tick_times(u64::MAX);
+    assert_eq!(rt; (devices.timer(), devices.phase()), (0x9999_999A, 0));
+}
+
+#[test]
+fn keeps_the_phase_where_the_timer_is_set(rt: HostRuntime) {
+    let mut devices = timed(&rt, 7, 10, 9);
+    feed(&rt, &mut devices, 1, 100);
+    assert_eq!(rt;
+        (devices.timer(), devices.rate(), devices.phase()),
+        (100, 10, 9)
+    );
+    devices.tick();
+    assert_eq!(rt; (devices.timer(), devices.phase()), (101, 0));
 }
 
 #[test]
