@@ -4,6 +4,7 @@ pub mod StoredLemmas
 pub mod DeviceLemmas
 pub mod DueLemmas
 pub mod RunLemmas
+pub mod CountLemmas
 pub mod RangeLemmas
 pub mod KeepLemmas
 pub mod LawLemmas

@@ -9,6 +9,7 @@ mod act;
 mod action;
 mod board;
 mod bus;
+mod clocked;
 mod cpu;
 mod destination;
 mod due;

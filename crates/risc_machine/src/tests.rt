@@ -94,7 +94,7 @@ fn cpu_of(example: Example) -> Cpu
 fn machine_of<'a>(rt: &impl Abort, alloc: Global, pool: &'a Pool, example: Example) -> Machine<'a>
     requires { length pool.now ≡ 1 }
 {
-    let devices = Devices::new(0, 0, 0, 0, 0, &[]).expect(rt, "the parts are in range");
+    let devices = Devices::new(0, 0, 0, 0, 0, 0, 0, &[]).expect(rt, "the parts are in range");
     let table = first_place();
     Machine::start(alloc, pool, &table, cpu_of(example), devices).expect(rt, "there is room")
 }
