@@ -34,6 +34,21 @@ struct Outcome {
     sent: usize,
 }
 
+/// A timer with its rate and phase.
+#[derive(Clone, Copy, Debug, PartialEq, Eq)]
+struct Clock {
+    timer: u32,
+    rate: u32,
+    phase: u32,
+}
+
+/// A timer that does not count by itself.
+const UNCOUNTED: Clock = Clock {
+    timer: 0,
+    rate: 0,
+    phase: 0,
+};
+
 /// Writes a word of a page.
 fn write(page: &mut Page, place: usize, word: u32)
     requires { place < 256 }
@@ -94,7 +109,23 @@ fn cpu_of(example: Example) -> Cpu
 fn machine_of<'a>(rt: &impl Abort, alloc: Global, pool: &'a Pool, example: Example) -> Machine<'a>
     requires { length pool.now ≡ 1 }
 {
-    let devices = Devices::new(0, 0, 0, 0, 0, 0, 0, &[]).expect(rt, "the parts are in range");
+    machine_at(rt, alloc, pool, example, UNCOUNTED)
+}
+
+/// The example's machine, with this clock.
+fn machine_at<'a>(
+    rt: &impl Abort,
+    alloc: Global,
+    pool: &'a Pool,
+    example: Example,
+    clock: Clock,
+) -> Machine<'a>
+    requires { length pool.now ≡ 1 }
+{
+    let devices = Devices::new(clock.timer, clock.rate, clock.phase, 0, 0, 0, 0, &[]).expect(
+        rt,
+        "the phase is below the rate",
+    );
     let table = first_place();
     Machine::start(alloc, pool, &table, cpu_of(example), devices).expect(rt, "there is room")
 }
@@ -244,6 +275,146 @@ fn stops_and_changes_nothing_else(rt: HostRuntime) {
         };
         assert_eq!(rt; run_of(&rt, rt.alloc(), stopper, &[(2, 1, 7)], 9), want);
     }
+}
+
+/// The clock of these numbers.
+const fn timed(timer: u32, rate: u32, phase: u32) -> Clock {
+    Clock { timer, rate, phase }
+}
+
+/// The clock of a machine.
+fn clock_of(machine: &Machine) -> Clock {
+    let devices = machine.devices();
+    timed(devices.timer(), devices.rate(), devices.phase())
+}
+
+/// The clock of an example, and its R0, after one run of so many steps.
+fn clock_after(
+    rt: &impl Abort,
+    alloc: Global,
+    example: Example,
+    begin: Clock,
+    rows: &[(u64, u8, u32)],
+    steps: u64,
+) -> (Clock, u32) {
+    let pool = pool_of(alloc, example).expect(rt, "there is room");
+    let mut machine = machine_at(rt, alloc, &pool, example, begin);
+    let mut sent = Vec::new(alloc);
+    match inputs_of(rt, alloc, rows) {
+        Ok(inputs) => machine
+            .run(&inputs, 0, steps, &mut sent)
+            .expect(rt, "there is room"),
+        Err(_) => panic!(rt; "the inputs are in order"),
+    }
+    (clock_of(&machine), machine.cpu().r[0])
+}
+
+/// The clock of an example, and its R0, after so many single steps.
+fn clock_by_steps(
+    rt: &impl Abort,
+    alloc: Global,
+    example: Example,
+    begin: Clock,
+    steps: u64,
+) -> (Clock, u32) {
+    let pool = pool_of(alloc, example).expect(rt, "there is room");
+    let mut machine = machine_at(rt, alloc, &pool, example, begin);
+    for _ in 0..steps {
+        let _ = machine.step().expect(rt, "there is room");
+    }
+    (clock_of(&machine), machine.cpu().r[0])
+}
+
+#[test]
+fn counts_each_instruction(rt: HostRuntime) {
+    let jump = example_of([JUMP, 0, 0, 0], [0; 4]);
+    let rows = [
+        (timed(0, 10, 0), 25, timed(2, 10, 5)),
+        (timed(7, 1, 0), 3, timed(10, 1, 0)),
+        (timed(7, 0, 0), 25, timed(7, 0, 0)),
+        (
+            timed(0xFFFF_FFFF, 0xFFFF_FFFF, 0xFFFF_FFFE),
+            1,
+            timed(0, 0xFFFF_FFFF, 0),
+        ),
+    ];
+    for (begin, steps, want) in rows {
+        assert_eq!(rt;
+            clock_after(&rt, rt.alloc(), jump, begin, &[], steps),
+            (want, 0)
+        );
+        assert_eq!(rt;
+            clock_by_steps(&rt, rt.alloc(), jump, begin, steps),
+            (want, 0)
+        );
+    }
+}
+
+#[test]
+fn sets_the_timer_and_leaves_its_phase(rt: HostRuntime) {
+    let jump = example_of([JUMP, 0, 0, 0], [0; 4]);
+    let begin = timed(0, 10, 0);
+    let rows = [(25, 1, 100)];
+    let before = clock_after(&rt, rt.alloc(), jump, begin, &rows, 25);
+    assert_eq!(rt; before, (timed(2, 10, 5), 0));
+    let after = clock_after(&rt, rt.alloc(), jump, begin, &rows, 30);
+    assert_eq!(rt; after, (timed(101, 10, 0), 0));
+}
+
+#[test]
+fn counts_no_instruction_that_stops(rt: HostRuntime) {
+    let words = [
+        0x000C_0000,
+        0x400B_0000,
+        0xC700_0001,
+        0xA010_0000,
+        0x8010_0000,
+    ];
+    let r1 = [0, 0, 0x10_0000, 0x20_0000, 0x20_0000];
+    for (word, r1) in words.into_iter().zip(r1) {
+        let stopper = example_of([word, 0, 0, 0], [5, r1, 6, 0]);
+        let last = timed(4, 10, 9);
+        let want = if r1 == 0x10_0000 {
+            timed(5, 10, 0)
+        } else {
+            last
+        };
+        assert_eq!(rt;
+            clock_after(&rt, rt.alloc(), stopper, last, &[], 5),
+            (want, 5)
+        );
+        assert_eq!(rt;
+            clock_by_steps(&rt, rt.alloc(), stopper, last, 5),
+            (want, 5)
+        );
+    }
+}
+
+#[test]
+fn reads_the_timer_before_the_read_is_counted(rt: HostRuntime) {
+    let reader = example_of([0x5100_FFC0, 0x8010_0000, 0xE7FF_FFFE, 0], [0; 4]);
+    let rows = [
+        (timed(0, 1, 0), 2, (timed(2, 1, 0), 1)),
+        (timed(0, 1, 0), 4, (timed(4, 1, 0), 3)),
+        (timed(0, 2, 0), 4, (timed(2, 2, 0), 1)),
+        (timed(7, 0, 0), 4, (timed(7, 0, 0), 7)),
+    ];
+    for (begin, steps, want) in rows {
+        assert_eq!(rt;
+            clock_after(&rt, rt.alloc(), reader, begin, &[], steps),
+            want
+        );
+        assert_eq!(rt; clock_by_steps(&rt, rt.alloc(), reader, begin, steps), want);
+    }
+}
+
+#[test]
+fn counts_an_instruction_that_sends(rt: HostRuntime) {
+    let sender = example_of(SENDER, [0; 4]);
+    let begin = timed(0, 3, 0);
+    let want = (timed(1, 3, 0), 0x41);
+    assert_eq!(rt; clock_after(&rt, rt.alloc(), sender, begin, &[], 3), want);
+    assert_eq!(rt; clock_by_steps(&rt, rt.alloc(), sender, begin, 3), want);
 }
 
 #[test]
