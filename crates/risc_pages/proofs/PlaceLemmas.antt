@@ -6,25 +6,29 @@ use Rattle.risc_pages.proofs.Paging.{All-pages, flat_map-set, flat_map-set_same,
 use Rattle.risc_pages.specs.Content.{IsContent}
 use Rattle.risc_pages.specs.Contents.{Contents, IsMemory}
 use Rattle.risc_pages.specs.declared.place.Place.{Place}
-use Rattle.risc_pages.specs.declared.place.Place.TheVariants.{Shared, Owned}
+use Rattle.risc_pages.specs.declared.place.Place.TheVariants.{Blank, Shared, Owned}
 use Rattle.risc_pages.specs.Pages.{page_at, page_of}
 use Rattle.risc_pages.specs.Places.{base_of, content, contents_of, is_owned, TakesCopy}
 
 pub length-content : (p : Place) → length (content p) ≡ 256
-length-content (Shared frame) = frame.now.page.whole
+length-content (Blank blank) = blank.now.page.whole
+length-content (Shared page) = page.now.whole
 length-content (Owned own) = own.value.page.whole
 
 pub length-base_of : (p : Place) → length (base_of p) ≡ 256
-length-base_of (Shared frame) = frame.now.page.whole
-length-base_of (Owned own) = own.value.base.now.page.whole
+length-base_of (Blank blank) = blank.now.page.whole
+length-base_of (Shared page) = page.now.whole
+length-base_of (Owned own) = own.value.base.now.whole
 
 fit-content : (p : Place) → All (λ w. w < 2 ^ 32) (content p)
-fit-content (Shared frame) = frame.now.page.fit
+fit-content (Blank blank) = blank.now.page.fit
+fit-content (Shared page) = page.now.fit
 fit-content (Owned own) = own.value.page.fit
 
 -- a place that is not owned has the page that stood there first
 pub base_of-shared : (p : Place) → is_owned p ≡ false → base_of p ≡ content p
-base_of-shared (Shared frame) shared = refl
+base_of-shared (Blank blank) shared = refl
+base_of-shared (Shared page) shared = refl
 base_of-shared (Owned own) shared = cc
 
 -- 1,024 places are a memory

@@ -5,21 +5,21 @@ use Rattle.std.proofs.lemmas.Bool.Decides.{eqb_tells}
 use Rattle.std.proofs.lemmas.List.Elements.{All-map, All-replicate, All-same}
 use Rattle.risc_pages.proofs.Paging.{take-drop-pages}
 use Rattle.risc_pages.specs.Content.{table_words, IsNamed}
-use Rattle.risc_pages.specs.declared.page.Frame.{Frame}
+use Rattle.risc_pages.specs.declared.page.Page.{Page}
 use Rattle.risc_pages.specs.Pages.{ArePages, IsPage, page_at, page_of, zero_page}
-use Rattle.risc_pages.specs.PageWords.{frame_words}
+use Rattle.risc_pages.specs.PageWords.{words_of}
 
 pub IsPage-zero_page : IsPage zero_page
 unfolding zero_page
 IsPage-zero_page = record { whole = refl; fit = All-replicate (λ w. w < 2 ^ 32) 256 0 (lit< tt) }
 
 -- the words of a page are a page
-pub IsPage-frame_words : (frame : Frame) → IsPage (frame_words frame)
-IsPage-frame_words frame = record { whole = frame.page.whole; fit = frame.page.fit }
+pub IsPage-words_of : (page : Page) → IsPage (words_of page)
+IsPage-words_of page = record { whole = page.whole; fit = page.fit }
 
 -- so are those of all pages of a pool
-pub ArePages-map : (pages : List Frame) (pool : List (List ℕ)) → map frame_words pages ≡ pool → ArePages pool
-ArePages-map pages pool view = All-same IsPage pool (map frame_words pages) (sym view) (All-map IsPage frame_words pages (λ k d h. IsPage-frame_words (get_or pages k d)))
+pub ArePages-map : (pages : List Page) (pool : List (List ℕ)) → map words_of pages ≡ pool → ArePages pool
+ArePages-map pages pool view = All-same IsPage pool (map words_of pages) (sym view) (All-map IsPage words_of pages (λ k d h. IsPage-words_of (get_or pages k d)))
 
 not_equal_by : (a b : ℕ) → (a ≡ b → ⊥) → ((nat_eq a b ≡ true) × (a ≡ b)) ⊎ ((nat_eq a b ≡ false) × (a ≡ b → ⊥)) → nat_eq a b ≡ false
 not_equal_by a b ne (inl h) = absurd (ne h.1)

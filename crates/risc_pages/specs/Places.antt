@@ -2,22 +2,25 @@
 use Rattle.std.specs.Prelude.{ℕ, ◌≡◌, List, Bool, true, false, map, slice_set}
 use Rattle.std.specs.List.{flat_map}
 use Rattle.risc_pages.specs.declared.place.Place.{Place}
-use Rattle.risc_pages.specs.declared.place.Place.TheVariants.{Shared, Owned}
+use Rattle.risc_pages.specs.declared.place.Place.TheVariants.{Blank, Shared, Owned}
 use Rattle.risc_pages.specs.Contents.{Contents}
 
 -- the words of the page that stands at a place
 abbrev pub content : Place → List ℕ
-content (Shared frame) = frame.now.page.words
+content (Blank blank) = blank.now.page.words
+content (Shared page) = page.now.words
 content (Owned own) = own.value.page.words
 
 -- the words of the page that stood there first
 abbrev pub base_of : Place → List ℕ
-base_of (Shared frame) = frame.now.page.words
-base_of (Owned own) = own.value.base.now.page.words
+base_of (Blank blank) = blank.now.page.words
+base_of (Shared page) = page.now.words
+base_of (Owned own) = own.value.base.now.words
 
 -- whether a place has a page of its own
 abbrev pub is_owned : Place → Bool
-is_owned (Shared frame) = false
+is_owned (Blank blank) = false
+is_owned (Shared page) = false
 is_owned (Owned own) = true
 
 -- what these places hold

@@ -49,7 +49,7 @@ impl<'a> Memory<'a> {
         let mut places = Vec::with_capacity(alloc, 1024)?;
         let numbers = table.numbers();
         for number in numbers {
-            places.push(pool.place(*number))?;
+            places.push_reserved(pool.place(*number));
         }
         Ok(Memory { places, alloc })
     }
@@ -86,8 +86,13 @@ impl<'a> Memory<'a> {
                 own.page.words[index] = value;
                 Ok(())
             }
-            Place::Shared(frame) => {
-                let base = *frame;
+            Place::Blank(blank) => {
+                let base = &blank.page;
+                copy_on_write(self.alloc, &mut self.places, place, base, index, value)?;
+                Ok(())
+            }
+            Place::Shared(page) => {
+                let base = *page;
                 copy_on_write(self.alloc, &mut self.places, place, base, index, value)?;
                 Ok(())
             }
@@ -125,13 +130,28 @@ impl<'a> Memory<'a> {
         ensures none { IfNone result (self.now.words ≡ table_words pool.now table.now) }
         ensures some { IfSome result (IsFirstDifference self.now.words (table_words pool.now table.now)) }
     {
+        let place = self.least_other(pool, table);
+        if place < 1024 { Some(place) } else { None }
+    }
+
+    /// The least place whose content isn't that of the table over the pool, and 1024 where there is none.
+    ///
+    /// The loop is alone in a function of its own, so that each turn is a few machine instructions.
+    #[inline(never)]
+    fn least_other(&self, pool: &Pool, table: &Table) -> u16
+        requires { IsNamed pool.now table.now }
+        ensures none { 1024 ≤ result → self.now.words ≡ table_words pool.now table.now }
+        ensures some { result < 1024 → IsFirstDifference self.now.words (table_words pool.now table.now) result }
+    {
         let numbers = table.numbers();
-        for place in 0..1024u16 {
+        let mut place = 0;
+        while place < 1024 {
             if !self.places[place as usize].is_same(pool, numbers[place as usize]) {
-                return Some(place);
+                return place;
             }
+            place += 1;
         }
-        None
+        place
     }
 
     /// The places whose content differs from the table that the memory was made from, with their pages. The

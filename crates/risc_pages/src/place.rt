@@ -5,15 +5,17 @@ ghost use Rattle.std.specs.Prelude.{◌≡◌, ◌≢◌, ◌↔◌, ◌<◌, �
 ghost use Rattle.risc_pages.specs.Pages.{page_of, ArePages};
 ghost use Rattle.risc_pages.specs.Places.{content, base_of, TakesCopy};
 
-use crate::page::{Frame, Page};
+use crate::page::{Blank, Page};
 use crate::pool::Pool;
 use std::alloc::{AllocError, Global};
 
 /// The page at a place of a memory.
 #[derive(Drop)]
 pub(crate) enum Place<'a> {
-    /// A page of the pool, not yet written here.
-    Shared(&'a Frame),
+    /// The pool's page of zeros, not yet written here.
+    Blank(&'a Blank),
+    /// Another page of the pool, not yet written here.
+    Shared(&'a Page),
     /// A page that this place alone has.
     Owned(Box<Copied<'a>>),
 }
@@ -22,7 +24,7 @@ pub(crate) enum Place<'a> {
 #[derive(Drop)]
 pub(crate) struct Copied<'a> {
     pub(crate) page: Page,
-    pub(crate) base: &'a Frame,
+    pub(crate) base: &'a Page,
 }
 
 impl<'a> Place<'a> {
@@ -32,7 +34,8 @@ impl<'a> Place<'a> {
         ensures { result.now.words ≡ content self.now }
     {
         match self {
-            Place::Shared(frame) => &frame.page,
+            Place::Blank(blank) => &blank.page,
+            Place::Shared(page) => page,
             Place::Owned(own) => &own.page,
         }
     }
@@ -45,9 +48,18 @@ impl<'a> Place<'a> {
     {
         let theirs = pool.page(page_no);
         match self {
-            Place::Shared(frame) if page_no == 0 && frame.is_blank => true,
-            _ => self.page().words == theirs.words,
+            Place::Blank(_) if page_no == 0 => true,
+            _ => self.has_words_of(theirs),
         }
+    }
+
+    /// Whether the page that stands here has the words of another.
+    #[cold]
+    #[inline(never)]
+    fn has_words_of(&self, page: &Page) -> bool
+        ensures { IsTrue result ↔ (content self.now ≡ page.now.words) }
+    {
+        self.page().words == page.words
     }
 
     /// The page that stands here, where it hasn't the words of the page that stood here first.
@@ -56,7 +68,7 @@ impl<'a> Place<'a> {
         ensures some { IfSome result (λ page. (page.now.words ≡ content self.now) × (content self.now ≢ base_of self.now)) }
     {
         match self {
-            Place::Owned(own) if own.page.words != own.base.page.words => Some(&own.page),
+            Place::Owned(own) if own.page.words != own.base.words => Some(&own.page),
             _ => None,
         }
     }
@@ -69,16 +81,16 @@ pub(crate) fn copy_on_write<'a>(
     alloc: Global,
     places: &mut Vec<Place<'a>>,
     place: usize,
-    base: &'a Frame,
+    base: &'a Page,
     index: usize,
     value: u32,
 ) -> Result<(), AllocError>
     requires place_inside { place < length places.old.items }
     requires index_inside { index < 256 }
-    ensures ok { OnOk result (TakesCopy places.old.items places.new.items place base.now.page.words (slice_set base.now.page.words index value)) }
+    ensures ok { OnOk result (TakesCopy places.old.items places.new.items place base.now.words (slice_set base.now.words index value)) }
     ensures err { OnErr result (places.new ≡ places.old) }
 {
-    let mut page = base.page;
+    let mut page = *base;
     page.words[index] = value;
     let own = Box::new(alloc, Copied { page, base })?;
     put(places, place, own);

@@ -4,7 +4,7 @@ ghost use Rattle.std.specs.Prelude.{◌≡◌, ◌++◌, ◌∷◌, [], ◌<◌,
 ghost use Rattle.risc_pages.specs.Pages.{page_of, ArePages};
 ghost use Rattle.risc_pages.specs.Places.{content, is_owned};
 
-use crate::page::{Blank, Frame, Page};
+use crate::page::{Blank, Page};
 use crate::place::Place;
 use std::alloc::{AllocError, Global};
 use std::marker::Model;
@@ -15,7 +15,7 @@ use std::marker::Model;
 #[derive(Drop)]
 pub struct Pool {
     zeros: Blank,
-    pages: Vec<Frame>,
+    pages: Vec<Page>,
 }
 
 impl Model for Pool {
@@ -24,9 +24,9 @@ impl Model for Pool {
     ghost Value = { List (List ℕ) };
 
     ghost use Rattle.std.specs.Prelude.{map, vec_len, ◌≤◌, ◌^◌};
-    ghost use Rattle.risc_pages.specs.PageWords.{frame_words};
+    ghost use Rattle.risc_pages.specs.PageWords.{words_of};
 
-    ghost view = { λ p. map frame_words p.pages.items };
+    ghost view = { λ p. map words_of p.pages.items };
 
     ghost invariant = { λ p. vec_len p.pages ≤ 2 ^ 31 };
 }
@@ -76,7 +76,7 @@ impl Pool {
         ensures ok { OnOk result (self.new ≡ self.old ++ page.words ∷ []) }
         ensures err { OnErr result (self.new ≡ self.old) }
     {
-        self.pages.push(Frame::of(page))?;
+        self.pages.push(page)?;
         Ok(())
     }
 
@@ -97,18 +97,8 @@ impl Pool {
         ensures words { result.now.words ≡ page_of self.now page_no }
         ensures pages { ArePages self.now }
     {
-        &self.frame(page_no).page
-    }
-
-    /// The page of this number, as the pool keeps it.
-    #[inline]
-    fn frame(&self, page_no: u32) -> &Frame
-        requires { page_no ≤ length self.now }
-        ensures words { result.now.page.words ≡ page_of self.now page_no }
-        ensures pages { ArePages self.now }
-    {
         if page_no == 0 {
-            &self.zeros.frame
+            &self.zeros.page
         } else {
             &self.pages[(page_no - 1) as usize]
         }
@@ -121,6 +111,10 @@ impl Pool {
         ensures words { content result ≡ page_of self.now page_no }
         ensures shared { is_owned result ≡ false }
     {
-        Place::Shared(self.frame(page_no))
+        if page_no == 0 {
+            Place::Blank(&self.zeros)
+        } else {
+            Place::Shared(self.page(page_no))
+        }
     }
 }

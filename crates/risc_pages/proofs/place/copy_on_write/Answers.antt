@@ -9,5 +9,5 @@ returns-clause-ok c = record {
   items = c.put.ensures;
   owned = refl;
   content_is = ap (λ (z : Copied). z.page.words) c.in_ok-own.ensures.ok;
-  base_is = ap (λ (z : Copied). z.base.now.page.words) c.in_ok-own.ensures.ok;
+  base_is = ap (λ (z : Copied). z.base.now.words) c.in_ok-own.ensures.ok;
 }

@@ -8,8 +8,4 @@ invariant_of-page c = record { whole = refl; fit = All-replicate (λ w. w < 2 ^ 
 
 pub invariant_of-result : goal.invariant_of-result
 unfolding zero_page
-invariant_of-result c = record { marked = λ _. refl }
-
-pub invariant_of-result-2 : goal.invariant_of-result-2
-unfolding zero_page
-invariant_of-result-2 c = record { blank = refl }
+invariant_of-result c = record { blank = refl }

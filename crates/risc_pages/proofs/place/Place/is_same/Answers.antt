@@ -4,6 +4,6 @@ use Rattle.risc_pages.specs.declared.place.Place.{Place}
 use Rattle.risc_pages.specs.Places.{content}
 use Rattle.risc_pages.proofs.place.Place.is_same.Goals as goal
 
-pub returns-in-Shared-clause-same : goal.returns-in-Shared-clause-same
-returns-in-Shared-clause-same c =
-    (λ _. ap (λ (p : Place). content p) c.in-Shared.is ∙ c.in-Shared.frame.now.marked c.if-frame.true ∙ sym (page_of-zero _ _ c.if-page_no-eq0.true), λ _. refl)
+pub returns-in-Blank-clause-same : goal.returns-in-Blank-clause-same
+returns-in-Blank-clause-same c =
+    (λ _. ap (λ (p : Place). content p) c.in-Blank.is ∙ c.in-Blank.field-0.now.blank ∙ sym (page_of-zero _ _ c.if-page_no-eq0.true), λ _. refl)

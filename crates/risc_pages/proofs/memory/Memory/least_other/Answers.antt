@@ -8,10 +8,10 @@ use Rattle.risc_pages.specs.Contents.{Contents}
 use Rattle.risc_pages.specs.declared.place.Place.{Place}
 use Rattle.risc_pages.specs.Pages.{page_at, page_of}
 use Rattle.risc_pages.specs.Places.{content}
-use Rattle.risc_pages.proofs.memory.Memory.first_difference.Goals as goal
+use Rattle.risc_pages.proofs.memory.Memory.least_other.Goals as goal
 
 pub returns-clause-none : goal.returns-clause-none
-returns-clause-none c =
+returns-clause-none c _ =
     let t : length c.args.table.now ≡ 1024 = c.numbers-numbers.ensures.table.count in
     let n : length c.self.inside.places.items ≡ 1024 = c.self.invariant in
     let e = c.numbers-numbers.ensures.numbers in
@@ -20,7 +20,7 @@ returns-clause-none c =
     (λ k d x h. c.loop-place.invariant k d x (omega arith) ∙ ap (λ (z : List ℕ). page_of c.args.pool.now (get_or z k x)) e)
 
 pub returns-then-not-is_same-clause-some : goal.returns-then-not-is_same-clause-some
-returns-then-not-is_same-clause-some c =
+returns-then-not-is_same-clause-some c _ =
     let t : length c.args.table.now ≡ 1024 = c.numbers-numbers.ensures.table.count in
     let n : length c.self.inside.places.items ≡ 1024 = c.self.invariant in
     let e = c.numbers-numbers.ensures.numbers in

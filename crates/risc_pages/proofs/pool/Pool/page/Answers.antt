@@ -2,8 +2,8 @@ use Rattle.std.proofs.Common.{◌≡◌, ◌-◌, ◌<◌, ℕ, List, length, ma
 use Rattle.std.proofs.lemmas.List.{length-map, get_or-map}
 use Rattle.risc_pages.proofs.PoolLemmas.{ArePages-map, page_of-shared, page_of-zero}
 use Rattle.risc_pages.specs.Pages.{zero_page}
-use Rattle.risc_pages.specs.PageWords.{frame_words}
-use Rattle.risc_pages.proofs.pool.Pool.frame.Goals as goal
+use Rattle.risc_pages.specs.PageWords.{words_of}
+use Rattle.risc_pages.proofs.pool.Pool.page.Goals as goal
 
 pub returns-then-page_no-eq0-clause-words : goal.returns-then-page_no-eq0-clause-words
 returns-then-page_no-eq0-clause-words c = c.self.inside.zeros.blank ∙ sym (page_of-zero _ _ c.if-page_no-eq0.true)
@@ -13,11 +13,11 @@ returns-then-page_no-eq0-clause-pages c = ArePages-map _ _ c.self.view_is
 
 pub returns-else-page_no-eq0-clause-words : goal.returns-else-page_no-eq0-clause-words
 returns-else-page_no-eq0-clause-words c =
-    let v : map frame_words c.self.inside.pages.items ≡ c.args.self.now = c.self.view_is in
-    let count : length c.self.inside.pages.items ≡ length c.args.self.now = sym (length-map c.self.inside.pages.items frame_words) ∙ ap (λ (x : List (List ℕ)). length x) v in
+    let v : map words_of c.self.inside.pages.items ≡ c.args.self.now = c.self.view_is in
+    let count : length c.self.inside.pages.items ≡ length c.args.self.now = sym (length-map c.self.inside.pages.items words_of) ∙ ap (λ (x : List (List ℕ)). length x) v in
     let inside : c.args.page_no - 1 < length c.self.inside.pages.items = omega arith in
-    ap frame_words c.index.ensures
-    ∙ sym (get_or-map frame_words c.self.inside.pages.items (c.args.page_no - 1) c.index.result.now zero_page inside)
+    ap words_of c.index.ensures
+    ∙ sym (get_or-map words_of c.self.inside.pages.items (c.args.page_no - 1) c.index.result.now zero_page inside)
     ∙ ap (λ (x : List (List ℕ)). get_or x (c.args.page_no - 1) zero_page) v
     ∙ sym (page_of-shared _ _ c.if-page_no-eq0.false)
 
