@@ -46,6 +46,7 @@ checkpoint_stands text place c room few is =
       pc = is.cpu.pc i;
       flags = is.cpu.flags i;
       stop = is.cpu.stop i;
+      rate = sym is.devices.rate i;
       switches = is.devices.switches i;
       leds = is.devices.leds i;
       mouse = is.devices.mouse i;

@@ -8,7 +8,7 @@ use Rattle.std.proofs.lemmas.Bool.Decides.{nat_tests}
 use Rattle.std.proofs.lemmas.List.Elements.{All-nil, All-push, All-take, All-drop}
 use Rattle.std.proofs.lemmas.List.FromFn.{length-map-range_with_len, get_or-map-range_with_len}
 use Rattle.byteorder.specs.Numbers.{little_from-lt}
-use Rattle.risc_devices.specs.DeviceState.{DeviceState, IsDeviceState}
+use Rattle.risc_devices.specs.DeviceState.{DeviceState, IsDeviceState, is_phase}
 use Rattle.risc_devices.specs.InputKind.{is_mouse}
 use Rattle.risc_devices.proofs.InputLemmas.{input_of, kind_of-input_of, value_of-input_of}
 use Rattle.risc_machine.specs.declared.event.Event.{Event}
@@ -141,6 +141,8 @@ devices_at text place =
     let serial = word_at text (place + 104) in
     record {
       timer = word_at text (place + 88);
+      rate = 0;
+      phase = 0;
       switches = word_at text (place + 92);
       leds = word_at text (place + 96);
       mouse = word_at text (place + 100);
@@ -190,6 +192,8 @@ devices_stand text place room fits keys =
     let len : length (slice_range text (place + 112) (place + 112 + n)) ≡ n = omega (arith, length-range text (place + 112) (place + 112 + n) (omega arith) (omega arith)) in
     record {
       timer = refl;
+      rate = refl;
+      phase = refl;
       switches = refl;
       leds = refl;
       mouse = refl;
@@ -199,13 +203,15 @@ devices_stand text place room fits keys =
     }
 
 devices_fit : (text : List ℕ) (place : ℕ) → place + 4228 ≤ length text → AreBytes text → Small text place → IsDeviceState (devices_at text place)
-unfolding devices_at
+unfolding devices_at is_phase
 devices_fit text place room bytes fits =
     let n = word_at text (place + 108) in
     let few = fits.keys in
     let len : length (slice_range text (place + 112) (place + 112 + n)) ≡ n = omega (arith, length-range text (place + 112) (place + 112 + n) (omega arith) (omega arith)) in
     record {
       timer = word_fits text (place + 88) bytes;
+      rate = omega arith;
+      phase = refl;
       switches = fits.switches;
       leds = fits.leds;
       mouse = fits.mouse;

@@ -3,7 +3,7 @@ use Rattle.std.proofs.Common.{◌≡◌, ◌<◌, ◌≤◌, ◌+◌, ◌-◌, �
 use Rattle.std.specs.Prelude.{slice_index, replicate, nat_le, nat_lt, if◌then◌else◌, ◌==◌}
 use Rattle.std.specs.List.{list_all}
 use Rattle.std.specs.Option.{IfNone}
-use Rattle.std.proofs.lemmas.Bool.{le-leb, lt-ltb, leb-true, ltb-true}
+use Rattle.std.proofs.lemmas.Bool.{le-leb, lt-ltb, leb-true, ltb-true, eqb-true}
 use Rattle.std.proofs.lemmas.List.{get_or_default}
 use Rattle.std.proofs.lemmas.Bool.Decides.{nat_tests}
 use Rattle.risc_devices.specs.DeviceState.{DeviceState, IsDeviceState, serial_number}
@@ -50,24 +50,24 @@ two_of_seven true f true s l m x hf hs hl hm hx = rw (hf, hs, hl, hm, hx) refl
 two_of_seven true f false s l m x hf hs hl hm hx = rw hf refl
 two_of_seven false f b s l m x hf hs hl hm hx = refl
 
--- the ranges of formed parts are those of the program counter and the stop
-pub ranges_are : (c : CheckpointParts) → IsFormed c → in_ranges (checkpoint_fields c) ≡ (nat_lt c.cpu.pc 4194304 && nat_le c.cpu.stop 4)
+-- the ranges of formed parts are those of the timer's rate, the program counter and the stop
+pub ranges_are : (c : CheckpointParts) → IsFormed c → in_ranges (checkpoint_fields c) ≡ (c.devices.rate == 0 && nat_lt c.cpu.pc 4194304 && nat_le c.cpu.stop 4)
 ranges_are c formed =
-    two_of_seven (nat_lt c.cpu.pc 4194304) (nat_lt (flags_number c.cpu) 16) (nat_le c.cpu.stop 4) (nat_lt c.devices.switches 4096) (nat_lt c.devices.leds 256) (is_mouse c.devices.mouse) (nat_lt (serial_number c.devices) 512)
+    two_of_seven (c.devices.rate == 0 && nat_lt c.cpu.pc 4194304) (nat_lt (flags_number c.cpu) 16) (nat_le c.cpu.stop 4) (nat_lt c.devices.switches 4096) (nat_lt c.devices.leds 256) (is_mouse c.devices.mouse) (nat_lt (serial_number c.devices) 512)
     (lt-ltb _ _ (flags_fit c.cpu)) (lt-ltb _ _ formed.devices.switches) (lt-ltb _ _ formed.devices.leds) formed.devices.mouse (lt-ltb _ _ (serial_fits c.devices formed.devices))
 
-pub ranges_met : (c : CheckpointParts) → IsFormed c → nat_lt c.cpu.pc 4194304 ≡ true → nat_le c.cpu.stop 4 ≡ true → in_ranges (checkpoint_fields c) ≡ true
-ranges_met c formed pc stop = ranges_are c formed ∙ rw (pc, stop) refl
+pub ranges_met : (c : CheckpointParts) → IsFormed c → (c.devices.rate == 0) ≡ true → nat_lt c.cpu.pc 4194304 ≡ true → nat_le c.cpu.stop 4 ≡ true → in_ranges (checkpoint_fields c) ≡ true
+ranges_met c formed rate pc stop = ranges_are c formed ∙ rw (rate, pc, stop) refl
 
 -- the test of a checkpoint's fields, where its parts are formed
 pub checkpoint_test : (k before sent : ℕ) (c : CheckpointParts) → IsFormed c
-    → is_count k before c.count ≡ true → (nat_lt c.cpu.pc 4194304 && nat_le c.cpu.stop 4) ≡ true → is_checkpoint k before sent (checkpoint_fields c) ≡ is_output k sent (length c.sent)
+    → is_count k before c.count ≡ true → (c.devices.rate == 0 && nat_lt c.cpu.pc 4194304 && nat_le c.cpu.stop 4) ≡ true → is_checkpoint k before sent (checkpoint_fields c) ≡ is_output k sent (length c.sent)
 checkpoint_test k before sent c formed count ranges = rw (count, ranges_are c formed, ranges, keys_met c formed) refl
 
 pub count_fails : (k before sent : ℕ) (c : CheckpointParts) → is_count k before c.count ≡ false → is_checkpoint k before sent (checkpoint_fields c) ≡ false
 count_fails k before sent c count = rw count refl
 
-pub ranges_fail : (k before sent : ℕ) (c : CheckpointParts) → IsFormed c → is_count k before c.count ≡ true → (nat_lt c.cpu.pc 4194304 && nat_le c.cpu.stop 4) ≡ false → is_checkpoint k before sent (checkpoint_fields c) ≡ false
+pub ranges_fail : (k before sent : ℕ) (c : CheckpointParts) → IsFormed c → is_count k before c.count ≡ true → (c.devices.rate == 0 && nat_lt c.cpu.pc 4194304 && nat_le c.cpu.stop 4) ≡ false → is_checkpoint k before sent (checkpoint_fields c) ≡ false
 ranges_fail k before sent c formed count ranges = rw (count, ranges_are c formed, ranges) refl
 
 -- what the header's rules say of the numbers
@@ -122,6 +122,7 @@ length_nil (x ∷ xs) h = absurd (omega arith)
 -- a checkpoint whose rules are met
 pub record CheckpointMet (r : RecordingParts) (k : ℕ) : Type 0 where
   pub count : is_count k (count_before (fields_of_parts r) k) (count_at r k) ≡ true
+  pub rate : (checkpoint_at r k).devices.rate ≡ 0
   pub pc : nat_lt (checkpoint_at r k).cpu.pc 4194304 ≡ true
   pub stop : nat_le (checkpoint_at r k).cpu.stop 4 ≡ true
   pub output : is_output k (sent_below (fields_of_parts r) k) (length (checkpoint_at r k).sent) ≡ true
@@ -139,9 +140,11 @@ checkpoint_met r k lt h =
     let three = and_left (is_count k (count_before f k) c.count && in_ranges c && are_keys c) (is_output k (sent_below f k) c.output) two.0 in
     let four = and_left (is_count k (count_before f k) c.count && in_ranges c) (are_keys c) three in
     let ranges = and_right (is_count k (count_before f k) c.count) (in_ranges c) four in
+    let counter = and_left _ _ (and_left _ _ (and_left _ _ (and_left _ _ (and_left _ _ (and_left _ _ ranges))))) in
     record {
       count = and_left (is_count k (count_before f k) c.count) (in_ranges c) four;
-      pc = and_left _ _ (and_left _ _ (and_left _ _ (and_left _ _ (and_left _ _ (and_left _ _ ranges)))));
+      rate = eqb-true _ _ (and_left _ _ counter);
+      pc = and_right _ _ counter;
       stop = and_right _ _ (and_left _ _ (and_left _ _ (and_left _ _ (and_left _ _ ranges))));
       output = and_right (is_count k (count_before f k) c.count && in_ranges c && are_keys c) (is_output k (sent_below f k) c.output) two.0;
       numbers = λ j less. leb-true _ _ (rule_holds (nat_le (number j) (length r.pool)) (fault.Page (number_place place j)) [] (each_holds (number_rules (length r.pool) place number) 1024 j less two.1)).0;
@@ -189,6 +192,7 @@ met_lawful r pages ordered formed met =
             bounded = bounded_count k (count_before f k) (count_at r k) m.count;
             cpu = record { count = own.registers; registers = own.words; auxiliary = own.auxiliary; counter = ltb-true _ _ m.pc; stops = leb-true _ _ m.stop };
             devices = own.devices;
+            rate = m.rate;
             table = own.table;
             named = λ j d less.
                 let inside : j < 1024 = subst (λ (i : ℕ). j < i) own.table.count less in
@@ -272,7 +276,7 @@ checkpoint_rules_met r k formed lawful lt =
     let place = place_of_checkpoint f k in
     let own = formed k no_checkpoint lt in
     let fit = lawful.fit k lt in
-    let ranges = ranges_met c own (lt-ltb _ _ fit.cpu.counter) (le-leb _ _ fit.cpu.stops) in
+    let ranges = ranges_met c own (eq-eqb _ _ fit.rate) (lt-ltb _ _ fit.cpu.counter) (le-leb _ _ fit.cpu.stops) in
     let test = all_four _ _ _ _ (count_met r k lawful lt) ranges (keys_met c own) (output_met r k lawful lt) in
     ap first_broken (rules_here r k place (count_before f k) (sent_below f k) lt refl refl refl)
     ∙ rules_at_met (length r.pool) place k (count_before f k) (sent_below f k) (checkpoint_fields c) (slice_index c.table) test (numbers_met r k place lawful lt)

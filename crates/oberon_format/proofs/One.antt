@@ -91,7 +91,7 @@ same_devices_at text place a b fit_a fit_b x y =
     let len : length a.keys ≡ length b.keys = sym x.waiting ∙ y.waiting in
     let keys : a.keys ≡ b.keys =
     sym (take_at a.keys (replicate (16 - length a.keys) 0) (length b.keys) len) ∙ ap (take (length b.keys)) (sym x.keys ∙ y.keys) ∙ take_at b.keys (replicate (16 - length b.keys) 0) (length b.keys) refl in
-    same_devices a b fit_a fit_b (sym x.timer ∙ y.timer) (sym x.switches ∙ y.switches) (sym x.leds ∙ y.leds) (sym x.mouse ∙ y.mouse) (sym x.serial ∙ y.serial) keys
+    same_devices a b fit_a fit_b (sym x.timer ∙ y.timer) (x.rate ∙ sym y.rate) (x.phase ∙ sym y.phase) (sym x.switches ∙ y.switches) (sym x.leds ∙ y.leds) (sym x.mouse ∙ y.mouse) (sym x.serial ∙ y.serial) keys
 
 -- outputs of one length each that are the same in all
 same_sent : (cs ds : List CheckpointParts) → length cs ≡ length ds → ((i : ℕ) → i < length cs → length (get_or cs i no_checkpoint).sent ≡ length (get_or ds i no_checkpoint).sent)

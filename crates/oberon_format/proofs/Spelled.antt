@@ -3,7 +3,8 @@ use Rattle.std.proofs.Common.{◌≡◌, ◌<◌, ◌≤◌, ◌+◌, ◌-◌, �
 use Rattle.std.proofs.lemmas.List.{length-replicate, drop_at, get_or_default}
 use Rattle.std.specs.Prelude.{slice_index, slice_range, replicate}
 use Rattle.std.specs.List.{flat_map}
-use Rattle.risc_devices.specs.DeviceState.{DeviceState, IsDeviceState, serial_number}
+use Rattle.std.proofs.lemmas.Bool.Decides.{nat_tests}
+use Rattle.risc_devices.specs.DeviceState.{DeviceState, IsDeviceState, is_phase, IsPhase, serial_number}
 use Rattle.risc_devices.specs.Input.{kind_of, value_of}
 use Rattle.risc_devices.proofs.InputLemmas.{kind_fits, value_fits, mouse_word_fits}
 use Rattle.risc_machine.specs.declared.event.Event.{Event}
@@ -75,9 +76,14 @@ cpu_stands text place cpu p s =
       stop = rw (← at 76) (word_stands text (place + 8 + 76) cpu.stop (stands_right text (place + 8) 76 (r ++ h ++ pc ++ f) st s l4) (omega arith));
     }
 
-pub device_stands : (text : List ℕ) (place : ℕ) (d : DeviceState) → IsDeviceState d → Stands text (place + 88) (device_bytes d) → IsDevices text place d
+-- a timer that doesn't count by itself has phase 0
+phase_none : (rate phase : ℕ) → rate ≡ 0 → IsPhase rate phase → phase ≡ 0
+unfolding is_phase
+phase_none rate phase still fits = grind (arith, nat_tests)
+
+pub device_stands : (text : List ℕ) (place : ℕ) (d : DeviceState) → IsDeviceState d → d.rate ≡ 0 → Stands text (place + 88) (device_bytes d) → IsDevices text place d
 unfolding device_bytes
-device_stands text place d p all =
+device_stands text place d p still all =
     let a = word_bytes d.timer in
     let b = word_bytes d.switches in
     let e = word_bytes d.leds in
@@ -117,6 +123,8 @@ device_stands text place d p all =
     let to : place + 128 ≡ place + 88 + 24 + length (ks ++ zs) = omega arith in
     record {
       timer = word_stands text (place + 88) d.timer (stands_left text (place + 88) a b s2) p.timer;
+      rate = still;
+      phase = phase_none d.rate d.phase still p.phase;
       switches = rw (← at 4) (word_stands text (place + 88 + 4) d.switches (stands_right text (place + 88) 4 (a) b s2 l1) (omega arith));
       leds = rw (← at 8) (word_stands text (place + 88 + 8) d.leds (stands_right text (place + 88) 8 (a ++ b) e s3 l2) (omega arith));
       mouse = rw (← at 12) (word_stands text (place + 88 + 12) d.mouse (stands_right text (place + 88) 12 (a ++ b ++ e) m s4 l3) (omega arith));
@@ -159,7 +167,7 @@ checkpoint_stands text place pool c p few s =
     record {
       count = long_stands text place c.count (stands_left text place a b s2) (omega arith);
       cpu = cpu_stands text place c.cpu p.cpu (stands_right text (place) 8 (a) b s2 l1);
-      devices = device_stands text place c.devices p.devices (stands_right text (place) 88 (a ++ b) d s3 l2);
+      devices = device_stands text place c.devices p.devices p.rate (stands_right text (place) 88 (a ++ b) d s3 l2);
       sent = word_stands text (place + 128) (length c.sent) (stands_right text (place) 128 (a ++ b ++ d) e s4 l3) (omega arith);
       table = words_stand text (place + 132) c.table p.table.fit (stands_right text (place) 132 (a ++ b ++ d ++ e) t s5 l4);
     }

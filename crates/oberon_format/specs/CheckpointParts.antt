@@ -22,7 +22,7 @@ abbrev pub no_checkpoint : CheckpointParts
 no_checkpoint = record {
   count = 0;
   cpu = record { r = []; h = 0; pc = 0; flags = record { n = false; z = false; c = false; v = false }; stop = 0 };
-  devices = record { timer = 0; switches = 0; leds = 0; mouse = 0; serial = 0; received = false; keys = [] };
+  devices = record { timer = 0; rate = 0; phase = 0; switches = 0; leds = 0; mouse = 0; serial = 0; received = false; keys = [] };
   sent = [];
   table = [];
 }

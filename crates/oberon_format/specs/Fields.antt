@@ -8,12 +8,13 @@ pub record EventFields : Type 0 where
   pub value : ℕ
 
 -- a checkpoint's fields that have a range: `waiting` is the number of its keys, `unused` are the key bytes at or after that
--- number, and `output` is the length of its output
+-- number, `output` is the length of its output, and `rate` is the timer's rate, for which a text of this version has no place
 pub record CheckpointFields : Type 0 where
   pub count : ℕ
   pub pc : ℕ
   pub flags : ℕ
   pub stop : ℕ
+  pub rate : ℕ
   pub switches : ℕ
   pub leds : ℕ
   pub mouse : ℕ

@@ -24,6 +24,7 @@ checkpoint_fields c = record {
   pc = c.cpu.pc;
   flags = flags_number c.cpu;
   stop = c.cpu.stop;
+  rate = c.devices.rate;
   switches = c.devices.switches;
   leds = c.devices.leds;
   mouse = c.devices.mouse;
@@ -34,7 +35,7 @@ checkpoint_fields c = record {
 }
 
 abbrev pub no_fields : CheckpointFields
-no_fields = record { count = 0; pc = 0; flags = 0; stop = 0; switches = 0; leds = 0; mouse = 0; serial = 0; waiting = 0; unused = []; output = 0 }
+no_fields = record { count = 0; pc = 0; flags = 0; stop = 0; rate = 0; switches = 0; leds = 0; mouse = 0; serial = 0; waiting = 0; unused = []; output = 0 }
 
 -- the fields of the text of these parts. A number may be too large for its field: it then breaks that field's rule
 abbrev pub fields_of_parts : RecordingParts → Fields

@@ -28,10 +28,11 @@ is_output k sent own = (if k == 0 then own == 0 else true) && nat_le (sent + own
 abbrev pub are_keys : CheckpointFields → Bool
 are_keys c = nat_le c.waiting 16 && list_all (λ byte. byte == 0) c.unused
 
--- the fields that have a range of their own
+-- the fields that have a range of their own; version 1 is of timers that don't count by themselves
 abbrev pub in_ranges : CheckpointFields → Bool
 in_ranges c =
-    nat_lt c.pc 4194304
+    c.rate == 0
+    && nat_lt c.pc 4194304
     && nat_lt c.flags 16
     && nat_le c.stop 4
     && nat_lt c.switches 4096

@@ -33,11 +33,12 @@ last_of r = length r.checkpoints - 1
 abbrev pub output_of : List CheckpointParts → List ℕ
 output_of checkpoints = flat_map (λ c. c.sent) checkpoints
 
--- a checkpoint that is in its ranges and names pages of the pool. It may claim any stop
+-- a checkpoint that is in its ranges and names pages of the pool, and whose timer doesn't count by itself. It may claim any stop
 pub record IsFit (pool : List (List ℕ)) (c : CheckpointParts) : Type 0 where
   pub bounded : c.count ≤ max_count
   pub cpu : IsCpuState c.cpu
   pub devices : IsDeviceState c.devices
+  pub rate : c.devices.rate ≡ 0
   pub table : IsTable c.table
   pub named : IsNamed pool c.table
   pub bytes : All (λ byte. byte < 2 ^ 8) c.sent

@@ -38,9 +38,12 @@ pub record IsCpu (text : List ℕ) (place : ℕ) (cpu : CpuState) : Type 0 where
   pub flags : word_at text (place + 80) ≡ flags_number cpu
   pub stop : word_at text (place + 84) ≡ cpu.stop
 
--- the devices of the checkpoint at a place: sixteen key bytes, oldest key first, and zeros after the keys
+-- the devices of the checkpoint at a place: a timer that doesn't count by itself; sixteen key bytes, oldest key first, and zeros
+-- after the keys
 pub record IsDevices (text : List ℕ) (place : ℕ) (d : DeviceState) : Type 0 where
   pub timer : word_at text (place + 88) ≡ d.timer
+  pub rate : d.rate ≡ 0
+  pub phase : d.phase ≡ 0
   pub switches : word_at text (place + 92) ≡ d.switches
   pub leds : word_at text (place + 96) ≡ d.leds
   pub mouse : word_at text (place + 100) ≡ d.mouse

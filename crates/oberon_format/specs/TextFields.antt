@@ -21,6 +21,7 @@ checkpoint_of text place = record {
   pc = word_at text (place + 76);
   flags = word_at text (place + 80);
   stop = word_at text (place + 84);
+  rate = 0;
   switches = word_at text (place + 92);
   leds = word_at text (place + 96);
   mouse = word_at text (place + 100);

@@ -3,7 +3,7 @@
 //! What the types of the parts say isn't tested again: devices and inputs are in their ranges, and inputs in their order. Nothing
 //! here takes memory.
 
-ghost use Rattle.std.specs.Prelude.{◌≡◌, ◌<◌, ◌≤◌, ◌+◌, ◌&&◌, nat_le, nat_lt, length, slice_index};
+ghost use Rattle.std.specs.Prelude.{◌≡◌, ◌<◌, ◌≤◌, ◌+◌, ◌&&◌, ◌==◌, nat_le, nat_lt, length, slice_index};
 ghost use Rattle.std.specs.Option.{IfNone};
 ghost use Rattle.oberon_format.specs.CheckpointParts.{checkpoint_parts};
 ghost use Rattle.oberon_format.specs.FirstFault.{first_broken, each};
@@ -19,6 +19,7 @@ use crate::formed::{all_formed, formed};
 use crate::layout::checkpoint_start;
 use crate::ranges::{MAX_CHECKPOINTS, MAX_EVENTS, MAX_PAGES, is_count, is_output};
 use crate::recording::Recording;
+use risc_devices::Devices;
 use risc_machine::{Cpu, Inputs};
 use risc_pages::{Pool, Table};
 
@@ -86,11 +87,11 @@ fn counts_fault(pool: &Pool, inputs: &Inputs, checkpoints: &[Checkpoint]) -> Opt
     None
 }
 
-/// Whether the program counter and the stop are in their ranges.
-fn in_ranges(cpu: &Cpu) -> bool
-    ensures { result ≡ (nat_lt cpu.now.pc 4194304 && nat_le cpu.now.stop 4) }
+/// Whether the timer's rate, the program counter and the stop are in their ranges.
+fn in_ranges(devices: &Devices, cpu: &Cpu) -> bool
+    ensures { result ≡ (devices.now.rate == 0 && nat_lt cpu.now.pc 4194304 && nat_le cpu.now.stop 4) }
 {
-    cpu.pc < 4_194_304 && cpu.stop <= 4
+    devices.rate() == 0 && cpu.pc < 4_194_304 && cpu.stop <= 4
 }
 
 /// Whether the fields before the table of checkpoint k are in their ranges, after a count and a length of output.
@@ -103,7 +104,7 @@ fn is_checkpoint(k: usize, before: u64, sent: u64, checkpoint: &Checkpoint) -> b
     if !is_count(k, before, checkpoint.count) {
         return false;
     }
-    if !in_ranges(&checkpoint.cpu) {
+    if !in_ranges(&checkpoint.devices, &checkpoint.cpu) {
         return false;
     }
     is_output(k, sent, own)

@@ -161,6 +161,7 @@ fn cpu_of(text: &[u8], place: usize) -> Cpu
 }
 
 /// The devices of the checkpoint at a place.
+#[tactic(auto, unfolding(risc_devices::specs::DeviceState::is_phase))]
 fn devices_of(text: &[u8], place: usize) -> Devices
     requires room { place + 4228 ≤ length text.now }
     requires ranges { in_ranges (checkpoint_of text.now place) ≡ true }
@@ -170,6 +171,9 @@ fn devices_of(text: &[u8], place: usize) -> Devices
     let waiting = u32_at(text, place + 108) as usize;
     Devices::new(
         u32_at(text, place + 88),
+        // version 1 is of timers that don't count by themselves: rate 0 and phase 0
+        0,
+        0,
         u32_at(text, place + 92) as u16,
         u32_at(text, place + 96) as u8,
         u32_at(text, place + 100),

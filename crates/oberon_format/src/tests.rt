@@ -482,7 +482,7 @@ fn checkpoint(rt: &impl Abort, alloc: Global, row: Row) -> Result<Checkpoint, Al
             flags,
             stop,
         },
-        devices: Devices::new(0, 0, 0, 0, 0, &[]).expect(rt, "the parts are in range"),
+        devices: Devices::new(0, 0, 0, 0, 0, 0, 0, &[]).expect(rt, "the parts are in range"),
         sent: Sent::new(vec![in alloc; 0; sent]?),
         table,
     })
@@ -498,10 +498,28 @@ fn fault_of(
     let mut checkpoints = Vec::new(alloc);
     checkpoints.push(checkpoint(rt, alloc, first)?)?;
     checkpoints.push(checkpoint(rt, alloc, last)?)?;
+    Ok(fault_of_checkpoints(alloc, checkpoints))
+}
+
+/// What is wrong with checkpoints over no pages.
+fn fault_of_checkpoints(alloc: Global, checkpoints: Vec<Checkpoint>) -> Option<Fault> {
     match Inputs::new(Vec::new(alloc)) {
-        Ok(inputs) => Ok(Recording::from_parts(Pool::new(alloc), inputs, checkpoints).err()),
-        Err(_) => Ok(Some(Fault::Memory)),
+        Ok(inputs) => Recording::from_parts(Pool::new(alloc), inputs, checkpoints).err(),
+        Err(_) => Some(Fault::Memory),
     }
+}
+
+#[test]
+fn refuses_parts_whose_timer_counts_by_itself(rt: HostRuntime) -> Result<(), Fail> {
+    for (rate, fault) in [(0, None), (1, Some(Fault::Checkpoint(4252)))] {
+        let devices = Devices::new(7, rate, 0, 0, 0, 0, 0, &[]).expect(&rt, "0 is a phase");
+        let mut checkpoints = Vec::new(rt.alloc());
+        checkpoints.push(checkpoint(&rt, rt.alloc(), (0, 0, 0, 0, 0, 0))?)?;
+        let last = checkpoint(&rt, rt.alloc(), (10, 0, 0, 0, 0, 0))?;
+        checkpoints.push(Checkpoint { devices, ..last })?;
+        assert_eq!(rt; fault_of_checkpoints(rt.alloc(), checkpoints), fault);
+    }
+    Ok(())
 }
 
 #[test]

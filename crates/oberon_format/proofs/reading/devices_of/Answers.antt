@@ -1,4 +1,4 @@
-use Rattle.std.proofs.Common.{◌≡◌, ◌∙◌, ◌+◌, ◌≤◌, ◌<◌, ◌/◌, ◌%◌, ◌^◌, ℕ, length, sym, subst, arith}
+use Rattle.std.proofs.Common.{◌≡◌, ◌∙◌, ◌+◌, ◌≤◌, ◌<◌, ◌/◌, ◌%◌, ◌^◌, ℕ, length, refl, sym, subst, arith}
 use Rattle.std.specs.Prelude.{slice_range, ◌==◌, if◌then◌else◌}
 use Rattle.std.proofs.lemmas.Bool.Decides.{nat_tests}
 use Rattle.oberon_format.specs.Text.{IsDevices}
@@ -19,6 +19,8 @@ returns c =
     let len : length (slice_range text (place + 112) (place + 112 + c.u32_at-waiting.result)) ≡ c.u32_at-waiting.result = omega (arith, length-range text (place + 112) (place + 112 + c.u32_at-waiting.result) (omega arith) (omega arith)) in
     subst (IsDevices text place) (sym is) (record {
       timer = sym c.u32_at.ensures;
+      rate = refl;
+      phase = refl;
       switches = sym c.u32_at-2.ensures;
       leds = sym c.u32_at-3.ensures;
       mouse = sym c.u32_at-4.ensures;
