@@ -3,11 +3,12 @@ use Rattle.std.proofs.Common.{◌≡◌, ℕ, true, false, List, [], ◌∷◌, 
 use Rattle.std.specs.Prelude.{slice_index}
 use Rattle.risc_devices.specs.Input as input
 use Rattle.oberon_format.specs.declared.fault.Fault.TheVariants as fault
+use Rattle.oberon_format.specs.declared.layout.TheConstants.{MAGIC}
 use Rattle.oberon_format.specs.CheckpointParts.{no_checkpoint}
 use Rattle.oberon_format.specs.Fields.{Fields, total}
 use Rattle.oberon_format.specs.FirstFault.{first_broken, each}
 use Rattle.oberon_format.specs.FlagsNumber.{bits_number}
-use Rattle.oberon_format.specs.Layout.{magic, word_at, long_at, checkpoint_start, number_place}
+use Rattle.oberon_format.specs.Layout.{word_at, long_at, checkpoint_start, number_place}
 use Rattle.oberon_format.specs.PartFields.{no_event, no_fields, fault_of_parts}
 use Rattle.oberon_format.specs.Ranges.{is_count, is_output, is_event, are_keys}
 use Rattle.oberon_format.specs.Rules.{rules, rules_at, number_rules, end_rules}
@@ -71,7 +72,7 @@ begins-at-one = refl
 abbrev of_length : ℕ → Fields
 of_length n = record {
   long = n;
-  first = magic;
+  first = MAGIC;
   version = 1;
   pages = 0;
   events = 0;

@@ -5,10 +5,12 @@ use Rattle.risc_devices.specs.Input.{kind_of, value_of}
 use Rattle.risc_machine.specs.declared.event.Event.{Event}
 use Rattle.oberon_format.specs.CheckpointParts.{CheckpointParts}
 use Rattle.oberon_format.specs.declared.fault.Fault.{Fault}
+use Rattle.oberon_format.specs.declared.layout.TheConstants.{MAGIC, VERSION}
+use Rattle.oberon_format.specs.declared.ranges.TheConstants.{MAX_KEYS}
 use Rattle.oberon_format.specs.Fields.{EventFields, CheckpointFields, Fields}
 use Rattle.oberon_format.specs.FirstFault.{first_broken}
 use Rattle.oberon_format.specs.FlagsNumber.{flags_number}
-use Rattle.oberon_format.specs.Layout.{magic, checkpoint_start}
+use Rattle.oberon_format.specs.Layout.{checkpoint_start}
 use Rattle.oberon_format.specs.Recording.{RecordingParts, output_of}
 use Rattle.oberon_format.specs.Rules.{rules}
 
@@ -29,7 +31,7 @@ checkpoint_fields c = record {
   mouse = c.devices.mouse;
   serial = serial_number c.devices;
   waiting = length c.devices.keys;
-  unused = replicate (16 - length c.devices.keys) 0;
+  unused = replicate (MAX_KEYS - length c.devices.keys) 0;
   output = length c.sent;
 }
 
@@ -40,8 +42,8 @@ no_fields = record { count = 0; pc = 0; flags = 0; stop = 0; switches = 0; leds 
 abbrev pub fields_of_parts : RecordingParts → Fields
 fields_of_parts r = record {
   long = checkpoint_start (length r.pool) (length r.inputs) (length r.checkpoints) + length (output_of r.checkpoints);
-  first = magic;
-  version = 1;
+  first = MAGIC;
+  version = VERSION;
   pages = length r.pool;
   events = length r.inputs;
   checkpoints = length r.checkpoints;

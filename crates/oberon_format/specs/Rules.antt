@@ -1,9 +1,11 @@
 -- The rules of version 1, in the order in which they are tested, each with the fault of a text that breaks it.
 use Rattle.std.specs.Prelude.{ℕ, ◌+◌, ◌-◌, ◌&&◌, ◌==◌, nat_le, if◌then◌else◌, List, [], ◌∷◌, ◌++◌}
 use Rattle.oberon_format.specs.declared.fault.Fault.TheVariants as fault
+use Rattle.oberon_format.specs.declared.layout.TheConstants.{MAGIC, VERSION, HEADER_LEN, PLACES, MAGIC_AT, VERSION_AT, PAGES_AT, EVENTS_AT, CHECKPOINTS_AT, LAST_AT}
+use Rattle.oberon_format.specs.declared.ranges.TheConstants.{MAX_PAGES, MAX_EVENTS, MAX_CHECKPOINTS}
 use Rattle.oberon_format.specs.Fields.{CheckpointFields, Fields, sent_below}
 use Rattle.oberon_format.specs.FirstFault.{Rule, each}
-use Rattle.oberon_format.specs.Layout.{magic, event_start, checkpoint_start, number_place}
+use Rattle.oberon_format.specs.Layout.{event_start, checkpoint_start, number_place}
 use Rattle.oberon_format.specs.Ranges.{is_event, is_checkpoint}
 
 -- where event i, checkpoint k and the output begin
@@ -19,13 +21,13 @@ place_of_output f = place_of_checkpoint f f.checkpoints
 -- the header: it is there, its six numbers are in their ranges, and what it names is there
 abbrev pub header_rules : Fields → List Rule
 header_rules f =
-    (nat_le 24 f.long, fault.Short f.long)
-    ∷ (f.first == magic, fault.Magic 0)
-    ∷ (f.version == 1, fault.Version 4)
-    ∷ (nat_le f.pages 65536, fault.Limit 8)
-    ∷ (nat_le f.events 1000000, fault.Limit 12)
-    ∷ (nat_le 1 f.checkpoints && nat_le f.checkpoints 4097, fault.Limit 16)
-    ∷ (f.last == 0, fault.Limit 20)
+    (nat_le HEADER_LEN f.long, fault.Short f.long)
+    ∷ (f.first == MAGIC, fault.Magic MAGIC_AT)
+    ∷ (f.version == VERSION, fault.Version VERSION_AT)
+    ∷ (nat_le f.pages MAX_PAGES, fault.Limit PAGES_AT)
+    ∷ (nat_le f.events MAX_EVENTS, fault.Limit EVENTS_AT)
+    ∷ (nat_le 1 f.checkpoints && nat_le f.checkpoints MAX_CHECKPOINTS, fault.Limit CHECKPOINTS_AT)
+    ∷ (f.last == 0, fault.Limit LAST_AT)
     ∷ (nat_le (place_of_output f) f.long, fault.Short f.long)
     ∷ []
 
@@ -44,7 +46,7 @@ number_rules pages place number j = (nat_le (number j) pages, fault.Page (number
 -- checkpoint k, which begins at a place: first the fields before its table, then each of its page numbers
 unfoldable pub rules_at : ℕ → ℕ → ℕ → ℕ → ℕ → CheckpointFields → (ℕ → ℕ) → List Rule
 rules_at pages place k before sent c number =
-    (is_checkpoint k before sent c, fault.Checkpoint place) ∷ each 1024 (number_rules pages place number)
+    (is_checkpoint k before sent c, fault.Checkpoint place) ∷ each PLACES (number_rules pages place number)
 
 -- the count of the checkpoint before checkpoint k
 abbrev pub count_before : Fields → ℕ → ℕ

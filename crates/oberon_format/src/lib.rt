@@ -25,6 +25,7 @@ pub use checkpoint::Checkpoint;
 pub use fault::Fault;
 pub use laws::{fault_of_parts, lawful_parts, named_fault, one_recording, one_text, text_or_fault};
 pub use line::refusal;
+pub use ranges::{LAST_CHECKPOINT, MAX_CHECKPOINTS, MAX_COUNT, MAX_EVENTS, MAX_OUTPUT, MAX_PAGES};
 pub use reading::read;
 pub use recording::Recording;
 pub use sent::Sent;

@@ -16,8 +16,10 @@ ghost use Rattle.oberon_format.specs.Rules.{header_rules, checkpoint_rules, numb
 use crate::checkpoint::Checkpoint;
 use crate::fault::Fault;
 use crate::formed::{all_formed, formed};
-use crate::layout::checkpoint_start;
-use crate::ranges::{MAX_CHECKPOINTS, MAX_EVENTS, MAX_PAGES, is_count, is_output};
+use crate::layout::{CHECKPOINTS_AT, EVENTS_AT, PAGES_AT, PLACES, TABLE_AT, checkpoint_start};
+use crate::ranges::{
+    COUNTER_END, MAX_CHECKPOINTS, MAX_EVENTS, MAX_OUTPUT, MAX_PAGES, MAX_STOP, is_count, is_output,
+};
 use crate::recording::Recording;
 use risc_machine::{Cpu, Inputs};
 use risc_pages::{Pool, Table};
@@ -70,32 +72,32 @@ fn parts_fault(pool: &Pool, inputs: &Inputs, checkpoints: &[Checkpoint]) -> Opti
 /// The first fault of the numbers of parts.
 fn counts_fault(pool: &Pool, inputs: &Inputs, checkpoints: &[Checkpoint]) -> Option<Fault>
     ensures fault { result ≡ first_broken (header_rules (fields_of_parts (parts_of pool.now inputs.now checkpoints.now))) }
-    ensures pages { IfNone result (length pool.now ≤ 65536) }
-    ensures events { IfNone result (length inputs.now ≤ 1000000) }
-    ensures few { IfNone result (length checkpoints.now ≤ 4097) }
+    ensures pages { IfNone result (length pool.now ≤ MAX_PAGES) }
+    ensures events { IfNone result (length inputs.now ≤ MAX_EVENTS) }
+    ensures few { IfNone result (length checkpoints.now ≤ MAX_CHECKPOINTS) }
 {
     if pool.len() > MAX_PAGES {
-        return Some(Fault::Limit(8));
+        return Some(Fault::Limit(PAGES_AT as u64));
     }
     if inputs.events().len() > MAX_EVENTS as usize {
-        return Some(Fault::Limit(12));
+        return Some(Fault::Limit(EVENTS_AT as u64));
     }
     if checkpoints.len() < 1 || checkpoints.len() > MAX_CHECKPOINTS as usize {
-        return Some(Fault::Limit(16));
+        return Some(Fault::Limit(CHECKPOINTS_AT as u64));
     }
     None
 }
 
 /// Whether the program counter and the stop are in their ranges.
 fn in_ranges(cpu: &Cpu) -> bool
-    ensures { result ≡ (nat_lt cpu.now.pc 4194304 && nat_le cpu.now.stop 4) }
+    ensures { result ≡ (nat_lt cpu.now.pc COUNTER_END && nat_le cpu.now.stop MAX_STOP) }
 {
-    cpu.pc < 4_194_304 && cpu.stop <= 4
+    cpu.pc < COUNTER_END && u32::from(cpu.stop) <= MAX_STOP
 }
 
 /// Whether the fields before the table of checkpoint k are in their ranges, after a count and a length of output.
 fn is_checkpoint(k: usize, before: u64, sent: u64, checkpoint: &Checkpoint) -> bool
-    requires { sent ≤ 1048576 }
+    requires { sent ≤ MAX_OUTPUT }
     ensures { result ≡ is_checkpoint k before sent (checkpoint_fields (checkpoint_parts checkpoint.now)) }
 {
     formed(checkpoint);
@@ -112,12 +114,12 @@ fn is_checkpoint(k: usize, before: u64, sent: u64, checkpoint: &Checkpoint) -> b
 /// The first fault of the page numbers of a table, whose checkpoint begins at a place.
 fn numbers_fault(pages: u32, place: u64, table: &Table) -> Option<Fault>
     requires { place < 1000000000 }
-    ensures { result ≡ first_broken (each 1024 (number_rules pages place (slice_index table.now))) }
+    ensures { result ≡ first_broken (each PLACES (number_rules pages place (slice_index table.now))) }
 {
     let numbers = table.numbers();
-    for j in 0..1024 {
+    for j in 0..PLACES {
         if numbers[j] > pages {
-            return Some(Fault::Page(place + 132 + 4 * j as u64));
+            return Some(Fault::Page(place + TABLE_AT as u64 + 4 * j as u64));
         }
     }
     None
@@ -134,9 +136,9 @@ fn checkpoint_fault(
     checkpoint: &Checkpoint,
 ) -> Option<Fault>
     requires place { place < 1000000000 }
-    requires sent { sent ≤ 1048576 }
+    requires sent { sent ≤ MAX_OUTPUT }
     ensures fault { result ≡ first_broken (rules_at pages place k before sent (checkpoint_fields (checkpoint_parts checkpoint.now)) (slice_index checkpoint.now.table)) }
-    ensures small { IfNone result (sent + length checkpoint.now.sent ≤ 1048576) }
+    ensures small { IfNone result (sent + length checkpoint.now.sent ≤ MAX_OUTPUT) }
 {
     if !is_checkpoint(k, before, sent, checkpoint) {
         return Some(Fault::Checkpoint(place));
@@ -146,9 +148,9 @@ fn checkpoint_fault(
 
 /// The first fault of the checkpoints.
 fn checkpoints_fault(pool: &Pool, inputs: &Inputs, checkpoints: &[Checkpoint]) -> Option<Fault>
-    requires pages { length pool.now ≤ 65536 }
-    requires events { length inputs.now ≤ 1000000 }
-    requires few { length checkpoints.now ≤ 4097 }
+    requires pages { length pool.now ≤ MAX_PAGES }
+    requires events { length inputs.now ≤ MAX_EVENTS }
+    requires few { length checkpoints.now ≤ MAX_CHECKPOINTS }
     ensures { result ≡ first_broken (each (length checkpoints.now) (checkpoint_rules (fields_of_parts (parts_of pool.now inputs.now checkpoints.now)))) }
 {
     let events = inputs.events().len() as u32;

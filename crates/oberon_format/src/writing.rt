@@ -11,7 +11,8 @@ ghost use Rattle.oberon_format.specs.Text.{Text};
 ghost use Rattle.risc_machine.specs.MachineState.{cpu_state};
 
 use crate::checkpoint::Checkpoint;
-use crate::layout::{MAGIC, checkpoint_start};
+use crate::layout::{MAGIC, VERSION, checkpoint_start};
+use crate::ranges::{MAX_KEYS, MAX_OUTPUT};
 use crate::recording::Recording;
 use byteorder::{ByteOrder, LittleEndian};
 use risc_devices::Devices;
@@ -107,7 +108,7 @@ fn push_header(out: &mut Vec<u8>, r: &Recording) -> Result<(), AllocError>
     ensures { OnOk result (out.new.items ≡ out.old.items ++ header_bytes r.now) }
 {
     push_word(out, MAGIC)?;
-    push_word(out, 1)?;
+    push_word(out, VERSION)?;
     push_word(out, r.pool().len())?;
     push_word(out, r.inputs().events().len() as u32)?;
     push_word(out, r.count())?;
@@ -176,13 +177,13 @@ fn push_devices(out: &mut Vec<u8>, devices: &Devices) -> Result<(), AllocError>
     push_word(out, devices.serial() as u32)?;
     push_word(out, keys.len() as u32)?;
     out.extend_from_slice(keys)?;
-    push_zeros(out, 16 - keys.len())
+    push_zeros(out, MAX_KEYS as usize - keys.len())
 }
 
 /// Adds a checkpoint, but for its output.
 #[tactic(auto, unfolding(crate::specs::Spelling::checkpoint_bytes))]
 fn push_checkpoint(out: &mut Vec<u8>, checkpoint: &Checkpoint) -> Result<(), AllocError>
-    requires { length checkpoint.now.sent ≤ 1048576 }
+    requires { length checkpoint.now.sent ≤ MAX_OUTPUT }
     ensures { OnOk result (out.new.items ≡ out.old.items ++ checkpoint_bytes (checkpoint_parts checkpoint.now)) }
 {
     push_long(out, checkpoint.count)?;

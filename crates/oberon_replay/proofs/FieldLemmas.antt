@@ -4,10 +4,12 @@ use Rattle.std.proofs.Common.{◌≡◌, ◌≤◌, ◌<◌, ◌+◌, ◌-◌, �
 use Rattle.std.specs.Prelude.{nat_le}
 use Rattle.std.proofs.lemmas.Bool.{and_parts, le-leb, leb-true}
 use Rattle.oberon_format.specs.declared.fault.Fault.TheVariants as fault
+use Rattle.oberon_format.specs.declared.layout.TheConstants.{MAGIC}
+use Rattle.oberon_format.specs.declared.ranges.TheConstants.{MAX_OUTPUT}
 use Rattle.oberon_format.specs.FirstFault.{Rule, each, first_broken}
 use Rattle.oberon_format.specs.Fields.{CheckpointFields, EventFields, Fields, sent_below, total}
-use Rattle.oberon_format.specs.Layout.{magic, number_place}
-use Rattle.oberon_format.specs.Ranges.{are_keys, in_ranges, is_checkpoint, is_count, is_event, is_output, max_output}
+use Rattle.oberon_format.specs.Layout.{number_place}
+use Rattle.oberon_format.specs.Ranges.{are_keys, in_ranges, is_checkpoint, is_count, is_event, is_output}
 use Rattle.oberon_format.specs.Rules.{place_of_checkpoint, checkpoint_rules, count_before, end_rules, place_of_event, event_floor, event_rules, header_rules, number_rules, place_of_output, rules, rules_at, whole}
 use Rattle.oberon_replay.proofs.RuleLemmas.{both_pass, each_same, last_holds, same_after, same_behind, too_long, total_same}
 
@@ -40,8 +42,8 @@ sent_within pages place k before sent c number none = go (is_checkpoint k before
     go false is none = cc
     go true is none =
         let output = and_parts (is_count k before c.count && in_ranges c && are_keys c) (is_output k sent c.output) is in
-        let sum = and_parts (if k == 0 then c.output == 0 else true) (nat_le (sent + c.output) max_output) output.1 in
-        leb-true (sent + c.output) max_output sum.1
+        let sum = and_parts (if k == 0 then c.output == 0 else true) (nat_le (sent + c.output) MAX_OUTPUT) output.1 in
+        leb-true (sent + c.output) MAX_OUTPUT sum.1
 
 module _ (first version pages events checkpoints last : ℕ) where
   abbrev pub fields : ℕ → (ℕ → EventFields) → (ℕ → CheckpointFields) → (ℕ → ℕ → ℕ) → Fields
@@ -126,13 +128,13 @@ module _ (first version pages events checkpoints last : ℕ) where
     from_version n rest = (version == 1, fault.Version 4) ∷ from_pages n rest
 
     abbrev from_magic : ℕ → List Rule → List Rule
-    from_magic n rest = (first == magic, fault.Magic 0) ∷ from_version n rest
+    from_magic n rest = (first == MAGIC, fault.Magic 0) ∷ from_version n rest
 
     header_same : (p q : List Rule) → (pages ≤ 65536 → events ≤ 1000000 → checkpoints ≤ 4097 → first_broken p ≡ first_broken q)
         → first_broken (header_rules f ++ p) ≡ first_broken (header_rules g ++ q)
     header_same p q same =
         both_pass (nat_le 24 long) (nat_le 24 long') (fault.Short long) (fault.Short long') (from_magic long p) (from_magic long' q) (le-leb _ _ (omega arith)) (le-leb _ _ (omega arith))
-        (same_after (first == magic) (fault.Magic 0) (from_version long p) (from_version long' q) (λ _.
+        (same_after (first == MAGIC) (fault.Magic 0) (from_version long p) (from_version long' q) (λ _.
         same_after (version == 1) (fault.Version 4) (from_pages long p) (from_pages long' q) (λ _.
         same_after (nat_le pages 65536) (fault.Limit 8) (from_events long p) (from_events long' q) (λ few_pages.
         same_after (nat_le events 1000000) (fault.Limit 12) (from_checkpoints long p) (from_checkpoints long' q) (λ few_events.

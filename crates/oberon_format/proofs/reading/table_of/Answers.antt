@@ -1,6 +1,7 @@
 use Rattle.std.proofs.Common.{◌≡◌, ◌<◌, ◌+◌, ◌*◌, ◌∙◌, ℕ, List, sym, ap, arith, length}
 use Rattle.std.proofs.lemmas.List.{length-set, length-replicate}
 use Rattle.risc_pages.specs.Tables.{zero_numbers}
+use Rattle.oberon_format.specs.declared.layout.TheConstants.{TABLE_AT}
 use Rattle.oberon_format.specs.Layout.{word_at}
 use Rattle.oberon_format.proofs.Each.{each_set}
 use Rattle.oberon_format.proofs.reading.table_of.Goals as goal
@@ -19,7 +20,7 @@ loop-j-preserved c =
     let lt : j < length numbers = omega arith in
     rw c.set.ensures (record {
       len = length-set numbers j c.u32_at.result ∙ c.loop-j.invariant.len;
-      each = each_set (λ k word. word_at c.args.text.now (c.args.place + 132 + 4 * k) ≡ word) numbers j c.u32_at.result lt c.loop-j.invariant.each (sym c.u32_at.ensures);
+      each = each_set (λ k word. word_at c.args.text.now (c.args.place + TABLE_AT + 4 * k) ≡ word) numbers j c.u32_at.result lt c.loop-j.invariant.each (sym c.u32_at.ensures);
     })
 
 pub returns : goal.returns
