@@ -4,7 +4,6 @@ use Rattle.std.specs.Prelude.{slice_range, replicate}
 use Rattle.std.proofs.lemmas.List.{drop_at}
 use Rattle.risc_devices.specs.DeviceState.{DeviceState}
 use Rattle.risc_machine.specs.declared.event.Event.{Event}
-use Rattle.oberon_format.specs.declared.layout.TheConstants.{WAITING_AT, KEYS_AT, SENT_AT}
 use Rattle.oberon_format.specs.CheckpointParts.{CheckpointParts, no_checkpoint}
 use Rattle.oberon_format.specs.Layout.{word_at, event_place, checkpoint_place}
 use Rattle.oberon_format.specs.PartFields.{fields_of_parts, fault_of_parts, event_fields, checkpoint_fields}
@@ -25,23 +24,9 @@ events_agree text r is i lt =
     let d = member r.inputs i lt in
     event_stands text (event_place text i) (get_or r.inputs i d) (is.events_stand i d lt) ∙ sym (event_here r i d lt)
 
--- the key bytes after the keys
-unused_agree : (text : List ℕ) (place : ℕ) (d : DeviceState) → place + SENT_AT ≤ length text → length d.keys ≤ 16 → IsDevices text place d
-    → slice_range text (place + KEYS_AT + word_at text (place + WAITING_AT)) (place + SENT_AT) ≡ replicate (16 - length d.keys) 0
-unused_agree text place d room few is =
-    let n = word_at text (place + WAITING_AT) in
-    let w = is.waiting in
-    let zs : List ℕ = replicate (16 - length d.keys) 0 in
-    let a = slice_range text (place + KEYS_AT) (place + KEYS_AT + n) in
-    let b = slice_range text (place + KEYS_AT + n) (place + SENT_AT) in
-    let split : slice_range text (place + KEYS_AT) (place + SENT_AT) ≡ a ++ b = range-split text (place + KEYS_AT) (place + KEYS_AT + n) (place + SENT_AT) (omega arith) (omega arith) (omega arith) in
-    let la : length a ≡ n = omega (arith, length-range text (place + KEYS_AT) (place + KEYS_AT + n) (omega arith) (omega arith)) in
-    sym (drop_at a b n la) ∙ ap (drop n) (sym split ∙ is.keys) ∙ drop_at d.keys zs n (sym w)
-
 -- a checkpoint that stands at a place has its fields there
-checkpoint_stands : (text : List ℕ) (place : ℕ) (c : CheckpointParts) → place + SENT_AT ≤ length text → length c.devices.keys ≤ 16 → IsCheckpoint text place c → checkpoint_of text place ≡ checkpoint_fields c
-checkpoint_stands text place c room few is =
-    let unused = unused_agree text place c.devices room few is.devices in
+checkpoint_stands : (text : List ℕ) (place : ℕ) (c : CheckpointParts) → IsCheckpoint text place c → checkpoint_of text place ≡ checkpoint_fields c
+checkpoint_stands text place c is =
     λ i. record {
       count = is.count i;
       pc = is.cpu.pc i;
@@ -52,7 +37,7 @@ checkpoint_stands text place c room few is =
       mouse = is.devices.mouse i;
       serial = is.devices.serial i;
       waiting = is.devices.waiting i;
-      unused = unused i;
+      keys = is.devices.keys i;
       output = is.sent i;
     }
 
@@ -72,9 +57,9 @@ fields_agree text r formed is =
       last = is.zero;
       event = events_agree text r is;
       checkpoint = λ k lt.
-          checkpoint_stands text (checkpoint_place text k) (checkpoint_at r k) (omega arith) (formed k no_checkpoint lt).devices.keys (is.checkpoints_stand k no_checkpoint lt)
+          checkpoint_stands text (checkpoint_place text k) (checkpoint_at r k) (is.checkpoints_stand k no_checkpoint lt)
           ∙ sym (checkpoint_here r k lt);
-      number = λ k j lt less.
+      page_number = λ k j lt less.
           let table = (formed k no_checkpoint lt).table.count in
           (is.checkpoints_stand k no_checkpoint lt).table j 0 (omega arith) ∙ ap (λ (h : ℕ → ℕ). h j) (sym (number_here r k lt));
     }

@@ -144,8 +144,7 @@ device_back text p d h room is =
     let s3 = holds_join text q (p + 100) 12 4 16 _ _ s2 m (omega arith) (omega arith) in
     let s4 = holds_join text q (p + 104) 16 4 20 _ _ s3 g (omega arith) (omega arith) in
     let s5 = holds_join text q (p + 108) 20 4 24 _ _ s4 w (omega arith) (omega arith) in
-    let s6 = holds_join text q (p + 112) 24 16 40 _ _ s5 k (omega arith) (omega arith) in
-    rw append_assoc s6
+    holds_join text q (p + 112) 24 16 40 _ _ s5 k (omega arith) (omega arith)
 
 checkpoint_back : (text : List ℕ) (p : ℕ) (pool : List (List ℕ)) (c : CheckpointParts) → IsBytes text → p + CHECKPOINT_LEN ≤ length text → IsCheckpoint text p c → IsFit pool c → Holds text p 4228 (checkpoint_bytes c)
 unfolding checkpoint_bytes

@@ -4,7 +4,7 @@ use Rattle.std.specs.Prelude.{slice_index, replicate, nat_le, nat_lt, if◌then�
 use Rattle.std.specs.List.{list_all}
 use Rattle.std.specs.Option.{IfNone}
 use Rattle.std.proofs.lemmas.Bool.{le-leb, lt-ltb, leb-true, ltb-true}
-use Rattle.std.proofs.lemmas.List.{get_or_default}
+use Rattle.std.proofs.lemmas.List.{drop_at, get_or_default}
 use Rattle.std.proofs.lemmas.Bool.Decides.{nat_tests}
 use Rattle.risc_devices.specs.DeviceState.{DeviceState, IsDeviceState, serial_number}
 use Rattle.risc_devices.specs.InputKind.{is_input, is_mouse}
@@ -17,14 +17,15 @@ use Rattle.oberon_format.specs.declared.fault.Fault.{Fault}
 use Rattle.oberon_format.specs.declared.fault.Fault.TheVariants as fault
 use Rattle.oberon_format.specs.declared.ranges.TheConstants.{MAX_COUNT, MAX_OUTPUT, MAX_PAGES, MAX_EVENTS, MAX_CHECKPOINTS, COUNTER_END, MAX_STOP}
 use Rattle.oberon_format.specs.CheckpointParts.{CheckpointParts, no_checkpoint}
-use Rattle.oberon_format.specs.Fields.{Fields, EventFields, CheckpointFields, sent_below}
+use Rattle.oberon_format.specs.declared.fields.CheckpointFields.{CheckpointFields}
+use Rattle.oberon_format.specs.Fields.{Fields, EventFields, sent_below}
 use Rattle.oberon_format.specs.FirstFault.{first_broken, each}
 use Rattle.oberon_format.specs.FlagsNumber.{flags_number}
-use Rattle.oberon_format.specs.Layout.{number_place}
+use Rattle.oberon_format.specs.Layout.{page_number_place}
 use Rattle.oberon_format.specs.PartFields.{fields_of_parts, fault_of_parts, event_fields, no_event, checkpoint_fields}
 use Rattle.oberon_format.specs.Ranges.{is_count, is_output, in_ranges, are_keys, is_checkpoint}
 use Rattle.oberon_format.specs.Recording.{RecordingParts, IsLawful, checkpoint_at, count_at, output_of}
-use Rattle.oberon_format.specs.Rules.{header_rules, event_rules, event_floor, place_of_checkpoint, number_rules, rules_at, count_before, checkpoint_rules}
+use Rattle.oberon_format.specs.Rules.{header_rules, event_rules, event_floor, place_of_checkpoint, page_number_rules, rules_at, count_before, checkpoint_rules}
 use Rattle.oberon_format.specs.Formed.{IsFormed, AreFormed}
 use Rattle.oberon_format.proofs.RuleLemmas.{any_in_end, any_in_checkpoints, AreMet, met_parts, parts_met, each_holds, each_all, rule_holds, and_left, and_right}
 use Rattle.oberon_format.proofs.PartLemmas.{member, event_here, checkpoint_here, before_more, sent_none, sent_more, total_le, sent_all, rules_here, ends_met}
@@ -44,7 +45,7 @@ serial_fits d fits = let s = fits.serial in grind arith
 pub keys_met : (c : CheckpointParts) → IsFormed c → are_keys (checkpoint_fields c) ≡ true
 keys_met c formed =
     let few : nat_le (length c.devices.keys) 16 ≡ true = le-leb _ _ formed.devices.keys in
-    rw (few, zeros_met (16 - length c.devices.keys)) refl
+    rw (few, drop_at c.devices.keys (replicate (16 - length c.devices.keys) 0) (length c.devices.keys) refl, zeros_met (16 - length c.devices.keys)) refl
 
 two_of_seven : (a f b s l m x : Bool) → f ≡ true → s ≡ true → l ≡ true → m ≡ true → x ≡ true → (a && f && b && s && l && m && x) ≡ (a && b)
 two_of_seven true f true s l m x hf hs hl hm hx = rw (hf, hs, hl, hm, hx) refl
@@ -59,17 +60,6 @@ ranges_are c formed =
 
 pub ranges_met : (c : CheckpointParts) → IsFormed c → nat_lt c.cpu.pc COUNTER_END ≡ true → nat_le c.cpu.stop MAX_STOP ≡ true → in_ranges (checkpoint_fields c) ≡ true
 ranges_met c formed pc stop = ranges_are c formed ∙ rw (pc, stop) refl
-
--- the test of a checkpoint's fields, where its parts are formed
-pub checkpoint_test : (k before sent : ℕ) (c : CheckpointParts) → IsFormed c
-    → is_count k before c.count ≡ true → (nat_lt c.cpu.pc COUNTER_END && nat_le c.cpu.stop MAX_STOP) ≡ true → is_checkpoint k before sent (checkpoint_fields c) ≡ is_output k sent (length c.sent)
-checkpoint_test k before sent c formed count ranges = rw (count, ranges_are c formed, ranges, keys_met c formed) refl
-
-pub count_fails : (k before sent : ℕ) (c : CheckpointParts) → is_count k before c.count ≡ false → is_checkpoint k before sent (checkpoint_fields c) ≡ false
-count_fails k before sent c count = rw count refl
-
-pub ranges_fail : (k before sent : ℕ) (c : CheckpointParts) → IsFormed c → is_count k before c.count ≡ true → (nat_lt c.cpu.pc COUNTER_END && nat_le c.cpu.stop MAX_STOP) ≡ false → is_checkpoint k before sent (checkpoint_fields c) ≡ false
-ranges_fail k before sent c formed count ranges = rw (count, ranges_are c formed, ranges) refl
 
 -- what the header's rules say of the numbers
 pub record IsWithin (f : Fields) : Type 0 where
@@ -136,7 +126,7 @@ checkpoint_met r k lt h =
     let place = place_of_checkpoint f k in
     let number = slice_index (checkpoint_at r k).table in
     let here = sym (ap first_broken (rules_here r k place (count_before f k) (sent_below f k) lt refl refl refl)) ∙ h in
-    let two = rule_holds (is_checkpoint k (count_before f k) (sent_below f k) c) (fault.Checkpoint place) (each 1024 (number_rules (length r.pool) place number)) here in
+    let two = rule_holds (is_checkpoint k (count_before f k) (sent_below f k) c) (fault.Checkpoint place) (each 1024 (page_number_rules (length r.pool) place number)) here in
     let three = and_left (is_count k (count_before f k) c.count && in_ranges c && are_keys c) (is_output k (sent_below f k) c.output) two.0 in
     let four = and_left (is_count k (count_before f k) c.count && in_ranges c) (are_keys c) three in
     let ranges = and_right (is_count k (count_before f k) c.count) (in_ranges c) four in
@@ -145,7 +135,7 @@ checkpoint_met r k lt h =
       pc = and_left _ _ (and_left _ _ (and_left _ _ (and_left _ _ (and_left _ _ (and_left _ _ ranges)))));
       stop = and_right _ _ (and_left _ _ (and_left _ _ (and_left _ _ (and_left _ _ ranges))));
       output = and_right (is_count k (count_before f k) c.count && in_ranges c && are_keys c) (is_output k (sent_below f k) c.output) two.0;
-      numbers = λ j less. leb-true _ _ (rule_holds (nat_le (number j) (length r.pool)) (fault.Page (number_place place j)) [] (each_holds (number_rules (length r.pool) place number) 1024 j less two.1)).0;
+      numbers = λ j less. leb-true _ _ (rule_holds (nat_le (number j) (length r.pool)) (fault.Page (page_number_place place j)) [] (each_holds (page_number_rules (length r.pool) place number) 1024 j less two.1)).0;
     }
 
 -- the number of checkpoint k - 1's count is the one before checkpoint k
@@ -252,17 +242,17 @@ output_met r (suc k) lawful lt =
     let met : is_output (k + 1) (sent_below f (k + 1)) (length (checkpoint_at r (k + 1)).sent) ≡ true = next_output k _ _ fits in
     subst (λ (m : ℕ). is_output m (sent_below f m) (length (checkpoint_at r m).sent) ≡ true) (sym next) met
 
-numbers_met : (r : RecordingParts) (k place : ℕ) → IsLawful r → k < length r.checkpoints → first_broken (each 1024 (number_rules (length r.pool) place (slice_index (checkpoint_at r k).table))) ≡ None
+numbers_met : (r : RecordingParts) (k place : ℕ) → IsLawful r → k < length r.checkpoints → first_broken (each 1024 (page_number_rules (length r.pool) place (slice_index (checkpoint_at r k).table))) ≡ None
 numbers_met r k place lawful lt =
     let fit = lawful.fit k lt in
-    each_all (number_rules (length r.pool) place (slice_index (checkpoint_at r k).table)) 1024 (λ j less.
+    each_all (page_number_rules (length r.pool) place (slice_index (checkpoint_at r k).table)) 1024 (λ j less.
     let a : nat_le (slice_index (checkpoint_at r k).table j) (length r.pool) ≡ true = le-leb _ _ (fit.named j 0 (subst (λ (m : ℕ). j < m) (sym fit.table.count) less)) in
     rw a refl)
 
 all_four : (a b c d : Bool) → a ≡ true → b ≡ true → c ≡ true → d ≡ true → (a && b && c && d) ≡ true
 all_four a b c d ha hb hc hd = rw (ha, hb, hc, hd) refl
 
-rules_at_met : (pages place k before sent : ℕ) (c : CheckpointFields) (number : ℕ → ℕ) → is_checkpoint k before sent c ≡ true → first_broken (each 1024 (number_rules pages place number)) ≡ None → first_broken (rules_at pages place k before sent c number) ≡ None
+rules_at_met : (pages place k before sent : ℕ) (c : CheckpointFields) (number : ℕ → ℕ) → is_checkpoint k before sent c ≡ true → first_broken (each 1024 (page_number_rules pages place number)) ≡ None → first_broken (rules_at pages place k before sent c number) ≡ None
 unfolding rules_at
 rules_at_met pages place k before sent c number test numbers = rw test numbers
 

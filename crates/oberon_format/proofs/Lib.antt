@@ -6,6 +6,7 @@ pub mod Keys
 pub mod Output
 pub mod PartLemmas
 pub mod SameFields
+pub mod TextLemmas
 pub mod Agree
 pub mod LawfulLemmas
 pub mod ReadLemmas

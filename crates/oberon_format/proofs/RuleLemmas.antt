@@ -9,9 +9,9 @@ use Rattle.oberon_format.specs.Fields.{Fields, sent_below, total}
 use Rattle.oberon_format.specs.FirstFault.{Rule, each, first_broken}
 use Rattle.oberon_format.specs.Layout.{checkpoint_place, checkpoints, event_place, events, long_at, pages, word_at}
 use Rattle.oberon_format.specs.Ranges.{is_checkpoint, is_event}
-use Rattle.oberon_format.specs.Rules.{checkpoint_rules, count_before, end_rules, event_floor, event_rules, header_rules, number_rules, rules, rules_at, whole}
+use Rattle.oberon_format.specs.Rules.{checkpoint_rules, count_before, end_rules, event_floor, event_rules, header_rules, page_number_rules, rules, rules_at, whole}
 use Rattle.oberon_format.specs.Tested.{IsSized, Meets}
-use Rattle.oberon_format.specs.TextFields.{checkpoint_of, event_of, fields_of, first_fault_of, number_of}
+use Rattle.oberon_format.specs.TextFields.{checkpoint_of, event_of, fields_of, first_fault_of, page_number_of}
 use Rattle.risc_devices.specs.InputKind.{is_input}
 
 pub met-append : (xs ys : List Rule) → first_broken xs ≡ None → first_broken (xs ++ ys) ≡ first_broken ys
@@ -217,4 +217,4 @@ unfolding rules_at
 checkpoint_holds text k meets lt =
     let one = each_holds (checkpoint_rules (fields_of text)) (checkpoints text) k lt meets.checkpoints_meet in
     let place = checkpoint_place text k in
-    (rule_holds (is_checkpoint k (count_before (fields_of text) k) (output_below text k) (checkpoint_of text place)) (fault.Checkpoint place) (each 1024 (number_rules (pages text) place (number_of text place))) one).0
+    (rule_holds (is_checkpoint k (count_before (fields_of text) k) (output_below text k) (checkpoint_of text place)) (fault.Checkpoint place) (each 1024 (page_number_rules (pages text) place (page_number_of text place))) one).0

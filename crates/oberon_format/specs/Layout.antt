@@ -26,8 +26,8 @@ abbrev pub checkpoint_start : ℕ → ℕ → ℕ → ℕ
 checkpoint_start pages events k = event_start pages events + CHECKPOINT_LEN * k
 
 -- where page number j of a checkpoint stands, by the checkpoint's place
-abbrev pub number_place : ℕ → ℕ → ℕ
-number_place checkpoint j = checkpoint + TABLE_AT + 4 * j
+abbrev pub page_number_place : ℕ → ℕ → ℕ
+page_number_place checkpoint j = checkpoint + TABLE_AT + 4 * j
 
 -- the numbers of pages, events and checkpoints that the header of a text names
 abbrev pub pages : List ℕ → ℕ

@@ -1,9 +1,10 @@
 -- The ranges of a recording's fields. All limits are this project's own choice, and their names stand in the code's module `ranges`.
-use Rattle.std.specs.Prelude.{ℕ, ◌+◌, Bool, true, ◌&&◌, ◌==◌, nat_le, nat_lt, if◌then◌else◌}
+use Rattle.std.specs.Prelude.{ℕ, drop, ◌+◌, Bool, true, ◌&&◌, ◌==◌, nat_le, nat_lt, if◌then◌else◌}
 use Rattle.std.specs.List.{list_all}
 use Rattle.risc_devices.specs.InputKind.{is_input, is_mouse}
+use Rattle.oberon_format.specs.declared.fields.CheckpointFields.{CheckpointFields}
 use Rattle.oberon_format.specs.declared.ranges.TheConstants.{MAX_COUNT, MAX_OUTPUT, COUNTER_END, FLAGS_END, MAX_STOP, SWITCHES_END, LEDS_END, SERIAL_END, MAX_KEYS}
-use Rattle.oberon_format.specs.Fields.{EventFields, CheckpointFields}
+use Rattle.oberon_format.specs.Fields.{EventFields}
 
 -- an event's count is not below the event's before it, which is `floor`, and its kind takes its value
 abbrev pub is_event : ℕ → EventFields → Bool
@@ -19,7 +20,7 @@ is_output k sent own = (if k == 0 then own == 0 else true) && nat_le (sent + own
 
 -- few enough keys, and zeros after them
 abbrev pub are_keys : CheckpointFields → Bool
-are_keys c = nat_le c.waiting MAX_KEYS && list_all (λ byte. byte == 0) c.unused
+are_keys c = nat_le c.waiting MAX_KEYS && list_all (λ byte. byte == 0) (drop c.waiting c.keys)
 
 -- the fields that have a range of their own
 abbrev pub in_ranges : CheckpointFields → Bool

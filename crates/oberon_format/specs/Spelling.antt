@@ -1,5 +1,5 @@
 -- The bytes of a recording of version 1, one part after the other. That they are its text is proved.
-use Rattle.std.specs.Prelude.{ℕ, ◌-◌, List, ◌++◌, length, replicate}
+use Rattle.std.specs.Prelude.{ℕ, List, ◌++◌, length}
 use Rattle.std.specs.List.{flat_map}
 use Rattle.byteorder.specs.Endian.{little_bytes}
 use Rattle.risc_devices.specs.DeviceState.{DeviceState, serial_number}
@@ -7,9 +7,9 @@ use Rattle.risc_devices.specs.Input.{kind_of, value_of}
 use Rattle.risc_machine.specs.declared.event.Event.{Event}
 use Rattle.risc_machine.specs.MachineState.{CpuState}
 use Rattle.oberon_format.specs.declared.layout.TheConstants.{MAGIC, VERSION}
-use Rattle.oberon_format.specs.declared.ranges.TheConstants.{MAX_KEYS}
 use Rattle.oberon_format.specs.CheckpointParts.{CheckpointParts}
 use Rattle.oberon_format.specs.FlagsNumber.{flags_number}
+use Rattle.oberon_format.specs.KeyBytes.{key_bytes}
 use Rattle.oberon_format.specs.Recording.{RecordingParts, output_of}
 
 -- the four bytes of a number, the lowest first
@@ -32,7 +32,7 @@ cpu_bytes cpu = words_bytes cpu.r ++ word_bytes cpu.h ++ word_bytes cpu.pc ++ wo
 unfoldable pub device_bytes : DeviceState → List ℕ
 device_bytes d =
     word_bytes d.timer ++ word_bytes d.switches ++ word_bytes d.leds ++ word_bytes d.mouse ++ word_bytes (serial_number d)
-    ++ word_bytes (length d.keys) ++ d.keys ++ replicate (MAX_KEYS - length d.keys) 0
+    ++ word_bytes (length d.keys) ++ key_bytes d
 
 unfoldable pub checkpoint_bytes : CheckpointParts → List ℕ
 checkpoint_bytes c =

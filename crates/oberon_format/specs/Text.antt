@@ -1,13 +1,13 @@
 -- Which text of version 1 is that of a recording.
-use Rattle.std.specs.Prelude.{ℕ, ◌≡◌, ◌<◌, ◌+◌, ◌-◌, ◌*◌, ◌^◌, List, All, ◌++◌, length, slice_index_or, drop, replicate, slice_range}
+use Rattle.std.specs.Prelude.{ℕ, ◌≡◌, ◌<◌, ◌+◌, ◌*◌, ◌^◌, List, All, length, slice_index_or, drop, slice_range}
 use Rattle.risc_devices.specs.DeviceState.{DeviceState, serial_number}
 use Rattle.risc_devices.specs.Input.{kind_of, value_of}
 use Rattle.risc_machine.specs.declared.event.Event.{Event}
 use Rattle.risc_machine.specs.MachineState.{CpuState}
 use Rattle.oberon_format.specs.declared.layout.TheConstants.{MAGIC, VERSION, MAGIC_AT, VERSION_AT, LAST_AT, KIND_AT, VALUE_AT, REGISTERS_AT, AUXILIARY_AT, COUNTER_AT, FLAGS_AT, STOP_AT, TIMER_AT, SWITCHES_AT, LEDS_AT, MOUSE_AT, SERIAL_AT, WAITING_AT, KEYS_AT, SENT_AT, TABLE_AT}
-use Rattle.oberon_format.specs.declared.ranges.TheConstants.{MAX_KEYS}
 use Rattle.oberon_format.specs.CheckpointParts.{CheckpointParts}
 use Rattle.oberon_format.specs.FlagsNumber.{flags_number}
+use Rattle.oberon_format.specs.KeyBytes.{key_bytes}
 use Rattle.oberon_format.specs.Layout.{word_at, long_at, pages, events, checkpoints, page_place, event_place, checkpoint_place, output_place}
 use Rattle.oberon_format.specs.Recording.{RecordingParts, IsLawful, output_of}
 
@@ -40,7 +40,7 @@ pub record IsCpu (text : List ℕ) (place : ℕ) (cpu : CpuState) : Type 0 where
   pub flags : word_at text (place + FLAGS_AT) ≡ flags_number cpu
   pub stop : word_at text (place + STOP_AT) ≡ cpu.stop
 
--- the devices of the checkpoint at a place: sixteen key bytes, oldest key first, and zeros after the keys
+-- the devices of the checkpoint at a place
 pub record IsDevices (text : List ℕ) (place : ℕ) (d : DeviceState) : Type 0 where
   pub timer : word_at text (place + TIMER_AT) ≡ d.timer
   pub switches : word_at text (place + SWITCHES_AT) ≡ d.switches
@@ -48,7 +48,7 @@ pub record IsDevices (text : List ℕ) (place : ℕ) (d : DeviceState) : Type 0 
   pub mouse : word_at text (place + MOUSE_AT) ≡ d.mouse
   pub serial : word_at text (place + SERIAL_AT) ≡ serial_number d
   pub waiting : word_at text (place + WAITING_AT) ≡ length d.keys
-  pub keys : slice_range text (place + KEYS_AT) (place + SENT_AT) ≡ d.keys ++ replicate (MAX_KEYS - length d.keys) 0
+  pub keys : slice_range text (place + KEYS_AT) (place + SENT_AT) ≡ key_bytes d
 
 -- a checkpoint stands at a place, but for its output, of which the length stands there
 pub record IsCheckpoint (text : List ℕ) (place : ℕ) (c : CheckpointParts) : Type 0 where

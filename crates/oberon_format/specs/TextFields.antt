@@ -1,10 +1,11 @@
 -- The fields of a text, and its first fault.
 use Rattle.std.specs.Prelude.{ℕ, ◌+◌, List, length, slice_range, Option}
 use Rattle.oberon_format.specs.declared.fault.Fault.{Fault}
+use Rattle.oberon_format.specs.declared.fields.CheckpointFields.{CheckpointFields}
 use Rattle.oberon_format.specs.declared.layout.TheConstants.{MAGIC_AT, VERSION_AT, LAST_AT, KIND_AT, VALUE_AT, COUNTER_AT, FLAGS_AT, STOP_AT, SWITCHES_AT, LEDS_AT, MOUSE_AT, SERIAL_AT, WAITING_AT, KEYS_AT, SENT_AT}
-use Rattle.oberon_format.specs.Fields.{EventFields, CheckpointFields, Fields}
+use Rattle.oberon_format.specs.Fields.{EventFields, Fields}
 use Rattle.oberon_format.specs.FirstFault.{first_broken}
-use Rattle.oberon_format.specs.Layout.{word_at, long_at, pages, events, checkpoints, number_place, event_place, checkpoint_place}
+use Rattle.oberon_format.specs.Layout.{word_at, long_at, pages, events, checkpoints, page_number_place, event_place, checkpoint_place}
 use Rattle.oberon_format.specs.Rules.{rules}
 
 -- the event that stands at a place
@@ -15,7 +16,7 @@ event_of text place = record {
   value = word_at text (place + VALUE_AT);
 }
 
--- the checkpoint that stands at a place
+-- the fields of the checkpoint that stands at a place
 abbrev pub checkpoint_of : List ℕ → ℕ → CheckpointFields
 checkpoint_of text place = record {
   count = long_at text place;
@@ -27,13 +28,13 @@ checkpoint_of text place = record {
   mouse = word_at text (place + MOUSE_AT);
   serial = word_at text (place + SERIAL_AT);
   waiting = word_at text (place + WAITING_AT);
-  unused = slice_range text (place + KEYS_AT + word_at text (place + WAITING_AT)) (place + SENT_AT);
+  keys = slice_range text (place + KEYS_AT) (place + SENT_AT);
   output = word_at text (place + SENT_AT);
 }
 
 -- page number j of the checkpoint that stands at a place
-abbrev pub number_of : List ℕ → ℕ → ℕ → ℕ
-number_of text place j = word_at text (number_place place j)
+abbrev pub page_number_of : List ℕ → ℕ → ℕ → ℕ
+page_number_of text place j = word_at text (page_number_place place j)
 
 -- the fields of a text
 abbrev pub fields_of : List ℕ → Fields
@@ -47,7 +48,7 @@ fields_of text = record {
   last = word_at text LAST_AT;
   event = λ i. event_of text (event_place text i);
   checkpoint = λ k. checkpoint_of text (checkpoint_place text k);
-  number = λ k. number_of text (checkpoint_place text k);
+  page_number = λ k. page_number_of text (checkpoint_place text k);
 }
 
 -- the first fault of a text, if it has one

@@ -26,6 +26,9 @@ pub(crate) const EVENT_LEN: usize = 16;
 /// The length of a checkpoint: its fields before the table, and the table.
 pub(crate) const CHECKPOINT_LEN: usize = 4228;
 
+/// The length of the longest text that has no fault: that of a recording within all limits.
+pub const LONGEST_TEXT: usize = 101_479_580;
+
 /// The number of places of a table, each of which has a page number of four bytes.
 pub(crate) const PLACES: usize = 1024;
 

@@ -2,7 +2,7 @@
 //!
 //! Each limit has its one name here, which definitions, contracts and code cite. All are this project's own choice.
 
-ghost use Rattle.std.specs.Prelude.{◌≡◌, ◌≤◌, ◌<◌, ◌^◌};
+ghost use Rattle.std.specs.Prelude.{◌≡◌, ◌≤◌};
 ghost use Rattle.risc_devices.specs.InputKind.{is_input};
 ghost use Rattle.oberon_format.specs.Ranges.{is_count, is_output};
 
@@ -45,7 +45,7 @@ pub(crate) const LEDS_END: u32 = 256;
 pub(crate) const SERIAL_END: u32 = 512;
 
 /// The largest number of keys that wait.
-pub(crate) const MAX_KEYS: u32 = 16;
+pub(crate) const MAX_KEYS: usize = 16;
 
 /// Whether a number is that of a kind of input that may have the value.
 pub(crate) fn is_input(kind: u32, value: u32) -> bool
@@ -68,8 +68,7 @@ pub(crate) fn is_count(k: usize, before: u64, count: u64) -> bool
 /// Whether checkpoint k may send so many bytes, after so many were sent before it.
 pub(crate) fn is_output(k: usize, sent: u64, own: u64) -> bool
     requires sent { sent ≤ MAX_OUTPUT }
-    requires own { own < 2 ^ 63 }
     ensures { result ≡ is_output k sent own }
 {
-    (k != 0 || own == 0) && sent + own <= MAX_OUTPUT
+    (k != 0 || own == 0) && own <= MAX_OUTPUT - sent
 }

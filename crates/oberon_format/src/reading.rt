@@ -2,7 +2,6 @@
 
 ghost use Rattle.std.specs.Prelude.{◌≡◌, ◌≤◌, ◌<◌, ◌+◌, ◌*◌, ◌^◌, ℕ, All, true, length, IfOk, slice_index, slice_range, drop, map, MatchOption, MatchResult};
 ghost use Rattle.oberon_format.specs.CheckpointParts.{checkpoint_parts};
-ghost use Rattle.oberon_format.specs.FlagsNumber.{bits_number};
 ghost use Rattle.oberon_format.specs.Layout.{word_at, pages, events, checkpoints, output_place};
 ghost use Rattle.oberon_format.specs.Parts.{parts_of};
 ghost use Rattle.oberon_format.specs.Ranges.{in_ranges, are_keys};
@@ -15,21 +14,21 @@ ghost use Rattle.risc_machine.specs.MachineState.{cpu_state};
 
 use crate::checkpoint::Checkpoint;
 use crate::fault::Fault;
+use crate::flags::flags_of;
 use crate::formed::all_formed;
 use crate::layout::{
     AUXILIARY_AT, CHECKPOINT_LEN, COUNTER_AT, EVENT_LEN, FLAGS_AT, KEYS_AT, KIND_AT, LEDS_AT,
-    MOUSE_AT, PLACES, REGISTERS_AT, SENT_AT, SERIAL_AT, STOP_AT, SWITCHES_AT, TABLE_AT, TIMER_AT,
-    VALUE_AT, WAITING_AT, checkpoint_count, checkpoint_start, event_count, event_start, page_count,
+    MOUSE_AT, REGISTERS_AT, SENT_AT, SERIAL_AT, STOP_AT, SWITCHES_AT, TIMER_AT, VALUE_AT,
+    WAITING_AT, checkpoint_count, checkpoint_start, event_count, event_start, page_count,
     page_start,
 };
-use crate::number::{u32_at, u64_at};
-use crate::ranges::FLAGS_END;
+use crate::number::{table_of, u32_at, u64_at};
 use crate::recording::Recording;
 use crate::rules::first_fault;
 use crate::sent::Sent;
 use risc_devices::{Devices, Input};
-use risc_machine::{Cpu, Event, Flags, Inputs};
-use risc_pages::{Page, Pool, Table};
+use risc_machine::{Cpu, Event, Inputs};
+use risc_pages::{Page, Pool};
 use std::alloc::{AllocError, Global};
 
 /// The recording of a text, or its first fault. `Memory` is answered only for a text without fault: the whole text is tested
@@ -134,19 +133,6 @@ fn inputs_of(alloc: Global, text: &[u8]) -> Result<Inputs, AllocError>
     }
 }
 
-/// The flags of a number.
-fn flags_of(number: u32) -> Flags
-    requires { number < FLAGS_END }
-    ensures { bits_number result.n result.z result.c result.v ≡ number }
-{
-    Flags {
-        n: number / 8 % 2 == 1,
-        z: number / 4 % 2 == 1,
-        c: number / 2 % 2 == 1,
-        v: number % 2 == 1,
-    }
-}
-
 /// The processor of the checkpoint at a place.
 fn cpu_of(text: &[u8], place: usize) -> Cpu
     requires room { place + CHECKPOINT_LEN ≤ length text.now }
@@ -181,18 +167,6 @@ fn devices_of(text: &[u8], place: usize) -> Devices
         &text[place + KEYS_AT..place + KEYS_AT + waiting],
     )
     .unwrap()
-}
-
-/// The table of the checkpoint at a place.
-fn table_of(text: &[u8], place: usize) -> Table
-    requires { place + CHECKPOINT_LEN ≤ length text.now }
-    ensures { AreWords text.now (place + TABLE_AT) result }
-{
-    let mut table = Table::zeros();
-    for j in 0..PLACES as u16 {
-        table.set(j, u32_at(text, place + TABLE_AT + 4 * j as usize));
-    }
-    table
 }
 
 /// The checkpoint at a place, whose output begins at `from`.

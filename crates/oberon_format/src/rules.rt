@@ -1,29 +1,24 @@
 //! The rules of version 1, tested over a text in their order. Nothing here takes memory.
 
-ghost use Rattle.std.specs.Prelude.{◌≡◌, ◌≤◌, ◌<◌, ◌+◌, ◌==◌, length, MatchResult, Some, None};
-ghost use Rattle.std.specs.List.{list_all};
+ghost use Rattle.std.specs.Prelude.{◌≡◌, ◌≤◌, ◌+◌, length, MatchResult, Some, None};
 ghost use Rattle.std.specs.Option.{IfNone};
 ghost use Rattle.oberon_format.specs.FirstFault.{first_broken, each};
-ghost use Rattle.oberon_format.specs.Layout.{word_at, pages, events, checkpoints, event_place};
+ghost use Rattle.oberon_format.specs.Layout.{pages, events, checkpoints, event_place};
 ghost use Rattle.oberon_format.specs.Fields.{sent_below};
-ghost use Rattle.oberon_format.specs.Ranges.{is_event, in_ranges, are_keys, is_checkpoint};
-ghost use Rattle.oberon_format.specs.Rules.{header_rules, event_floor, number_rules, rules_at, event_rules, checkpoint_rules, end_rules};
+ghost use Rattle.oberon_format.specs.Ranges.{is_event};
+ghost use Rattle.oberon_format.specs.Rules.{header_rules, event_floor, event_rules, checkpoint_rules, end_rules};
 ghost use Rattle.oberon_format.specs.Tested.{IsSized};
-ghost use Rattle.oberon_format.specs.TextFields.{first_fault_of, fields_of, event_of, checkpoint_of, number_of};
+ghost use Rattle.oberon_format.specs.TextFields.{first_fault_of, fields_of, event_of};
 
 use crate::fault::Fault;
+use crate::fields::{CheckpointFields, checkpoint_fault};
 use crate::layout::{
-    CHECKPOINT_LEN, CHECKPOINTS_AT, COUNTER_AT, EVENT_LEN, EVENTS_AT, FLAGS_AT, HEADER_LEN,
-    KEYS_AT, KIND_AT, LAST_AT, LEDS_AT, MAGIC, MAGIC_AT, MOUSE_AT, PAGES_AT, PLACES, SENT_AT,
-    SERIAL_AT, STOP_AT, SWITCHES_AT, TABLE_AT, VALUE_AT, VERSION, VERSION_AT, WAITING_AT,
-    checkpoint_count, checkpoint_start, event_count, event_start, page_count,
+    CHECKPOINTS_AT, EVENT_LEN, EVENTS_AT, HEADER_LEN, KIND_AT, LAST_AT, MAGIC, MAGIC_AT, PAGES_AT,
+    VALUE_AT, VERSION, VERSION_AT, checkpoint_count, checkpoint_start, event_count, event_start,
+    page_count,
 };
-use crate::number::{u32_at, u64_at};
-use crate::ranges::{
-    COUNTER_END, FLAGS_END, LEDS_END, MAX_CHECKPOINTS, MAX_COUNT, MAX_EVENTS, MAX_KEYS, MAX_OUTPUT,
-    MAX_PAGES, MAX_STOP, SERIAL_END, SWITCHES_END, is_count, is_input, is_output,
-};
-use risc_devices::is_mouse_word;
+use crate::number::{table_of, u32_at, u64_at};
+use crate::ranges::{MAX_CHECKPOINTS, MAX_COUNT, MAX_EVENTS, MAX_OUTPUT, MAX_PAGES, is_input};
 
 /// The first fault of the header, and of the length that it asks for.
 fn header_fault(text: &[u8]) -> Option<Fault>
@@ -106,79 +101,6 @@ fn events_fault(text: &[u8]) -> Option<Fault>
     None
 }
 
-/// Whether the fields of the checkpoint at a place are in their own ranges.
-fn in_ranges(text: &[u8], place: usize) -> bool
-    requires { place + CHECKPOINT_LEN ≤ length text.now }
-    ensures { result ≡ in_ranges (checkpoint_of text.now place) }
-{
-    u32_at(text, place + COUNTER_AT) < COUNTER_END
-        && u32_at(text, place + FLAGS_AT) < FLAGS_END
-        && u32_at(text, place + STOP_AT) <= MAX_STOP
-        && u32_at(text, place + SWITCHES_AT) < SWITCHES_END
-        && u32_at(text, place + LEDS_AT) < LEDS_END
-        && is_mouse_word(u32_at(text, place + MOUSE_AT))
-        && u32_at(text, place + SERIAL_AT) < SERIAL_END
-}
-
-/// Whether all bytes are 0.
-fn are_zeros(bytes: &[u8]) -> bool
-    ensures { result ≡ list_all (λ b. b == 0) bytes.now }
-{
-    bytes.iter().all(|byte| *byte == 0)
-}
-
-/// Whether the keys of the checkpoint at a place are few enough, with zeros after them.
-fn are_keys(text: &[u8], place: usize) -> bool
-    requires { place + CHECKPOINT_LEN ≤ length text.now }
-    ensures { result ≡ are_keys (checkpoint_of text.now place) }
-{
-    let keys = u32_at(text, place + WAITING_AT);
-    keys <= MAX_KEYS && are_zeros(&text[place + KEYS_AT + keys as usize..place + SENT_AT])
-}
-
-/// Whether the fields before the table of checkpoint k, which stands at a place, are in their ranges.
-fn is_checkpoint(text: &[u8], place: usize, k: usize, before: u64, sent: u64) -> bool
-    requires room { place + CHECKPOINT_LEN ≤ length text.now }
-    requires sent { sent ≤ MAX_OUTPUT }
-    ensures { result ≡ is_checkpoint k before sent (checkpoint_of text.now place) }
-{
-    is_count(k, before, u64_at(text, place))
-        && in_ranges(text, place)
-        && are_keys(text, place)
-        && is_output(k, sent, u32_at(text, place + SENT_AT) as u64)
-}
-
-/// The first fault of the page numbers of the checkpoint at a place.
-fn numbers_fault(text: &[u8], place: usize) -> Option<Fault>
-    requires header { HEADER_LEN ≤ length text.now }
-    requires room { place + CHECKPOINT_LEN ≤ length text.now }
-    ensures { result ≡ first_broken (each PLACES (number_rules (pages text.now) place (number_of text.now place))) }
-{
-    let pages = page_count(text);
-    for j in 0..PLACES {
-        let at = place + TABLE_AT + 4 * j;
-        if u32_at(text, at) > pages {
-            return Some(Fault::Page(at as u64));
-        }
-    }
-    None
-}
-
-/// The first fault of checkpoint k, which stands at a place.
-#[tactic(auto, unfolding(crate::specs::Rules::rules_at))]
-fn checkpoint_fault(text: &[u8], place: usize, k: usize, before: u64, sent: u64) -> Option<Fault>
-    requires header { HEADER_LEN ≤ length text.now }
-    requires room { place + CHECKPOINT_LEN ≤ length text.now }
-    requires sent { sent ≤ MAX_OUTPUT }
-    ensures fault { result ≡ first_broken (rules_at (pages text.now) place k before sent (checkpoint_of text.now place) (number_of text.now place)) }
-    ensures small { IfNone result (sent + word_at text.now (place + SENT_AT) ≤ MAX_OUTPUT) }
-{
-    if !is_checkpoint(text, place, k, before, sent) {
-        return Some(Fault::Checkpoint(place as u64));
-    }
-    numbers_fault(text, place)
-}
-
 /// The first fault of the checkpoints, or the length of all their output.
 fn checkpoints_fault(text: &[u8]) -> Result<u64, Fault>
     requires { IsSized text.now }
@@ -194,11 +116,13 @@ fn checkpoints_fault(text: &[u8]) -> Result<u64, Fault>
     let mut sent: u64 = 0;
     for k in 0..checkpoint_count(text) as usize {
         let place = checkpoint_start(pages, events, k);
-        if let Some(fault) = checkpoint_fault(text, place, k, before, sent) {
+        let fields = CheckpointFields::of_text(text, place);
+        let table = table_of(text, place);
+        if let Some(fault) = checkpoint_fault(pages, place, k, before, sent, &fields, &table) {
             return Err(fault);
         }
-        before = u64_at(text, place);
-        sent += u32_at(text, place + SENT_AT) as u64;
+        before = fields.count;
+        sent += fields.output;
     }
     Ok(sent)
 }

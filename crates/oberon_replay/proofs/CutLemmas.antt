@@ -4,10 +4,11 @@ use Rattle.std.proofs.lemmas.Bool.{leb-true, leb-false}
 use Rattle.std.proofs.lemmas.List.{drop-take, get_or-take, length-take, take-take}
 use Rattle.std.specs.Prelude.{nat_le, slice_range}
 use Rattle.oberon_format.specs.FirstFault.{first_broken}
-use Rattle.oberon_format.specs.Fields.{CheckpointFields, EventFields}
-use Rattle.oberon_format.specs.Layout.{checkpoint_place, checkpoint_start, event_place, event_start, long_at, number_place, word_at}
+use Rattle.oberon_format.specs.declared.fields.CheckpointFields.{CheckpointFields}
+use Rattle.oberon_format.specs.Fields.{EventFields}
+use Rattle.oberon_format.specs.Layout.{checkpoint_place, checkpoint_start, event_place, event_start, long_at, page_number_place, word_at}
 use Rattle.oberon_format.specs.Rules.{rules}
-use Rattle.oberon_format.specs.TextFields.{checkpoint_of, event_of, first_fault_of, number_of}
+use Rattle.oberon_format.specs.TextFields.{checkpoint_of, event_of, first_fault_of, page_number_of}
 use Rattle.oberon_format.specs.Recording.{RecordingParts}
 use Rattle.oberon_format.specs.Text.{Text}
 use Rattle.oberon_replay.proofs.FieldLemmas.{AgreeWithin, faults_same, fields}
@@ -84,7 +85,7 @@ agree_cut : (n : ℕ) (text : List ℕ) → 101479581 ≤ n → word_at (take n 
     → AgreeWithin (word_at (take n text) 12) (word_at (take n text) 16)
     (λ i. event_of (take n text) (event_place (take n text) i)) (λ i. event_of text (event_place text i))
     (λ k. checkpoint_of (take n text) (checkpoint_place (take n text) k)) (λ k. checkpoint_of text (checkpoint_place text k))
-    (λ k. number_of (take n text) (checkpoint_place (take n text) k)) (λ k. number_of text (checkpoint_place text k))
+    (λ k. page_number_of (take n text) (checkpoint_place (take n text) k)) (λ k. page_number_of text (checkpoint_place text k))
 agree_cut n text over few_pages few_events few_checkpoints =
     let pages = word_at-take n text 8 (omega arith) in
     let events = word_at-take n text 12 (omega arith) in
@@ -92,8 +93,8 @@ agree_cut n text over few_pages few_events few_checkpoints =
       of_events = λ i below. event_of-take n text (event_place (take n text) i) (omega arith) ∙ ap (λ p. event_of text (event_start p i)) pages;
       of_checkpoints = λ k below. checkpoint_of-take n text (checkpoint_place (take n text) k) (omega arith)
           ∙ ap₂ (λ p e. checkpoint_of text (checkpoint_start p e k)) pages events;
-      of_numbers = λ k j below under. word_at-take n text (number_place (checkpoint_place (take n text) k) j) (omega arith)
-          ∙ ap₂ (λ p e. number_of text (checkpoint_start p e k) j) pages events;
+      of_numbers = λ k j below under. word_at-take n text (page_number_place (checkpoint_place (take n text) k) j) (omega arith)
+          ∙ ap₂ (λ p e. page_number_of text (checkpoint_start p e k) j) pages events;
     }
 
 -- a text that is cut off there has the first fault of the whole
@@ -109,11 +110,11 @@ first_fault_of-take n text over within =
     faults_same (word_at cut 0) (word_at cut 4) (word_at cut 8) (word_at cut 12) (word_at cut 16) (word_at cut 20) (length cut) (length text)
     (λ i. event_of cut (event_place cut i)) (λ i. event_of text (event_place text i))
     (λ k. checkpoint_of cut (checkpoint_place cut k)) (λ k. checkpoint_of text (checkpoint_place text k))
-    (λ k. number_of cut (checkpoint_place cut k)) (λ k. number_of text (checkpoint_place text k))
+    (λ k. page_number_of cut (checkpoint_place cut k)) (λ k. page_number_of text (checkpoint_place text k))
     (agree_cut n text over)
     (simp length-take (omega arith)) (omega arith)
     ∙ ap (λ r. first_broken (rules r)) (same_header (word_at cut 0) (word_at text 0) (word_at cut 4) (word_at text 4) (word_at cut 8) (word_at text 8) (word_at cut 12) (word_at text 12) (word_at cut 16) (word_at text 16) (word_at cut 20) (word_at text 20) (length text)
-    (λ i. event_of text (event_place text i)) (λ k. checkpoint_of text (checkpoint_place text k)) (λ k. number_of text (checkpoint_place text k)) first version pages events checkpoints last)
+    (λ i. event_of text (event_place text i)) (λ k. checkpoint_of text (checkpoint_place text k)) (λ k. page_number_of text (checkpoint_place text k)) first version pages events checkpoints last)
 
 -- the longest text has 101,479,580 bytes: 24 of the header, 65,536 pages, 1,000,000 events, 4,097 checkpoints, and the output
 pub text_within : (text : List ℕ) (r : RecordingParts) → Text text r → length text ≤ 101479580

@@ -7,10 +7,11 @@ use Rattle.oberon_format.specs.declared.fault.Fault.TheVariants as fault
 use Rattle.oberon_format.specs.declared.layout.TheConstants.{MAGIC}
 use Rattle.oberon_format.specs.declared.ranges.TheConstants.{MAX_OUTPUT}
 use Rattle.oberon_format.specs.FirstFault.{Rule, each, first_broken}
-use Rattle.oberon_format.specs.Fields.{CheckpointFields, EventFields, Fields, sent_below, total}
-use Rattle.oberon_format.specs.Layout.{number_place}
+use Rattle.oberon_format.specs.declared.fields.CheckpointFields.{CheckpointFields}
+use Rattle.oberon_format.specs.Fields.{EventFields, Fields, sent_below, total}
+use Rattle.oberon_format.specs.Layout.{page_number_place}
 use Rattle.oberon_format.specs.Ranges.{are_keys, in_ranges, is_checkpoint, is_count, is_event, is_output}
-use Rattle.oberon_format.specs.Rules.{place_of_checkpoint, checkpoint_rules, count_before, end_rules, place_of_event, event_floor, event_rules, header_rules, number_rules, place_of_output, rules, rules_at, whole}
+use Rattle.oberon_format.specs.Rules.{place_of_checkpoint, checkpoint_rules, count_before, end_rules, place_of_event, event_floor, event_rules, header_rules, page_number_rules, place_of_output, rules, rules_at, whole}
 use Rattle.oberon_replay.proofs.RuleLemmas.{both_pass, each_same, last_holds, same_after, same_behind, too_long, total_same}
 
 -- the fields that rules look at agree
@@ -30,15 +31,15 @@ rules_at_same pages place k before before' sent sent' c c' number number' b s e 
     let fields_same : is_checkpoint k before sent c ≡ is_checkpoint k before' sent' c' =
     ap₂ (λ x y. is_checkpoint k x y c) b s ∙ ap (λ x. is_checkpoint k before' sent' x) e in
     ap₂ (λ holds rest. (holds, fault.Checkpoint place) ∷ rest) fields_same
-    (each_same 1024 (number_rules pages place number) (number_rules pages place number')
-    (λ j below. ap (λ n. (nat_le n pages, fault.Page (number_place place j)) ∷ []) (same j below)))
+    (each_same 1024 (page_number_rules pages place number) (page_number_rules pages place number')
+    (λ j below. ap (λ n. (nat_le n pages, fault.Page (page_number_place place j)) ∷ []) (same j below)))
 
 -- the output of a checkpoint whose rules hold, with what was sent before it, is within its limit
 sent_within : (pages place k before sent : ℕ) (c : CheckpointFields) (number : ℕ → ℕ) → first_broken (rules_at pages place k before sent c number) ≡ None → sent + c.output ≤ 1048576
 unfolding rules_at
 sent_within pages place k before sent c number none = go (is_checkpoint k before sent c) refl none
   where
-    go : (b : Bool) → is_checkpoint k before sent c ≡ b → first_broken ((b, fault.Checkpoint place) ∷ each 1024 (number_rules pages place number)) ≡ None → sent + c.output ≤ 1048576
+    go : (b : Bool) → is_checkpoint k before sent c ≡ b → first_broken ((b, fault.Checkpoint place) ∷ each 1024 (page_number_rules pages place number)) ≡ None → sent + c.output ≤ 1048576
     go false is none = cc
     go true is none =
         let output = and_parts (is_count k before c.count && in_ranges c && are_keys c) (is_output k sent c.output) is in

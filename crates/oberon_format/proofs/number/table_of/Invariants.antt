@@ -1,7 +1,7 @@
 use Rattle.std.proofs.Common.{◌≡◌, ◌<◌, ◌+◌, ◌*◌, ℕ, get_or, length}
 use Rattle.oberon_format.specs.declared.layout.TheConstants.{TABLE_AT}
 use Rattle.oberon_format.specs.Layout.{word_at}
-use Rattle.oberon_format.proofs.reading.table_of.Given as goal
+use Rattle.oberon_format.proofs.number.table_of.Given as goal
 
 abbrev pub invariant-loop-j : goal.invariant-loop-j
 invariant-loop-j l = record {

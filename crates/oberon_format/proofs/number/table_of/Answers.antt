@@ -4,7 +4,7 @@ use Rattle.risc_pages.specs.Tables.{zero_numbers}
 use Rattle.oberon_format.specs.declared.layout.TheConstants.{TABLE_AT}
 use Rattle.oberon_format.specs.Layout.{word_at}
 use Rattle.oberon_format.proofs.Each.{each_set}
-use Rattle.oberon_format.proofs.reading.table_of.Goals as goal
+use Rattle.oberon_format.proofs.number.table_of.Goals as goal
 
 zeros-length : length zero_numbers ≡ 1024
 unfolding zero_numbers
@@ -23,5 +23,8 @@ loop-j-preserved c =
       each = each_set (λ k word. word_at c.args.text.now (c.args.place + TABLE_AT + 4 * k) ≡ word) numbers j c.u32_at.result lt c.loop-j.invariant.each (sym c.u32_at.ensures);
     })
 
-pub returns : goal.returns
-returns c = λ k d h. c.loop-j.invariant.each k d (omega arith)
+pub returns-clause-count : goal.returns-clause-count
+returns-clause-count c = c.loop-j.invariant.len
+
+pub returns-clause-words : goal.returns-clause-words
+returns-clause-words c = λ k d h. c.loop-j.invariant.each k d (omega arith)
