@@ -25,7 +25,10 @@ mod writing;
 
 pub use checkpoint::Checkpoint;
 pub use fault::Fault;
-pub use laws::{fault_of_parts, lawful_parts, named_fault, one_recording, one_text, text_or_fault};
+pub use laws::{
+    cut_text, fault_of_parts, lawful_parts, longest_text, named_fault, one_recording, one_text,
+    text_or_fault,
+};
 pub use layout::LONGEST_TEXT;
 pub use line::refusal;
 pub use ranges::{LAST_CHECKPOINT, MAX_CHECKPOINTS, MAX_COUNT, MAX_EVENTS, MAX_OUTPUT, MAX_PAGES};
