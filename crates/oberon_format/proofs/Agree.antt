@@ -24,23 +24,9 @@ events_agree text r is i lt =
     let d = member r.inputs i lt in
     event_stands text (event_place text i) (get_or r.inputs i d) (is.events_stand i d lt) ∙ sym (event_here r i d lt)
 
--- the key bytes after the keys
-unused_agree : (text : List ℕ) (place : ℕ) (d : DeviceState) → place + 128 ≤ length text → length d.keys ≤ 16 → IsDevices text place d
-    → slice_range text (place + 112 + word_at text (place + 108)) (place + 128) ≡ replicate (16 - length d.keys) 0
-unused_agree text place d room few is =
-    let n = word_at text (place + 108) in
-    let w = is.waiting in
-    let zs : List ℕ = replicate (16 - length d.keys) 0 in
-    let a = slice_range text (place + 112) (place + 112 + n) in
-    let b = slice_range text (place + 112 + n) (place + 128) in
-    let split : slice_range text (place + 112) (place + 128) ≡ a ++ b = range-split text (place + 112) (place + 112 + n) (place + 128) (omega arith) (omega arith) (omega arith) in
-    let la : length a ≡ n = omega (arith, length-range text (place + 112) (place + 112 + n) (omega arith) (omega arith)) in
-    sym (drop_at a b n la) ∙ ap (drop n) (sym split ∙ is.keys) ∙ drop_at d.keys zs n (sym w)
-
 -- a checkpoint that stands at a place has its fields there
-checkpoint_stands : (text : List ℕ) (place : ℕ) (c : CheckpointParts) → place + 128 ≤ length text → length c.devices.keys ≤ 16 → IsCheckpoint text place c → checkpoint_of text place ≡ checkpoint_fields c
-checkpoint_stands text place c room few is =
-    let unused = unused_agree text place c.devices room few is.devices in
+checkpoint_stands : (text : List ℕ) (place : ℕ) (c : CheckpointParts) → IsCheckpoint text place c → checkpoint_of text place ≡ checkpoint_fields c
+checkpoint_stands text place c is =
     λ i. record {
       count = is.count i;
       pc = is.cpu.pc i;
@@ -52,7 +38,7 @@ checkpoint_stands text place c room few is =
       mouse = is.devices.mouse i;
       serial = is.devices.serial i;
       waiting = is.devices.waiting i;
-      unused = unused i;
+      keys = is.devices.keys i;
       output = is.sent i;
     }
 
@@ -72,9 +58,9 @@ fields_agree text r formed is =
       last = is.zero;
       event = events_agree text r is;
       checkpoint = λ k lt.
-          checkpoint_stands text (checkpoint_place text k) (checkpoint_at r k) (omega arith) (formed k no_checkpoint lt).devices.keys (is.checkpoints_stand k no_checkpoint lt)
+          checkpoint_stands text (checkpoint_place text k) (checkpoint_at r k) (is.checkpoints_stand k no_checkpoint lt)
           ∙ sym (checkpoint_here r k lt);
-      number = λ k j lt less.
+      page_number = λ k j lt less.
           let table = (formed k no_checkpoint lt).table.count in
           (is.checkpoints_stand k no_checkpoint lt).table j 0 (omega arith) ∙ ap (λ (h : ℕ → ℕ). h j) (sym (number_here r k lt));
     }

@@ -12,9 +12,10 @@ use Rattle.risc_devices.specs.Input.{kind_of, value_of}
 use Rattle.risc_machine.specs.declared.event.Event.{Event}
 use Rattle.risc_machine.specs.MachineState.{CpuState, IsCpuState}
 use Rattle.risc_pages.specs.Pages.{IsPage}
+use Rattle.oberon_format.specs.declared.layout.TheConstants.{MAGIC, CHECKPOINT_LEN, MAGIC_AT}
 use Rattle.oberon_format.specs.CheckpointParts.{CheckpointParts, no_checkpoint}
 use Rattle.oberon_format.specs.FlagsNumber.{flags_number}
-use Rattle.oberon_format.specs.Layout.{word_at, long_at, magic, event_place, checkpoint_place, output_place}
+use Rattle.oberon_format.specs.Layout.{word_at, long_at, event_place, checkpoint_place, output_place}
 use Rattle.oberon_format.specs.Recording.{RecordingParts, IsLawful, IsFit, output_of}
 use Rattle.oberon_format.specs.Spelling.{word_bytes, long_bytes, words_bytes, event_bytes, cpu_bytes, device_bytes, checkpoint_bytes, header_bytes, spelling}
 use Rattle.oberon_format.specs.Text.{EachAt, AreWords, AreBytes, IsEvent, IsCpu, IsDevices, IsCheckpoint, IsLaidOut, Text}
@@ -109,7 +110,7 @@ page_back text p page h room is proper =
     let n : 4 * length page ≡ 1024 = omega arith in
     subst (λ (k : ℕ). Holds text p k (words_bytes page)) n (holds_words text p page h (omega arith) is)
 
-cpu_back : (text : List ℕ) (p : ℕ) (cpu : CpuState) → IsBytes text → p + 4228 ≤ length text → IsCpu text p cpu → IsCpuState cpu → Holds text (p + 8) 80 (cpu_bytes cpu)
+cpu_back : (text : List ℕ) (p : ℕ) (cpu : CpuState) → IsBytes text → p + CHECKPOINT_LEN ≤ length text → IsCpu text p cpu → IsCpuState cpu → Holds text (p + 8) 80 (cpu_bytes cpu)
 unfolding cpu_bytes
 cpu_back text p cpu h room is proper =
     let q = p + 8 in
@@ -125,7 +126,7 @@ cpu_back text p cpu h room is proper =
     let s3 = holds_join text q (p + 80) 72 4 76 _ _ s2 c (omega arith) (omega arith) in
     holds_join text q (p + 84) 76 4 80 _ _ s3 d (omega arith) (omega arith)
 
-device_back : (text : List ℕ) (p : ℕ) (d : DeviceState) → IsBytes text → p + 4228 ≤ length text → IsDevices text p d → Holds text (p + 88) 40 (device_bytes d)
+device_back : (text : List ℕ) (p : ℕ) (d : DeviceState) → IsBytes text → p + CHECKPOINT_LEN ≤ length text → IsDevices text p d → Holds text (p + 88) 40 (device_bytes d)
 unfolding device_bytes
 device_back text p d h room is =
     let q = p + 88 in
@@ -143,10 +144,9 @@ device_back text p d h room is =
     let s3 = holds_join text q (p + 100) 12 4 16 _ _ s2 m (omega arith) (omega arith) in
     let s4 = holds_join text q (p + 104) 16 4 20 _ _ s3 g (omega arith) (omega arith) in
     let s5 = holds_join text q (p + 108) 20 4 24 _ _ s4 w (omega arith) (omega arith) in
-    let s6 = holds_join text q (p + 112) 24 16 40 _ _ s5 k (omega arith) (omega arith) in
-    rw append_assoc s6
+    holds_join text q (p + 112) 24 16 40 _ _ s5 k (omega arith) (omega arith)
 
-checkpoint_back : (text : List ℕ) (p : ℕ) (pool : List (List ℕ)) (c : CheckpointParts) → IsBytes text → p + 4228 ≤ length text → IsCheckpoint text p c → IsFit pool c → Holds text p 4228 (checkpoint_bytes c)
+checkpoint_back : (text : List ℕ) (p : ℕ) (pool : List (List ℕ)) (c : CheckpointParts) → IsBytes text → p + CHECKPOINT_LEN ≤ length text → IsCheckpoint text p c → IsFit pool c → Holds text p 4228 (checkpoint_bytes c)
 unfolding checkpoint_bytes
 checkpoint_back text p pool c h room is proper =
     let a = holds_long text p c.count h (omega arith) is.count in
@@ -164,7 +164,7 @@ checkpoint_back text p pool c h room is proper =
 header_back : (text : List ℕ) (r : RecordingParts) → IsBytes text → 24 ≤ length text → IsLaidOut text r → Holds text 0 24 (header_bytes r)
 unfolding header_bytes
 header_back text r h room is =
-    let a = holds_word text 0 magic h (omega arith) is.magic in
+    let a = holds_word text MAGIC_AT MAGIC h (omega arith) is.magic in
     let b = holds_word text 4 1 h (omega arith) is.version in
     let c = holds_word text 8 (length r.pool) h (omega arith) is.page_count in
     let d = holds_word text 12 (length r.inputs) h (omega arith) is.event_count in

@@ -3,14 +3,15 @@ use Rattle.std.proofs.Common.{◌≡◌, ℕ, true, false, List, [], ◌∷◌, 
 use Rattle.std.specs.Prelude.{slice_index}
 use Rattle.risc_devices.specs.Input as input
 use Rattle.oberon_format.specs.declared.fault.Fault.TheVariants as fault
+use Rattle.oberon_format.specs.declared.layout.TheConstants.{MAGIC}
 use Rattle.oberon_format.specs.CheckpointParts.{no_checkpoint}
 use Rattle.oberon_format.specs.Fields.{Fields, total}
 use Rattle.oberon_format.specs.FirstFault.{first_broken, each}
 use Rattle.oberon_format.specs.FlagsNumber.{bits_number}
-use Rattle.oberon_format.specs.Layout.{magic, word_at, long_at, checkpoint_start, number_place}
+use Rattle.oberon_format.specs.Layout.{word_at, long_at, checkpoint_start, page_number_place}
 use Rattle.oberon_format.specs.PartFields.{no_event, no_fields, fault_of_parts}
 use Rattle.oberon_format.specs.Ranges.{is_count, is_output, is_event, are_keys}
-use Rattle.oberon_format.specs.Rules.{rules, rules_at, number_rules, end_rules}
+use Rattle.oberon_format.specs.Rules.{rules, rules_at, page_number_rules, end_rules}
 use Rattle.oberon_format.specs.Spelling.{word_bytes, long_bytes}
 use Rattle.oberon_format.specs.TextFields.{first_fault_of}
 
@@ -71,7 +72,7 @@ begins-at-one = refl
 abbrev of_length : ℕ → Fields
 of_length n = record {
   long = n;
-  first = magic;
+  first = MAGIC;
   version = 1;
   pages = 0;
   events = 0;
@@ -79,7 +80,7 @@ of_length n = record {
   last = 0;
   event = λ i. no_event;
   checkpoint = λ k. no_fields;
-  number = λ k j. 0;
+  page_number = λ k j. 0;
 }
 
 whole-text : first_broken (end_rules (of_length 4252)) ≡ None
@@ -91,7 +92,7 @@ unfolding total
 byte-after-the-end = refl
 
 -- page numbers over a pool of one page: the second place names page 2
-unknown-page : first_broken (each 3 (number_rules 1 5276 (slice_index (1 ∷ 2 ∷ 0 ∷ [])))) ≡ Some (fault.Page 5412)
+unknown-page : first_broken (each 3 (page_number_rules 1 5276 (slice_index (1 ∷ 2 ∷ 0 ∷ [])))) ≡ Some (fault.Page 5412)
 unfolding each
 unknown-page = refl
 
@@ -141,14 +142,14 @@ no-sixth-kind : is_event 0 (record { count = 0; kind = 6; value = 0 }) ≡ false
 unfolding input.is_input
 no-sixth-kind = refl
 
-sixteen-keys : are_keys (record no_fields { waiting = 16; unused = [] }) ≡ true
+sixteen-keys : are_keys (record no_fields { waiting = 16; keys = replicate 16 1 }) ≡ true
 sixteen-keys = refl
 
 -- where fields stand
 second-checkpoint : checkpoint_start 1 0 1 ≡ 5276
 second-checkpoint = refl
 
-first-number-of-the-second-checkpoint : number_place 5276 0 ≡ 5408
+first-number-of-the-second-checkpoint : page_number_place 5276 0 ≡ 5408
 first-number-of-the-second-checkpoint = refl
 
 longest-text : checkpoint_start 65536 1000000 4097 + 1048576 ≡ 101479580

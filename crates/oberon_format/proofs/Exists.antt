@@ -14,6 +14,7 @@ use Rattle.risc_devices.proofs.InputLemmas.{input_of, kind_of-input_of, value_of
 use Rattle.risc_machine.specs.declared.event.Event.{Event}
 use Rattle.risc_machine.specs.MachineState.{CpuState}
 use Rattle.risc_pages.specs.Pages.{IsPage, ArePages}
+use Rattle.oberon_format.specs.declared.layout.TheConstants.{CHECKPOINT_LEN, AUXILIARY_AT, COUNTER_AT, FLAGS_AT, STOP_AT, TIMER_AT, SWITCHES_AT, LEDS_AT, MOUSE_AT, SERIAL_AT, WAITING_AT, KEYS_AT, SENT_AT, TABLE_AT}
 use Rattle.oberon_format.specs.CheckpointParts.{CheckpointParts}
 use Rattle.oberon_format.specs.FlagsNumber.{bits_number}
 use Rattle.oberon_format.specs.Layout.{word_at, long_at, pages, events, checkpoints, page_place, event_place, checkpoint_place, output_place}
@@ -113,42 +114,42 @@ events_of text (suc n) bytes meets le =
 -- the processor at a place
 cpu_at : List ℕ → ℕ → CpuState
 cpu_at text place =
-    let flags = word_at text (place + 80) in
+    let flags = word_at text (place + FLAGS_AT) in
     record {
       r = words_from text (place + 8) 16;
-      h = word_at text (place + 72);
-      pc = word_at text (place + 76);
+      h = word_at text (place + AUXILIARY_AT);
+      pc = word_at text (place + COUNTER_AT);
       flags = record { n = flags / 8 % 2 == 1; z = flags / 4 % 2 == 1; c = flags / 2 % 2 == 1; v = flags % 2 == 1 };
-      stop = word_at text (place + 84);
+      stop = word_at text (place + STOP_AT);
     }
 
 flags_back : (x : ℕ) → x < 16 → bits_number (x / 8 % 2 == 1) (x / 4 % 2 == 1) (x / 2 % 2 == 1) (x % 2 == 1) ≡ x
 flags_back x lt = grind (arith, nat_tests)
 
-cpu_stands : (text : List ℕ) (place : ℕ) → word_at text (place + 80) < 16 → IsCpu text place (cpu_at text place)
+cpu_stands : (text : List ℕ) (place : ℕ) → word_at text (place + FLAGS_AT) < 16 → IsCpu text place (cpu_at text place)
 unfolding cpu_at
 cpu_stands text place few = record {
   registers = words_stand text (place + 8) 16;
   h = refl;
   pc = refl;
-  flags = sym (flags_back (word_at text (place + 80)) few);
+  flags = sym (flags_back (word_at text (place + FLAGS_AT)) few);
   stop = refl;
 }
 
 -- the devices at a place
 devices_at : List ℕ → ℕ → DeviceState
 devices_at text place =
-    let serial = word_at text (place + 104) in
+    let serial = word_at text (place + SERIAL_AT) in
     record {
-      timer = word_at text (place + 88);
+      timer = word_at text (place + TIMER_AT);
       rate = 0;
       phase = 0;
-      switches = word_at text (place + 92);
-      leds = word_at text (place + 96);
-      mouse = word_at text (place + 100);
+      switches = word_at text (place + SWITCHES_AT);
+      leds = word_at text (place + LEDS_AT);
+      mouse = word_at text (place + MOUSE_AT);
       serial = serial % 2 ^ 8;
       received = serial / 2 ^ 8 == 1;
-      keys = slice_range text (place + 112) (place + 112 + word_at text (place + 108));
+      keys = slice_range text (place + KEYS_AT) (place + KEYS_AT + word_at text (place + WAITING_AT));
     }
 
 serial_back : (x : ℕ) → x < 512 → x % 2 ^ 8 + (if x / 2 ^ 8 == 1 then 2 ^ 8 else 0) ≡ x
@@ -156,12 +157,12 @@ serial_back x lt = grind (arith, nat_tests)
 
 -- what the ranges of a checkpoint's fields say
 record Small (text : List ℕ) (place : ℕ) : Type 0 where
-  flags : word_at text (place + 80) < 16
-  switches : word_at text (place + 92) < 4096
-  leds : word_at text (place + 96) < 256
-  mouse : is_mouse (word_at text (place + 100)) ≡ true
-  serial : word_at text (place + 104) < 512
-  keys : word_at text (place + 108) ≤ 16
+  flags : word_at text (place + FLAGS_AT) < 16
+  switches : word_at text (place + SWITCHES_AT) < 4096
+  leds : word_at text (place + LEDS_AT) < 256
+  mouse : is_mouse (word_at text (place + MOUSE_AT)) ≡ true
+  serial : word_at text (place + SERIAL_AT) < 512
+  keys : word_at text (place + WAITING_AT) ≤ 16
 
 small : (text : List ℕ) (place : ℕ) → in_ranges (checkpoint_of text place) ≡ true → are_keys (checkpoint_of text place) ≡ true → Small text place
 small text place ranges keys =
@@ -174,7 +175,8 @@ small text place ranges keys =
     let switches = and_right _ _ c in
     let d = and_left _ _ c in
     let e = and_left _ _ d in
-    let flags = and_right _ _ e in
+    let f = and_left _ _ e in
+    let flags = and_right _ _ f in
     record {
       flags = ltb-true _ _ flags;
       switches = ltb-true _ _ switches;
@@ -184,12 +186,12 @@ small text place ranges keys =
       keys = leb-true _ _ (and_left _ _ keys);
     }
 
-devices_stand : (text : List ℕ) (place : ℕ) → place + 4228 ≤ length text → Small text place → are_keys (checkpoint_of text place) ≡ true → IsDevices text place (devices_at text place)
+devices_stand : (text : List ℕ) (place : ℕ) → place + CHECKPOINT_LEN ≤ length text → Small text place → are_keys (checkpoint_of text place) ≡ true → IsDevices text place (devices_at text place)
 unfolding devices_at
 devices_stand text place room fits keys =
-    let n = word_at text (place + 108) in
+    let n = word_at text (place + WAITING_AT) in
     let few = fits.keys in
-    let len : length (slice_range text (place + 112) (place + 112 + n)) ≡ n = omega (arith, length-range text (place + 112) (place + 112 + n) (omega arith) (omega arith)) in
+    let len : length (slice_range text (place + KEYS_AT) (place + KEYS_AT + n)) ≡ n = omega (arith, length-range text (place + KEYS_AT) (place + KEYS_AT + n) (omega arith) (omega arith)) in
     record {
       timer = refl;
       rate = refl;
@@ -197,19 +199,19 @@ devices_stand text place room fits keys =
       switches = refl;
       leds = refl;
       mouse = refl;
-      serial = sym (serial_back (word_at text (place + 104)) fits.serial);
+      serial = sym (serial_back (word_at text (place + SERIAL_AT)) fits.serial);
       waiting = sym len;
       keys = rw len (keys-stand text place room keys);
     }
 
-devices_fit : (text : List ℕ) (place : ℕ) → place + 4228 ≤ length text → AreBytes text → Small text place → IsDeviceState (devices_at text place)
+devices_fit : (text : List ℕ) (place : ℕ) → place + CHECKPOINT_LEN ≤ length text → AreBytes text → Small text place → IsDeviceState (devices_at text place)
 unfolding devices_at is_phase
 devices_fit text place room bytes fits =
-    let n = word_at text (place + 108) in
+    let n = word_at text (place + WAITING_AT) in
     let few = fits.keys in
-    let len : length (slice_range text (place + 112) (place + 112 + n)) ≡ n = omega (arith, length-range text (place + 112) (place + 112 + n) (omega arith) (omega arith)) in
+    let len : length (slice_range text (place + KEYS_AT) (place + KEYS_AT + n)) ≡ n = omega (arith, length-range text (place + KEYS_AT) (place + KEYS_AT + n) (omega arith) (omega arith)) in
     record {
-      timer = word_fits text (place + 88) bytes;
+      timer = word_fits text (place + TIMER_AT) bytes;
       rate = omega arith;
       phase = refl;
       switches = fits.switches;
@@ -217,7 +219,7 @@ devices_fit text place room bytes fits =
       mouse = fits.mouse;
       serial = omega arith;
       keys = omega arith;
-      codes = All-take (λ code. code < 2 ^ 8) (place + 112 + n - (place + 112)) (drop (place + 112) text) (All-drop (λ code. code < 2 ^ 8) (place + 112) text bytes);
+      codes = All-take (λ code. code < 2 ^ 8) (place + KEYS_AT + n - (place + KEYS_AT)) (drop (place + KEYS_AT) text) (All-drop (λ code. code < 2 ^ 8) (place + KEYS_AT) text bytes);
     }
 
 -- so many checkpoints, and their output up to there
@@ -233,19 +235,19 @@ checkpoint_made text place from = record {
   count = long_at text place;
   cpu = cpu_at text place;
   devices = devices_at text place;
-  sent = slice_range text from (from + word_at text (place + 128));
-  table = words_from text (place + 132) 1024;
+  sent = slice_range text from (from + word_at text (place + SENT_AT));
+  table = words_from text (place + TABLE_AT) 1024;
 }
 
-checkpoint_stands : (text : List ℕ) (place from : ℕ) → place + 4228 ≤ length text → from + word_at text (place + 128) ≤ length text → Small text place → are_keys (checkpoint_of text place) ≡ true
+checkpoint_stands : (text : List ℕ) (place from : ℕ) → place + CHECKPOINT_LEN ≤ length text → from + word_at text (place + SENT_AT) ≤ length text → Small text place → are_keys (checkpoint_of text place) ≡ true
     → IsCheckpoint text place (checkpoint_made text place from)
 unfolding checkpoint_made
 checkpoint_stands text place from room fits few keys = record {
   count = refl;
   cpu = cpu_stands text place few.flags;
   devices = devices_stand text place room few keys;
-  sent = omega (arith, length-range text from (from + word_at text (place + 128)) (omega arith) fits);
-  table = words_stand text (place + 132) 1024;
+  sent = omega (arith, length-range text from (from + word_at text (place + SENT_AT)) (omega arith) fits);
+  table = words_stand text (place + TABLE_AT) 1024;
 }
 
 each_word : (text : List ℕ) (place n a : ℕ) → AreBytes text → slice_index (words_from text place n) a < 2 ^ 32
@@ -256,19 +258,19 @@ each_word text place n a bytes =
       | inr more ↦ rw (get_or_past (words_from text place n) a 0 (omega arith)) (omega arith)
     ]
 
-sent_is : (text : List ℕ) (place from : ℕ) → (checkpoint_made text place from).sent ≡ slice_range text from (from + word_at text (place + 128))
+sent_is : (text : List ℕ) (place from : ℕ) → (checkpoint_made text place from).sent ≡ slice_range text from (from + word_at text (place + SENT_AT))
 unfolding checkpoint_made
 sent_is text place from = refl
 
-checkpoint_formed : (text : List ℕ) (place from : ℕ) → place + 4228 ≤ length text → AreBytes text → Small text place → IsFormed (checkpoint_made text place from)
+checkpoint_formed : (text : List ℕ) (place from : ℕ) → place + CHECKPOINT_LEN ≤ length text → AreBytes text → Small text place → IsFormed (checkpoint_made text place from)
 unfolding checkpoint_made cpu_at
 checkpoint_formed text place from room bytes few = record {
   registers = words_length text (place + 8) 16;
   words = λ a. each_word text (place + 8) 16 a bytes;
-  auxiliary = word_fits text (place + 72) bytes;
+  auxiliary = word_fits text (place + AUXILIARY_AT) bytes;
   devices = devices_fit text place room bytes few;
-  table = record { count = words_length text (place + 132) 1024; fit = words_fit text (place + 132) 1024 bytes };
-  bytes = All-take (λ byte. byte < 2 ^ 8) (from + word_at text (place + 128) - from) (drop from text) (All-drop (λ byte. byte < 2 ^ 8) from text bytes);
+  table = record { count = words_length text (place + TABLE_AT) 1024; fit = words_fit text (place + TABLE_AT) 1024 bytes };
+  bytes = All-take (λ byte. byte < 2 ^ 8) (from + word_at text (place + SENT_AT) - from) (drop from text) (All-drop (λ byte. byte < 2 ^ 8) from text bytes);
 }
 
 checkpoints_of : (text : List ℕ) (n : ℕ) → AreBytes text → Meets text → n ≤ checkpoints text → Checkpoints text n
@@ -287,7 +289,7 @@ checkpoints_of text (suc n) bytes meets le =
     let place = checkpoint_place text n in
     let from = output_place text + output_below text n in
     let long = meets.sized.long in
-    let room : place + 4228 ≤ length text = omega arith in
+    let room : place + CHECKPOINT_LEN ≤ length text = omega arith in
     let fits = output_fits text n meets lt in
     let keys = keys_hold text n meets lt in
     let few = small text place (ranges_hold text n meets lt) keys in
@@ -295,8 +297,8 @@ checkpoints_of text (suc n) bytes meets le =
     let count = so_far.count in
     let more = output_below_more text n in
     let next : suc n ≡ n + 1 = omega arith in
-    let below : output_below text (suc n) ≡ output_below text n + word_at text (place + 128) = ap (output_below text) next ∙ more in
-    let end : output_place text + output_below text (suc n) ≡ from + word_at text (place + 128) = omega arith in
+    let below : output_below text (suc n) ≡ output_below text n + word_at text (place + SENT_AT) = ap (output_below text) next ∙ more in
+    let end : output_place text + output_below text (suc n) ≡ from + word_at text (place + SENT_AT) = omega arith in
     record {
       list = so_far.list ++ made ∷ [];
       count = omega (arith, length-append so_far.list (made ∷ []));

@@ -1,9 +1,10 @@
 -- The keys of a checkpoint, with zeros after them.
-use Rattle.std.proofs.Common.{◌≡◌, ◌≤◌, ◌+◌, ◌-◌, ◌∙◌, ℕ, true, eqb, List, [], ◌∷◌, ◌++◌, length, take, drop, refl, sym, ap, arith}
+use Rattle.std.proofs.Common.{◌≡◌, ◌≤◌, ◌+◌, ◌-◌, ◌∙◌, ℕ, true, eqb, List, [], ◌∷◌, ◌++◌, length, take, drop, refl, sym, ap, subst, arith}
 use Rattle.std.specs.Prelude.{slice_range, replicate, nat_le}
 use Rattle.std.specs.List.{list_all}
 use Rattle.std.proofs.lemmas.Bool.{eqb-true, leb-true}
 use Rattle.std.proofs.lemmas.List.{take-append-drop, length-drop, length-take, drop-drop, take-take, drop-take}
+use Rattle.oberon_format.specs.declared.layout.TheConstants.{CHECKPOINT_LEN, WAITING_AT, KEYS_AT, SENT_AT}
 use Rattle.oberon_format.proofs.RuleLemmas.{and_left, and_right}
 use Rattle.oberon_format.specs.Layout.{word_at}
 use Rattle.oberon_format.specs.Ranges.{are_keys}
@@ -29,15 +30,22 @@ range-split xs a b c ab bc fits =
     let second : drop m (take (m + n) ys) ≡ take n (drop b xs) = drop-take m n ys ∙ ap (take n) (drop-drop m a xs ∙ ap (λ (k : ℕ). drop k xs) from) in
     ap (λ (k : ℕ). take k ys) sum ∙ sym (take-append-drop m (take (m + n) ys)) ∙ ap (λ (l : List ℕ). l ++ drop m (take (m + n) ys)) first ∙ ap (λ (l : List ℕ). take m ys ++ l) second
 
+-- the end of a part of a list
+range-drop : (xs : List ℕ) (a n c : ℕ) → a + n ≤ c → drop n (slice_range xs a c) ≡ slice_range xs (a + n) c
+range-drop xs a n c le =
+    let sum : c - a ≡ n + (c - (a + n)) = omega arith in
+    ap (λ (k : ℕ). drop n (take k (drop a xs))) sum ∙ drop-take n (c - (a + n)) (drop a xs) ∙ ap (take (c - (a + n))) (drop-drop n a xs)
+
 pub length-range : (xs : List ℕ) (a b : ℕ) → a ≤ b → b ≤ length xs → length (slice_range xs a b) ≡ b - a
 length-range xs a b ab fits = omega (arith, length-take (b - a) (drop a xs), length-drop a xs)
 
-pub keys-stand : (text : List ℕ) (place : ℕ) → place + 4228 ≤ length text → are_keys (checkpoint_of text place) ≡ true
-    → slice_range text (place + 112) (place + 128) ≡ slice_range text (place + 112) (place + 112 + word_at text (place + 108)) ++ replicate (16 - word_at text (place + 108)) 0
+pub keys-stand : (text : List ℕ) (place : ℕ) → place + CHECKPOINT_LEN ≤ length text → are_keys (checkpoint_of text place) ≡ true
+    → slice_range text (place + KEYS_AT) (place + SENT_AT) ≡ slice_range text (place + KEYS_AT) (place + KEYS_AT + word_at text (place + WAITING_AT)) ++ replicate (16 - word_at text (place + WAITING_AT)) 0
 keys-stand text place room h =
-    let n = word_at text (place + 108) in
+    let n = word_at text (place + WAITING_AT) in
     let few : n ≤ 16 = leb-true n 16 (and_left _ _ h) in
-    let zeros = zeros-are (slice_range text (place + 112 + n) (place + 128)) (and_right (nat_le n 16) _ h) in
-    let len : length (slice_range text (place + 112 + n) (place + 128)) ≡ 16 - n = omega (arith, length-range text (place + 112 + n) (place + 128) (omega arith) (omega arith)) in
-    range-split text (place + 112) (place + 112 + n) (place + 128) (omega arith) (omega arith) (omega arith)
-    ∙ ap (λ (r : List ℕ). slice_range text (place + 112) (place + 112 + n) ++ r) (zeros ∙ ap (λ (m : ℕ). replicate m 0) len)
+    let rest : drop n (slice_range text (place + KEYS_AT) (place + SENT_AT)) ≡ slice_range text (place + KEYS_AT + n) (place + SENT_AT) = range-drop text (place + KEYS_AT) n (place + SENT_AT) (omega arith) in
+    let zeros = zeros-are (slice_range text (place + KEYS_AT + n) (place + SENT_AT)) (subst (λ (l : List ℕ). list_all (λ b. eqb b 0) l ≡ true) rest (and_right (nat_le n 16) _ h)) in
+    let len : length (slice_range text (place + KEYS_AT + n) (place + SENT_AT)) ≡ 16 - n = omega (arith, length-range text (place + KEYS_AT + n) (place + SENT_AT) (omega arith) (omega arith)) in
+    range-split text (place + KEYS_AT) (place + KEYS_AT + n) (place + SENT_AT) (omega arith) (omega arith) (omega arith)
+    ∙ ap (λ (r : List ℕ). slice_range text (place + KEYS_AT) (place + KEYS_AT + n) ++ r) (zeros ∙ ap (λ (m : ℕ). replicate m 0) len)

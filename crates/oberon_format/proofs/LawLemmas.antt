@@ -60,8 +60,8 @@ cpu_are cpu = join _ _ (join _ _ (join _ _ (join _ _ (words_are_bytes cpu.r) (wo
 device_are : (d : DeviceState) → IsDeviceState d → AreBytes (device_bytes d)
 unfolding device_bytes
 device_are d fits =
-    join _ _ (join _ _ (join _ _ (join _ _ (join _ _ (join _ _ (join _ _ (word_are _) (word_are _)) (word_are _)) (word_are _)) (word_are _)) (word_are _)) fits.codes)
-    (All-replicate (λ byte. byte < 2 ^ 8) (16 - length d.keys) 0 (omega arith))
+    join _ _ (join _ _ (join _ _ (join _ _ (join _ _ (join _ _ (word_are _) (word_are _)) (word_are _)) (word_are _)) (word_are _)) (word_are _))
+    (join _ _ fits.codes (All-replicate (λ byte. byte < 2 ^ 8) (16 - length d.keys) 0 (omega arith)))
 
 checkpoint_are : (pool : List (List ℕ)) (c : CheckpointParts) → IsFit pool c → AreBytes (checkpoint_bytes c)
 unfolding checkpoint_bytes

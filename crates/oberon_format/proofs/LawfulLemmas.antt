@@ -4,7 +4,7 @@ use Rattle.std.specs.Prelude.{slice_index, replicate, nat_le, nat_lt, if◌then�
 use Rattle.std.specs.List.{list_all}
 use Rattle.std.specs.Option.{IfNone}
 use Rattle.std.proofs.lemmas.Bool.{le-leb, lt-ltb, leb-true, ltb-true, eqb-true}
-use Rattle.std.proofs.lemmas.List.{get_or_default}
+use Rattle.std.proofs.lemmas.List.{drop_at, get_or_default}
 use Rattle.std.proofs.lemmas.Bool.Decides.{nat_tests}
 use Rattle.risc_devices.specs.DeviceState.{DeviceState, IsDeviceState, serial_number}
 use Rattle.risc_devices.specs.InputKind.{is_input, is_mouse}
@@ -15,15 +15,17 @@ use Rattle.risc_pages.specs.Pages.{ArePages}
 use Rattle.risc_machine.specs.MachineState.{CpuState}
 use Rattle.oberon_format.specs.declared.fault.Fault.{Fault}
 use Rattle.oberon_format.specs.declared.fault.Fault.TheVariants as fault
+use Rattle.oberon_format.specs.declared.ranges.TheConstants.{MAX_COUNT, MAX_OUTPUT, MAX_PAGES, MAX_EVENTS, MAX_CHECKPOINTS, COUNTER_END, MAX_STOP}
 use Rattle.oberon_format.specs.CheckpointParts.{CheckpointParts, no_checkpoint}
-use Rattle.oberon_format.specs.Fields.{Fields, EventFields, CheckpointFields, sent_below}
+use Rattle.oberon_format.specs.declared.fields.CheckpointFields.{CheckpointFields}
+use Rattle.oberon_format.specs.Fields.{Fields, EventFields, sent_below}
 use Rattle.oberon_format.specs.FirstFault.{first_broken, each}
 use Rattle.oberon_format.specs.FlagsNumber.{flags_number}
-use Rattle.oberon_format.specs.Layout.{number_place}
+use Rattle.oberon_format.specs.Layout.{page_number_place}
 use Rattle.oberon_format.specs.PartFields.{fields_of_parts, fault_of_parts, event_fields, no_event, checkpoint_fields}
-use Rattle.oberon_format.specs.Ranges.{is_count, is_output, in_ranges, are_keys, is_checkpoint, max_count, max_output}
+use Rattle.oberon_format.specs.Ranges.{is_count, is_output, in_ranges, are_keys, is_checkpoint}
 use Rattle.oberon_format.specs.Recording.{RecordingParts, IsLawful, checkpoint_at, count_at, output_of}
-use Rattle.oberon_format.specs.Rules.{header_rules, event_rules, event_floor, place_of_checkpoint, number_rules, rules_at, count_before, checkpoint_rules}
+use Rattle.oberon_format.specs.Rules.{header_rules, event_rules, event_floor, place_of_checkpoint, page_number_rules, rules_at, count_before, checkpoint_rules}
 use Rattle.oberon_format.specs.Formed.{IsFormed, AreFormed}
 use Rattle.oberon_format.proofs.RuleLemmas.{any_in_end, any_in_checkpoints, AreMet, met_parts, parts_met, each_holds, each_all, rule_holds, and_left, and_right}
 use Rattle.oberon_format.proofs.PartLemmas.{member, event_here, checkpoint_here, before_more, sent_none, sent_more, total_le, sent_all, rules_here, ends_met}
@@ -43,39 +45,29 @@ serial_fits d fits = let s = fits.serial in grind arith
 pub keys_met : (c : CheckpointParts) → IsFormed c → are_keys (checkpoint_fields c) ≡ true
 keys_met c formed =
     let few : nat_le (length c.devices.keys) 16 ≡ true = le-leb _ _ formed.devices.keys in
-    rw (few, zeros_met (16 - length c.devices.keys)) refl
+    rw (few, drop_at c.devices.keys (replicate (16 - length c.devices.keys) 0) (length c.devices.keys) refl, zeros_met (16 - length c.devices.keys)) refl
 
-two_of_seven : (a f b s l m x : Bool) → f ≡ true → s ≡ true → l ≡ true → m ≡ true → x ≡ true → (a && f && b && s && l && m && x) ≡ (a && b)
-two_of_seven true f true s l m x hf hs hl hm hx = rw (hf, hs, hl, hm, hx) refl
-two_of_seven true f false s l m x hf hs hl hm hx = rw hf refl
-two_of_seven false f b s l m x hf hs hl hm hx = refl
+three_of_eight : (a f b r s l m x : Bool) → f ≡ true → s ≡ true → l ≡ true → m ≡ true → x ≡ true → (a && f && b && r && s && l && m && x) ≡ (a && b && r)
+three_of_eight true f true true s l m x hf hs hl hm hx = rw (hf, hs, hl, hm, hx) refl
+three_of_eight true f true false s l m x hf hs hl hm hx = rw hf refl
+three_of_eight true f false r s l m x hf hs hl hm hx = rw hf refl
+three_of_eight false f b r s l m x hf hs hl hm hx = refl
 
--- the ranges of formed parts are those of the timer's rate, the program counter and the stop
-pub ranges_are : (c : CheckpointParts) → IsFormed c → in_ranges (checkpoint_fields c) ≡ (c.devices.rate == 0 && nat_lt c.cpu.pc 4194304 && nat_le c.cpu.stop 4)
+-- the ranges of formed parts are those of the program counter, the stop and the timer's rate
+pub ranges_are : (c : CheckpointParts) → IsFormed c → in_ranges (checkpoint_fields c) ≡ (nat_lt c.cpu.pc COUNTER_END && nat_le c.cpu.stop MAX_STOP && c.devices.rate == 0)
 ranges_are c formed =
-    two_of_seven (c.devices.rate == 0 && nat_lt c.cpu.pc 4194304) (nat_lt (flags_number c.cpu) 16) (nat_le c.cpu.stop 4) (nat_lt c.devices.switches 4096) (nat_lt c.devices.leds 256) (is_mouse c.devices.mouse) (nat_lt (serial_number c.devices) 512)
+    three_of_eight (nat_lt c.cpu.pc COUNTER_END) (nat_lt (flags_number c.cpu) 16) (nat_le c.cpu.stop MAX_STOP) (c.devices.rate == 0) (nat_lt c.devices.switches 4096) (nat_lt c.devices.leds 256) (is_mouse c.devices.mouse) (nat_lt (serial_number c.devices) 512)
     (lt-ltb _ _ (flags_fit c.cpu)) (lt-ltb _ _ formed.devices.switches) (lt-ltb _ _ formed.devices.leds) formed.devices.mouse (lt-ltb _ _ (serial_fits c.devices formed.devices))
 
-pub ranges_met : (c : CheckpointParts) → IsFormed c → (c.devices.rate == 0) ≡ true → nat_lt c.cpu.pc 4194304 ≡ true → nat_le c.cpu.stop 4 ≡ true → in_ranges (checkpoint_fields c) ≡ true
-ranges_met c formed rate pc stop = ranges_are c formed ∙ rw (rate, pc, stop) refl
-
--- the test of a checkpoint's fields, where its parts are formed
-pub checkpoint_test : (k before sent : ℕ) (c : CheckpointParts) → IsFormed c
-    → is_count k before c.count ≡ true → (c.devices.rate == 0 && nat_lt c.cpu.pc 4194304 && nat_le c.cpu.stop 4) ≡ true → is_checkpoint k before sent (checkpoint_fields c) ≡ is_output k sent (length c.sent)
-checkpoint_test k before sent c formed count ranges = rw (count, ranges_are c formed, ranges, keys_met c formed) refl
-
-pub count_fails : (k before sent : ℕ) (c : CheckpointParts) → is_count k before c.count ≡ false → is_checkpoint k before sent (checkpoint_fields c) ≡ false
-count_fails k before sent c count = rw count refl
-
-pub ranges_fail : (k before sent : ℕ) (c : CheckpointParts) → IsFormed c → is_count k before c.count ≡ true → (c.devices.rate == 0 && nat_lt c.cpu.pc 4194304 && nat_le c.cpu.stop 4) ≡ false → is_checkpoint k before sent (checkpoint_fields c) ≡ false
-ranges_fail k before sent c formed count ranges = rw (count, ranges_are c formed, ranges) refl
+pub ranges_met : (c : CheckpointParts) → IsFormed c → nat_lt c.cpu.pc COUNTER_END ≡ true → nat_le c.cpu.stop MAX_STOP ≡ true → (c.devices.rate == 0) ≡ true → in_ranges (checkpoint_fields c) ≡ true
+ranges_met c formed pc stop rate = ranges_are c formed ∙ rw (pc, stop, rate) refl
 
 -- what the header's rules say of the numbers
 pub record IsWithin (f : Fields) : Type 0 where
-  pub pages : f.pages ≤ 65536
-  pub events : f.events ≤ 1000000
+  pub pages : f.pages ≤ MAX_PAGES
+  pub events : f.events ≤ MAX_EVENTS
   pub some : 1 ≤ f.checkpoints
-  pub few : f.checkpoints ≤ 4097
+  pub few : f.checkpoints ≤ MAX_CHECKPOINTS
 
 pub header_within : (f : Fields) → first_broken (header_rules f) ≡ None → IsWithin f
 header_within f h = record {
@@ -89,10 +81,10 @@ pub parts_header : (r : RecordingParts) → IsWithin (fields_of_parts r) → fir
 parts_header r within =
     let f = fields_of_parts r in
     let a : nat_le 24 f.long ≡ true = le-leb _ _ (omega arith) in
-    let b : nat_le (length r.pool) 65536 ≡ true = le-leb _ _ within.pages in
-    let c : nat_le (length r.inputs) 1000000 ≡ true = le-leb _ _ within.events in
+    let b : nat_le (length r.pool) MAX_PAGES ≡ true = le-leb _ _ within.pages in
+    let c : nat_le (length r.inputs) MAX_EVENTS ≡ true = le-leb _ _ within.events in
     let d : nat_le 1 (length r.checkpoints) ≡ true = le-leb _ _ within.some in
-    let e : nat_le (length r.checkpoints) 4097 ≡ true = le-leb _ _ within.few in
+    let e : nat_le (length r.checkpoints) MAX_CHECKPOINTS ≡ true = le-leb _ _ within.few in
     let g : nat_le (24 + 1024 * length r.pool + 16 * length r.inputs + 4228 * length r.checkpoints) f.long ≡ true = le-leb _ _ (omega arith) in
     rw (a, b, c, d, e, g) refl
 
@@ -103,16 +95,16 @@ first_count before count h = grind (arith, nat_tests)
 next_count : (k before count : ℕ) → is_count (k + 1) before count ≡ true → before < count
 next_count k before count h = grind (arith, nat_tests)
 
-bounded_count : (k before count : ℕ) → is_count k before count ≡ true → count ≤ max_count
+bounded_count : (k before count : ℕ) → is_count k before count ≡ true → count ≤ MAX_COUNT
 bounded_count k before count h = grind (arith, nat_tests)
 
 first_output : (sent own : ℕ) → is_output 0 sent own ≡ true → own ≡ 0
 first_output sent own h = grind (arith, nat_tests)
 
-bounded_output : (k sent own : ℕ) → is_output k sent own ≡ true → sent + own ≤ max_output
+bounded_output : (k sent own : ℕ) → is_output k sent own ≡ true → sent + own ≤ MAX_OUTPUT
 bounded_output k sent own h = grind (arith, nat_tests)
 
-next_output : (k sent own : ℕ) → sent + own ≤ max_output → is_output (k + 1) sent own ≡ true
+next_output : (k sent own : ℕ) → sent + own ≤ MAX_OUTPUT → is_output (k + 1) sent own ≡ true
 next_output k sent own h = grind (arith, nat_tests)
 
 length_nil : (xs : List ℕ) → length xs ≡ 0 → xs ≡ []
@@ -122,9 +114,9 @@ length_nil (x ∷ xs) h = absurd (omega arith)
 -- a checkpoint whose rules are met
 pub record CheckpointMet (r : RecordingParts) (k : ℕ) : Type 0 where
   pub count : is_count k (count_before (fields_of_parts r) k) (count_at r k) ≡ true
-  pub rate : (checkpoint_at r k).devices.rate ≡ 0
-  pub pc : nat_lt (checkpoint_at r k).cpu.pc 4194304 ≡ true
+  pub pc : nat_lt (checkpoint_at r k).cpu.pc COUNTER_END ≡ true
   pub stop : nat_le (checkpoint_at r k).cpu.stop 4 ≡ true
+  pub rate : (checkpoint_at r k).devices.rate ≡ 0
   pub output : is_output k (sent_below (fields_of_parts r) k) (length (checkpoint_at r k).sent) ≡ true
   pub numbers : (j : ℕ) → j < 1024 → slice_index (checkpoint_at r k).table j ≤ length r.pool
 
@@ -136,18 +128,19 @@ checkpoint_met r k lt h =
     let place = place_of_checkpoint f k in
     let number = slice_index (checkpoint_at r k).table in
     let here = sym (ap first_broken (rules_here r k place (count_before f k) (sent_below f k) lt refl refl refl)) ∙ h in
-    let two = rule_holds (is_checkpoint k (count_before f k) (sent_below f k) c) (fault.Checkpoint place) (each 1024 (number_rules (length r.pool) place number)) here in
+    let two = rule_holds (is_checkpoint k (count_before f k) (sent_below f k) c) (fault.Checkpoint place) (each 1024 (page_number_rules (length r.pool) place number)) here in
     let three = and_left (is_count k (count_before f k) c.count && in_ranges c && are_keys c) (is_output k (sent_below f k) c.output) two.0 in
     let four = and_left (is_count k (count_before f k) c.count && in_ranges c) (are_keys c) three in
     let ranges = and_right (is_count k (count_before f k) c.count) (in_ranges c) four in
-    let counter = and_left _ _ (and_left _ _ (and_left _ _ (and_left _ _ (and_left _ _ (and_left _ _ ranges))))) in
+    let timed = and_left _ _ (and_left _ _ (and_left _ _ (and_left _ _ ranges))) in
+    let stopped = and_left _ _ timed in
     record {
       count = and_left (is_count k (count_before f k) c.count) (in_ranges c) four;
-      rate = eqb-true _ _ (and_left _ _ counter);
-      pc = and_right _ _ counter;
-      stop = and_right _ _ (and_left _ _ (and_left _ _ (and_left _ _ (and_left _ _ ranges))));
+      pc = and_left _ _ (and_left _ _ stopped);
+      stop = and_right _ _ stopped;
+      rate = eqb-true _ _ (and_right _ _ timed);
       output = and_right (is_count k (count_before f k) c.count && in_ranges c && are_keys c) (is_output k (sent_below f k) c.output) two.0;
-      numbers = λ j less. leb-true _ _ (rule_holds (nat_le (number j) (length r.pool)) (fault.Page (number_place place j)) [] (each_holds (number_rules (length r.pool) place number) 1024 j less two.1)).0;
+      numbers = λ j less. leb-true _ _ (rule_holds (nat_le (number j) (length r.pool)) (fault.Page (page_number_place place j)) [] (each_holds (page_number_rules (length r.pool) place number) 1024 j less two.1)).0;
     }
 
 -- the number of checkpoint k - 1's count is the one before checkpoint k
@@ -214,7 +207,7 @@ event_met r i ordered lt =
     let count = event_count r.inputs i in
     let floor : event_floor f i ≡ before_count r.inputs i = ap (λ (n : ℕ). if i == 0 then 0 else n) (event_count r.inputs (i - 1)) in
     let a : nat_le (event_floor f i) (f.event i).count ≡ true = le-leb _ _ (omega (arith, right.0)) in
-    let b : nat_le (f.event i).count max_count ≡ true = le-leb _ _ (omega (arith, right.1)) in
+    let b : nat_le (f.event i).count MAX_COUNT ≡ true = le-leb _ _ (omega (arith, right.1)) in
     let d = member r.inputs i lt in
     let e = get_or r.inputs i d in
     let c : is_input (f.event i).kind (f.event i).value ≡ true = ap (λ (x : EventFields). is_input x.kind x.value) (event_here r i d lt) ∙ e.input.lawful in
@@ -232,7 +225,7 @@ count_met r (suc k) lawful lt =
     let rise : count_at r k < count_at r (k + 1) = lawful.rises k (omega arith) in
     let before = count_before-is r k less in
     let a : nat_lt (count_before (fields_of_parts r) (k + 1)) (count_at r (k + 1)) ≡ true = lt-ltb _ _ (omega arith) in
-    let b : nat_le (count_at r (k + 1)) max_count ≡ true = le-leb _ _ (lawful.fit (k + 1) (omega arith)).bounded in
+    let b : nat_le (count_at r (k + 1)) MAX_COUNT ≡ true = le-leb _ _ (lawful.fit (k + 1) (omega arith)).bounded in
     let both : is_count (k + 1) (count_before (fields_of_parts r) (k + 1)) (count_at r (k + 1)) ≡ true = grind (arith, nat_tests) in
     subst (λ (m : ℕ). is_count m (count_before (fields_of_parts r) m) (count_at r m) ≡ true) (sym next) both
 
@@ -241,7 +234,7 @@ output_met r zero lawful lt =
     let own : length (checkpoint_at r 0).sent ≡ 0 = ap (λ (l : List ℕ). length l) lawful.silent in
     let none = sent_none (fields_of_parts r) in
     let a : eqb (length (checkpoint_at r 0).sent) 0 ≡ true = eq-eqb _ _ own in
-    let b : nat_le (sent_below (fields_of_parts r) 0 + length (checkpoint_at r 0).sent) max_output ≡ true = le-leb _ _ (omega arith) in
+    let b : nat_le (sent_below (fields_of_parts r) 0 + length (checkpoint_at r 0).sent) MAX_OUTPUT ≡ true = le-leb _ _ (omega arith) in
     rw (a, b) refl
 output_met r (suc k) lawful lt =
     let f = fields_of_parts r in
@@ -251,21 +244,21 @@ output_met r (suc k) lawful lt =
     let up = total_le (λ i. (f.checkpoint i).output) (k + 1 + 1) n (omega arith) in
     let all = sent_all r in
     let limit = lawful.output in
-    let fits : sent_below f (k + 1) + length (checkpoint_at r (k + 1)).sent ≤ max_output = omega arith in
+    let fits : sent_below f (k + 1) + length (checkpoint_at r (k + 1)).sent ≤ MAX_OUTPUT = omega arith in
     let met : is_output (k + 1) (sent_below f (k + 1)) (length (checkpoint_at r (k + 1)).sent) ≡ true = next_output k _ _ fits in
     subst (λ (m : ℕ). is_output m (sent_below f m) (length (checkpoint_at r m).sent) ≡ true) (sym next) met
 
-numbers_met : (r : RecordingParts) (k place : ℕ) → IsLawful r → k < length r.checkpoints → first_broken (each 1024 (number_rules (length r.pool) place (slice_index (checkpoint_at r k).table))) ≡ None
+numbers_met : (r : RecordingParts) (k place : ℕ) → IsLawful r → k < length r.checkpoints → first_broken (each 1024 (page_number_rules (length r.pool) place (slice_index (checkpoint_at r k).table))) ≡ None
 numbers_met r k place lawful lt =
     let fit = lawful.fit k lt in
-    each_all (number_rules (length r.pool) place (slice_index (checkpoint_at r k).table)) 1024 (λ j less.
+    each_all (page_number_rules (length r.pool) place (slice_index (checkpoint_at r k).table)) 1024 (λ j less.
     let a : nat_le (slice_index (checkpoint_at r k).table j) (length r.pool) ≡ true = le-leb _ _ (fit.named j 0 (subst (λ (m : ℕ). j < m) (sym fit.table.count) less)) in
     rw a refl)
 
 all_four : (a b c d : Bool) → a ≡ true → b ≡ true → c ≡ true → d ≡ true → (a && b && c && d) ≡ true
 all_four a b c d ha hb hc hd = rw (ha, hb, hc, hd) refl
 
-rules_at_met : (pages place k before sent : ℕ) (c : CheckpointFields) (number : ℕ → ℕ) → is_checkpoint k before sent c ≡ true → first_broken (each 1024 (number_rules pages place number)) ≡ None → first_broken (rules_at pages place k before sent c number) ≡ None
+rules_at_met : (pages place k before sent : ℕ) (c : CheckpointFields) (number : ℕ → ℕ) → is_checkpoint k before sent c ≡ true → first_broken (each 1024 (page_number_rules pages place number)) ≡ None → first_broken (rules_at pages place k before sent c number) ≡ None
 unfolding rules_at
 rules_at_met pages place k before sent c number test numbers = rw test numbers
 
@@ -276,7 +269,7 @@ checkpoint_rules_met r k formed lawful lt =
     let place = place_of_checkpoint f k in
     let own = formed k no_checkpoint lt in
     let fit = lawful.fit k lt in
-    let ranges = ranges_met c own (eq-eqb _ _ fit.rate) (lt-ltb _ _ fit.cpu.counter) (le-leb _ _ fit.cpu.stops) in
+    let ranges = ranges_met c own (lt-ltb _ _ fit.cpu.counter) (le-leb _ _ fit.cpu.stops) (eq-eqb _ _ fit.rate) in
     let test = all_four _ _ _ _ (count_met r k lawful lt) ranges (keys_met c own) (output_met r k lawful lt) in
     ap first_broken (rules_here r k place (count_before f k) (sent_below f k) lt refl refl refl)
     ∙ rules_at_met (length r.pool) place k (count_before f k) (sent_below f k) (checkpoint_fields c) (slice_index c.table) test (numbers_met r k place lawful lt)

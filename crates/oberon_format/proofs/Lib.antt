@@ -6,6 +6,10 @@ pub mod Keys
 pub mod Output
 pub mod PartLemmas
 pub mod SameFields
+pub mod TextLemmas
+mod SameRules
+mod LongFields
+pub mod Cut
 pub mod Agree
 pub mod LawfulLemmas
 pub mod ReadLemmas

@@ -9,6 +9,7 @@ use Rattle.risc_devices.proofs.InputLemmas.{same_input}
 use Rattle.risc_devices.proofs.DeviceLemmas.{same_devices}
 use Rattle.risc_machine.specs.declared.event.Event.{Event}
 use Rattle.risc_machine.specs.MachineState.{CpuState, IsCpuState}
+use Rattle.oberon_format.specs.declared.layout.TheConstants.{TABLE_AT}
 use Rattle.oberon_format.specs.CheckpointParts.{CheckpointParts, no_checkpoint}
 use Rattle.oberon_format.specs.FlagsNumber.{bits_number, flags_number}
 use Rattle.oberon_format.specs.Layout.{page_place, event_place, checkpoint_place}
@@ -111,7 +112,7 @@ same_checkpoint text place p q c d fit_c fit_d sent x y =
     let count : c.count ≡ d.count = sym x.count ∙ y.count in
     let cpu = same_cpu text place c.cpu d.cpu fit_c.cpu fit_d.cpu x.cpu y.cpu in
     let devices = same_devices_at text place c.devices d.devices fit_c.devices fit_d.devices x.devices y.devices in
-    let table : c.table ≡ d.table = same_words text (place + 132) c.table d.table (fit_c.table.count ∙ sym fit_d.table.count) x.table y.table in
+    let table : c.table ≡ d.table = same_words text (place + TABLE_AT) c.table d.table (fit_c.table.count ∙ sym fit_d.table.count) x.table y.table in
     λ i. record { count = count i; cpu = cpu i; devices = devices i; sent = sent i; table = table i }
 
 checkpoints_same : (text : List ℕ) (r s : RecordingParts) → Text text r → Text text s → r.checkpoints ≡ s.checkpoints

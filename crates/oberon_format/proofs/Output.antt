@@ -4,6 +4,7 @@ use Rattle.std.specs.Prelude.{slice_range}
 use Rattle.std.proofs.lemmas.Bool.{cases_lt}
 use Rattle.std.proofs.lemmas.Slice.{between_to_end}
 use Rattle.std.proofs.lemmas.List.{flat_map_more}
+use Rattle.oberon_format.specs.declared.layout.TheConstants.{SENT_AT}
 use Rattle.oberon_format.proofs.RuleLemmas.{output_below, output_below_more, checkpoint_holds, and_left, and_right}
 use Rattle.oberon_format.proofs.Keys.{range-split}
 use Rattle.oberon_format.specs.CheckpointParts.{CheckpointParts}
@@ -32,7 +33,7 @@ ranges_hold text k meets lt = and_right _ _ (and_left _ _ (and_left _ _ (checkpo
 pub keys_hold : (text : List ℕ) (k : ℕ) → Meets text → k < checkpoints text → are_keys (checkpoint_of text (checkpoint_place text k)) ≡ true
 keys_hold text k meets lt = and_right _ _ (and_left _ _ (checkpoint_holds text k meets lt))
 
-pub output_fits : (text : List ℕ) (k : ℕ) → Meets text → k < checkpoints text → output_place text + output_below text k + word_at text (checkpoint_place text k + 128) ≤ length text
+pub output_fits : (text : List ℕ) (k : ℕ) → Meets text → k < checkpoints text → output_place text + output_below text k + word_at text (checkpoint_place text k + SENT_AT) ≤ length text
 output_fits text k meets lt =
     let more = output_below_more text k in
     let le = output_below_le text (k + 1) (checkpoints text) (omega arith) in
@@ -40,11 +41,11 @@ output_fits text k meets lt =
     omega arith
 
 pub output_more : (text : List ℕ) (k from : ℕ) (cs : List CheckpointParts) (c : CheckpointParts) → Meets text → k < checkpoints text → from ≡ output_place text + output_below text k
-    → slice_range text (output_place text) from ≡ output_of cs → c.sent ≡ slice_range text from (from + word_at text (checkpoint_place text k + 128))
-    → slice_range text (output_place text) (from + word_at text (checkpoint_place text k + 128)) ≡ output_of (cs ++ c ∷ [])
+    → slice_range text (output_place text) from ≡ output_of cs → c.sent ≡ slice_range text from (from + word_at text (checkpoint_place text k + SENT_AT))
+    → slice_range text (output_place text) (from + word_at text (checkpoint_place text k + SENT_AT)) ≡ output_of (cs ++ c ∷ [])
 output_more text k from cs c meets lt is so_far sent =
     let fits = output_fits text k meets lt in
-    let n = word_at text (checkpoint_place text k + 128) in
+    let n = word_at text (checkpoint_place text k + SENT_AT) in
     range-split text (output_place text) from (from + n) (omega arith) (omega arith) (omega arith)
     ∙ ap (λ (l : List ℕ). l ++ slice_range text from (from + n)) so_far
     ∙ ap (λ (l : List ℕ). output_of cs ++ l) (sym sent)

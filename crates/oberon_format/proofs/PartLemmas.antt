@@ -6,7 +6,8 @@ use Rattle.std.proofs.lemmas.Bool.{le-leb, cases_lt}
 use Rattle.std.proofs.lemmas.Bool.Decides.{nat_tests}
 use Rattle.risc_machine.specs.declared.event.Event.{Event}
 use Rattle.oberon_format.specs.CheckpointParts.{CheckpointParts, no_checkpoint}
-use Rattle.oberon_format.specs.Fields.{Fields, CheckpointFields, total, sent_below}
+use Rattle.oberon_format.specs.declared.fields.CheckpointFields.{CheckpointFields}
+use Rattle.oberon_format.specs.Fields.{Fields, total, sent_below}
 use Rattle.oberon_format.specs.FirstFault.{first_broken}
 use Rattle.oberon_format.specs.PartFields.{fields_of_parts, event_fields, no_event, checkpoint_fields, no_fields}
 use Rattle.oberon_format.specs.Recording.{RecordingParts, checkpoint_at, output_of}
@@ -24,7 +25,7 @@ event_here r i e lt = get_or-map event_fields r.inputs i e no_event lt
 pub checkpoint_here : (r : RecordingParts) (k : ℕ) → k < length r.checkpoints → (fields_of_parts r).checkpoint k ≡ checkpoint_fields (checkpoint_at r k)
 checkpoint_here r k lt = get_or-map checkpoint_fields r.checkpoints k no_checkpoint no_fields lt
 
-pub number_here : (r : RecordingParts) (k : ℕ) → k < length r.checkpoints → (fields_of_parts r).number k ≡ slice_index (checkpoint_at r k).table
+pub number_here : (r : RecordingParts) (k : ℕ) → k < length r.checkpoints → (fields_of_parts r).page_number k ≡ slice_index (checkpoint_at r k).table
 number_here r k lt =
     ap (λ (xs : List ℕ). slice_index xs) (get_or-map (λ (c : CheckpointParts). c.table) r.checkpoints k no_checkpoint [] lt)
 
@@ -60,7 +61,7 @@ rules_here r k place before sent lt at b s =
     let f = fields_of_parts r in
     let c = checkpoint_fields (checkpoint_at r k) in
     let n = slice_index (checkpoint_at r k).table in
-    ap (λ (x : CheckpointFields). rules_at (length r.pool) (place_of_checkpoint f k) k (count_before f k) (sent_below f k) x (f.number k)) (checkpoint_here r k lt)
+    ap (λ (x : CheckpointFields). rules_at (length r.pool) (place_of_checkpoint f k) k (count_before f k) (sent_below f k) x (f.page_number k)) (checkpoint_here r k lt)
     ∙ ap (λ (g : ℕ → ℕ). rules_at (length r.pool) (place_of_checkpoint f k) k (count_before f k) (sent_below f k) c g) (number_here r k lt)
     ∙ ap (λ (p : ℕ). rules_at (length r.pool) p k (count_before f k) (sent_below f k) c n) (sym at)
     ∙ ap (λ (p : ℕ). rules_at (length r.pool) place k p (sent_below f k) c n) (sym b)

@@ -7,9 +7,10 @@ use Rattle.risc_machine.specs.declared.event.Event.{Event}
 use Rattle.risc_machine.specs.InputOrder.{AreOrdered, count_at, count_before}
 use Rattle.risc_pages.specs.Pages.{ArePages}
 use Rattle.oberon_format.specs.declared.fault.Fault.TheVariants as fault
+use Rattle.oberon_format.specs.declared.ranges.TheConstants.{MAX_COUNT}
 use Rattle.oberon_format.specs.CheckpointParts.{CheckpointParts}
 use Rattle.oberon_format.specs.Layout.{long_at, pages, events, checkpoints, event_place, output_place}
-use Rattle.oberon_format.specs.Ranges.{is_event, max_count}
+use Rattle.oberon_format.specs.Ranges.{is_event}
 use Rattle.oberon_format.specs.Recording.{RecordingParts, IsLawful, output_of}
 use Rattle.oberon_format.specs.Rules.{event_rules, event_floor}
 use Rattle.oberon_format.specs.Formed.{AreFormed}
@@ -37,7 +38,7 @@ events_ordered text es meets len each place lt =
     let holds = (rule_holds (is_event (event_floor f place) (event_of text (event_place text place))) (fault.Event (event_place text place)) [] one).0 in
     let counts = and_left _ _ holds in
     let low : event_floor f place ≤ long_at text (event_place text place) = leb-true _ _ (and_left _ _ counts) in
-    let high : long_at text (event_place text place) ≤ max_count = leb-true _ _ (and_right _ _ counts) in
+    let high : long_at text (event_place text place) ≤ MAX_COUNT = leb-true _ _ (and_right _ _ counts) in
     (omega arith, omega arith)
 
 -- the parts that were read are those of the text

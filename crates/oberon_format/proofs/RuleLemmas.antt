@@ -3,14 +3,15 @@ use Rattle.std.proofs.Common.{◌≡◌, ◌<◌, ◌+◌, ◌-◌, ℕ, zero, s
 use Rattle.std.proofs.lemmas.Bool.{cases_lt}
 use Rattle.oberon_format.specs.declared.fault.Fault.{Fault}
 use Rattle.oberon_format.specs.declared.fault.Fault.TheVariants as fault
+use Rattle.oberon_format.specs.declared.layout.TheConstants.{MAGIC, VERSION, MAGIC_AT, VERSION_AT, LAST_AT, SENT_AT}
 use Rattle.std.proofs.lemmas.Bool.Decides.{nat_tests}
 use Rattle.oberon_format.specs.Fields.{Fields, sent_below, total}
 use Rattle.oberon_format.specs.FirstFault.{Rule, each, first_broken}
-use Rattle.oberon_format.specs.Layout.{checkpoint_place, checkpoints, event_place, events, long_at, magic, pages, word_at}
+use Rattle.oberon_format.specs.Layout.{checkpoint_place, checkpoints, event_place, events, long_at, pages, word_at}
 use Rattle.oberon_format.specs.Ranges.{is_checkpoint, is_event}
-use Rattle.oberon_format.specs.Rules.{checkpoint_rules, count_before, end_rules, event_floor, event_rules, header_rules, number_rules, rules, rules_at, whole}
+use Rattle.oberon_format.specs.Rules.{checkpoint_rules, count_before, end_rules, event_floor, event_rules, header_rules, page_number_rules, rules, rules_at, whole}
 use Rattle.oberon_format.specs.Tested.{IsSized, Meets}
-use Rattle.oberon_format.specs.TextFields.{checkpoint_of, event_of, fields_of, first_fault_of, number_of}
+use Rattle.oberon_format.specs.TextFields.{checkpoint_of, event_of, fields_of, first_fault_of, page_number_of}
 use Rattle.risc_devices.specs.InputKind.{is_input}
 
 pub met-append : (xs ys : List Rule) → first_broken xs ≡ None → first_broken (xs ++ ys) ≡ first_broken ys
@@ -58,7 +59,7 @@ pub output_below_none : (text : List ℕ) → output_below text 0 ≡ 0
 unfolding total
 output_below_none text = refl
 
-pub output_below_more : (text : List ℕ) (k : ℕ) → output_below text (k + 1) ≡ output_below text k + word_at text (checkpoint_place text k + 128)
+pub output_below_more : (text : List ℕ) (k : ℕ) → output_below text (k + 1) ≡ output_below text k + word_at text (checkpoint_place text k + SENT_AT)
 unfolding total
 output_below_more text k = rw (add-one k) refl
 
@@ -144,7 +145,7 @@ header_sized text h = record {
   long = grind (arith, nat_tests);
 }
 
-pub header_exact : (text : List ℕ) → first_broken (header_rules (fields_of text)) ≡ None → (word_at text 0 ≡ magic) × (word_at text 4 ≡ 1) × (word_at text 20 ≡ 0)
+pub header_exact : (text : List ℕ) → first_broken (header_rules (fields_of text)) ≡ None → (word_at text MAGIC_AT ≡ MAGIC) × (word_at text VERSION_AT ≡ VERSION) × (word_at text LAST_AT ≡ 0)
 header_exact text h = (grind (arith, nat_tests), grind (arith, nat_tests), grind (arith, nat_tests))
 
 pub end_whole : (text : List ℕ) → first_broken (end_rules (fields_of text)) ≡ None → length text ≡ whole (fields_of text)
@@ -216,4 +217,4 @@ unfolding rules_at
 checkpoint_holds text k meets lt =
     let one = each_holds (checkpoint_rules (fields_of text)) (checkpoints text) k lt meets.checkpoints_meet in
     let place = checkpoint_place text k in
-    (rule_holds (is_checkpoint k (count_before (fields_of text) k) (output_below text k) (checkpoint_of text place)) (fault.Checkpoint place) (each 1024 (number_rules (pages text) place (number_of text place))) one).0
+    (rule_holds (is_checkpoint k (count_before (fields_of text) k) (output_below text k) (checkpoint_of text place)) (fault.Checkpoint place) (each 1024 (page_number_rules (pages text) place (page_number_of text place))) one).0

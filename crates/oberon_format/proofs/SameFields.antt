@@ -3,11 +3,12 @@ use Rattle.std.proofs.Common.{◌≡◌, ◌<◌, ◌+◌, ◌∙◌, ℕ, zero,
 use Rattle.std.specs.Prelude.{nat_le}
 use Rattle.oberon_format.specs.declared.fault.Fault.{Fault}
 use Rattle.oberon_format.specs.declared.fault.Fault.TheVariants as fault
-use Rattle.oberon_format.specs.Fields.{Fields, EventFields, CheckpointFields, total, sent_below}
+use Rattle.oberon_format.specs.declared.fields.CheckpointFields.{CheckpointFields}
+use Rattle.oberon_format.specs.Fields.{Fields, EventFields, total, sent_below}
 use Rattle.oberon_format.specs.FirstFault.{Rule, first_broken, each}
-use Rattle.oberon_format.specs.Layout.{number_place}
+use Rattle.oberon_format.specs.Layout.{page_number_place}
 use Rattle.oberon_format.specs.Ranges.{is_event, is_checkpoint}
-use Rattle.oberon_format.specs.Rules.{header_rules, event_rules, event_floor, place_of_event, place_of_checkpoint, number_rules, rules_at, count_before, checkpoint_rules, end_rules, rules}
+use Rattle.oberon_format.specs.Rules.{header_rules, event_rules, event_floor, place_of_event, place_of_checkpoint, page_number_rules, rules_at, count_before, checkpoint_rules, end_rules, rules}
 use Rattle.oberon_format.proofs.RuleLemmas.{met-append, broken-append}
 use Rattle.oberon_format.proofs.PartLemmas.{floor_more, before_more}
 
@@ -22,7 +23,7 @@ pub record SameFields (f g : Fields) : Type 0 where
   pub last : f.last ≡ g.last
   pub event : (i : ℕ) → i < g.events → f.event i ≡ g.event i
   pub checkpoint : (k : ℕ) → k < g.checkpoints → f.checkpoint k ≡ g.checkpoint k
-  pub number : (k j : ℕ) → k < g.checkpoints → j < 1024 → f.number k j ≡ g.number k j
+  pub page_number : (k j : ℕ) → k < g.checkpoints → j < 1024 → f.page_number k j ≡ g.page_number k j
 
 by_case : (o : Option Fault) (xs xs' ys ys' : List Rule) → first_broken xs ≡ o → first_broken xs' ≡ o → first_broken ys ≡ first_broken ys' → first_broken (xs ++ ys) ≡ first_broken (xs' ++ ys')
 by_case None xs xs' ys ys' a b e = met-append xs ys a ∙ e ∙ sym (met-append xs' ys' b)
@@ -57,17 +58,17 @@ total_same a b (suc n) h =
     omega arith
 
 -- the rules of one checkpoint
-numbers_same : (pages place k before sent : ℕ) (c : CheckpointFields) (m n : ℕ → ℕ) → ((j : ℕ) → j < 1024 → m j ≡ n j)
+pub numbers_same : (pages place k before sent : ℕ) (c : CheckpointFields) (m n : ℕ → ℕ) → ((j : ℕ) → j < 1024 → m j ≡ n j)
     → first_broken (rules_at pages place k before sent c m) ≡ first_broken (rules_at pages place k before sent c n)
 unfolding rules_at
 numbers_same pages place k before sent c m n h =
     ap (λ (o : Option Fault). cond (is_checkpoint k before sent c) o (Some (fault.Checkpoint place)))
-    (same_each 1024 (number_rules pages place m) (number_rules pages place n)
-    (λ j lt. ap (λ (v : ℕ). first_broken ((nat_le v pages, fault.Page (number_place place j)) ∷ [])) (h j lt)))
+    (same_each 1024 (page_number_rules pages place m) (page_number_rules pages place n)
+    (λ j lt. ap (λ (v : ℕ). first_broken ((nat_le v pages, fault.Page (page_number_place place j)) ∷ [])) (h j lt)))
 
 -- fields with the numbers of one and the members of the other
 mixed : Fields → Fields → Fields
-mixed f g = record g { event = f.event; checkpoint = f.checkpoint; number = f.number }
+mixed f g = record g { event = f.event; checkpoint = f.checkpoint; page_number = f.page_number }
 
 events_same : (f g : Fields) → SameFields f g → first_broken (each g.events (event_rules (mixed f g))) ≡ first_broken (each g.events (event_rules g))
 unfolding mixed
@@ -82,10 +83,10 @@ checkpoints_same f g same =
     same_each g.checkpoints (checkpoint_rules (mixed f g)) (checkpoint_rules g) (λ k lt.
     let place = place_of_checkpoint g k in
     let sent : sent_below f k ≡ sent_below g k = total_same _ _ k (λ i less. ap (λ (x : CheckpointFields). x.output) (same.checkpoint i (omega arith))) in
-    ap (λ (x : ℕ). first_broken (rules_at g.pages place k x (sent_below f k) (f.checkpoint k) (f.number k))) (before_same (mixed f g) g g.checkpoints k lt same.checkpoint)
-    ∙ ap (λ (x : ℕ). first_broken (rules_at g.pages place k (count_before g k) x (f.checkpoint k) (f.number k))) sent
-    ∙ ap (λ (x : CheckpointFields). first_broken (rules_at g.pages place k (count_before g k) (sent_below g k) x (f.number k))) (same.checkpoint k lt)
-    ∙ numbers_same g.pages place k (count_before g k) (sent_below g k) (g.checkpoint k) (f.number k) (g.number k) (λ j less. same.number k j lt less))
+    ap (λ (x : ℕ). first_broken (rules_at g.pages place k x (sent_below f k) (f.checkpoint k) (f.page_number k))) (before_same (mixed f g) g g.checkpoints k lt same.checkpoint)
+    ∙ ap (λ (x : ℕ). first_broken (rules_at g.pages place k (count_before g k) x (f.checkpoint k) (f.page_number k))) sent
+    ∙ ap (λ (x : CheckpointFields). first_broken (rules_at g.pages place k (count_before g k) (sent_below g k) x (f.page_number k))) (same.checkpoint k lt)
+    ∙ numbers_same g.pages place k (count_before g k) (sent_below g k) (g.checkpoint k) (f.page_number k) (g.page_number k) (λ j less. same.page_number k j lt less))
 
 ends_same : (f g : Fields) → SameFields f g → first_broken (end_rules (mixed f g)) ≡ first_broken (end_rules g)
 unfolding mixed
@@ -113,7 +114,7 @@ is_mixed f g same = λ i. record {
   last = same.last i;
   event = f.event;
   checkpoint = f.checkpoint;
-  number = f.number;
+  page_number = f.page_number;
 }
 
 pub same_rules : (f g : Fields) → SameFields f g → first_broken (rules f) ≡ first_broken (rules g)

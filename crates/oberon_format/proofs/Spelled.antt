@@ -10,9 +10,11 @@ use Rattle.risc_devices.proofs.InputLemmas.{kind_fits, value_fits, mouse_word_fi
 use Rattle.risc_machine.specs.declared.event.Event.{Event}
 use Rattle.risc_machine.specs.MachineState.{CpuState, IsCpuState}
 use Rattle.risc_pages.specs.Pages.{IsPage}
+use Rattle.oberon_format.specs.declared.layout.TheConstants.{MAGIC, MAGIC_AT}
+use Rattle.oberon_format.specs.declared.ranges.TheConstants.{MAX_OUTPUT}
 use Rattle.oberon_format.specs.CheckpointParts.{CheckpointParts, no_checkpoint}
 use Rattle.oberon_format.specs.FlagsNumber.{flags_number}
-use Rattle.oberon_format.specs.Layout.{word_at, magic, page_place, event_place, checkpoint_place, output_place}
+use Rattle.oberon_format.specs.Layout.{word_at, page_place, event_place, checkpoint_place, output_place}
 use Rattle.oberon_format.specs.Recording.{RecordingParts, IsLawful, IsFit, output_of}
 use Rattle.oberon_format.specs.Spelling.{word_bytes, long_bytes, words_bytes, event_bytes, cpu_bytes, device_bytes, checkpoint_bytes, header_bytes, spelling}
 use Rattle.oberon_format.specs.Text.{IsEvent, IsCpu, IsDevices, IsCheckpoint, IsLaidOut, Text}
@@ -92,8 +94,7 @@ device_stands text place d p still all =
     let h = word_bytes (length d.keys) in
     let ks : List ℕ = d.keys in
     let zs : List ℕ = replicate (16 - length d.keys) 0 in
-    let s7 = stands_left text (place + 88) (a ++ b ++ e ++ m ++ g ++ h ++ ks) zs all in
-    let s6 = stands_left text (place + 88) (a ++ b ++ e ++ m ++ g ++ h) ks s7 in
+    let s6 = stands_left text (place + 88) (a ++ b ++ e ++ m ++ g ++ h) (ks ++ zs) all in
     let s5 = stands_left text (place + 88) (a ++ b ++ e ++ m ++ g) h s6 in
     let s4 = stands_left text (place + 88) (a ++ b ++ e ++ m) g s5 in
     let s3 = stands_left text (place + 88) (a ++ b ++ e) m s4 in
@@ -117,7 +118,7 @@ device_stands text place d p still all =
     let small_leds = p.leds in
     let small_mouse = mouse_word_fits d.mouse p.mouse in
     let small_serial = serial_fits d p in
-    let kz : Stands text (place + 88 + 24) (ks ++ zs) = stands_right text (place + 88) 24 (a ++ b ++ e ++ m ++ g ++ h) (ks ++ zs) (stands_regroup text (place + 88) (a ++ b ++ e ++ m ++ g ++ h) ks zs all) l6 in
+    let kz : Stands text (place + 88 + 24) (ks ++ zs) = stands_right text (place + 88) 24 (a ++ b ++ e ++ m ++ g ++ h) (ks ++ zs) all l6 in
     let full : length (ks ++ zs) ≡ 16 = omega (arith, length-append ks zs, length-replicate {A = ℕ} (16 - length d.keys) 0) in
     let from : place + 88 + 24 ≡ place + 112 = omega arith in
     let to : place + 128 ≡ place + 88 + 24 + length (ks ++ zs) = omega arith in
@@ -141,7 +142,7 @@ pub length-cpu_bytes : (cpu : CpuState) → length cpu.r ≡ 16 → length (cpu_
 unfolding cpu_bytes
 length-cpu_bytes cpu len = simp (length-append, length-word_bytes, length-words_bytes) (omega arith)
 
-pub checkpoint_stands : (text : List ℕ) (place : ℕ) (pool : List (List ℕ)) (c : CheckpointParts) → IsFit pool c → length c.sent ≤ 1048576 → Stands text place (checkpoint_bytes c) → IsCheckpoint text place c
+pub checkpoint_stands : (text : List ℕ) (place : ℕ) (pool : List (List ℕ)) (c : CheckpointParts) → IsFit pool c → length c.sent ≤ MAX_OUTPUT → Stands text place (checkpoint_bytes c) → IsCheckpoint text place c
 unfolding checkpoint_bytes
 checkpoint_stands text place pool c p few s =
     let bounded = p.bounded in
@@ -184,7 +185,7 @@ pub length-page_bytes : (page : List ℕ) → IsPage page → length (words_byte
 length-page_bytes page h = let l = h.whole in omega (arith, length-words_bytes page)
 
 record Header (text : List ℕ) (r : RecordingParts) : Type 0 where
-  m : word_at text 0 ≡ magic
+  m : word_at text MAGIC_AT ≡ MAGIC
   v : word_at text 4 ≡ 1
   p : word_at text 8 ≡ length r.pool
   e : word_at text 12 ≡ length r.inputs
@@ -201,7 +202,7 @@ header_stands text r p s =
     let few_pages = p.pages in
     let few_events = p.events in
     let few_checkpoints = p.few in
-    let a = word_bytes magic in
+    let a = word_bytes MAGIC in
     let b = word_bytes 1 in
     let d = word_bytes (length r.pool) in
     let e = word_bytes (length r.inputs) in
@@ -211,13 +212,13 @@ header_stands text r p s =
     let s4 = stands_left text 0 (a ++ b ++ d ++ e) f s5 in
     let s3 = stands_left text 0 (a ++ b ++ d) e s4 in
     let s2 = stands_left text 0 (a ++ b) d s3 in
-    let l1 : length a ≡ 4 = length-word_bytes magic in
+    let l1 : length a ≡ 4 = length-word_bytes MAGIC in
     let l2 : length (a ++ b) ≡ 8 = omega (arith, length-append a b, length-word_bytes 1) in
     let l3 : length (a ++ b ++ d) ≡ 12 = omega (arith, length-append (a ++ b) d, length-word_bytes (length r.pool)) in
     let l4 : length (a ++ b ++ d ++ e) ≡ 16 = omega (arith, length-append (a ++ b ++ d) e, length-word_bytes (length r.inputs)) in
     let l5 : length (a ++ b ++ d ++ e ++ f) ≡ 20 = omega (arith, length-append (a ++ b ++ d ++ e) f, length-word_bytes (length r.checkpoints)) in
     record {
-      m = word_stands text 0 magic (stands_left text 0 a b s2) (omega arith);
+      m = word_stands text MAGIC_AT MAGIC (stands_left text 0 a b s2) (omega arith);
       v = word_stands text 4 1 (stands_right text 0 4 a b s2 l1) (omega arith);
       p = word_stands text 8 (length r.pool) (stands_right text 0 8 (a ++ b) d s3 l2) (omega arith);
       e = word_stands text 12 (length r.inputs) (stands_right text 0 12 (a ++ b ++ d) e s4 l3) (omega arith);
@@ -229,7 +230,7 @@ pub spelled : (r : RecordingParts) → IsLawful r → IsLaidOut (spelling r) r
 unfolding spelling
 spelled r p =
     let fits : (i : ℕ) (d : CheckpointParts) → i < length r.checkpoints → IsFit r.pool (get_or r.checkpoints i d) = λ i d h. subst (IsFit r.pool) (get_or_default r.checkpoints i no_checkpoint d h) (p.fit i h) in
-    let sent : (i : ℕ) (d : CheckpointParts) → i < length r.checkpoints → length (get_or r.checkpoints i d).sent ≤ 1048576 = λ i d h. let le = sent_le r.checkpoints i d h in let limit = p.output in omega arith in
+    let sent : (i : ℕ) (d : CheckpointParts) → i < length r.checkpoints → length (get_or r.checkpoints i d).sent ≤ MAX_OUTPUT = λ i d h. let le = sent_le r.checkpoints i d h in let limit = p.output in omega arith in
     let H = header_bytes r in
     let P = flat_map words_bytes r.pool in
     let E = flat_map event_bytes r.inputs in

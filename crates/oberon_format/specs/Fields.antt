@@ -1,5 +1,6 @@
 -- The fields of a recording's text that rules speak of, whatever the layout in which they stand.
-use Rattle.std.specs.Prelude.{ℕ, zero, suc, ◌+◌, List}
+use Rattle.std.specs.Prelude.{ℕ, zero, suc, ◌+◌}
+use Rattle.oberon_format.specs.declared.fields.CheckpointFields.{CheckpointFields}
 
 -- an event: its count, the number of its kind, and its value
 pub record EventFields : Type 0 where
@@ -7,23 +8,8 @@ pub record EventFields : Type 0 where
   pub kind : ℕ
   pub value : ℕ
 
--- a checkpoint's fields that have a range: `waiting` is the number of its keys, `unused` are the key bytes at or after that
--- number, `output` is the length of its output, and `rate` is the timer's rate, for which a text of this version has no place
-pub record CheckpointFields : Type 0 where
-  pub count : ℕ
-  pub pc : ℕ
-  pub flags : ℕ
-  pub stop : ℕ
-  pub rate : ℕ
-  pub switches : ℕ
-  pub leds : ℕ
-  pub mouse : ℕ
-  pub serial : ℕ
-  pub waiting : ℕ
-  pub unused : List ℕ
-  pub output : ℕ
-
--- a text: its length, the six numbers of its header, event i, checkpoint k, and page number j of checkpoint k
+-- a text: its length, the six numbers of its header, event i, those fields of checkpoint k that have a range (the code's type
+-- `CheckpointFields`), and page number j of checkpoint k
 pub record Fields : Type 0 where
   pub long : ℕ
   pub first : ℕ
@@ -34,7 +20,7 @@ pub record Fields : Type 0 where
   pub last : ℕ
   pub event : ℕ → EventFields
   pub checkpoint : ℕ → CheckpointFields
-  pub number : ℕ → ℕ → ℕ
+  pub page_number : ℕ → ℕ → ℕ
 
 -- f 0 + f 1 + .. + f (k - 1)
 unfoldable pub total : (ℕ → ℕ) → ℕ → ℕ

@@ -1,7 +1,8 @@
 -- Laws of texts and recordings.
-use Rattle.std.specs.Prelude.{ℕ, ◌≡◌, ◌↔◌, List, None, IfSome, MatchOption}
+use Rattle.std.specs.Prelude.{ℕ, ◌≡◌, ◌≤◌, ◌<◌, ◌↔◌, List, length, take, None, IfSome, MatchOption}
 use Rattle.risc_machine.specs.InputOrder.{AreOrdered}
 use Rattle.risc_pages.specs.Pages.{ArePages}
+use Rattle.oberon_format.specs.declared.layout.TheConstants.{LONGEST_TEXT}
 use Rattle.oberon_format.specs.Formed.{AreFormed}
 use Rattle.oberon_format.specs.Line.{IsNamedFault}
 use Rattle.oberon_format.specs.PartFields.{fault_of_parts}
@@ -34,6 +35,15 @@ HasNamedFault = (text : List ℕ) → IfSome (first_fault_of text) IsNamedFault
 -- a text that is laid out of parts has the fault of the parts
 abbrev pub HasFaultOfParts : Type 0
 HasFaultOfParts = (text : List ℕ) (r : RecordingParts) → AreFormed r.checkpoints → IsLaidOut text r → first_fault_of text ≡ fault_of_parts r
+
+-- no text of a recording is longer than the longest
+abbrev pub HasLongestText : Type 0
+HasLongestText = (text : List ℕ) (r : RecordingParts) → Text text r → length text ≤ LONGEST_TEXT
+
+-- a longer text has the first fault that it has where it is cut off anywhere behind so many bytes: it has one within so many, and
+-- none of them is looked at further on
+abbrev pub HasFaultWithin : Type 0
+HasFaultWithin = (n : ℕ) (text : List ℕ) → LONGEST_TEXT < n → n ≤ length text → first_fault_of (take n text) ≡ first_fault_of text
 
 -- parts are lawful exactly where they have no fault
 abbrev pub IsMadeOfParts : Type 0

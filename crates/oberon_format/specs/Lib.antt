@@ -5,6 +5,7 @@ pub mod Layout
 pub mod Rules
 pub mod TextFields
 pub mod FlagsNumber
+pub mod KeyBytes
 pub mod CheckpointParts
 pub mod Formed
 pub mod Recording

@@ -8,8 +8,8 @@ use Rattle.risc_devices.specs.DeviceState.{IsDeviceState}
 use Rattle.risc_machine.specs.declared.event.Event.{Event}
 use Rattle.risc_machine.specs.InputOrder.{AreOrdered}
 use Rattle.risc_machine.specs.MachineState.{IsCpuState}
+use Rattle.oberon_format.specs.declared.ranges.TheConstants.{MAX_COUNT, MAX_OUTPUT, MAX_PAGES, MAX_EVENTS, MAX_CHECKPOINTS}
 use Rattle.oberon_format.specs.CheckpointParts.{CheckpointParts, no_checkpoint}
-use Rattle.oberon_format.specs.Ranges.{max_count, max_output}
 
 -- a pool of pages, each the list of its words; inputs with their counts; and checkpoints 0 to K
 pub record RecordingParts : Type 0 where
@@ -35,7 +35,7 @@ output_of checkpoints = flat_map (λ c. c.sent) checkpoints
 
 -- a checkpoint that is in its ranges and names pages of the pool, and whose timer doesn't count by itself. It may claim any stop
 pub record IsFit (pool : List (List ℕ)) (c : CheckpointParts) : Type 0 where
-  pub bounded : c.count ≤ max_count
+  pub bounded : c.count ≤ MAX_COUNT
   pub cpu : IsCpuState c.cpu
   pub devices : IsDeviceState c.devices
   pub rate : c.devices.rate ≡ 0
@@ -46,14 +46,14 @@ pub record IsFit (pool : List (List ℕ)) (c : CheckpointParts) : Type 0 where
 -- within all limits: few enough pages and inputs, inputs in the order of their counts, at least one checkpoint and few enough,
 -- counts that begin at 0 and rise, nothing sent before checkpoint 0, and not too much in all
 pub record IsLawful (r : RecordingParts) : Type 0 where
-  pub pages : length r.pool ≤ 65536
+  pub pages : length r.pool ≤ MAX_PAGES
   pub pool : ArePages r.pool
-  pub events : length r.inputs ≤ 1000000
+  pub events : length r.inputs ≤ MAX_EVENTS
   pub ordered : AreOrdered r.inputs
   pub some : 0 < length r.checkpoints
-  pub few : length r.checkpoints ≤ 4097
+  pub few : length r.checkpoints ≤ MAX_CHECKPOINTS
   pub begins : count_at r 0 ≡ 0
   pub rises : (k : ℕ) → k + 1 < length r.checkpoints → count_at r k < count_at r (k + 1)
   pub silent : (checkpoint_at r 0).sent ≡ []
-  pub output : length (output_of r.checkpoints) ≤ max_output
+  pub output : length (output_of r.checkpoints) ≤ MAX_OUTPUT
   pub fit : (k : ℕ) → k < length r.checkpoints → IsFit r.pool (checkpoint_at r k)

@@ -1,14 +1,15 @@
 -- The bytes of a recording of version 1, one part after the other. That they are its text is proved.
-use Rattle.std.specs.Prelude.{ℕ, ◌-◌, List, ◌++◌, length, replicate}
+use Rattle.std.specs.Prelude.{ℕ, List, ◌++◌, length}
 use Rattle.std.specs.List.{flat_map}
 use Rattle.byteorder.specs.Endian.{little_bytes}
 use Rattle.risc_devices.specs.DeviceState.{DeviceState, serial_number}
 use Rattle.risc_devices.specs.Input.{kind_of, value_of}
 use Rattle.risc_machine.specs.declared.event.Event.{Event}
 use Rattle.risc_machine.specs.MachineState.{CpuState}
+use Rattle.oberon_format.specs.declared.layout.TheConstants.{MAGIC, VERSION}
 use Rattle.oberon_format.specs.CheckpointParts.{CheckpointParts}
 use Rattle.oberon_format.specs.FlagsNumber.{flags_number}
-use Rattle.oberon_format.specs.Layout.{magic}
+use Rattle.oberon_format.specs.KeyBytes.{key_bytes}
 use Rattle.oberon_format.specs.Recording.{RecordingParts, output_of}
 
 -- the four bytes of a number, the lowest first
@@ -31,7 +32,7 @@ cpu_bytes cpu = words_bytes cpu.r ++ word_bytes cpu.h ++ word_bytes cpu.pc ++ wo
 unfoldable pub device_bytes : DeviceState → List ℕ
 device_bytes d =
     word_bytes d.timer ++ word_bytes d.switches ++ word_bytes d.leds ++ word_bytes d.mouse ++ word_bytes (serial_number d)
-    ++ word_bytes (length d.keys) ++ d.keys ++ replicate (16 - length d.keys) 0
+    ++ word_bytes (length d.keys) ++ key_bytes d
 
 unfoldable pub checkpoint_bytes : CheckpointParts → List ℕ
 checkpoint_bytes c =
@@ -39,7 +40,7 @@ checkpoint_bytes c =
 
 unfoldable pub header_bytes : RecordingParts → List ℕ
 header_bytes r =
-    word_bytes magic ++ word_bytes 1 ++ word_bytes (length r.pool) ++ word_bytes (length r.inputs)
+    word_bytes MAGIC ++ word_bytes VERSION ++ word_bytes (length r.pool) ++ word_bytes (length r.inputs)
     ++ word_bytes (length r.checkpoints) ++ word_bytes 0
 
 unfoldable pub spelling : RecordingParts → List ℕ

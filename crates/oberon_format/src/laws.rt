@@ -1,6 +1,6 @@
 //! Laws of the format, over its definitions alone.
 
-ghost use Rattle.oberon_format.specs.Laws.{HasOneRecording, HasOneText, HasTextOrFault, HasFaultOfParts, HasNamedFault, IsMadeOfParts};
+ghost use Rattle.oberon_format.specs.Laws.{HasOneRecording, HasOneText, HasTextOrFault, HasFaultOfParts, HasNamedFault, HasLongestText, HasFaultWithin, IsMadeOfParts};
 
 /// A text is that of at most one recording.
 pub fn one_recording()
@@ -20,6 +20,16 @@ pub fn text_or_fault()
 /// The first fault of a text is never want of memory.
 pub fn named_fault()
     ensures { HasNamedFault }
+{}
+
+/// The text of a recording has at most `LONGEST_TEXT` bytes.
+pub fn longest_text()
+    ensures { HasLongestText }
+{}
+
+/// A text that is longer than `LONGEST_TEXT` bytes has the same first fault where it is cut off behind them.
+pub fn cut_text()
+    ensures { HasFaultWithin }
 {}
 
 /// A text that is laid out of parts, lawful or not, has the first fault of these parts.

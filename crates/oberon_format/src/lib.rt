@@ -8,6 +8,8 @@
 
 mod checkpoint;
 mod fault;
+mod fields;
+mod flags;
 mod formed;
 mod laws;
 mod layout;
@@ -23,8 +25,13 @@ mod writing;
 
 pub use checkpoint::Checkpoint;
 pub use fault::Fault;
-pub use laws::{fault_of_parts, lawful_parts, named_fault, one_recording, one_text, text_or_fault};
+pub use laws::{
+    cut_text, fault_of_parts, lawful_parts, longest_text, named_fault, one_recording, one_text,
+    text_or_fault,
+};
+pub use layout::LONGEST_TEXT;
 pub use line::refusal;
+pub use ranges::{LAST_CHECKPOINT, MAX_CHECKPOINTS, MAX_COUNT, MAX_EVENTS, MAX_OUTPUT, MAX_PAGES};
 pub use reading::read;
 pub use recording::Recording;
 pub use sent::Sent;

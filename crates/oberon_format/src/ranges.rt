@@ -1,25 +1,51 @@
 //! The ranges of fields, tested on numbers. Where these stand in a text is not known here.
+//!
+//! Each limit has its one name here, which definitions, contracts and code cite. All are this project's own choice.
 
-ghost use Rattle.std.specs.Prelude.{◌≡◌, ◌≤◌, ◌<◌, ◌^◌};
+ghost use Rattle.std.specs.Prelude.{◌≡◌, ◌≤◌};
 ghost use Rattle.risc_devices.specs.InputKind.{is_input};
 ghost use Rattle.oberon_format.specs.Ranges.{is_count, is_output};
 
 use risc_devices::Input;
 
 /// The largest count: 2^40.
-pub(crate) const MAX_COUNT: u64 = 1 << 40;
+pub const MAX_COUNT: u64 = 1 << 40;
 
 /// The most bytes that a recording may send in all.
-pub(crate) const MAX_OUTPUT: u64 = 1_048_576;
+pub const MAX_OUTPUT: u64 = 1_048_576;
 
 /// The largest number of pages in a pool.
-pub(crate) const MAX_PAGES: u32 = 65_536;
+pub const MAX_PAGES: u32 = 65_536;
 
-/// The largest number of events.
-pub(crate) const MAX_EVENTS: u32 = 1_000_000;
+/// The largest number of inputs.
+pub const MAX_EVENTS: u32 = 1_000_000;
 
-/// The largest number of checkpoints.
-pub(crate) const MAX_CHECKPOINTS: u32 = 4_097;
+/// The largest number of a checkpoint. Checkpoints are numbered from 0 on.
+pub const LAST_CHECKPOINT: u32 = 4_096;
+
+/// The largest number of checkpoints, checkpoint 0 among them.
+pub const MAX_CHECKPOINTS: u32 = LAST_CHECKPOINT + 1;
+
+/// A program counter is below this.
+pub(crate) const COUNTER_END: u32 = 4_194_304;
+
+/// The number of a processor's flags is below this.
+pub(crate) const FLAGS_END: u32 = 16;
+
+/// The largest stop.
+pub(crate) const MAX_STOP: u32 = 4;
+
+/// The switches are below this.
+pub(crate) const SWITCHES_END: u32 = 4_096;
+
+/// The LEDs are below this.
+pub(crate) const LEDS_END: u32 = 256;
+
+/// The serial byte with its "received" bit is below this.
+pub(crate) const SERIAL_END: u32 = 512;
+
+/// The largest number of keys that wait.
+pub(crate) const MAX_KEYS: usize = 16;
 
 /// Whether a number is that of a kind of input that may have the value.
 pub(crate) fn is_input(kind: u32, value: u32) -> bool
@@ -41,9 +67,8 @@ pub(crate) fn is_count(k: usize, before: u64, count: u64) -> bool
 
 /// Whether checkpoint k may send so many bytes, after so many were sent before it.
 pub(crate) fn is_output(k: usize, sent: u64, own: u64) -> bool
-    requires sent { sent ≤ 1048576 }
-    requires own { own < 2 ^ 63 }
+    requires sent { sent ≤ MAX_OUTPUT }
     ensures { result ≡ is_output k sent own }
 {
-    (k != 0 || own == 0) && sent + own <= MAX_OUTPUT
+    (k != 0 || own == 0) && own <= MAX_OUTPUT - sent
 }

@@ -2,7 +2,6 @@
 
 ghost use Rattle.std.specs.Prelude.{◌≡◌, ◌≤◌, ◌<◌, ◌+◌, ◌*◌, ◌^◌, ℕ, All, true, length, IfOk, slice_index, slice_range, drop, map, MatchOption, MatchResult};
 ghost use Rattle.oberon_format.specs.CheckpointParts.{checkpoint_parts};
-ghost use Rattle.oberon_format.specs.FlagsNumber.{bits_number};
 ghost use Rattle.oberon_format.specs.Layout.{word_at, pages, events, checkpoints, output_place};
 ghost use Rattle.oberon_format.specs.Parts.{parts_of};
 ghost use Rattle.oberon_format.specs.Ranges.{in_ranges, are_keys};
@@ -15,17 +14,21 @@ ghost use Rattle.risc_machine.specs.MachineState.{cpu_state};
 
 use crate::checkpoint::Checkpoint;
 use crate::fault::Fault;
+use crate::flags::flags_of;
 use crate::formed::all_formed;
 use crate::layout::{
-    checkpoint_count, checkpoint_start, event_count, event_start, page_count, page_start,
+    AUXILIARY_AT, CHECKPOINT_LEN, COUNTER_AT, EVENT_LEN, FLAGS_AT, KEYS_AT, KIND_AT, LEDS_AT,
+    MOUSE_AT, REGISTERS_AT, SENT_AT, SERIAL_AT, STOP_AT, SWITCHES_AT, TIMER_AT, VALUE_AT,
+    WAITING_AT, checkpoint_count, checkpoint_start, event_count, event_start, page_count,
+    page_start,
 };
-use crate::number::{u32_at, u64_at};
+use crate::number::{table_of, u32_at, u64_at};
 use crate::recording::Recording;
 use crate::rules::first_fault;
 use crate::sent::Sent;
 use risc_devices::{Devices, Input};
-use risc_machine::{Cpu, Event, Flags, Inputs};
-use risc_pages::{Page, Pool, Table};
+use risc_machine::{Cpu, Event, Inputs};
+use risc_pages::{Page, Pool};
 use std::alloc::{AllocError, Global};
 
 /// The recording of a text, or its first fault. `Memory` is answered only for a text without fault: the whole text is tested
@@ -93,12 +96,12 @@ fn words_fit(words: &[u32])
 
 /// The event at a place.
 fn event_of(text: &[u8], place: usize) -> Event
-    requires room { place + 16 ≤ length text.now }
-    requires input { IsInput (word_at text.now (place + 8)) (word_at text.now (place + 12)) }
+    requires room { place + EVENT_LEN ≤ length text.now }
+    requires input { IsInput (word_at text.now (place + KIND_AT)) (word_at text.now (place + VALUE_AT)) }
     ensures { IsEvent text.now place result }
 {
-    let kind = u32_at(text, place + 8) as u8;
-    let input = Input::new(kind, u32_at(text, place + 12)).unwrap();
+    let kind = u32_at(text, place + KIND_AT) as u8;
+    let input = Input::new(kind, u32_at(text, place + VALUE_AT)).unwrap();
     Event {
         count: u64_at(text, place),
         input,
@@ -130,69 +133,44 @@ fn inputs_of(alloc: Global, text: &[u8]) -> Result<Inputs, AllocError>
     }
 }
 
-/// The flags of a number.
-fn flags_of(number: u32) -> Flags
-    requires { number < 16 }
-    ensures { bits_number result.n result.z result.c result.v ≡ number }
-{
-    Flags {
-        n: number / 8 % 2 == 1,
-        z: number / 4 % 2 == 1,
-        c: number / 2 % 2 == 1,
-        v: number % 2 == 1,
-    }
-}
-
 /// The processor of the checkpoint at a place.
 fn cpu_of(text: &[u8], place: usize) -> Cpu
-    requires room { place + 4228 ≤ length text.now }
+    requires room { place + CHECKPOINT_LEN ≤ length text.now }
     requires ranges { in_ranges (checkpoint_of text.now place) ≡ true }
     ensures { IsCpu text.now place (cpu_state result) }
 {
-    let r = words_at(text, place + 8);
+    let r = words_at(text, place + REGISTERS_AT);
     words_fit(&r);
     Cpu {
         r,
-        h: u32_at(text, place + 72),
-        pc: u32_at(text, place + 76),
-        flags: flags_of(u32_at(text, place + 80)),
-        stop: u32_at(text, place + 84) as u8,
+        h: u32_at(text, place + AUXILIARY_AT),
+        pc: u32_at(text, place + COUNTER_AT),
+        flags: flags_of(u32_at(text, place + FLAGS_AT)),
+        stop: u32_at(text, place + STOP_AT) as u8,
     }
 }
 
 /// The devices of the checkpoint at a place.
 #[tactic(auto, unfolding(risc_devices::specs::DeviceState::is_phase))]
 fn devices_of(text: &[u8], place: usize) -> Devices
-    requires room { place + 4228 ≤ length text.now }
+    requires room { place + CHECKPOINT_LEN ≤ length text.now }
     requires ranges { in_ranges (checkpoint_of text.now place) ≡ true }
     requires keys { are_keys (checkpoint_of text.now place) ≡ true }
     ensures { IsDevices text.now place result }
 {
-    let waiting = u32_at(text, place + 108) as usize;
+    let waiting = u32_at(text, place + WAITING_AT) as usize;
     Devices::new(
-        u32_at(text, place + 88),
+        u32_at(text, place + TIMER_AT),
         // version 1 is of timers that don't count by themselves: rate 0 and phase 0
         0,
         0,
-        u32_at(text, place + 92) as u16,
-        u32_at(text, place + 96) as u8,
-        u32_at(text, place + 100),
-        u32_at(text, place + 104) as u16,
-        &text[place + 112..place + 112 + waiting],
+        u32_at(text, place + SWITCHES_AT) as u16,
+        u32_at(text, place + LEDS_AT) as u8,
+        u32_at(text, place + MOUSE_AT),
+        u32_at(text, place + SERIAL_AT) as u16,
+        &text[place + KEYS_AT..place + KEYS_AT + waiting],
     )
     .unwrap()
-}
-
-/// The table of the checkpoint at a place.
-fn table_of(text: &[u8], place: usize) -> Table
-    requires { place + 4228 ≤ length text.now }
-    ensures { AreWords text.now (place + 132) result }
-{
-    let mut table = Table::zeros();
-    for j in 0..1024u16 {
-        table.set(j, u32_at(text, place + 132 + 4 * j as usize));
-    }
-    table
 }
 
 /// The checkpoint at a place, whose output begins at `from`.
@@ -202,14 +180,14 @@ fn checkpoint_of(
     place: usize,
     from: usize,
 ) -> Result<Checkpoint, AllocError>
-    requires room { place + 4228 ≤ length text.now }
+    requires room { place + CHECKPOINT_LEN ≤ length text.now }
     requires ranges { in_ranges (checkpoint_of text.now place) ≡ true }
     requires keys { are_keys (checkpoint_of text.now place) ≡ true }
-    requires output { from + word_at text.now (place + 128) ≤ length text.now }
+    requires output { from + word_at text.now (place + SENT_AT) ≤ length text.now }
     ensures stands { IfOk result (λ c. IsCheckpoint text.now place (checkpoint_parts c)) }
-    ensures sent { IfOk result (λ c. c.sent ≡ slice_range text.now from (from + word_at text.now (place + 128))) }
+    ensures sent { IfOk result (λ c. c.sent ≡ slice_range text.now from (from + word_at text.now (place + SENT_AT))) }
 {
-    let len = u32_at(text, place + 128) as usize;
+    let len = u32_at(text, place + SENT_AT) as usize;
     let sent = Vec::from_slice(alloc, &text[from..from + len])?;
     Ok(Checkpoint {
         count: u64_at(text, place),
@@ -235,7 +213,7 @@ fn checkpoints_of(alloc: Global, text: &[u8]) -> Result<Vec<Checkpoint>, AllocEr
     for k in 0..count {
         let place = checkpoint_start(pages, events, k);
         list.push(checkpoint_of(alloc, text, place, from)?)?;
-        from += u32_at(text, place + 128) as usize;
+        from += u32_at(text, place + SENT_AT) as usize;
     }
     Ok(list)
 }

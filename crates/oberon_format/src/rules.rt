@@ -1,25 +1,24 @@
 //! The rules of version 1, tested over a text in their order. Nothing here takes memory.
 
-ghost use Rattle.std.specs.Prelude.{◌≡◌, ◌≤◌, ◌<◌, ◌+◌, ◌==◌, length, MatchResult, Some, None};
-ghost use Rattle.std.specs.List.{list_all};
+ghost use Rattle.std.specs.Prelude.{◌≡◌, ◌≤◌, ◌+◌, length, MatchResult, Some, None};
 ghost use Rattle.std.specs.Option.{IfNone};
 ghost use Rattle.oberon_format.specs.FirstFault.{first_broken, each};
-ghost use Rattle.oberon_format.specs.Layout.{word_at, pages, events, checkpoints, event_place};
+ghost use Rattle.oberon_format.specs.Layout.{pages, events, checkpoints, event_place};
 ghost use Rattle.oberon_format.specs.Fields.{sent_below};
-ghost use Rattle.oberon_format.specs.Ranges.{is_event, in_ranges, are_keys, is_checkpoint};
-ghost use Rattle.oberon_format.specs.Rules.{header_rules, event_floor, number_rules, rules_at, event_rules, checkpoint_rules, end_rules};
+ghost use Rattle.oberon_format.specs.Ranges.{is_event};
+ghost use Rattle.oberon_format.specs.Rules.{header_rules, event_floor, event_rules, checkpoint_rules, end_rules};
 ghost use Rattle.oberon_format.specs.Tested.{IsSized};
-ghost use Rattle.oberon_format.specs.TextFields.{first_fault_of, fields_of, event_of, checkpoint_of, number_of};
+ghost use Rattle.oberon_format.specs.TextFields.{first_fault_of, fields_of, event_of};
 
 use crate::fault::Fault;
+use crate::fields::{CheckpointFields, checkpoint_fault};
 use crate::layout::{
-    MAGIC, checkpoint_count, checkpoint_start, event_count, event_start, page_count,
+    CHECKPOINTS_AT, EVENT_LEN, EVENTS_AT, HEADER_LEN, KIND_AT, LAST_AT, MAGIC, MAGIC_AT, PAGES_AT,
+    VALUE_AT, VERSION, VERSION_AT, checkpoint_count, checkpoint_start, event_count, event_start,
+    page_count,
 };
-use crate::number::{u32_at, u64_at};
-use crate::ranges::{
-    MAX_CHECKPOINTS, MAX_COUNT, MAX_EVENTS, MAX_PAGES, is_count, is_input, is_output,
-};
-use risc_devices::is_mouse_word;
+use crate::number::{table_of, u32_at, u64_at};
+use crate::ranges::{MAX_CHECKPOINTS, MAX_COUNT, MAX_EVENTS, MAX_OUTPUT, MAX_PAGES, is_input};
 
 /// The first fault of the header, and of the length that it asks for.
 fn header_fault(text: &[u8]) -> Option<Fault>
@@ -27,29 +26,29 @@ fn header_fault(text: &[u8]) -> Option<Fault>
     ensures sized { IfNone result (IsSized text.now) }
 {
     let len = text.len() as u64;
-    if text.len() < 24 {
+    if text.len() < HEADER_LEN {
         return Some(Fault::Short(len));
     }
-    if u32_at(text, 0) != MAGIC {
-        return Some(Fault::Magic(0));
+    if u32_at(text, MAGIC_AT) != MAGIC {
+        return Some(Fault::Magic(MAGIC_AT as u64));
     }
-    if u32_at(text, 4) != 1 {
-        return Some(Fault::Version(4));
+    if u32_at(text, VERSION_AT) != VERSION {
+        return Some(Fault::Version(VERSION_AT as u64));
     }
     let pages = page_count(text);
     if pages > MAX_PAGES {
-        return Some(Fault::Limit(8));
+        return Some(Fault::Limit(PAGES_AT as u64));
     }
     let events = event_count(text);
     if events > MAX_EVENTS {
-        return Some(Fault::Limit(12));
+        return Some(Fault::Limit(EVENTS_AT as u64));
     }
     let checkpoints = checkpoint_count(text);
     if checkpoints < 1 || checkpoints > MAX_CHECKPOINTS {
-        return Some(Fault::Limit(16));
+        return Some(Fault::Limit(CHECKPOINTS_AT as u64));
     }
-    if u32_at(text, 20) != 0 {
-        return Some(Fault::Limit(20));
+    if u32_at(text, LAST_AT) != 0 {
+        return Some(Fault::Limit(LAST_AT as u64));
     }
     let output = checkpoint_start(pages, events, checkpoints as usize) as u64;
     if len < output {
@@ -60,8 +59,8 @@ fn header_fault(text: &[u8]) -> Option<Fault>
 
 /// The count of the event before event i.
 fn event_floor(text: &[u8], i: usize) -> u64
-    requires pages { pages text.now ≤ 65536 }
-    requires events { i ≤ 1000000 }
+    requires pages { pages text.now ≤ MAX_PAGES }
+    requires events { i ≤ MAX_EVENTS }
     requires room { event_place text.now i ≤ length text.now }
     ensures { result ≡ event_floor (fields_of text.now) i }
 {
@@ -74,13 +73,16 @@ fn event_floor(text: &[u8], i: usize) -> u64
 
 /// Whether the event at a place is in its ranges.
 fn is_event(text: &[u8], place: usize, floor: u64) -> bool
-    requires { place + 16 ≤ length text.now }
+    requires { place + EVENT_LEN ≤ length text.now }
     ensures { result ≡ is_event floor (event_of text.now place) }
 {
     let count = u64_at(text, place);
     floor <= count
         && count <= MAX_COUNT
-        && is_input(u32_at(text, place + 8), u32_at(text, place + 12))
+        && is_input(
+            u32_at(text, place + KIND_AT),
+            u32_at(text, place + VALUE_AT),
+        )
 }
 
 /// The first fault of the events.
@@ -99,85 +101,12 @@ fn events_fault(text: &[u8]) -> Option<Fault>
     None
 }
 
-/// Whether the fields of the checkpoint at a place are in their own ranges.
-fn in_ranges(text: &[u8], place: usize) -> bool
-    requires { place + 4228 ≤ length text.now }
-    ensures { result ≡ in_ranges (checkpoint_of text.now place) }
-{
-    u32_at(text, place + 76) < 4_194_304
-        && u32_at(text, place + 80) < 16
-        && u32_at(text, place + 84) <= 4
-        && u32_at(text, place + 92) < 4096
-        && u32_at(text, place + 96) < 256
-        && is_mouse_word(u32_at(text, place + 100))
-        && u32_at(text, place + 104) < 512
-}
-
-/// Whether all bytes are 0.
-fn are_zeros(bytes: &[u8]) -> bool
-    ensures { result ≡ list_all (λ b. b == 0) bytes.now }
-{
-    bytes.iter().all(|byte| *byte == 0)
-}
-
-/// Whether the keys of the checkpoint at a place are at most 16, with zeros after them.
-fn are_keys(text: &[u8], place: usize) -> bool
-    requires { place + 4228 ≤ length text.now }
-    ensures { result ≡ are_keys (checkpoint_of text.now place) }
-{
-    let keys = u32_at(text, place + 108);
-    keys <= 16 && are_zeros(&text[place + 112 + keys as usize..place + 128])
-}
-
-/// Whether the fields before the table of checkpoint k, which stands at a place, are in their ranges.
-fn is_checkpoint(text: &[u8], place: usize, k: usize, before: u64, sent: u64) -> bool
-    requires room { place + 4228 ≤ length text.now }
-    requires sent { sent ≤ 1048576 }
-    ensures { result ≡ is_checkpoint k before sent (checkpoint_of text.now place) }
-{
-    is_count(k, before, u64_at(text, place))
-        && in_ranges(text, place)
-        && are_keys(text, place)
-        && is_output(k, sent, u32_at(text, place + 128) as u64)
-}
-
-/// The first fault of the page numbers of the checkpoint at a place.
-fn numbers_fault(text: &[u8], place: usize) -> Option<Fault>
-    requires header { 24 ≤ length text.now }
-    requires room { place + 4228 ≤ length text.now }
-    ensures { result ≡ first_broken (each 1024 (number_rules (pages text.now) place (number_of text.now place))) }
-{
-    let pages = page_count(text);
-    for j in 0..1024 {
-        let at = place + 132 + 4 * j;
-        if u32_at(text, at) > pages {
-            return Some(Fault::Page(at as u64));
-        }
-    }
-    None
-}
-
-/// The first fault of checkpoint k, which stands at a place.
-#[tactic(auto, unfolding(crate::specs::Rules::rules_at))]
-fn checkpoint_fault(text: &[u8], place: usize, k: usize, before: u64, sent: u64) -> Option<Fault>
-    requires header { 24 ≤ length text.now }
-    requires room { place + 4228 ≤ length text.now }
-    requires sent { sent ≤ 1048576 }
-    ensures fault { result ≡ first_broken (rules_at (pages text.now) place k before sent (checkpoint_of text.now place) (number_of text.now place)) }
-    ensures small { IfNone result (sent + word_at text.now (place + 128) ≤ 1048576) }
-{
-    if !is_checkpoint(text, place, k, before, sent) {
-        return Some(Fault::Checkpoint(place as u64));
-    }
-    numbers_fault(text, place)
-}
-
 /// The first fault of the checkpoints, or the length of all their output.
 fn checkpoints_fault(text: &[u8]) -> Result<u64, Fault>
     requires { IsSized text.now }
     ensures { MatchResult result
         (λ sent. (sent ≡ sent_below (fields_of text.now) (checkpoints text.now))
-        × (sent ≤ 1048576)
+        × (sent ≤ MAX_OUTPUT)
         × (first_broken (each (checkpoints text.now) (checkpoint_rules (fields_of text.now))) ≡ None))
         (λ f. first_broken (each (checkpoints text.now) (checkpoint_rules (fields_of text.now))) ≡ Some f) }
 {
@@ -187,11 +116,13 @@ fn checkpoints_fault(text: &[u8]) -> Result<u64, Fault>
     let mut sent: u64 = 0;
     for k in 0..checkpoint_count(text) as usize {
         let place = checkpoint_start(pages, events, k);
-        if let Some(fault) = checkpoint_fault(text, place, k, before, sent) {
+        let fields = CheckpointFields::of_text(text, place);
+        let table = table_of(text, place);
+        if let Some(fault) = checkpoint_fault(pages, place, k, before, sent, &fields, &table) {
             return Err(fault);
         }
-        before = u64_at(text, place);
-        sent += u32_at(text, place + 128) as u64;
+        before = fields.count;
+        sent += fields.output;
     }
     Ok(sent)
 }
@@ -200,7 +131,7 @@ fn checkpoints_fault(text: &[u8]) -> Result<u64, Fault>
 fn end_fault(text: &[u8], sent: u64) -> Option<Fault>
     requires sized { IsSized text.now }
     requires sent { sent ≡ sent_below (fields_of text.now) (checkpoints text.now) }
-    requires small { sent ≤ 1048576 }
+    requires small { sent ≤ MAX_OUTPUT }
     ensures { result ≡ first_broken (end_rules (fields_of text.now)) }
 {
     let checkpoints = checkpoint_count(text) as usize;

@@ -1,9 +1,8 @@
 //! The text of a recording, written front to back.
 
-ghost use Rattle.std.specs.Prelude.{◌≡◌, ◌++◌, ◌+◌, ◌≤◌, length, replicate, IfOk, OnOk};
+ghost use Rattle.std.specs.Prelude.{◌≡◌, ◌++◌, ◌+◌, ◌≤◌, length, IfOk, OnOk};
 ghost use Rattle.std.specs.List.{flat_map};
 ghost use Rattle.oberon_format.specs.CheckpointParts.{checkpoint_parts};
-ghost use Rattle.oberon_format.specs.FlagsNumber.{bits_number};
 ghost use Rattle.oberon_format.specs.Layout.{checkpoint_start};
 ghost use Rattle.oberon_format.specs.Recording.{IsLawful, output_of};
 ghost use Rattle.oberon_format.specs.Spelling.{word_bytes, long_bytes, words_bytes, event_bytes, cpu_bytes, device_bytes, checkpoint_bytes, header_bytes, spelling};
@@ -11,11 +10,14 @@ ghost use Rattle.oberon_format.specs.Text.{Text};
 ghost use Rattle.risc_machine.specs.MachineState.{cpu_state};
 
 use crate::checkpoint::Checkpoint;
-use crate::layout::{MAGIC, checkpoint_start};
+use crate::fields::key_bytes;
+use crate::flags::flags_number;
+use crate::layout::{MAGIC, VERSION, checkpoint_start};
+use crate::ranges::MAX_OUTPUT;
 use crate::recording::Recording;
 use byteorder::{ByteOrder, LittleEndian};
 use risc_devices::Devices;
-use risc_machine::{Cpu, Event, Flags};
+use risc_machine::{Cpu, Event};
 use risc_pages::Pool;
 use std::alloc::{AllocError, Global};
 
@@ -91,23 +93,13 @@ fn push_words(out: &mut Vec<u8>, numbers: &[u32]) -> Result<(), AllocError>
     Ok(())
 }
 
-/// Adds so many zeros.
-fn push_zeros(out: &mut Vec<u8>, count: usize) -> Result<(), AllocError>
-    ensures { OnOk result (out.new.items ≡ out.old.items ++ replicate count 0) }
-{
-    for _ in 0..count {
-        out.push(0)?;
-    }
-    Ok(())
-}
-
 /// Adds the header.
 #[tactic(auto, unfolding(crate::specs::Spelling::header_bytes))]
 fn push_header(out: &mut Vec<u8>, r: &Recording) -> Result<(), AllocError>
     ensures { OnOk result (out.new.items ≡ out.old.items ++ header_bytes r.now) }
 {
     push_word(out, MAGIC)?;
-    push_word(out, 1)?;
+    push_word(out, VERSION)?;
     push_word(out, r.pool().len())?;
     push_word(out, r.inputs().events().len() as u32)?;
     push_word(out, r.count())?;
@@ -144,13 +136,6 @@ fn push_events(out: &mut Vec<u8>, events: &[Event]) -> Result<(), AllocError>
     Ok(())
 }
 
-/// The number of flags.
-fn flags_number(flags: Flags) -> u32
-    ensures { result ≡ bits_number flags.n flags.z flags.c flags.v }
-{
-    8 * u32::from(flags.n) + 4 * u32::from(flags.z) + 2 * u32::from(flags.c) + u32::from(flags.v)
-}
-
 /// Adds the processor of a checkpoint.
 #[tactic(auto, unfolding(crate::specs::Spelling::cpu_bytes))]
 fn push_cpu(out: &mut Vec<u8>, cpu: &Cpu) -> Result<(), AllocError>
@@ -168,21 +153,19 @@ fn push_cpu(out: &mut Vec<u8>, cpu: &Cpu) -> Result<(), AllocError>
 fn push_devices(out: &mut Vec<u8>, devices: &Devices) -> Result<(), AllocError>
     ensures { OnOk result (out.new.items ≡ out.old.items ++ device_bytes devices.now) }
 {
-    let keys = devices.keys();
     push_word(out, devices.timer())?;
     push_word(out, devices.switches() as u32)?;
     push_word(out, devices.leds() as u32)?;
     push_word(out, devices.mouse())?;
     push_word(out, devices.serial() as u32)?;
-    push_word(out, keys.len() as u32)?;
-    out.extend_from_slice(keys)?;
-    push_zeros(out, 16 - keys.len())
+    push_word(out, devices.keys().len() as u32)?;
+    out.extend_from_slice(&key_bytes(devices))
 }
 
 /// Adds a checkpoint, but for its output.
 #[tactic(auto, unfolding(crate::specs::Spelling::checkpoint_bytes))]
 fn push_checkpoint(out: &mut Vec<u8>, checkpoint: &Checkpoint) -> Result<(), AllocError>
-    requires { length checkpoint.now.sent ≤ 1048576 }
+    requires { length checkpoint.now.sent ≤ MAX_OUTPUT }
     ensures { OnOk result (out.new.items ≡ out.old.items ++ checkpoint_bytes (checkpoint_parts checkpoint.now)) }
 {
     push_long(out, checkpoint.count)?;

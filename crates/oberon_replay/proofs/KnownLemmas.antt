@@ -1,5 +1,5 @@
 -- A command that was done answers all bytes of a reader that are known.
-use Rattle.std.proofs.Common.{◌≡◌, ◌<◌, ◌≤◌, ◌∙◌, inl, inr, ℕ, Bool, true, false, List, [], ◌∷◌, ◌++◌, Option, Some, None, arith, sym, refl, subst, ap, length, take, append-nil}
+use Rattle.std.proofs.Common.{◌≡◌, ◌<◌, ◌≤◌, ◌+◌, ◌∙◌, inl, inr, ℕ, Bool, true, false, List, [], ◌∷◌, ◌++◌, Option, Some, None, arith, sym, refl, subst, ap, length, take, append-nil}
 use lib.Seq.{take-append_seam}
 use Rattle.std.proofs.lemmas.List.{length-take, take_all}
 use Rattle.std.proofs.lemmas.Bool.{ltb-true, ltb-false}
@@ -22,7 +22,8 @@ use Rattle.oberon_replay.specs.Transfer.{Fails, GainsFront, GainsWhole, Goes}
 use Rattle.oberon_replay.specs.declared.words.Request.{Request}
 use Rattle.oberon_replay.specs.declared.words.Request.TheVariants.{Check, Record, Screen}
 use Rattle.oberon_replay.specs.declared.failure.Failure.TheVariants.{Memory, Read, Words}
-use Rattle.oberon_replay.proofs.CutLemmas.{cut_is_no_text, first_fault_of-take}
+use Rattle.oberon_format.specs.declared.layout.TheConstants.{LONGEST_TEXT}
+use Rattle.oberon_format.proofs.Cut.{cut_is_no_text, first_fault_of-take}
 use Rattle.oberon_replay.proofs.Parsed.{asked_none}
 
 -- of a reader whose bytes are known, the first `limit` of them
@@ -43,17 +44,17 @@ known_bytes limit xs bytes (Some rest) taken within end = go (nat_lt (length byt
         rw (taken, same) (sym (take-append_seam bytes rest))
 
 -- the line of the fault of a text that is cut off is that of the whole
-cut_fault : (n : ℕ) (bytes line : List ℕ) (status : ℕ) → 101479581 ≤ n → n ≤ length bytes → IsLineOfFault (take n bytes) line status → IsLineOfFault bytes line status
+cut_fault : (n : ℕ) (bytes line : List ℕ) (status : ℕ) → LONGEST_TEXT < n → n ≤ length bytes → IsLineOfFault (take n bytes) line status → IsLineOfFault bytes line status
 cut_fault n bytes line status over within is =
     record { fault = is.fault; is_first = sym (first_fault_of-take n bytes over within) ∙ is.is_first; line_is = is.line_is; status_is = is.status_is }
 
 -- a text that is cut off is that of no recording, so that its line is that of the whole
-cut_report : (n : ℕ) (bytes line : List ℕ) (status : ℕ) → 101479581 ≤ n → n ≤ length bytes → IsLineOf (take n bytes) line status → IsLineOf bytes line status
+cut_report : (n : ℕ) (bytes line : List ℕ) (status : ℕ) → LONGEST_TEXT < n → n ≤ length bytes → IsLineOf (take n bytes) line status → IsLineOf bytes line status
 cut_report n bytes line status over within (inl is) = absurd (cut_is_no_text n bytes is.recording over within is.is_text)
 cut_report n bytes line status over within (inr is) = inr (cut_fault n bytes line status over within is)
 
 -- and so is the answer of `screen`
-cut_screen : (n at : ℕ) (bytes text : List ℕ) (status : ℕ) → 101479581 ≤ n → n ≤ length bytes → IsScreen at (take n bytes) text status → IsScreen at bytes text status
+cut_screen : (n at : ℕ) (bytes text : List ℕ) (status : ℕ) → LONGEST_TEXT < n → n ≤ length bytes → IsScreen at (take n bytes) text status → IsScreen at bytes text status
 cut_screen n at bytes text status over within (inl is) = absurd (cut_is_no_text n bytes is.recording over within is.read)
 cut_screen n at bytes text status over within (inr is) = inr (cut_fault n bytes text status over within is)
 
@@ -89,11 +90,11 @@ whole P n bytes more first = go (nat_lt (length bytes) n) refl
 -- the answer to the bytes that are read is the answer to all
 whole_answer : (request : Request) (bytes text : List ℕ) (status : ℕ) → IsAnswer request (take (limit_of request) bytes) text status → IsAnswer request bytes text status
 whole_answer (Check workers cut) bytes text status =
-    whole (λ input. IsLineOf input text status) 101479581 bytes (λ within. cut_report 101479581 bytes text status (omega arith) within)
+    whole (λ input. IsLineOf input text status) (LONGEST_TEXT + 1) bytes (λ within. cut_report (LONGEST_TEXT + 1) bytes text status (omega arith) within)
 whole_answer Record bytes text status =
     whole (λ input. IsRecord input text status) 67108865 bytes (λ within. cut_record 67108865 bytes text status (omega arith) within)
 whole_answer (Screen at) bytes text status =
-    whole (λ input. IsScreen at input text status) 101479581 bytes (λ within. cut_screen 101479581 at bytes text status (omega arith) within)
+    whole (λ input. IsScreen at input text status) (LONGEST_TEXT + 1) bytes (λ within. cut_screen (LONGEST_TEXT + 1) at bytes text status (omega arith) within)
 
 -- no words ask for no help
 no_help : IsHelp [] → ⊥

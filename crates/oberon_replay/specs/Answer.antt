@@ -1,16 +1,17 @@
 -- What each command answers to the bytes of an input.
-use Rattle.std.specs.Prelude.{ℕ, List, Option, Some, None}
+use Rattle.std.specs.Prelude.{ℕ, ◌+◌, List, Option, Some, None}
 use Rattle.oberon_check.specs.Headline.{IsLineOf}
 use Rattle.oberon_replay.specs.Record.{IsRecord}
 use Rattle.oberon_replay.specs.Screen.{IsScreen}
 use Rattle.oberon_replay.specs.declared.words.Request.{Request}
 use Rattle.oberon_replay.specs.declared.words.Request.TheVariants.{Check, Record, Screen}
+use Rattle.oberon_format.specs.declared.layout.TheConstants.{LONGEST_TEXT}
 
 -- the most bytes that the command reads: one more than the longest text of a recording has, or that of a session may have
 abbrev pub limit_of : Request → ℕ
-limit_of (Check workers cut) = 101479581
+limit_of (Check workers cut) = LONGEST_TEXT + 1
 limit_of Record = 67108865
-limit_of (Screen at) = 101479581
+limit_of (Screen at) = LONGEST_TEXT + 1
 
 -- the most bytes that are read where the words ask for this: none where they ask for no command
 abbrev pub limit_for : Option Request → ℕ

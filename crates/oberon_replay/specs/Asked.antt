@@ -15,6 +15,7 @@ use Rattle.oberon_replay.specs.declared.words.Request.{Request}
 use Rattle.oberon_replay.specs.declared.words.Request.TheVariants.{Check, Record, Screen}
 use Rattle.oberon_replay.specs.declared.words.Refusal.{Refusal}
 use Rattle.oberon_replay.specs.declared.words.Refusal.TheVariants.{Help, Words, Memory}
+use Rattle.oberon_format.specs.declared.ranges.TheConstants.{LAST_CHECKPOINT}
 
 -- the number that the text writes in decimal digits, perhaps after a plus, where it lies in the range
 abbrev pub whole_number : ℕ → ℕ → Text → Option ℕ
@@ -27,20 +28,20 @@ number_at low high id rows = option_and_then (whole_number low high) (one_of id 
 
 abbrev pub check_of : List Row → Option Request
 check_of rows = option_and_then (λ workers. option_map (λ cut. Check workers cut)
-    (number_at 1 4096 (codes "cut") rows)) (number_at 1 64 (codes "workers") rows)
+    (number_at 1 LAST_CHECKPOINT (codes "cut") rows)) (number_at 1 64 (codes "workers") rows)
 
 -- the numbers of a request are in their ranges
 abbrev pub IsWithinLimits : Request → Type 0
-IsWithinLimits (Check workers cut) = (1 ≤ workers) × (workers ≤ 64) × (1 ≤ cut) × (cut ≤ 4096)
+IsWithinLimits (Check workers cut) = (1 ≤ workers) × (workers ≤ 64) × (1 ≤ cut) × (cut ≤ LAST_CHECKPOINT)
 IsWithinLimits Record = ⊤
-IsWithinLimits (Screen at) = at ≤ 4096
+IsWithinLimits (Screen at) = at ≤ LAST_CHECKPOINT
 
 -- what a subcommand with its arguments asks for
 abbrev pub request_of : Text → List Row → Option Request
 request_of name rows =
     if bytes_eq name (codes "check") then check_of rows
     else if bytes_eq name (codes "record") then Some Record
-    else if bytes_eq name (codes "screen") then option_map Screen (number_at 0 4096 (codes "at") rows)
+    else if bytes_eq name (codes "screen") then option_map Screen (number_at 0 LAST_CHECKPOINT (codes "at") rows)
     else None
 
 -- the kinds of fault that `clap` finds in the words

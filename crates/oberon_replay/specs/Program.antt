@@ -4,6 +4,7 @@ use Rattle.clap.specs.Walk.{Rule}
 use Rattle.clap.specs.Simple.{App, Shape, new_app, new_rule, new_shape, with_rule, with_subcommand}
 use Rattle.clap.specs.declared.builder.action.ArgAction.TheVariants.{Set}
 use Rattle.clap.specs.declared.builder.value_parser.ValueParser.TheVariants.{Signed}
+use Rattle.oberon_format.specs.declared.ranges.TheConstants.{LAST_CHECKPOINT}
 
 -- `--workers`, from 1 to 64, or 2
 abbrev pub workers_rule : Rule
@@ -22,7 +23,7 @@ cut_rule = record (new_rule (codes "cut")) {
   action = Some Set;
   value_names = 1;
   defaults = codes "1" ∷ [];
-  parser = Some (Signed (pos 1) (pos 4096));
+  parser = Some (Signed (pos 1) (pos LAST_CHECKPOINT));
 }
 
 -- `--at`, from 0 to 4,096, required
@@ -32,7 +33,7 @@ at_rule = record (new_rule (codes "at")) {
   action = Some Set;
   value_names = 1;
   required = true;
-  parser = Some (Signed (pos 0) (pos 4096));
+  parser = Some (Signed (pos 0) (pos LAST_CHECKPOINT));
 }
 
 -- `check`, with its two options

@@ -9,13 +9,14 @@ use crate::reply::Reply;
 use crate::screen::screen;
 use crate::words::Request;
 use oberon_check::{CheckFault, FreeGate, Report, check_bytes};
+use oberon_format::LONGEST_TEXT;
 use std::alloc::{AllocError, Global};
 use std::sync::Wait;
 use std::thread::Threads;
 
 /// One byte more than the longest text of a recording has. A longer input has a fault within so many bytes, and none of them is
 /// looked at further on.
-const RECORDING_LIMIT: usize = 101_479_581;
+const RECORDING_LIMIT: usize = LONGEST_TEXT + 1;
 
 /// One byte more than the text of a session may have. A longer input is refused for its length alone.
 const SESSION_LIMIT: usize = 67_108_865;

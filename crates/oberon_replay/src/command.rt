@@ -6,6 +6,7 @@ ghost use Rattle.oberon_replay.specs.Program.{at_rule, check_app, cut_rule, prog
 ghost use Rattle.clap.specs.declared.builder.command.Command.TheViews.{out-Command as fields_of};
 
 use clap::{Arg, ArgAction, Command, value_parser};
+use oberon_format::LAST_CHECKPOINT;
 use std::alloc::{AllocError, Global};
 
 /// The command line of the program: one of three commands, with no program's name before it.
@@ -78,7 +79,7 @@ fn cut<'a>(alloc: Global) -> Arg<'a>
         .help("How many segments in a row a thread takes at once, from 1 to 4096")
         .action(ArgAction::Set)
         .default_value("1")
-        .value_parser(value_parser!(u32).range(1..=4096))
+        .value_parser(value_parser!(u32).range(1..=LAST_CHECKPOINT as i64))
 }
 
 fn at<'a>(alloc: Global) -> Arg<'a>
@@ -91,5 +92,5 @@ fn at<'a>(alloc: Global) -> Arg<'a>
         .help("The number of the checkpoint, from 0 to 4096")
         .action(ArgAction::Set)
         .required(true)
-        .value_parser(value_parser!(u32).range(0..=4096))
+        .value_parser(value_parser!(u32).range(0..=LAST_CHECKPOINT as i64))
 }

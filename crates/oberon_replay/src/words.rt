@@ -6,6 +6,7 @@ ghost use Rattle.oberon_replay.specs.Asked.{IsWithinLimits, RefusedBy, asked, nu
 use crate::command::program;
 use clap::error::ErrorKind;
 use clap::{ArgMatches, Error};
+use oberon_format::LAST_CHECKPOINT;
 use std::alloc::{AllocError, Global};
 
 /// What the program is to do.
@@ -77,11 +78,11 @@ fn request_of(matches: &ArgMatches<'_>) -> Option<Request>
     match name {
         "check" => Some(Request::Check {
             workers: whole_number(inner, "workers", 1, 64)?,
-            cut: whole_number(inner, "cut", 1, 4096)?,
+            cut: whole_number(inner, "cut", 1, LAST_CHECKPOINT)?,
         }),
         "record" => Some(Request::Record),
         "screen" => Some(Request::Screen {
-            at: whole_number(inner, "at", 0, 4096)?,
+            at: whole_number(inner, "at", 0, LAST_CHECKPOINT)?,
         }),
         _ => None,
     }

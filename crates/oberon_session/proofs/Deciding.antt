@@ -8,6 +8,7 @@ use Rattle.std.specs.Prelude.{slice_index}
 use Rattle.risc_devices.specs.InputKind.{is_input}
 use Rattle.oberon_session.specs.Draft.{Draft, InputNumbers, PageText, Start}
 use Rattle.oberon_session.specs.Ranges.{CountFits, CountsFit, InOrder, InRange, InputFits, InputsFit, PageFits, PagesFit, StartFits, input_counts, places_of}
+use Rattle.oberon_format.specs.declared.ranges.TheConstants.{LAST_CHECKPOINT, MAX_COUNT, MAX_EVENTS}
 
 -- it holds, or it does not
 abbrev pub Decided : Type 0 → Type 0
@@ -67,13 +68,13 @@ decided-pages pages =
 
 decided-inputs : (inputs : List InputNumbers) → Decided (InputsFit inputs)
 decided-inputs inputs =
-    decided-both (decided-le (length inputs) 1000000)
-    (decided-all InputFits (λ input. decided-both (decided-le input.count (2 ^ 40)) (decided-test (is_input input.kind input.value))) inputs)
+    decided-both (decided-le (length inputs) MAX_EVENTS)
+    (decided-all InputFits (λ input. decided-both (decided-le input.count MAX_COUNT) (decided-test (is_input input.kind input.value))) inputs)
 
 decided-counts : (counts : List ℕ) → Decided (CountsFit counts)
 decided-counts counts =
-    decided-both (decided-le (length counts) 4096)
-    (decided-all CountFits (λ count. decided-both (decided-le 1 count) (decided-le count (2 ^ 40))) counts)
+    decided-both (decided-le (length counts) LAST_CHECKPOINT)
+    (decided-all CountFits (λ count. decided-both (decided-le 1 count) (decided-le count MAX_COUNT)) counts)
 
 pub decided-range : (draft : Draft) → Decided (InRange draft)
 decided-range draft =

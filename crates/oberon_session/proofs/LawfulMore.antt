@@ -4,9 +4,9 @@ use Rattle.std.proofs.lemmas.Bool.{cases_lt}
 use Rattle.std.proofs.lemmas.Grind.{common_steps}
 use Rattle.std.proofs.lemmas.List.{get_or_push, length_push}
 use Rattle.risc_pages.specs.Pages.{ArePages}
+use Rattle.oberon_format.specs.declared.ranges.TheConstants.{LAST_CHECKPOINT, MAX_OUTPUT, MAX_PAGES}
 use Rattle.oberon_format.proofs.Output.{output_of_push}
 use Rattle.oberon_format.specs.CheckpointParts.{CheckpointParts, no_checkpoint}
-use Rattle.oberon_format.specs.Ranges.{max_output}
 use Rattle.oberon_format.specs.Recording.{IsFit, IsLawful, RecordingParts, checkpoint_at, count_at, last_of, output_of}
 
 -- a checkpoint that fits fits over a larger pool
@@ -30,8 +30,8 @@ module _ (r : RecordingParts) (extra : List (List ℕ)) (c : CheckpointParts) wh
   at-last : checkpoint_at more (length r.checkpoints) ≡ c
   at-last = get_or_push r.checkpoints c no_checkpoint (length r.checkpoints) refl
 
-  pub lawful-more : IsLawful r → length (r.pool ++ extra) ≤ 65536 → ArePages (r.pool ++ extra) → length r.checkpoints ≤ 4096
-      → count_at r (last_of r) < c.count → IsFit (r.pool ++ extra) c → length (output_of r.checkpoints) + length c.sent ≤ max_output → IsLawful more
+  pub lawful-more : IsLawful r → length (r.pool ++ extra) ≤ MAX_PAGES → ArePages (r.pool ++ extra) → length r.checkpoints ≤ LAST_CHECKPOINT
+      → count_at r (last_of r) < c.count → IsFit (r.pool ++ extra) c → length (output_of r.checkpoints) + length c.sent ≤ MAX_OUTPUT → IsLawful more
   lawful-more lawful pages pool few rises fit output =
       let long = length_push r.checkpoints c in
       record {

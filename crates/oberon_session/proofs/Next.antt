@@ -7,9 +7,9 @@ use Rattle.risc_devices.specs.DeviceState.{IsDeviceState}
 use Rattle.risc_pages.specs.Content.{IsNamed, table_words}
 use Rattle.risc_pages.specs.Pages.{ArePages}
 use Rattle.risc_machine.specs.MachineState.{IsCpuState}
+use Rattle.oberon_format.specs.declared.ranges.TheConstants.{MAX_OUTPUT, MAX_PAGES}
 use Rattle.oberon_format.proofs.Output.{output_of_push}
 use Rattle.oberon_format.specs.CheckpointParts.{CheckpointParts, no_checkpoint}
-use Rattle.oberon_format.specs.Ranges.{max_output}
 use Rattle.oberon_format.specs.Recording.{IsFit, IsLawful, RecordingParts, count_at, output_of}
 use Rattle.oberon_session.proofs.Contents.{Leads, memory-laid, table_words-grown}
 use Rattle.oberon_session.proofs.LawfulMore.{lawful-more}
@@ -82,8 +82,8 @@ module _ (s : SessionParts) where
     pub devices : IsDeviceState (state_of s (k + 1)).devices
     pub whole : length (state_of s (k + 1)).words ≡ 262144
     pub bytes : All (λ byte. byte < 2 ^ 8) (output_between s (count_of s k) (count_of s (k + 1)))
-    pub output : length (output_up_to s (count_of s (k + 1))) ≤ max_output
-    pub pages : length (laid_of s (k + 1)).pool ≤ 65536
+    pub output : length (output_up_to s (count_of s (k + 1))) ≤ MAX_OUTPUT
+    pub pages : length (laid_of s (k + 1)).pool ≤ MAX_PAGES
     pub pool : ArePages (laid_of s (k + 1)).pool
 
   module _ (lawful : IsLawfulSession s) (k : ℕ) (inside : k < length s.counts) (so : Recorded k) (good : IsGoodNext k) where
@@ -130,7 +130,7 @@ module _ (s : SessionParts) where
         let sums = ap length (ap output_of (checkpoints-more k) ∙ output_of_push (checkpoints_to s k) (checkpoint_of s (k + 1))) in
         let parts = length-append (output_of (checkpoints_to s k)) (checkpoint_of s (k + 1)).sent in
         let more = lawful-more (recorded_to k) lays.0.extra (checkpoint_of s (k + 1)) so.lawful
-        (subst (λ (p : List (List ℕ)). length p ≤ 65536) grown good.pages)
+        (subst (λ (p : List (List ℕ)). length p ≤ MAX_PAGES) grown good.pages)
         (subst ArePages grown good.pool)
         (omega (arith, length-checkpoints k, lawful.counts.0))
         (omega (arith, last-count, count-of (k + 1), count-rises s lawful k inside))

@@ -8,6 +8,7 @@ use Rattle.risc_machine.specs.InputOrder.{AreOrdered, IsFirstWrong, IsRightPlace
 use Rattle.oberon_session.specs.Draft.{InputNumbers}
 use Rattle.oberon_session.specs.Ranges.{InputFits, NeverFalls, input_counts}
 use Rattle.oberon_session.specs.Session.{numbers_of_event}
+use Rattle.oberon_format.specs.declared.ranges.TheConstants.{MAX_COUNT}
 
 counts-same : (es : List Event) → input_counts (map numbers_of_event es) ≡ map (λ (e : Event). e.count) es
 counts-same [] = refl
@@ -26,7 +27,7 @@ falls-never es ordered = λ k lt.
     rw (before-next es k) at right.0
 
 -- the inputs are in order where their counts never fall and none is too high
-right-at : (es : List Event) → NeverFalls (map (λ (e : Event). e.count) es) → ((k : ℕ) → k < length es → count_at es k ≤ 2 ^ 40)
+right-at : (es : List Event) → NeverFalls (map (λ (e : Event). e.count) es) → ((k : ℕ) → k < length es → count_at es k ≤ MAX_COUNT)
     → (place : ℕ) → place < length es → IsRightPlace es place
 right-at es falls bounded zero inside = (omega arith, bounded zero inside)
 right-at es falls bounded (suc k) inside =
@@ -36,7 +37,7 @@ right-at es falls bounded (suc k) inside =
     let before : count_at es k ≤ count_at es (suc k) = rw next at step in
     (rw (before-suc es k) before, bounded (suc k) inside)
 
-count-fits : (es : List Event) → All InputFits (map numbers_of_event es) → (k : ℕ) → k < length es → count_at es k ≤ 2 ^ 40
+count-fits : (es : List Event) → All InputFits (map numbers_of_event es) → (k : ℕ) → k < length es → count_at es k ≤ MAX_COUNT
 count-fits [] fit k inside = absurd (omega arith)
 count-fits (e ∷ es) fit k inside =
     let within : k < length (map numbers_of_event (e ∷ es)) = simp length-map inside in

@@ -10,6 +10,7 @@ use Rattle.risc_machine.specs.MachineState.{CpuState, State, IsCpuState, cpu_sta
 use Rattle.risc_machine.specs.Replay.{run_of, sent_of}
 use Rattle.oberon_format.proofs.CheckpointLemmas.{checkpoint_at-is}
 use Rattle.oberon_format.specs.declared.checkpoint.Checkpoint.{Checkpoint}
+use Rattle.oberon_format.specs.declared.ranges.TheConstants.{MAX_OUTPUT, MAX_PAGES}
 use Rattle.oberon_format.specs.CheckpointParts.{CheckpointParts, checkpoint_parts, no_checkpoint}
 use Rattle.oberon_format.specs.Defined.{claim_of}
 use Rattle.oberon_format.specs.Recording.{IsFit}
@@ -98,7 +99,7 @@ module _ (s : SessionParts) (k : ℕ) (laid : Laid) (checkpoints : List Checkpoi
           omega (arith, parts, here, so.long, length-append (output_up_to s (count_of s k)) (output_between s (count_of s k) (count_of s (k + 1))))
 
       -- it sends too much
-      pub refused-output : k < length s.counts → 1048576 - sent < length sends → record_fault_of s ≡ Some fault.Output
+      pub refused-output : k < length s.counts → MAX_OUTPUT - sent < length sends → record_fault_of s ≡ Some fault.Output
       refused-output within many = too-much-output s k within so.faultless (omega (arith, whole-output))
 
       module _ (r : Reached) (reached : IsReached first.words end sends r) (laid' : Laid) (laid-so : laid' ≡ lay_pages laid (map page_view r.changed.items)) where
@@ -115,17 +116,17 @@ module _ (s : SessionParts) (k : ℕ) (laid : Laid) (checkpoints : List Checkpoi
             ∙ sym (laid_of-next s k)
 
         -- as much is sent as may be
-        module _ (room : length r.sent ≤ 1048576 - sent) (before : sent ≤ 1048576) where
-          few-bytes : length (output_up_to s (count_of s (k + 1))) ≤ 1048576
+        module _ (room : length r.sent ≤ MAX_OUTPUT - sent) (before : sent ≤ MAX_OUTPUT) where
+          few-bytes : length (output_up_to s (count_of s (k + 1))) ≤ MAX_OUTPUT
           few-bytes = omega (arith, whole-output, ap length reached.output)
 
           -- too many pages were laid
-          pub refused-pages : k < length s.counts → 65536 < length laid'.pool → record_fault_of s ≡ Some fault.Pages
+          pub refused-pages : k < length s.counts → MAX_PAGES < length laid'.pool → record_fault_of s ≡ Some fault.Pages
           refused-pages within many =
-              too-many-pages s k within so.faultless few-bytes (subst (λ (l : Laid). 65536 < length l.pool) laid-next many)
+              too-many-pages s k within so.faultless few-bytes (subst (λ (l : Laid). MAX_PAGES < length l.pool) laid-next many)
 
           -- the next checkpoint is recorded
-          module _ (lawful : IsLawful s) (within : k < length s.counts) (pages : length laid'.pool ≤ 65536) (pool : ArePages laid'.pool)
+          module _ (lawful : IsLawful s) (within : k < length s.counts) (pages : length laid'.pool ≤ MAX_PAGES) (pool : ArePages laid'.pool)
               (devices : IsDeviceState r.devices) (bytes : All (λ byte. byte < 2 ^ 8) r.sent) where
             good : IsGoodNext s k
             good =
@@ -136,7 +137,7 @@ module _ (s : SessionParts) (k : ℕ) (laid : Laid) (checkpoints : List Checkpoi
                   whole = ap (λ (t : State). length t.words) (sym state-reached) ∙ reached.whole;
                   bytes = subst (All (λ byte. byte < 2 ^ 8)) sent-so bytes;
                   output = few-bytes;
-                  pages = subst (λ (l : Laid). length l.pool ≤ 65536) laid-next pages;
+                  pages = subst (λ (l : Laid). length l.pool ≤ MAX_PAGES) laid-next pages;
                   pool = subst (λ (l : Laid). ArePages l.pool) laid-next pool;
                 }
 

@@ -4,14 +4,14 @@ use Rattle.std.proofs.lemmas.Bool.{le-ltb, lt-ltb}
 use Rattle.std.specs.Option.{option_or}
 use Rattle.std.specs.Prelude.{nat_lt, slice_index}
 use Rattle.risc_machine.specs.Replay.{run_of, sent_of}
-use Rattle.oberon_format.specs.Ranges.{max_output}
 use Rattle.oberon_session.proofs.Runs.{run-on, sent-on}
 use Rattle.oberon_session.specs.Laid.{lay}
-use Rattle.oberon_session.specs.Recorded.{count_of, fault_at, first_fault, first_laid, first_state, laid_of, max_pages, output_between, output_up_to, record_fault_of, state_at, state_of}
+use Rattle.oberon_session.specs.Recorded.{count_of, fault_at, first_fault, first_laid, first_state, laid_of, output_between, output_up_to, record_fault_of, state_at, state_of}
 use Rattle.oberon_session.specs.Ranges.{CountFits}
 use Rattle.oberon_session.specs.SessionParts.{SessionParts, IsLawful}
 use Rattle.oberon_session.specs.declared.record_fault.RecordFault.{RecordFault}
 use Rattle.oberon_session.specs.declared.record_fault.RecordFault.TheVariants as fault
+use Rattle.oberon_format.specs.declared.ranges.TheConstants.{MAX_COUNT, MAX_OUTPUT, MAX_PAGES}
 
 module _ (s : SessionParts) where
   -- ---- the run
@@ -111,29 +111,29 @@ module _ (s : SessionParts) where
       sym (ap (λ (n : ℕ). first_fault s n) all) ∙ first_fault-stays (k + 1) (length s.counts - (k + 1)) f (first_fault-next k before ∙ found)
 
   -- too many bytes are sent up to the next checkpoint
-  pub too-much-output : (k : ℕ) → k < length s.counts → first_fault s k ≡ None → max_output < length (output_up_to s (count_of s (k + 1)))
+  pub too-much-output : (k : ℕ) → k < length s.counts → first_fault s k ≡ None → MAX_OUTPUT < length (output_up_to s (count_of s (k + 1)))
       → record_fault_of s ≡ Some fault.Output
   unfolding fault_at
   too-much-output k inside before many =
-      let test : nat_lt max_output (length (output_up_to s (count_of s (k + 1)))) ≡ true = lt-ltb _ _ many in
+      let test : nat_lt MAX_OUTPUT (length (output_up_to s (count_of s (k + 1)))) ≡ true = lt-ltb _ _ many in
       refused-at k fault.Output inside before (rw test refl)
 
   -- too many pages are laid up to the next checkpoint
-  pub too-many-pages : (k : ℕ) → k < length s.counts → first_fault s k ≡ None → length (output_up_to s (count_of s (k + 1))) ≤ max_output
-      → max_pages < length (laid_of s (k + 1)).pool → record_fault_of s ≡ Some fault.Pages
+  pub too-many-pages : (k : ℕ) → k < length s.counts → first_fault s k ≡ None → length (output_up_to s (count_of s (k + 1))) ≤ MAX_OUTPUT
+      → MAX_PAGES < length (laid_of s (k + 1)).pool → record_fault_of s ≡ Some fault.Pages
   unfolding fault_at
   too-many-pages k inside before few many =
-      let test : nat_lt max_output (length (output_up_to s (count_of s (k + 1)))) ≡ false = le-ltb _ _ few in
-      let pages : nat_lt max_pages (length (laid_of s (k + 1)).pool) ≡ true = lt-ltb _ _ many in
+      let test : nat_lt MAX_OUTPUT (length (output_up_to s (count_of s (k + 1)))) ≡ false = le-ltb _ _ few in
+      let pages : nat_lt MAX_PAGES (length (laid_of s (k + 1)).pool) ≡ true = lt-ltb _ _ many in
       refused-at k fault.Pages inside before (rw (test, pages) refl)
 
   -- nothing is too much up to the next checkpoint
-  pub nothing-too-much : (k : ℕ) → first_fault s k ≡ None → length (output_up_to s (count_of s (k + 1))) ≤ max_output
-      → length (laid_of s (k + 1)).pool ≤ max_pages → first_fault s (k + 1) ≡ None
+  pub nothing-too-much : (k : ℕ) → first_fault s k ≡ None → length (output_up_to s (count_of s (k + 1))) ≤ MAX_OUTPUT
+      → length (laid_of s (k + 1)).pool ≤ MAX_PAGES → first_fault s (k + 1) ≡ None
   unfolding fault_at
   nothing-too-much k before few pages =
-      let test : nat_lt max_output (length (output_up_to s (count_of s (k + 1)))) ≡ false = le-ltb _ _ few in
-      let room : nat_lt max_pages (length (laid_of s (k + 1)).pool) ≡ false = le-ltb _ _ pages in
+      let test : nat_lt MAX_OUTPUT (length (output_up_to s (count_of s (k + 1)))) ≡ false = le-ltb _ _ few in
+      let room : nat_lt MAX_PAGES (length (laid_of s (k + 1)).pool) ≡ false = le-ltb _ _ pages in
       first_fault-next k before ∙ rw (test, room) refl
 
 -- ---- counts of a lawful session
@@ -142,8 +142,8 @@ module _ (s : SessionParts) (lawful : IsLawful s) where
   fits : (k : ℕ) → k < length s.counts → CountFits (slice_index s.counts k)
   fits k inside = lawful.counts.1 k 0 inside
 
-  pub count-fits : (k : ℕ) → k < length s.counts → count_of s (k + 1) ≤ 2 ^ 40
-  count-fits k inside = subst (λ (n : ℕ). n ≤ 2 ^ 40) (sym (count_of-next s k)) (fits k inside).1
+  pub count-fits : (k : ℕ) → k < length s.counts → count_of s (k + 1) ≤ MAX_COUNT
+  count-fits k inside = subst (λ (n : ℕ). n ≤ MAX_COUNT) (sym (count_of-next s k)) (fits k inside).1
 
   pub count-rises : (k : ℕ) → k < length s.counts → count_of s k < count_of s (k + 1)
   count-rises zero inside = omega (arith, (fits 0 inside).0, count_of-next s 0, count_of-zero s)

@@ -1,9 +1,11 @@
--- The ranges and the order of a session's numbers. All limits are this project's own choice.
+-- The ranges and the order of a session's numbers. All limits are this project's own choice; those of its recording are
+-- named in `oberon_format`.
 use Rattle.std.specs.Prelude.{ℕ, ◌+◌, ◌^◌, ◌<◌, ◌≤◌, List, length, map, slice_index}
 use Rattle.std.specs.List.{All}
 use Rattle.std.specs.List.Sorted.{IsStrictlyIncreasing}
 use Rattle.risc_devices.specs.InputKind.{IsInput}
 use Rattle.oberon_session.specs.Draft.{Draft, InputNumbers, PageText, Start}
+use Rattle.oberon_format.specs.declared.ranges.TheConstants.{LAST_CHECKPOINT, MAX_COUNT, MAX_EVENTS}
 
 -- words, a program counter of 22 bits, and four flags
 abbrev pub StartFits : Start → Type 0
@@ -14,22 +16,22 @@ StartFits start = All (λ register. register < 2 ^ 32) start.registers × (start
 abbrev pub PageFits : PageText → Type 0
 PageFits page = (page.at < 1024) × (length page.hex ≤ 2048)
 
--- a count of at most 2 ^ 40, and a value that the kind takes
+-- a count that a recording may have, and a value that the kind takes
 abbrev pub InputFits : InputNumbers → Type 0
-InputFits input = (input.count ≤ 2 ^ 40) × IsInput input.kind input.value
+InputFits input = (input.count ≤ MAX_COUNT) × IsInput input.kind input.value
 
--- from 1 to 2 ^ 40
+-- a count that a recording may have after checkpoint 0
 abbrev pub CountFits : ℕ → Type 0
-CountFits count = (1 ≤ count) × (count ≤ 2 ^ 40)
+CountFits count = (1 ≤ count) × (count ≤ MAX_COUNT)
 
 abbrev pub PagesFit : List PageText → Type 0
 PagesFit pages = (length pages ≤ 1024) × All PageFits pages
 
 abbrev pub InputsFit : List InputNumbers → Type 0
-InputsFit inputs = (length inputs ≤ 1000000) × All InputFits inputs
+InputsFit inputs = (length inputs ≤ MAX_EVENTS) × All InputFits inputs
 
 abbrev pub CountsFit : List ℕ → Type 0
-CountsFit counts = (length counts ≤ 4096) × All CountFits counts
+CountsFit counts = (length counts ≤ LAST_CHECKPOINT) × All CountFits counts
 
 -- each number is in its range, and there are few enough of them
 pub record InRange (draft : Draft) : Type 0 where

@@ -7,8 +7,8 @@ use Rattle.risc_pages.specs.Tables.{zero_numbers}
 use Rattle.risc_devices.specs.DeviceState.{DeviceState}
 use Rattle.risc_machine.specs.MachineState.{State}
 use Rattle.risc_machine.specs.Replay.{run_of, sent_of}
+use Rattle.oberon_format.specs.declared.ranges.TheConstants.{MAX_OUTPUT, MAX_PAGES}
 use Rattle.oberon_format.specs.CheckpointParts.{CheckpointParts}
-use Rattle.oberon_format.specs.Ranges.{max_output}
 use Rattle.oberon_format.specs.Recording.{RecordingParts}
 use Rattle.oberon_session.specs.Digits.{PlacedWords}
 use Rattle.oberon_session.specs.Laid.{Laid, lay}
@@ -90,15 +90,11 @@ recording_of s = record {
 
 -- ---- refusals
 
--- the most pages that a recording may have
-abbrev pub max_pages : ℕ
-max_pages = 65536
-
 -- why a recording cannot go as far as checkpoint k: too many bytes sent up to it, or else too many pages
 unfoldable pub fault_at : SessionParts → ℕ → Option RecordFault
 fault_at s k =
-    if nat_lt max_output (length (output_up_to s (count_of s k))) then Some fault.Output
-    else if nat_lt max_pages (length (laid_of s k).pool) then Some fault.Pages
+    if nat_lt MAX_OUTPUT (length (output_up_to s (count_of s k))) then Some fault.Output
+    else if nat_lt MAX_PAGES (length (laid_of s k).pool) then Some fault.Pages
     else None
 
 -- the fault at the first of the checkpoints 1 to k that has one

@@ -10,6 +10,7 @@ use Rattle.risc_machine.specs.MachineState.{CpuState, IsCpuState, cpu_state}
 use Rattle.oberon_session.specs.Digits.{PlacedWords, placed_view}
 use Rattle.oberon_session.specs.Ranges.{CountsFit}
 use Rattle.oberon_session.specs.declared.placed.PlacedPage.{PlacedPage}
+use Rattle.oberon_format.specs.declared.ranges.TheConstants.{MAX_EVENTS}
 
 -- the processor of the first state, the pages of its memory, whose other places are zeros, the inputs with their counts, and the
 -- counts of checkpoints 1 to K. The devices of the first state are all zeros
@@ -32,7 +33,7 @@ pub record IsLawful (s : SessionParts) : Type 0 where
   pub places : All (λ page. page.at < 1024) s.pages
   pub rising : IsStrictlyIncreasing (places_in s.pages)
   pub contents : All (λ page. IsPage page.words) s.pages
-  pub events : length s.inputs ≤ 1000000
+  pub events : length s.inputs ≤ MAX_EVENTS
   pub ordered : AreOrdered s.inputs
   pub counts : CountsFit s.counts
   pub rises : IsStrictlyIncreasing s.counts

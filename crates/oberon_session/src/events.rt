@@ -10,7 +10,7 @@ ghost use Rattle.oberon_session.specs.Tested.{BreaksInputs};
 
 use crate::SessionFault;
 use crate::draft::InputDraft;
-use crate::range::LAST_COUNT;
+use oberon_format::{MAX_COUNT, MAX_EVENTS};
 use risc_devices::Input;
 use risc_machine::{Event, Inputs};
 use std::alloc::Global;
@@ -23,7 +23,7 @@ pub fn inputs_of(alloc: Global, drafts: &[InputDraft]) -> Result<Inputs, Session
     ensures order { IfOk result (λ _. NeverFalls (input_counts (map input_view drafts.now))) }
     ensures err { IfErr result (BreaksInputs (map input_view drafts.now)) }
 {
-    if drafts.len() > 1_000_000 {
+    if drafts.len() > MAX_EVENTS as usize {
         return Err(SessionFault::Range);
     }
     match Inputs::new(events(alloc, drafts)?) {
@@ -52,7 +52,7 @@ fn events(alloc: Global, drafts: &[InputDraft]) -> Result<Vec<Event>, SessionFau
 fn event(draft: &InputDraft) -> Option<Event>
     ensures { MatchOption result (InputFits (input_view draft.now) → ⊥) (λ event. (numbers_of_event event ≡ input_view draft.now) × InputFits (input_view draft.now)) }
 {
-    if draft.count > LAST_COUNT {
+    if draft.count > MAX_COUNT {
         return None;
     }
     let Ok(value) = u32::try_from(draft.value) else {

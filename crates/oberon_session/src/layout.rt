@@ -8,6 +8,7 @@ ghost use Rattle.oberon_session.specs.Recorded.{first_laid};
 ghost use Rattle.oberon_session.specs.Progress.{laid_view, page_view};
 
 use crate::placed::PlacedPage;
+use oberon_format::MAX_PAGES;
 use risc_pages::{Page, Pool, Table};
 use std::alloc::{AllocError, Global};
 
@@ -36,7 +37,7 @@ pub fn first_layout(alloc: Global, pages: &[PlacedPage]) -> Result<Layout, Alloc
 /// Lays pages one after another, each at its place.
 pub fn lay_pages(layout: &mut Layout, changed: &[(u16, Page)]) -> Result<(), AllocError>
     requires few { length changed.now ≤ 1024 }
-    requires room { length layout.old.pool ≤ 65536 }
+    requires room { length layout.old.pool ≤ MAX_PAGES }
     requires places { All (λ (c : ℕ × Page). c.0 < 1024) changed.now }
     ensures { OnOk result (laid_view layout.new ≡ lay_pages (laid_view layout.old) (map page_view changed.now)) }
 {

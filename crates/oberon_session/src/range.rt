@@ -9,9 +9,7 @@ ghost use Rattle.oberon_session.specs.Tested.{DraftPagesFit, NumbersFit, Numbers
 ghost use Rattle.oberon_session.specs.Ranges.{CountsFit, StartFits};
 
 use crate::draft::{Draft, PageDraft, StartDraft};
-
-/// The highest count: 2^40.
-pub const LAST_COUNT: u64 = 1 << 40;
+use oberon_format::{LAST_CHECKPOINT, MAX_COUNT};
 
 /// Whether the numbers of the first state, of pages and of checkpoints are in their ranges.
 pub fn is_in_range(draft: &Draft<'_>) -> bool
@@ -54,10 +52,10 @@ fn pages_fit(pages: &[PageDraft<'_>]) -> bool
 fn counts_fit(counts: &[u64]) -> bool
     ensures { IsTrue result ↔ CountsFit counts.now }
 {
-    counts.len() <= 4_096
+    counts.len() <= LAST_CHECKPOINT as usize
         && counts
             .iter()
-            .all(|count| 1 <= *count && *count <= LAST_COUNT)
+            .all(|count| 1 <= *count && *count <= MAX_COUNT)
 }
 
 /// Whether the places of pages rise.

@@ -13,17 +13,11 @@ use crate::layout::{Layout, first_layout, lay_pages};
 use crate::record_fault::RecordFault;
 use crate::segment::reach;
 use crate::session::Session;
-use oberon_format::{Checkpoint, Recording, Sent};
+use oberon_format::{Checkpoint, MAX_OUTPUT, MAX_PAGES, Recording, Sent};
 use risc_devices::Devices;
 use risc_machine::Inputs;
 use risc_pages::Pool;
 use std::alloc::Global;
-
-/// The most bytes that a recording may send in all.
-const MAX_OUTPUT: usize = 1_048_576;
-
-/// The most pages that a recording may have.
-const MAX_PAGES: u32 = 65_536;
 
 /// What was recorded so far: pages and the last table, checkpoints from 0 on, and the number of bytes that they send.
 #[derive(Drop)]
@@ -100,7 +94,7 @@ fn record_next(
 {
     let last = &recorder.checkpoints[k];
     let count = session.counts()[k];
-    let room = MAX_OUTPUT - recorder.sent;
+    let room = MAX_OUTPUT as usize - recorder.sent;
     let pool = &recorder.layout.pool;
     let reached = reach(alloc, pool, session.inputs(), last, count, room)?;
     lay_pages(&mut recorder.layout, &reached.changed)?;

@@ -1,6 +1,7 @@
 use Rattle.std.proofs.Common.{◌≡◌, ◌∙◌, ◌+◌, ◌≤◌, ◌<◌, ◌/◌, ◌%◌, ◌^◌, ℕ, length, refl, sym, subst, arith}
 use Rattle.std.specs.Prelude.{slice_range, ◌==◌, if◌then◌else◌}
 use Rattle.std.proofs.lemmas.Bool.Decides.{nat_tests}
+use Rattle.oberon_format.specs.declared.layout.TheConstants.{KEYS_AT}
 use Rattle.oberon_format.specs.Text.{IsDevices}
 use Rattle.oberon_format.proofs.Keys.{keys-stand, length-range}
 use Rattle.oberon_format.proofs.reading.devices_of.Goals as goal
@@ -16,7 +17,7 @@ returns c =
     let is = rw c.unwrap.ensures at c.new.ensures.parts in
     let few : c.u32_at-waiting.result ≤ 16 = grind (arith, nat_tests) in
     let line : c.u32_at-5.result < 512 = grind (arith, nat_tests) in
-    let len : length (slice_range text (place + 112) (place + 112 + c.u32_at-waiting.result)) ≡ c.u32_at-waiting.result = omega (arith, length-range text (place + 112) (place + 112 + c.u32_at-waiting.result) (omega arith) (omega arith)) in
+    let len : length (slice_range text (place + KEYS_AT) (place + KEYS_AT + c.u32_at-waiting.result)) ≡ c.u32_at-waiting.result = omega (arith, length-range text (place + KEYS_AT) (place + KEYS_AT + c.u32_at-waiting.result) (omega arith) (omega arith)) in
     subst (IsDevices text place) (sym is) (record {
       timer = sym c.u32_at.ensures;
       rate = refl;

@@ -1,4 +1,5 @@
 use Rattle.std.proofs.Common.{◌≡◌, ◌≤◌, None}
+use Rattle.oberon_format.specs.declared.ranges.TheConstants.{MAX_OUTPUT}
 use Rattle.oberon_format.proofs.rules.checkpoints_fault.Given as goal
 use Rattle.oberon_format.specs.FirstFault.{each, first_broken}
 use Rattle.oberon_format.specs.Rules.{checkpoint_rules, count_before}
@@ -10,5 +11,5 @@ invariant-loop-k l = record {
   met : first_broken (each l.k (checkpoint_rules (fields_of l.text))) ≡ None;
   before_is : l.before ≡ count_before (fields_of l.text) l.k;
   sent_is : l.sent ≡ output_below l.text l.k;
-  small : l.sent ≤ 1048576;
+  small : l.sent ≤ MAX_OUTPUT;
 }

@@ -4,13 +4,16 @@ use Rattle.std.proofs.lemmas.Bool.{leb-true, leb-false}
 use Rattle.std.proofs.lemmas.List.{drop-take, get_or-take, length-take, take-take}
 use Rattle.std.specs.Prelude.{nat_le, slice_range}
 use Rattle.oberon_format.specs.FirstFault.{first_broken}
-use Rattle.oberon_format.specs.Fields.{CheckpointFields, EventFields}
-use Rattle.oberon_format.specs.Layout.{checkpoint_place, checkpoint_start, event_place, event_start, long_at, number_place, word_at}
+use Rattle.oberon_format.specs.declared.fields.CheckpointFields.{CheckpointFields}
+use Rattle.oberon_format.specs.declared.layout.TheConstants.{LONGEST_TEXT, MAGIC_AT, VERSION_AT, PAGES_AT, EVENTS_AT, CHECKPOINTS_AT, LAST_AT, KIND_AT, VALUE_AT, COUNTER_AT, FLAGS_AT, STOP_AT, SWITCHES_AT, LEDS_AT, MOUSE_AT, SERIAL_AT, WAITING_AT, KEYS_AT, SENT_AT, TABLE_AT}
+use Rattle.oberon_format.specs.declared.ranges.TheConstants.{MAX_PAGES, MAX_EVENTS, MAX_CHECKPOINTS}
+use Rattle.oberon_format.specs.Fields.{EventFields}
+use Rattle.oberon_format.specs.Layout.{checkpoint_place, checkpoint_start, event_place, event_start, long_at, page_number_place, word_at}
 use Rattle.oberon_format.specs.Rules.{rules}
-use Rattle.oberon_format.specs.TextFields.{checkpoint_of, event_of, first_fault_of, number_of}
+use Rattle.oberon_format.specs.TextFields.{checkpoint_of, event_of, first_fault_of, page_number_of}
 use Rattle.oberon_format.specs.Recording.{RecordingParts}
 use Rattle.oberon_format.specs.Text.{Text}
-use Rattle.oberon_replay.proofs.FieldLemmas.{AgreeWithin, faults_same, fields}
+use Rattle.oberon_format.proofs.LongFields.{AgreeWithin, faults_same, fields}
 
 -- numbers in bytes that were not cut off
 word_at-take : (n : ℕ) (text : List ℕ) (place : ℕ) → place + 4 ≤ n → word_at (take n text) place ≡ word_at text place
@@ -38,8 +41,8 @@ long_at-take n text place within =
 event_of-take : (n : ℕ) (text : List ℕ) (place : ℕ) → place + 16 ≤ n → event_of (take n text) place ≡ event_of text place
 event_of-take n text place within =
     let count = long_at-take n text place (omega arith) in
-    let kind = word_at-take n text (place + 8) (omega arith) in
-    let value = word_at-take n text (place + 12) (omega arith) in
+    let kind = word_at-take n text (place + KIND_AT) (omega arith) in
+    let value = word_at-take n text (place + VALUE_AT) (omega arith) in
     rw (count, kind, value) refl
 
 slice_range-take : (n : ℕ) (text : List ℕ) (from to : ℕ) → to ≤ n → slice_range (take n text) from to ≡ slice_range text from to
@@ -57,20 +60,20 @@ slice_range-take n text from to within = go (nat_le from n) refl
         let none : to - from ≡ 0 = omega arith in
         rw none refl
 
-checkpoint_of-take : (n : ℕ) (text : List ℕ) (place : ℕ) → place + 132 ≤ n → checkpoint_of (take n text) place ≡ checkpoint_of text place
+checkpoint_of-take : (n : ℕ) (text : List ℕ) (place : ℕ) → place + TABLE_AT ≤ n → checkpoint_of (take n text) place ≡ checkpoint_of text place
 checkpoint_of-take n text place within =
     let count = long_at-take n text place (omega arith) in
-    let pc = word_at-take n text (place + 76) (omega arith) in
-    let flags = word_at-take n text (place + 80) (omega arith) in
-    let stop = word_at-take n text (place + 84) (omega arith) in
-    let switches = word_at-take n text (place + 92) (omega arith) in
-    let leds = word_at-take n text (place + 96) (omega arith) in
-    let mouse = word_at-take n text (place + 100) (omega arith) in
-    let serial = word_at-take n text (place + 104) (omega arith) in
-    let waiting = word_at-take n text (place + 108) (omega arith) in
-    let unused = slice_range-take n text (place + 112 + word_at text (place + 108)) (place + 128) (omega arith) in
-    let output = word_at-take n text (place + 128) (omega arith) in
-    rw (count, pc, flags, stop, switches, leds, mouse, serial, waiting, unused, output) refl
+    let pc = word_at-take n text (place + COUNTER_AT) (omega arith) in
+    let flags = word_at-take n text (place + FLAGS_AT) (omega arith) in
+    let stop = word_at-take n text (place + STOP_AT) (omega arith) in
+    let switches = word_at-take n text (place + SWITCHES_AT) (omega arith) in
+    let leds = word_at-take n text (place + LEDS_AT) (omega arith) in
+    let mouse = word_at-take n text (place + MOUSE_AT) (omega arith) in
+    let serial = word_at-take n text (place + SERIAL_AT) (omega arith) in
+    let waiting = word_at-take n text (place + WAITING_AT) (omega arith) in
+    let keys = slice_range-take n text (place + KEYS_AT) (place + SENT_AT) (omega arith) in
+    let output = word_at-take n text (place + SENT_AT) (omega arith) in
+    rw (count, pc, flags, stop, switches, leds, mouse, serial, waiting, keys, output) refl
 
 -- fields with one header
 same_header : (first first' version version' pages pages' events events' checkpoints checkpoints' last last' long : ℕ)
@@ -80,47 +83,47 @@ same_header : (first first' version version' pages pages' events events' checkpo
 same_header first first' version version' pages pages' events events' checkpoints checkpoints' last last' long event checkpoint number a b c d e f = rw (a, b, c, d, e, f) refl
 
 -- what rules look at was not cut off
-agree_cut : (n : ℕ) (text : List ℕ) → 101479581 ≤ n → word_at (take n text) 8 ≤ 65536 → word_at (take n text) 12 ≤ 1000000 → word_at (take n text) 16 ≤ 4097
-    → AgreeWithin (word_at (take n text) 12) (word_at (take n text) 16)
+agree_cut : (n : ℕ) (text : List ℕ) → LONGEST_TEXT < n → word_at (take n text) PAGES_AT ≤ MAX_PAGES → word_at (take n text) EVENTS_AT ≤ MAX_EVENTS → word_at (take n text) CHECKPOINTS_AT ≤ MAX_CHECKPOINTS
+    → AgreeWithin (word_at (take n text) EVENTS_AT) (word_at (take n text) CHECKPOINTS_AT)
     (λ i. event_of (take n text) (event_place (take n text) i)) (λ i. event_of text (event_place text i))
     (λ k. checkpoint_of (take n text) (checkpoint_place (take n text) k)) (λ k. checkpoint_of text (checkpoint_place text k))
-    (λ k. number_of (take n text) (checkpoint_place (take n text) k)) (λ k. number_of text (checkpoint_place text k))
+    (λ k. page_number_of (take n text) (checkpoint_place (take n text) k)) (λ k. page_number_of text (checkpoint_place text k))
 agree_cut n text over few_pages few_events few_checkpoints =
-    let pages = word_at-take n text 8 (omega arith) in
-    let events = word_at-take n text 12 (omega arith) in
+    let pages = word_at-take n text PAGES_AT (omega arith) in
+    let events = word_at-take n text EVENTS_AT (omega arith) in
     record {
       of_events = λ i below. event_of-take n text (event_place (take n text) i) (omega arith) ∙ ap (λ p. event_of text (event_start p i)) pages;
       of_checkpoints = λ k below. checkpoint_of-take n text (checkpoint_place (take n text) k) (omega arith)
           ∙ ap₂ (λ p e. checkpoint_of text (checkpoint_start p e k)) pages events;
-      of_numbers = λ k j below under. word_at-take n text (number_place (checkpoint_place (take n text) k) j) (omega arith)
-          ∙ ap₂ (λ p e. number_of text (checkpoint_start p e k) j) pages events;
+      of_numbers = λ k j below under. word_at-take n text (page_number_place (checkpoint_place (take n text) k) j) (omega arith)
+          ∙ ap₂ (λ p e. page_number_of text (checkpoint_start p e k) j) pages events;
     }
 
 -- a text that is cut off there has the first fault of the whole
-pub first_fault_of-take : (n : ℕ) (text : List ℕ) → 101479581 ≤ n → n ≤ length text → first_fault_of (take n text) ≡ first_fault_of text
+pub first_fault_of-take : (n : ℕ) (text : List ℕ) → LONGEST_TEXT < n → n ≤ length text → first_fault_of (take n text) ≡ first_fault_of text
 first_fault_of-take n text over within =
     let cut : List ℕ = take n text in
-    let first = word_at-take n text 0 (omega arith) in
-    let version = word_at-take n text 4 (omega arith) in
-    let pages = word_at-take n text 8 (omega arith) in
-    let events = word_at-take n text 12 (omega arith) in
-    let checkpoints = word_at-take n text 16 (omega arith) in
-    let last = word_at-take n text 20 (omega arith) in
-    faults_same (word_at cut 0) (word_at cut 4) (word_at cut 8) (word_at cut 12) (word_at cut 16) (word_at cut 20) (length cut) (length text)
+    let first = word_at-take n text MAGIC_AT (omega arith) in
+    let version = word_at-take n text VERSION_AT (omega arith) in
+    let pages = word_at-take n text PAGES_AT (omega arith) in
+    let events = word_at-take n text EVENTS_AT (omega arith) in
+    let checkpoints = word_at-take n text CHECKPOINTS_AT (omega arith) in
+    let last = word_at-take n text LAST_AT (omega arith) in
+    faults_same (word_at cut MAGIC_AT) (word_at cut VERSION_AT) (word_at cut PAGES_AT) (word_at cut EVENTS_AT) (word_at cut CHECKPOINTS_AT) (word_at cut LAST_AT) (length cut) (length text)
     (λ i. event_of cut (event_place cut i)) (λ i. event_of text (event_place text i))
     (λ k. checkpoint_of cut (checkpoint_place cut k)) (λ k. checkpoint_of text (checkpoint_place text k))
-    (λ k. number_of cut (checkpoint_place cut k)) (λ k. number_of text (checkpoint_place text k))
+    (λ k. page_number_of cut (checkpoint_place cut k)) (λ k. page_number_of text (checkpoint_place text k))
     (agree_cut n text over)
     (simp length-take (omega arith)) (omega arith)
-    ∙ ap (λ r. first_broken (rules r)) (same_header (word_at cut 0) (word_at text 0) (word_at cut 4) (word_at text 4) (word_at cut 8) (word_at text 8) (word_at cut 12) (word_at text 12) (word_at cut 16) (word_at text 16) (word_at cut 20) (word_at text 20) (length text)
-    (λ i. event_of text (event_place text i)) (λ k. checkpoint_of text (checkpoint_place text k)) (λ k. number_of text (checkpoint_place text k)) first version pages events checkpoints last)
+    ∙ ap (λ r. first_broken (rules r)) (same_header (word_at cut MAGIC_AT) (word_at text MAGIC_AT) (word_at cut VERSION_AT) (word_at text VERSION_AT) (word_at cut PAGES_AT) (word_at text PAGES_AT) (word_at cut EVENTS_AT) (word_at text EVENTS_AT) (word_at cut CHECKPOINTS_AT) (word_at text CHECKPOINTS_AT) (word_at cut LAST_AT) (word_at text LAST_AT) (length text)
+    (λ i. event_of text (event_place text i)) (λ k. checkpoint_of text (checkpoint_place text k)) (λ k. page_number_of text (checkpoint_place text k)) first version pages events checkpoints last)
 
 -- the longest text has 101,479,580 bytes: 24 of the header, 65,536 pages, 1,000,000 events, 4,097 checkpoints, and the output
-pub text_within : (text : List ℕ) (r : RecordingParts) → Text text r → length text ≤ 101479580
+pub text_within : (text : List ℕ) (r : RecordingParts) → Text text r → length text ≤ LONGEST_TEXT
 text_within text r is = omega (arith, is.laid.long, is.laid.page_count, is.laid.event_count, is.laid.checkpoint_count, is.lawful.pages, is.lawful.events, is.lawful.few, is.lawful.output)
 
 -- so no text of a recording is cut off there
-pub cut_is_no_text : (n : ℕ) (text : List ℕ) (r : RecordingParts) → 101479581 ≤ n → n ≤ length text → Text (take n text) r → ⊥
+pub cut_is_no_text : (n : ℕ) (text : List ℕ) (r : RecordingParts) → LONGEST_TEXT < n → n ≤ length text → Text (take n text) r → ⊥
 cut_is_no_text n text r over within is =
-    let short : length (take n text) ≤ 101479580 = text_within (take n text) r is in
+    let short : length (take n text) ≤ LONGEST_TEXT = text_within (take n text) r is in
     omega (arith, simp length-take at short)

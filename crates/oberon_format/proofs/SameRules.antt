@@ -1,11 +1,10 @@
 -- When two lists of rules have one first fault.
-use Rattle.std.proofs.Common.{◌≡◌, ◌<◌, ◌+◌, ◌==◌, ℕ, zero, suc, Bool, true, false, List, [], ◌∷◌, ◌++◌, Some, None, arith, refl, ap₂}
+use Rattle.std.proofs.Common.{◌≡◌, ◌<◌, ◌==◌, ℕ, zero, suc, Bool, true, false, List, [], ◌∷◌, ◌++◌, Some, None, arith, refl, ap₂}
 use Rattle.std.specs.Prelude.{nat_le}
 use Rattle.std.proofs.lemmas.Bool.{le-leb, ne_eqb}
 use Rattle.oberon_format.specs.declared.fault.Fault.{Fault}
 use Rattle.oberon_format.specs.declared.fault.Fault.TheVariants as fault
 use Rattle.oberon_format.specs.FirstFault.{Rule, each, first_broken}
-use Rattle.oberon_format.specs.Fields.{total}
 
 -- the rules after one that both lists begin with
 pub same_after : (holds : Bool) (fault : Fault) (p q : List Rule) → (holds ≡ true → first_broken p ≡ first_broken q) → first_broken ((holds, fault) ∷ p) ≡ first_broken ((holds, fault) ∷ q)
@@ -35,14 +34,3 @@ pub each_same : (n : ℕ) (p q : ℕ → List Rule) → ((i : ℕ) → i < n →
 unfolding each
 each_same zero p q same = refl
 each_same (suc n) p q same = ap₂ (λ x y. x ++ y) (each_same n p q (λ i below. same i (omega arith))) (same n (omega arith))
-
-pub total_same : (n : ℕ) (f g : ℕ → ℕ) → ((i : ℕ) → i < n → f i ≡ g i) → total f n ≡ total g n
-unfolding total
-total_same zero f g same = refl
-total_same (suc n) f g same = ap₂ (λ x y. x + y) (total_same n f g (λ i below. same i (omega arith))) (same n (omega arith))
-
--- the last of some rules that all hold
-pub last_holds : (front back : List Rule) → first_broken (front ++ back) ≡ None → first_broken back ≡ None
-last_holds [] back none = none
-last_holds ((true, fault) ∷ rest) back none = last_holds rest back none
-last_holds ((false, fault) ∷ rest) back none = cc
