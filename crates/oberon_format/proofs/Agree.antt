@@ -4,6 +4,7 @@ use Rattle.std.specs.Prelude.{slice_range, replicate}
 use Rattle.std.proofs.lemmas.List.{drop_at}
 use Rattle.risc_devices.specs.DeviceState.{DeviceState}
 use Rattle.risc_machine.specs.declared.event.Event.{Event}
+use Rattle.oberon_format.specs.declared.layout.TheConstants.{VERSION}
 use Rattle.oberon_format.specs.CheckpointParts.{CheckpointParts, no_checkpoint}
 use Rattle.oberon_format.specs.Layout.{word_at, event_place, checkpoint_place}
 use Rattle.oberon_format.specs.PartFields.{fields_of_parts, fault_of_parts, event_fields, checkpoint_fields}
@@ -19,30 +20,30 @@ use Rattle.oberon_format.proofs.SameFields.{SameFields, same_rules}
 event_stands : (text : List ℕ) (place : ℕ) (e : Event) → IsEvent text place e → event_of text place ≡ event_fields e
 event_stands text place e is = λ i. record { count = is.count i; kind = is.kind i; value = is.value i }
 
-events_agree : (text : List ℕ) (r : RecordingParts) → IsLaidOut text r → (i : ℕ) → i < length r.inputs → (fields_of text).event i ≡ (fields_of_parts r).event i
+events_agree : (text : List ℕ) (r : RecordingParts) → IsLaidOut VERSION text r → (i : ℕ) → i < length r.inputs → (fields_of text).event i ≡ (fields_of_parts r).event i
 events_agree text r is i lt =
     let d = member r.inputs i lt in
     event_stands text (event_place text i) (get_or r.inputs i d) (is.events_stand i d lt) ∙ sym (event_here r i d lt)
 
 -- a checkpoint that stands at a place has its fields there
-checkpoint_stands : (text : List ℕ) (place : ℕ) (c : CheckpointParts) → IsCheckpoint text place c → checkpoint_of text place ≡ checkpoint_fields c
+checkpoint_stands : (text : List ℕ) (place : ℕ) (c : CheckpointParts) → IsCheckpoint VERSION text place c → checkpoint_of text place ≡ checkpoint_fields c
 checkpoint_stands text place c is =
     λ i. record {
-      count = is.count i;
-      pc = is.cpu.pc i;
-      flags = is.cpu.flags i;
-      stop = is.cpu.stop i;
-      rate = sym is.devices.rate i;
-      switches = is.devices.switches i;
-      leds = is.devices.leds i;
-      mouse = is.devices.mouse i;
-      serial = is.devices.serial i;
-      waiting = is.devices.waiting i;
-      keys = is.devices.keys i;
-      output = is.sent i;
+      count = is.front.count i;
+      pc = is.front.cpu.pc i;
+      flags = is.front.cpu.flags i;
+      stop = is.front.cpu.stop i;
+      rate = sym is.front.devices.rate i;
+      switches = is.front.devices.switches i;
+      leds = is.front.devices.leds i;
+      mouse = is.front.devices.mouse i;
+      serial = is.front.devices.serial i;
+      waiting = is.front.devices.waiting i;
+      keys = is.front.devices.keys i;
+      output = is.front.sent i;
     }
 
-pub fields_agree : (text : List ℕ) (r : RecordingParts) → AreFormed r.checkpoints → IsLaidOut text r → SameFields (fields_of text) (fields_of_parts r)
+pub fields_agree : (text : List ℕ) (r : RecordingParts) → AreFormed r.checkpoints → IsLaidOut VERSION text r → SameFields (fields_of text) (fields_of_parts r)
 fields_agree text r formed is =
     let long = is.long in
     let cp = is.page_count in
@@ -62,8 +63,8 @@ fields_agree text r formed is =
           ∙ sym (checkpoint_here r k lt);
       page_number = λ k j lt less.
           let table = (formed k no_checkpoint lt).table.count in
-          (is.checkpoints_stand k no_checkpoint lt).table j 0 (omega arith) ∙ ap (λ (h : ℕ → ℕ). h j) (sym (number_here r k lt));
+          (is.checkpoints_stand k no_checkpoint lt).tail.table j 0 (omega arith) ∙ ap (λ (h : ℕ → ℕ). h j) (sym (number_here r k lt));
     }
 
-pub text_agrees : (text : List ℕ) (r : RecordingParts) → AreFormed r.checkpoints → IsLaidOut text r → first_fault_of text ≡ fault_of_parts r
+pub text_agrees : (text : List ℕ) (r : RecordingParts) → AreFormed r.checkpoints → IsLaidOut VERSION text r → first_fault_of text ≡ fault_of_parts r
 text_agrees text r formed is = same_rules (fields_of text) (fields_of_parts r) (fields_agree text r formed is)

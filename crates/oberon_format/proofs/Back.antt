@@ -12,13 +12,13 @@ use Rattle.risc_devices.specs.Input.{kind_of, value_of}
 use Rattle.risc_machine.specs.declared.event.Event.{Event}
 use Rattle.risc_machine.specs.MachineState.{CpuState, IsCpuState}
 use Rattle.risc_pages.specs.Pages.{IsPage}
-use Rattle.oberon_format.specs.declared.layout.TheConstants.{MAGIC, CHECKPOINT_LEN, MAGIC_AT}
+use Rattle.oberon_format.specs.declared.layout.TheConstants.{MAGIC, VERSION, CHECKPOINT_LEN, MAGIC_AT}
 use Rattle.oberon_format.specs.CheckpointParts.{CheckpointParts, no_checkpoint}
 use Rattle.oberon_format.specs.FlagsNumber.{flags_number}
 use Rattle.oberon_format.specs.Layout.{word_at, long_at, event_place, checkpoint_place, output_place}
 use Rattle.oberon_format.specs.Recording.{RecordingParts, IsLawful, IsFit, output_of}
 use Rattle.oberon_format.specs.Spelling.{word_bytes, long_bytes, words_bytes, event_bytes, cpu_bytes, device_bytes, checkpoint_bytes, header_bytes, spelling}
-use Rattle.oberon_format.specs.Text.{EachAt, AreWords, AreBytes, IsEvent, IsCpu, IsDevices, IsCheckpoint, IsLaidOut, Text}
+use Rattle.oberon_format.specs.Text.{EachAt, AreWords, AreBytes, IsEvent, IsCpu, IsDevices, IsCheckpoint, IsLaidOut, TextIn}
 use Rattle.oberon_format.proofs.Numbers.{little_from-drop}
 use Rattle.oberon_format.proofs.Keys.{range-split}
 
@@ -146,22 +146,22 @@ device_back text p d h room is =
     let s5 = holds_join text q (p + 108) 20 4 24 _ _ s4 w (omega arith) (omega arith) in
     holds_join text q (p + 112) 24 16 40 _ _ s5 k (omega arith) (omega arith)
 
-checkpoint_back : (text : List ℕ) (p : ℕ) (pool : List (List ℕ)) (c : CheckpointParts) → IsBytes text → p + CHECKPOINT_LEN ≤ length text → IsCheckpoint text p c → IsFit pool c → Holds text p 4228 (checkpoint_bytes c)
+checkpoint_back : (text : List ℕ) (p : ℕ) (pool : List (List ℕ)) (c : CheckpointParts) → IsBytes text → p + CHECKPOINT_LEN ≤ length text → IsCheckpoint VERSION text p c → IsFit pool c → Holds text p 4228 (checkpoint_bytes c)
 unfolding checkpoint_bytes
 checkpoint_back text p pool c h room is proper =
-    let a = holds_long text p c.count h (omega arith) is.count in
-    let b = cpu_back text p c.cpu h room is.cpu proper.cpu in
-    let d = device_back text p c.devices h room is.devices in
-    let e = holds_word text (p + 128) (length c.sent) h (omega arith) is.sent in
+    let a = holds_long text p c.count h (omega arith) is.front.count in
+    let b = cpu_back text p c.cpu h room is.front.cpu proper.cpu in
+    let d = device_back text p c.devices h room is.front.devices in
+    let e = holds_word text (p + 128) (length c.sent) h (omega arith) is.front.sent in
     let len = proper.table.count in
     let n : 4 * length c.table ≡ 4096 = omega arith in
-    let t = subst (λ (k : ℕ). Holds text (p + 132) k (words_bytes c.table)) n (holds_words text (p + 132) c.table h (omega arith) is.table) in
+    let t = subst (λ (k : ℕ). Holds text (p + 132) k (words_bytes c.table)) n (holds_words text (p + 132) c.table h (omega arith) is.tail.table) in
     let s1 = holds_join text p (p + 8) 8 80 88 _ _ a b (omega arith) (omega arith) in
     let s2 = holds_join text p (p + 88) 88 40 128 _ _ s1 d (omega arith) (omega arith) in
     let s3 = holds_join text p (p + 128) 128 4 132 _ _ s2 e (omega arith) (omega arith) in
     holds_join text p (p + 132) 132 4096 4228 _ _ s3 t (omega arith) (omega arith)
 
-header_back : (text : List ℕ) (r : RecordingParts) → IsBytes text → 24 ≤ length text → IsLaidOut text r → Holds text 0 24 (header_bytes r)
+header_back : (text : List ℕ) (r : RecordingParts) → IsBytes text → 24 ≤ length text → IsLaidOut VERSION text r → Holds text 0 24 (header_bytes r)
 unfolding header_bytes
 header_back text r h room is =
     let a = holds_word text MAGIC_AT MAGIC h (omega arith) is.magic in
@@ -179,7 +179,7 @@ header_back text r h room is =
 holds_front : (text : List ℕ) (n : ℕ) (xs : List ℕ) → Holds text 0 n xs → take n text ≡ xs
 holds_front text n xs h = let e : n ≡ 0 + n - 0 = omega arith in ap (λ (k : ℕ). take k text) e ∙ h.is
 
-pub is_spelling : (text : List ℕ) (r : RecordingParts) → IsBytes text → IsLawful r → IsLaidOut text r → text ≡ spelling r
+pub is_spelling : (text : List ℕ) (r : RecordingParts) → IsBytes text → IsLawful r → IsLaidOut VERSION text r → text ≡ spelling r
 unfolding spelling
 is_spelling text r h p is =
     let fits : (i : ℕ) (d : CheckpointParts) → i < length r.checkpoints → IsFit r.pool (get_or r.checkpoints i d) = λ i d lt. subst (IsFit r.pool) (get_or_default r.checkpoints i no_checkpoint d lt) (p.fit i lt) in
@@ -208,5 +208,5 @@ is_spelling text r h p is =
     sym (take-append-drop (24 + 1024 * np + 16 * ne + 4228 * nk) text) ∙ ap (λ (l : List ℕ). l ++ drop (24 + 1024 * np + 16 * ne + 4228 * nk) text) front ∙ ap (λ (l : List ℕ). header_bytes r ++ flat_map words_bytes r.pool ++ flat_map event_bytes r.inputs ++ flat_map checkpoint_bytes r.checkpoints ++ l) back
 
 -- a recording has at most one text
-pub same_text : (r : RecordingParts) (t u : List ℕ) → AreBytes t → AreBytes u → Text t r → Text u r → t ≡ u
+pub same_text : (r : RecordingParts) (t u : List ℕ) → AreBytes t → AreBytes u → TextIn VERSION t r → TextIn VERSION u r → t ≡ u
 same_text r t u ht hu a b = is_spelling t r (all_bytes t ht) a.lawful a.laid ∙ sym (is_spelling u r (all_bytes u hu) b.lawful b.laid)

@@ -13,6 +13,7 @@ use Rattle.oberon_format.specs.Rules.{rules}
 use Rattle.oberon_format.specs.TextFields.{checkpoint_of, event_of, first_fault_of, page_number_of}
 use Rattle.oberon_format.specs.Recording.{RecordingParts}
 use Rattle.oberon_format.specs.Text.{Text}
+use Rattle.oberon_format.proofs.Versions.{in_version}
 use Rattle.oberon_format.proofs.LongFields.{AgreeWithin, faults_same, fields}
 
 -- numbers in bytes that were not cut off
@@ -120,7 +121,7 @@ first_fault_of-take n text over within =
 
 -- the longest text has 101,479,580 bytes: 24 of the header, 65,536 pages, 1,000,000 events, 4,097 checkpoints, and the output
 pub text_within : (text : List ℕ) (r : RecordingParts) → Text text r → length text ≤ LONGEST_TEXT
-text_within text r is = omega (arith, is.laid.long, is.laid.page_count, is.laid.event_count, is.laid.checkpoint_count, is.lawful.pages, is.lawful.events, is.lawful.few, is.lawful.output)
+text_within text r some = let is = in_version text r some in omega (arith, is.laid.long, is.laid.page_count, is.laid.event_count, is.laid.checkpoint_count, is.lawful.pages, is.lawful.events, is.lawful.few, is.lawful.output)
 
 -- so no text of a recording is cut off there
 pub cut_is_no_text : (n : ℕ) (text : List ℕ) (r : RecordingParts) → LONGEST_TEXT < n → n ≤ length text → Text (take n text) r → ⊥

@@ -14,7 +14,7 @@ use Rattle.risc_devices.proofs.InputLemmas.{input_of, kind_of-input_of, value_of
 use Rattle.risc_machine.specs.declared.event.Event.{Event}
 use Rattle.risc_machine.specs.MachineState.{CpuState}
 use Rattle.risc_pages.specs.Pages.{IsPage, ArePages}
-use Rattle.oberon_format.specs.declared.layout.TheConstants.{CHECKPOINT_LEN, AUXILIARY_AT, COUNTER_AT, FLAGS_AT, STOP_AT, TIMER_AT, SWITCHES_AT, LEDS_AT, MOUSE_AT, SERIAL_AT, WAITING_AT, KEYS_AT, SENT_AT, TABLE_AT}
+use Rattle.oberon_format.specs.declared.layout.TheConstants.{VERSION, CHECKPOINT_LEN, AUXILIARY_AT, COUNTER_AT, FLAGS_AT, STOP_AT, TIMER_AT, SWITCHES_AT, LEDS_AT, MOUSE_AT, SERIAL_AT, WAITING_AT, KEYS_AT, SENT_AT, TABLE_AT}
 use Rattle.oberon_format.specs.CheckpointParts.{CheckpointParts}
 use Rattle.oberon_format.specs.FlagsNumber.{bits_number}
 use Rattle.oberon_format.specs.Layout.{word_at, long_at, pages, events, checkpoints, page_place, event_place, checkpoint_place, output_place}
@@ -226,7 +226,7 @@ devices_fit text place room bytes fits =
 record Checkpoints (text : List ℕ) (n : ℕ) : Type 0 where
   list : List CheckpointParts
   count : length list ≡ n
-  stand : EachAt (IsCheckpointAt text) list
+  stand : EachAt (IsCheckpointAt VERSION text) list
   formed : AreFormed list
   output : slice_range text (output_place text) (output_place text + output_below text n) ≡ output_of list
 
@@ -240,14 +240,16 @@ checkpoint_made text place from = record {
 }
 
 checkpoint_stands : (text : List ℕ) (place from : ℕ) → place + CHECKPOINT_LEN ≤ length text → from + word_at text (place + SENT_AT) ≤ length text → Small text place → are_keys (checkpoint_of text place) ≡ true
-    → IsCheckpoint text place (checkpoint_made text place from)
+    → IsCheckpoint VERSION text place (checkpoint_made text place from)
 unfolding checkpoint_made
 checkpoint_stands text place from room fits few keys = record {
-  count = refl;
-  cpu = cpu_stands text place few.flags;
-  devices = devices_stand text place room few keys;
-  sent = omega (arith, length-range text from (from + word_at text (place + SENT_AT)) (omega arith) fits);
-  table = words_stand text (place + TABLE_AT) 1024;
+  front = record {
+    count = refl;
+    cpu = cpu_stands text place few.flags;
+    devices = devices_stand text place room few keys;
+    sent = omega (arith, length-range text from (from + word_at text (place + SENT_AT)) (omega arith) fits);
+  };
+  tail = record { known = refl; table = words_stand text (place + TABLE_AT) 1024 };
 }
 
 each_word : (text : List ℕ) (place n a : ℕ) → AreBytes text → slice_index (words_from text place n) a < 2 ^ 32
@@ -302,7 +304,7 @@ checkpoints_of text (suc n) bytes meets le =
     record {
       list = so_far.list ++ made ∷ [];
       count = omega (arith, length-append so_far.list (made ∷ []));
-      stand = each_push (IsCheckpointAt text) so_far.list n made so_far.count so_far.stand (checkpoint_stands text place from room fits few keys);
+      stand = each_push (IsCheckpointAt VERSION text) so_far.list n made so_far.count so_far.stand (checkpoint_stands text place from room fits few keys);
       formed = All-push IsFormed so_far.list made so_far.formed (checkpoint_formed text place from room bytes few);
       output = ap (slice_range text (output_place text)) end ∙ output_more text n from so_far.list made meets lt refl so_far.output (sent_is text place from);
     }
@@ -315,6 +317,6 @@ has_recording text bytes meets =
     let cs = checkpoints_of text (checkpoints text) bytes meets (omega arith) in
     let output = output_all text (checkpoints text) (output_place text + output_below text (checkpoints text)) cs.list meets refl refl cs.output in
     let r : RecordingParts = record { pool = ps.pool; inputs = es.list; checkpoints = cs.list } in
-    let laid : IsLaidOut text r = text_read text ps.pool es.list cs.list meets ps.count ps.stand es.count es.stand cs.count cs.stand output in
+    let laid : IsLaidOut VERSION text r = text_read text ps.pool es.list cs.list meets ps.count ps.stand es.count es.stand cs.count cs.stand output in
     let ordered = events_ordered text es.list meets es.count es.stand in
-    (r, record { lawful = read_lawful text r meets ps.whole ordered cs.formed laid; laid = laid })
+    (r, (VERSION, record { lawful = read_lawful text r meets ps.whole ordered cs.formed laid; laid = laid }))

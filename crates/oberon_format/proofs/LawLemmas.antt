@@ -19,6 +19,7 @@ use Rattle.oberon_format.proofs.Agree.{text_agrees}
 use Rattle.oberon_format.proofs.Back.{same_text}
 use Rattle.oberon_format.proofs.Exists.{has_recording}
 use Rattle.oberon_format.proofs.LawfulLemmas.{lawful_formed, lawful_faultless}
+use Rattle.oberon_format.proofs.Versions.{in_version}
 use Rattle.oberon_format.proofs.RuleLemmas.{none_meets}
 use Rattle.oberon_format.proofs.Spelled.{is_text}
 
@@ -84,13 +85,14 @@ pub only_text : (r : RecordingParts) → IsLawful r → (text : List ℕ) × IsO
 only_text r lawful =
     let is = is_text r (spelling r) lawful refl in
     let bytes = spelling_are r lawful in
-    (spelling r, record { bytes = bytes; is = is; only = λ other are text. same_text r other (spelling r) are bytes text is })
+    (spelling r, record { bytes = bytes; is = is; only = λ other are text. same_text r other (spelling r) are bytes (in_version other r text) (in_version (spelling r) r is) })
 
 -- a text has a recording or a first fault
 by_fault : (text : List ℕ) (o : Option Fault) → AreBytes text → first_fault_of text ≡ o → MatchOption o ((r : RecordingParts) × Text text r) (λ fault. (r : RecordingParts) → ¬ (Text text r))
 by_fault text None bytes e = has_recording text bytes (none_meets text e)
 by_fault text (Some f) bytes e = λ r is.
-    let none : first_fault_of text ≡ None = text_agrees text r (lawful_formed r is.lawful) is.laid ∙ lawful_faultless r is.lawful in
+    let so = in_version text r is in
+    let none : first_fault_of text ≡ None = text_agrees text r (lawful_formed r so.lawful) so.laid ∙ lawful_faultless r so.lawful in
     absurd cc
 
 pub text_or_fault : (text : List ℕ) → AreBytes text → MatchOption (first_fault_of text) ((r : RecordingParts) × Text text r) (λ fault. (r : RecordingParts) → ¬ (Text text r))

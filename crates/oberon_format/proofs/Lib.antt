@@ -6,6 +6,7 @@ pub mod Keys
 pub mod Output
 pub mod PartLemmas
 pub mod SameFields
+pub mod Versions
 pub mod TextLemmas
 mod SameRules
 mod LongFields

@@ -9,12 +9,12 @@ use Rattle.risc_devices.proofs.InputLemmas.{same_input}
 use Rattle.risc_devices.proofs.DeviceLemmas.{same_devices}
 use Rattle.risc_machine.specs.declared.event.Event.{Event}
 use Rattle.risc_machine.specs.MachineState.{CpuState, IsCpuState}
-use Rattle.oberon_format.specs.declared.layout.TheConstants.{TABLE_AT}
+use Rattle.oberon_format.specs.declared.layout.TheConstants.{VERSION, TABLE_AT}
 use Rattle.oberon_format.specs.CheckpointParts.{CheckpointParts, no_checkpoint}
 use Rattle.oberon_format.specs.FlagsNumber.{bits_number, flags_number}
 use Rattle.oberon_format.specs.Layout.{page_place, event_place, checkpoint_place}
 use Rattle.oberon_format.specs.Recording.{RecordingParts, IsFit, checkpoint_at, output_of}
-use Rattle.oberon_format.specs.Text.{AreWords, IsEvent, IsCpu, IsDevices, IsCheckpoint, Text}
+use Rattle.oberon_format.specs.Text.{AreWords, IsEvent, IsCpu, IsDevices, IsCheckpoint, TextIn}
 
 -- lists of one length with the same members
 same_members : {X : Type 0} (xs ys : List X) → length xs ≡ length ys → ((i : ℕ) (d : X) → i < length xs → get_or xs i d ≡ get_or ys i d) → xs ≡ ys
@@ -107,27 +107,27 @@ same_sent (c ∷ cs) (d ∷ ds) len each same (suc i) lt =
     let rest : output_of cs ≡ output_of ds = sym (drop_at c.sent (output_of cs) (length d.sent) first) ∙ ap (drop (length d.sent)) same ∙ drop_at d.sent (output_of ds) (length d.sent) refl in
     same_sent cs ds (omega arith) (λ k less. each (suc k) (omega arith)) rest i (omega arith)
 
-same_checkpoint : (text : List ℕ) (place : ℕ) (p q : List (List ℕ)) (c d : CheckpointParts) → IsFit p c → IsFit q d → c.sent ≡ d.sent → IsCheckpoint text place c → IsCheckpoint text place d → c ≡ d
+same_checkpoint : (text : List ℕ) (place : ℕ) (p q : List (List ℕ)) (c d : CheckpointParts) → IsFit p c → IsFit q d → c.sent ≡ d.sent → IsCheckpoint VERSION text place c → IsCheckpoint VERSION text place d → c ≡ d
 same_checkpoint text place p q c d fit_c fit_d sent x y =
-    let count : c.count ≡ d.count = sym x.count ∙ y.count in
-    let cpu = same_cpu text place c.cpu d.cpu fit_c.cpu fit_d.cpu x.cpu y.cpu in
-    let devices = same_devices_at text place c.devices d.devices fit_c.devices fit_d.devices x.devices y.devices in
-    let table : c.table ≡ d.table = same_words text (place + TABLE_AT) c.table d.table (fit_c.table.count ∙ sym fit_d.table.count) x.table y.table in
+    let count : c.count ≡ d.count = sym x.front.count ∙ y.front.count in
+    let cpu = same_cpu text place c.cpu d.cpu fit_c.cpu fit_d.cpu x.front.cpu y.front.cpu in
+    let devices = same_devices_at text place c.devices d.devices fit_c.devices fit_d.devices x.front.devices y.front.devices in
+    let table : c.table ≡ d.table = same_words text (place + TABLE_AT) c.table d.table (fit_c.table.count ∙ sym fit_d.table.count) x.tail.table y.tail.table in
     λ i. record { count = count i; cpu = cpu i; devices = devices i; sent = sent i; table = table i }
 
-checkpoints_same : (text : List ℕ) (r s : RecordingParts) → Text text r → Text text s → r.checkpoints ≡ s.checkpoints
+checkpoints_same : (text : List ℕ) (r s : RecordingParts) → TextIn VERSION text r → TextIn VERSION text s → r.checkpoints ≡ s.checkpoints
 checkpoints_same text r s a b =
     let len : length r.checkpoints ≡ length s.checkpoints = sym a.laid.checkpoint_count ∙ b.laid.checkpoint_count in
     let stands_r = a.laid.checkpoints_stand in
     let stands_s = b.laid.checkpoints_stand in
-    let lengths : (i : ℕ) → i < length r.checkpoints → length (checkpoint_at r i).sent ≡ length (checkpoint_at s i).sent = λ i lt. sym (stands_r i no_checkpoint lt).sent ∙ (stands_s i no_checkpoint (omega arith)).sent in
+    let lengths : (i : ℕ) → i < length r.checkpoints → length (checkpoint_at r i).sent ≡ length (checkpoint_at s i).sent = λ i lt. sym (stands_r i no_checkpoint lt).front.sent ∙ (stands_s i no_checkpoint (omega arith)).front.sent in
     let sent = same_sent r.checkpoints s.checkpoints len lengths (sym a.laid.output ∙ b.laid.output) in
     let each : (i : ℕ) → i < length r.checkpoints → checkpoint_at r i ≡ checkpoint_at s i = λ i lt.
     same_checkpoint text (checkpoint_place text i) r.pool s.pool (checkpoint_at r i) (checkpoint_at s i) (a.lawful.fit i lt) (b.lawful.fit i (omega arith)) (sent i lt) (stands_r i no_checkpoint lt) (stands_s i no_checkpoint (omega arith)) in
     same_members r.checkpoints s.checkpoints len (λ i d lt. get_or_default r.checkpoints i d no_checkpoint lt ∙ each i lt ∙ get_or_default s.checkpoints i no_checkpoint d (omega arith))
 
 -- a text is that of one recording
-pub same_recording : (text : List ℕ) (r s : RecordingParts) → Text text r → Text text s → r ≡ s
+pub same_recording : (text : List ℕ) (r s : RecordingParts) → TextIn VERSION text r → TextIn VERSION text s → r ≡ s
 same_recording text r s a b =
     let pages_len : length r.pool ≡ length s.pool = sym a.laid.page_count ∙ b.laid.page_count in
     let pool : r.pool ≡ s.pool = same_members r.pool s.pool pages_len (λ i d lt.

@@ -7,6 +7,7 @@ use Rattle.risc_machine.specs.declared.event.Event.{Event}
 use Rattle.risc_machine.specs.InputOrder.{AreOrdered, count_at, count_before}
 use Rattle.risc_pages.specs.Pages.{ArePages}
 use Rattle.oberon_format.specs.declared.fault.Fault.TheVariants as fault
+use Rattle.oberon_format.specs.declared.layout.TheConstants.{VERSION}
 use Rattle.oberon_format.specs.declared.ranges.TheConstants.{MAX_COUNT}
 use Rattle.oberon_format.specs.CheckpointParts.{CheckpointParts}
 use Rattle.oberon_format.specs.Layout.{long_at, pages, events, checkpoints, event_place, output_place}
@@ -44,8 +45,8 @@ events_ordered text es meets len each place lt =
 -- the parts that were read are those of the text
 pub text_read : (text : List ℕ) (pool : List (List ℕ)) (inputs : List Event) (cs : List CheckpointParts) → Meets text
     → length pool ≡ pages text → EachAt (IsPageAt text) pool → length inputs ≡ events text → EachAt (IsEventAt text) inputs
-    → length cs ≡ checkpoints text → EachAt (IsCheckpointAt text) cs → drop (output_place text) text ≡ output_of cs
-    → IsLaidOut text (record { pool = pool; inputs = inputs; checkpoints = cs })
+    → length cs ≡ checkpoints text → EachAt (IsCheckpointAt VERSION text) cs → drop (output_place text) text ≡ output_of cs
+    → IsLaidOut VERSION text (record { pool = pool; inputs = inputs; checkpoints = cs })
 text_read text pool inputs cs meets np each_page ne each_event nk each_checkpoint output =
     let long = meets.sized.long in
     let rest = length-drop (output_place text) text in
@@ -64,5 +65,5 @@ text_read text pool inputs cs meets np each_page ne each_event nk each_checkpoin
       output = output;
     }
 
-pub read_lawful : (text : List ℕ) (r : RecordingParts) → Meets text → ArePages r.pool → AreOrdered r.inputs → AreFormed r.checkpoints → IsLaidOut text r → IsLawful r
+pub read_lawful : (text : List ℕ) (r : RecordingParts) → Meets text → ArePages r.pool → AreOrdered r.inputs → AreFormed r.checkpoints → IsLaidOut VERSION text r → IsLawful r
 read_lawful text r meets pages ordered formed laid = faultless_lawful r pages ordered formed (sym (text_agrees text r formed laid) ∙ meets.faultless)

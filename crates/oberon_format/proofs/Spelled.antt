@@ -10,7 +10,7 @@ use Rattle.risc_devices.proofs.InputLemmas.{kind_fits, value_fits, mouse_word_fi
 use Rattle.risc_machine.specs.declared.event.Event.{Event}
 use Rattle.risc_machine.specs.MachineState.{CpuState, IsCpuState}
 use Rattle.risc_pages.specs.Pages.{IsPage}
-use Rattle.oberon_format.specs.declared.layout.TheConstants.{MAGIC, MAGIC_AT}
+use Rattle.oberon_format.specs.declared.layout.TheConstants.{MAGIC, VERSION, MAGIC_AT}
 use Rattle.oberon_format.specs.declared.ranges.TheConstants.{MAX_OUTPUT}
 use Rattle.oberon_format.specs.CheckpointParts.{CheckpointParts, no_checkpoint}
 use Rattle.oberon_format.specs.FlagsNumber.{flags_number}
@@ -142,7 +142,7 @@ pub length-cpu_bytes : (cpu : CpuState) → length cpu.r ≡ 16 → length (cpu_
 unfolding cpu_bytes
 length-cpu_bytes cpu len = simp (length-append, length-word_bytes, length-words_bytes) (omega arith)
 
-pub checkpoint_stands : (text : List ℕ) (place : ℕ) (pool : List (List ℕ)) (c : CheckpointParts) → IsFit pool c → length c.sent ≤ MAX_OUTPUT → Stands text place (checkpoint_bytes c) → IsCheckpoint text place c
+pub checkpoint_stands : (text : List ℕ) (place : ℕ) (pool : List (List ℕ)) (c : CheckpointParts) → IsFit pool c → length c.sent ≤ MAX_OUTPUT → Stands text place (checkpoint_bytes c) → IsCheckpoint VERSION text place c
 unfolding checkpoint_bytes
 checkpoint_stands text place pool c p few s =
     let bounded = p.bounded in
@@ -166,11 +166,13 @@ checkpoint_stands text place pool c p few s =
     let l4 : length (a ++ b ++ d ++ e) ≡ 132 = omega (arith, length-append (a ++ b ++ d) e) in
     let z5 = length-words_bytes c.table in
     record {
-      count = long_stands text place c.count (stands_left text place a b s2) (omega arith);
-      cpu = cpu_stands text place c.cpu p.cpu (stands_right text (place) 8 (a) b s2 l1);
-      devices = device_stands text place c.devices p.devices p.rate (stands_right text (place) 88 (a ++ b) d s3 l2);
-      sent = word_stands text (place + 128) (length c.sent) (stands_right text (place) 128 (a ++ b ++ d) e s4 l3) (omega arith);
-      table = words_stand text (place + 132) c.table p.table.fit (stands_right text (place) 132 (a ++ b ++ d ++ e) t s5 l4);
+      front = record {
+        count = long_stands text place c.count (stands_left text place a b s2) (omega arith);
+        cpu = cpu_stands text place c.cpu p.cpu (stands_right text (place) 8 (a) b s2 l1);
+        devices = device_stands text place c.devices p.devices p.rate (stands_right text (place) 88 (a ++ b) d s3 l2);
+        sent = word_stands text (place + 128) (length c.sent) (stands_right text (place) 128 (a ++ b ++ d) e s4 l3) (omega arith);
+      };
+      tail = record { known = refl; table = words_stand text (place + 132) c.table p.table.fit (stands_right text (place) 132 (a ++ b ++ d ++ e) t s5 l4) };
     }
 
 pub length-checkpoint_bytes : (pool : List (List ℕ)) (c : CheckpointParts) → IsFit pool c → length (checkpoint_bytes c) ≡ 4228
@@ -226,7 +228,7 @@ header_stands text r p s =
       z = word_stands text 20 0 (stands_right text 0 20 (a ++ b ++ d ++ e ++ f) g s l5) (omega arith);
     }
 
-pub spelled : (r : RecordingParts) → IsLawful r → IsLaidOut (spelling r) r
+pub spelled : (r : RecordingParts) → IsLawful r → IsLaidOut VERSION (spelling r) r
 unfolding spelling
 spelled r p =
     let fits : (i : ℕ) (d : CheckpointParts) → i < length r.checkpoints → IsFit r.pool (get_or r.checkpoints i d) = λ i d h. subst (IsFit r.pool) (get_or_default r.checkpoints i no_checkpoint d h) (p.fit i h) in
@@ -277,4 +279,4 @@ spelled r p =
 
 -- the bytes of a lawful recording are its text
 pub is_text : (r : RecordingParts) (bytes : List ℕ) → IsLawful r → bytes ≡ spelling r → Text bytes r
-is_text r bytes lawful e = record { lawful = lawful; laid = subst (λ (t : List ℕ). IsLaidOut t r) (sym e) (spelled r lawful) }
+is_text r bytes lawful e = (VERSION, record { lawful = lawful; laid = subst (λ (t : List ℕ). IsLaidOut VERSION t r) (sym e) (spelled r lawful) })

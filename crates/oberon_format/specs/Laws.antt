@@ -2,7 +2,7 @@
 use Rattle.std.specs.Prelude.{ℕ, ◌≡◌, ◌≤◌, ◌<◌, ◌↔◌, List, length, take, None, IfSome, MatchOption}
 use Rattle.risc_machine.specs.InputOrder.{AreOrdered}
 use Rattle.risc_pages.specs.Pages.{ArePages}
-use Rattle.oberon_format.specs.declared.layout.TheConstants.{LONGEST_TEXT}
+use Rattle.oberon_format.specs.declared.layout.TheConstants.{LONGEST_TEXT, VERSION}
 use Rattle.oberon_format.specs.Formed.{AreFormed}
 use Rattle.oberon_format.specs.Line.{IsNamedFault}
 use Rattle.oberon_format.specs.PartFields.{fault_of_parts}
@@ -32,9 +32,9 @@ HasTextOrFault = (text : List ℕ) → AreBytes text → MatchOption (first_faul
 abbrev pub HasNamedFault : Type 0
 HasNamedFault = (text : List ℕ) → IfSome (first_fault_of text) IsNamedFault
 
--- a text that is laid out of parts has the fault of the parts
+-- a text of version 1 that is laid out of parts has the fault of the parts
 abbrev pub HasFaultOfParts : Type 0
-HasFaultOfParts = (text : List ℕ) (r : RecordingParts) → AreFormed r.checkpoints → IsLaidOut text r → first_fault_of text ≡ fault_of_parts r
+HasFaultOfParts = (text : List ℕ) (r : RecordingParts) → AreFormed r.checkpoints → IsLaidOut VERSION text r → first_fault_of text ≡ fault_of_parts r
 
 -- no text of a recording is longer than the longest
 abbrev pub HasLongestText : Type 0

@@ -1,4 +1,4 @@
--- Which text of version 1 is that of a recording.
+-- Which text is that of a recording.
 use Rattle.std.specs.Prelude.{ℕ, ◌≡◌, ◌<◌, ◌+◌, ◌*◌, ◌^◌, List, All, length, slice_index_or, drop, slice_range}
 use Rattle.risc_devices.specs.DeviceState.{DeviceState, serial_number}
 use Rattle.risc_devices.specs.Input.{kind_of, value_of}
@@ -52,35 +52,48 @@ pub record IsDevices (text : List ℕ) (place : ℕ) (d : DeviceState) : Type 0 
   pub waiting : word_at text (place + WAITING_AT) ≡ length d.keys
   pub keys : slice_range text (place + KEYS_AT) (place + SENT_AT) ≡ key_bytes d
 
--- a checkpoint stands at a place, but for its output, of which the length stands there
-pub record IsCheckpoint (text : List ℕ) (place : ℕ) (c : CheckpointParts) : Type 0 where
+-- what stands at a place before the table of a checkpoint: all but its table and its output, of which the length stands there
+pub record IsFront (text : List ℕ) (place : ℕ) (c : CheckpointParts) : Type 0 where
   pub count : long_at text place ≡ c.count
   pub cpu : IsCpu text place c.cpu
   pub devices : IsDevices text place c.devices
   pub sent : word_at text (place + SENT_AT) ≡ length c.sent
+
+-- what follows that, in a text of a version: in version 1 the table. No other version is known
+pub record IsTail (version : ℕ) (text : List ℕ) (place : ℕ) (c : CheckpointParts) : Type 0 where
+  pub known : version ≡ VERSION
   pub table : AreWords text (place + TABLE_AT) c.table
 
-abbrev pub IsCheckpointAt : List ℕ → ℕ → CheckpointParts → Type 0
-IsCheckpointAt text k c = IsCheckpoint text (checkpoint_place text k) c
+-- a checkpoint stands at a place, but for its output
+pub record IsCheckpoint (version : ℕ) (text : List ℕ) (place : ℕ) (c : CheckpointParts) : Type 0 where
+  pub front : IsFront text place c
+  pub tail : IsTail version text place c
 
--- the text has the length, and at each place the field, of these parts
-pub record IsLaidOut (text : List ℕ) (r : RecordingParts) : Type 0 where
+abbrev pub IsCheckpointAt : ℕ → List ℕ → ℕ → CheckpointParts → Type 0
+IsCheckpointAt version text k c = IsCheckpoint version text (checkpoint_place text k) c
+
+-- the text is of this version, and has the length, and at each place the field, of these parts
+pub record IsLaidOut (v : ℕ) (text : List ℕ) (r : RecordingParts) : Type 0 where
   pub long : length text ≡ output_place text + length (output_of r.checkpoints)
   pub magic : word_at text MAGIC_AT ≡ MAGIC
-  pub version : word_at text VERSION_AT ≡ VERSION
+  pub version : word_at text VERSION_AT ≡ v
   pub page_count : pages text ≡ length r.pool
   pub event_count : events text ≡ length r.inputs
   pub checkpoint_count : checkpoints text ≡ length r.checkpoints
   pub zero : word_at text LAST_AT ≡ 0
   pub pages_stand : EachAt (IsPageAt text) r.pool
   pub events_stand : EachAt (IsEventAt text) r.inputs
-  pub checkpoints_stand : EachAt (IsCheckpointAt text) r.checkpoints
+  pub checkpoints_stand : EachAt (IsCheckpointAt v text) r.checkpoints
   pub output : drop (output_place text) text ≡ output_of r.checkpoints
 
--- the text of a recording: the recording is lawful, and the text is laid out of it
-pub record Text (text : List ℕ) (r : RecordingParts) : Type 0 where
+-- the text of a recording in one version: the recording is lawful, and the text is laid out of it
+pub record TextIn (version : ℕ) (text : List ℕ) (r : RecordingParts) : Type 0 where
   pub lawful : IsLawful r
-  pub laid : IsLaidOut text r
+  pub laid : IsLaidOut version text r
+
+-- the text of a recording in some version
+abbrev pub Text : List ℕ → RecordingParts → Type 0
+Text text r = (version : ℕ) × TextIn version text r
 
 -- each member is a byte
 abbrev pub AreBytes : List ℕ → Type 0

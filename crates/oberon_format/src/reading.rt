@@ -18,7 +18,7 @@ use crate::flags::flags_of;
 use crate::formed::all_formed;
 use crate::layout::{
     AUXILIARY_AT, CHECKPOINT_LEN, COUNTER_AT, EVENT_LEN, FLAGS_AT, KEYS_AT, KIND_AT, LEDS_AT,
-    MOUSE_AT, REGISTERS_AT, SENT_AT, SERIAL_AT, STOP_AT, SWITCHES_AT, TIMER_AT, VALUE_AT,
+    MOUSE_AT, REGISTERS_AT, SENT_AT, SERIAL_AT, STOP_AT, SWITCHES_AT, TIMER_AT, VALUE_AT, VERSION,
     WAITING_AT, checkpoint_count, checkpoint_start, event_count, event_start, page_count,
     page_start,
 };
@@ -184,7 +184,7 @@ fn checkpoint_of(
     requires ranges { in_ranges (checkpoint_of text.now place) ≡ true }
     requires keys { are_keys (checkpoint_of text.now place) ≡ true }
     requires output { from + word_at text.now (place + SENT_AT) ≤ length text.now }
-    ensures stands { IfOk result (λ c. IsCheckpoint text.now place (checkpoint_parts c)) }
+    ensures stands { IfOk result (λ c. IsCheckpoint VERSION text.now place (checkpoint_parts c)) }
     ensures sent { IfOk result (λ c. c.sent ≡ slice_range text.now from (from + word_at text.now (place + SENT_AT))) }
 {
     let len = u32_at(text, place + SENT_AT) as usize;
@@ -202,7 +202,7 @@ fn checkpoint_of(
 fn checkpoints_of(alloc: Global, text: &[u8]) -> Result<Vec<Checkpoint>, AllocError>
     requires { Meets text.now }
     ensures count { IfOk result (λ list. length list.items ≡ checkpoints text.now) }
-    ensures stand { IfOk result (λ list. EachAt (IsCheckpointAt text.now) (map checkpoint_parts list.items)) }
+    ensures stand { IfOk result (λ list. EachAt (IsCheckpointAt VERSION text.now) (map checkpoint_parts list.items)) }
     ensures output { IfOk result (λ list. drop (output_place text.now) text.now ≡ output_of (map checkpoint_parts list.items)) }
 {
     let pages = page_count(text);
