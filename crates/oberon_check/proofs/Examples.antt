@@ -5,7 +5,7 @@ use Rattle.std.specs.Prelude.{codes, Contains}
 use Rattle.std.specs.Fmt.{digits}
 use Rattle.oberon_format.specs.Recording.{RecordingParts}
 use Rattle.oberon_check.specs.declared.part.Part.{Part}
-use Rattle.oberon_check.specs.declared.part.Part.TheVariants.{R, H, Pc, Flags, Stop, Timer, Switches, Leds, Mouse, Serial, Keys, Sent, Page}
+use Rattle.oberon_check.specs.declared.part.Part.TheVariants.{R, H, Pc, Flags, Stop, Timer, Rate, Phase, Switches, Leds, Mouse, Serial, Keys, Sent, Page}
 use Rattle.oberon_check.specs.declared.verdict.Verdict.TheVariants.{Accepted, FalseAt}
 use Rattle.oberon_check.specs.Difference.{rank}
 use Rattle.oberon_check.specs.Line.{part_name, line_of, status_of}
@@ -14,12 +14,12 @@ use Rattle.oberon_check.specs.Tally.{lesser_of, end_of}
 use Rattle.oberon_check.specs.Work.{IsBehind, IsJob, failed_of}
 
 -- registers first, then the processor's other parts, the devices, the output, and the pages last
-order : map rank (R 0 ∷ R 15 ∷ H ∷ Pc ∷ Flags ∷ Stop ∷ Timer ∷ Switches ∷ Leds ∷ Mouse ∷ Serial ∷ Keys ∷ Sent ∷ Page 0 ∷ Page 1023 ∷ [])
-    ≡ 0 ∷ 15 ∷ 16 ∷ 17 ∷ 18 ∷ 19 ∷ 20 ∷ 21 ∷ 22 ∷ 23 ∷ 24 ∷ 25 ∷ 26 ∷ 27 ∷ 1050 ∷ []
+order : map rank (R 0 ∷ R 15 ∷ H ∷ Pc ∷ Flags ∷ Stop ∷ Timer ∷ Rate ∷ Phase ∷ Switches ∷ Leds ∷ Mouse ∷ Serial ∷ Keys ∷ Sent ∷ Page 0 ∷ Page 1023 ∷ [])
+    ≡ 0 ∷ 15 ∷ 16 ∷ 17 ∷ 18 ∷ 19 ∷ 20 ∷ 21 ∷ 22 ∷ 23 ∷ 24 ∷ 25 ∷ 26 ∷ 27 ∷ 28 ∷ 29 ∷ 1052 ∷ []
 order = refl
 
-names : map part_name (R 0 ∷ R 15 ∷ H ∷ Pc ∷ Sent ∷ Page 1023 ∷ [])
-    ≡ codes "R0" ∷ codes "R15" ∷ codes "H" ∷ codes "PC" ∷ codes "out" ∷ codes "page 1023" ∷ []
+names : map part_name (R 0 ∷ R 15 ∷ H ∷ Pc ∷ Rate ∷ Phase ∷ Sent ∷ Page 1023 ∷ [])
+    ≡ codes "R0" ∷ codes "R15" ∷ codes "H" ∷ codes "PC" ∷ codes "rate" ∷ codes "phase" ∷ codes "out" ∷ codes "page 1023" ∷ []
 unfolding digits
 names = refl
 

@@ -11,7 +11,7 @@ use Rattle.risc_machine.specs.MachineState.{State, Flags as FlagsState}
 use Rattle.oberon_format.specs.Recording.{RecordingParts, IsLawful, checkpoint_at, count_at, last_of}
 use Rattle.oberon_format.specs.Defined.{Outcome, claimed, defined, IsTrueAt}
 use Rattle.oberon_check.specs.declared.part.Part.{Part}
-use Rattle.oberon_check.specs.declared.part.Part.TheVariants.{R, H, Pc, Flags, Stop, Timer, Switches, Leds, Mouse, Serial, Keys, Sent, Page}
+use Rattle.oberon_check.specs.declared.part.Part.TheVariants.{R, H, Pc, Flags, Stop, Timer, Rate, Phase, Switches, Leds, Mouse, Serial, Keys, Sent, Page}
 use Rattle.oberon_check.specs.declared.verdict.Verdict.{Verdict}
 use Rattle.oberon_check.specs.declared.verdict.Verdict.TheVariants.{Accepted, FalseAt}
 use Rattle.oberon_check.specs.Difference.{rank, IsPart, IsSame, IsFirstDifference}
@@ -60,6 +60,8 @@ decide_part Pc x y = ℕ_discrete _ _
 decide_part Flags x y = decide_flags _ _
 decide_part Stop x y = ℕ_discrete _ _
 decide_part Timer x y = ℕ_discrete _ _
+decide_part Rate x y = ℕ_discrete _ _
+decide_part Phase x y = ℕ_discrete _ _
 decide_part Switches x y = ℕ_discrete _ _
 decide_part Leds x y = ℕ_discrete _ _
 decide_part Mouse x y = ℕ_discrete _ _
@@ -72,12 +74,12 @@ decide_part (Page p) x y = List-discrete ℕ_discrete _ _
 first_or_same : (x y : Outcome) → ((q : Part) → IsPart q → IsSame q x y) ⊎ ((p : Part) × IsFirstDifference x y p)
 first_or_same x y =
     ⊎_elim
-    (λ (all : (k : ℕ) → k < 1051 → IsSame (part_of_rank k) x y).
+    (λ (all : (k : ℕ) → k < 1053 → IsSame (part_of_rank k) x y).
     inl (λ q is. subst (λ (p : Part). IsSame p x y) (part_of-rank q is) (all (rank q) (rank-few q is))))
-    (λ (f : FirstFailing (λ k. IsSame (part_of_rank k) x y) 1051). inr (found f))
-    (first_failing (λ k. IsSame (part_of_rank k) x y) (λ k. decide_part (part_of_rank k) x y) 1051)
+    (λ (f : FirstFailing (λ k. IsSame (part_of_rank k) x y) 1053). inr (found f))
+    (first_failing (λ k. IsSame (part_of_rank k) x y) (λ k. decide_part (part_of_rank k) x y) 1053)
   where
-    found : FirstFailing (λ k. IsSame (part_of_rank k) x y) 1051 → (p : Part) × IsFirstDifference x y p
+    found : FirstFailing (λ k. IsSame (part_of_rank k) x y) 1053 → (p : Part) × IsFirstDifference x y p
     found f =
         let here = rank-part_of f.at f.inside in (
           part_of_rank f.at,
@@ -120,6 +122,8 @@ same_in_all x y a b same = same_outcome x y cpu devices words (same Sent tt)
     devices : x.state.devices ≡ y.state.devices
     devices = λ i. record {
       timer = same Timer tt i;
+      rate = same Rate tt i;
+      phase = same Phase tt i;
       switches = same Switches tt i;
       leds = same Leds tt i;
       mouse = same Mouse tt i;

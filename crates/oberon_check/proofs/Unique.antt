@@ -7,7 +7,7 @@ use native.Mathlib.Decide.{dec_lt}
 use Rattle.oberon_format.specs.Recording.{RecordingParts, count_at}
 use Rattle.oberon_format.specs.Defined.{Outcome, claimed, defined}
 use Rattle.oberon_check.specs.declared.part.Part.{Part}
-use Rattle.oberon_check.specs.declared.part.Part.TheVariants.{R, H, Pc, Flags, Stop, Timer, Switches, Leds, Mouse, Serial, Keys, Sent, Page}
+use Rattle.oberon_check.specs.declared.part.Part.TheVariants.{R, H, Pc, Flags, Stop, Timer, Rate, Phase, Switches, Leds, Mouse, Serial, Keys, Sent, Page}
 use Rattle.oberon_check.specs.declared.verdict.Verdict.{Verdict}
 use Rattle.oberon_check.specs.declared.verdict.Verdict.TheVariants.{Accepted, FalseAt}
 use Rattle.oberon_check.specs.Difference.{rank, IsPart, IsSame, IsFirstDifference}
@@ -20,16 +20,18 @@ middle (suc zero) = Pc
 middle (suc (suc zero)) = Flags
 middle (suc (suc (suc zero))) = Stop
 middle (suc (suc (suc (suc zero)))) = Timer
-middle (suc (suc (suc (suc (suc zero))))) = Switches
-middle (suc (suc (suc (suc (suc (suc zero)))))) = Leds
-middle (suc (suc (suc (suc (suc (suc (suc zero))))))) = Mouse
-middle (suc (suc (suc (suc (suc (suc (suc (suc zero)))))))) = Serial
-middle (suc (suc (suc (suc (suc (suc (suc (suc (suc zero))))))))) = Keys
-middle (suc (suc (suc (suc (suc (suc (suc (suc (suc (suc n)))))))))) = Sent
+middle (suc (suc (suc (suc (suc zero))))) = Rate
+middle (suc (suc (suc (suc (suc (suc zero)))))) = Phase
+middle (suc (suc (suc (suc (suc (suc (suc zero))))))) = Switches
+middle (suc (suc (suc (suc (suc (suc (suc (suc zero)))))))) = Leds
+middle (suc (suc (suc (suc (suc (suc (suc (suc (suc zero))))))))) = Mouse
+middle (suc (suc (suc (suc (suc (suc (suc (suc (suc (suc zero)))))))))) = Serial
+middle (suc (suc (suc (suc (suc (suc (suc (suc (suc (suc (suc zero))))))))))) = Keys
+middle (suc (suc (suc (suc (suc (suc (suc (suc (suc (suc (suc (suc n)))))))))))) = Sent
 
 -- the part at a place of the order
 unfoldable pub part_of_rank : ℕ → Part
-part_of_rank n = if nat_lt n 16 then R n else if nat_lt n 27 then middle (n - 16) else Page (n - 27)
+part_of_rank n = if nat_lt n 16 then R n else if nat_lt n 29 then middle (n - 16) else Page (n - 29)
 
 pub part_of-rank : (p : Part) → IsPart p → part_of_rank (rank p) ≡ p
 unfolding part_of_rank
@@ -39,6 +41,8 @@ part_of-rank Pc is = refl
 part_of-rank Flags is = refl
 part_of-rank Stop is = refl
 part_of-rank Timer is = refl
+part_of-rank Rate is = refl
+part_of-rank Phase is = refl
 part_of-rank Switches is = refl
 part_of-rank Leds is = refl
 part_of-rank Mouse is = refl
@@ -46,12 +50,12 @@ part_of-rank Serial is = refl
 part_of-rank Keys is = refl
 part_of-rank Sent is = refl
 part_of-rank (Page p) is =
-    let n : 27 + p - 27 ≡ p = omega arith in
-    let a : nat_lt (27 + p) 16 ≡ false = grind (arith, nat_tests) in
-    let b : nat_lt (27 + p) 27 ≡ false = grind (arith, nat_tests) in
+    let n : 29 + p - 29 ≡ p = omega arith in
+    let a : nat_lt (29 + p) 16 ≡ false = grind (arith, nat_tests) in
+    let b : nat_lt (29 + p) 29 ≡ false = grind (arith, nat_tests) in
     rw (a, b) (ap Page n)
 
-middle-rank : (k : ℕ) → k < 11 → IsPart (middle k) × (rank (middle k) ≡ 16 + k)
+middle-rank : (k : ℕ) → k < 13 → IsPart (middle k) × (rank (middle k) ≡ 16 + k)
 middle-rank zero h = (tt, refl)
 middle-rank (suc zero) h = (tt, refl)
 middle-rank (suc (suc zero)) h = (tt, refl)
@@ -62,34 +66,38 @@ middle-rank (suc (suc (suc (suc (suc (suc zero)))))) h = (tt, refl)
 middle-rank (suc (suc (suc (suc (suc (suc (suc zero))))))) h = (tt, refl)
 middle-rank (suc (suc (suc (suc (suc (suc (suc (suc zero)))))))) h = (tt, refl)
 middle-rank (suc (suc (suc (suc (suc (suc (suc (suc (suc zero))))))))) h = (tt, refl)
-middle-rank (suc (suc (suc (suc (suc (suc (suc (suc (suc (suc n)))))))))) h = (tt, omega arith)
+middle-rank (suc (suc (suc (suc (suc (suc (suc (suc (suc (suc zero)))))))))) h = (tt, refl)
+middle-rank (suc (suc (suc (suc (suc (suc (suc (suc (suc (suc (suc zero))))))))))) h = (tt, refl)
+middle-rank (suc (suc (suc (suc (suc (suc (suc (suc (suc (suc (suc (suc n)))))))))))) h = (tt, omega arith)
 
-pub rank-part_of : (n : ℕ) → n < 1051 → IsPart (part_of_rank n) × (rank (part_of_rank n) ≡ n)
+pub rank-part_of : (n : ℕ) → n < 1053 → IsPart (part_of_rank n) × (rank (part_of_rank n) ≡ n)
 unfolding part_of_rank
 rank-part_of n few =
     dite (dec_lt n 16)
     (λ (low : n < 16). (let h : nat_lt n 16 ≡ true = grind (arith, nat_tests) in rw h (low, refl)))
-    (λ not_low. dite (dec_lt n 27)
-    (λ (mid : n < 27).
+    (λ not_low. dite (dec_lt n 29)
+    (λ (mid : n < 29).
     (let a : nat_lt n 16 ≡ false = grind (arith, nat_tests) in
-    let b : nat_lt n 27 ≡ true = grind (arith, nat_tests) in
+    let b : nat_lt n 29 ≡ true = grind (arith, nat_tests) in
     let m = middle-rank (n - 16) (omega arith) in
     let e : 16 + (n - 16) ≡ n = omega arith in
     rw (a, b) (m.0, m.1 ∙ e)))
     (λ high.
     (let a : nat_lt n 16 ≡ false = grind (arith, nat_tests) in
-    let b : nat_lt n 27 ≡ false = grind (arith, nat_tests) in
-    let few' : n - 27 < 1024 = omega arith in
-    let e : 27 + (n - 27) ≡ n = omega arith in
+    let b : nat_lt n 29 ≡ false = grind (arith, nat_tests) in
+    let few' : n - 29 < 1024 = omega arith in
+    let e : 29 + (n - 29) ≡ n = omega arith in
     rw (a, b) (few', e))))
 
-pub rank-few : (p : Part) → IsPart p → rank p < 1051
+pub rank-few : (p : Part) → IsPart p → rank p < 1053
 rank-few (R i) is = omega arith
 rank-few H is = omega arith
 rank-few Pc is = omega arith
 rank-few Flags is = omega arith
 rank-few Stop is = omega arith
 rank-few Timer is = omega arith
+rank-few Rate is = omega arith
+rank-few Phase is = omega arith
 rank-few Switches is = omega arith
 rank-few Leds is = omega arith
 rank-few Mouse is = omega arith
@@ -109,6 +117,8 @@ same_if q x y e = subst (IsSame q x) e (at q)
     at Flags = refl
     at Stop = refl
     at Timer = refl
+    at Rate = refl
+    at Phase = refl
     at Switches = refl
     at Leds = refl
     at Mouse = refl

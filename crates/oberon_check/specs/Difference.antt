@@ -4,7 +4,7 @@ use Rattle.std.specs.Prelude.{ℕ, ◌≡◌, ◌+◌, ◌<◌, Option, MatchOpt
 use Rattle.risc_pages.specs.Pages.{page_at}
 use Rattle.oberon_format.specs.Defined.{Outcome}
 use Rattle.oberon_check.specs.declared.part.Part.{Part}
-use Rattle.oberon_check.specs.declared.part.Part.TheVariants.{R, H, Pc, Flags, Stop, Timer, Switches, Leds, Mouse, Serial, Keys, Sent, Page}
+use Rattle.oberon_check.specs.declared.part.Part.TheVariants.{R, H, Pc, Flags, Stop, Timer, Rate, Phase, Switches, Leds, Mouse, Serial, Keys, Sent, Page}
 
 -- Where a part stands in the order of the parts.
 abbrev pub rank : Part → ℕ
@@ -14,13 +14,15 @@ rank Pc = 17
 rank Flags = 18
 rank Stop = 19
 rank Timer = 20
-rank Switches = 21
-rank Leds = 22
-rank Mouse = 23
-rank Serial = 24
-rank Keys = 25
-rank Sent = 26
-rank (Page p) = 27 + p
+rank Rate = 21
+rank Phase = 22
+rank Switches = 23
+rank Leds = 24
+rank Mouse = 25
+rank Serial = 26
+rank Keys = 27
+rank Sent = 28
+rank (Page p) = 29 + p
 
 -- There are 16 registers and 1,024 pages.
 abbrev pub IsPart : Part → Type 0
@@ -30,6 +32,8 @@ IsPart Pc = Unit {0}
 IsPart Flags = Unit {0}
 IsPart Stop = Unit {0}
 IsPart Timer = Unit {0}
+IsPart Rate = Unit {0}
+IsPart Phase = Unit {0}
 IsPart Switches = Unit {0}
 IsPart Leds = Unit {0}
 IsPart Mouse = Unit {0}
@@ -47,6 +51,8 @@ IsSame Pc x y = x.state.cpu.pc ≡ y.state.cpu.pc
 IsSame Flags x y = x.state.cpu.flags ≡ y.state.cpu.flags
 IsSame Stop x y = x.state.cpu.stop ≡ y.state.cpu.stop
 IsSame Timer x y = x.state.devices.timer ≡ y.state.devices.timer
+IsSame Rate x y = x.state.devices.rate ≡ y.state.devices.rate
+IsSame Phase x y = x.state.devices.phase ≡ y.state.devices.phase
 IsSame Switches x y = x.state.devices.switches ≡ y.state.devices.switches
 IsSame Leds x y = x.state.devices.leds ≡ y.state.devices.leds
 IsSame Mouse x y = x.state.devices.mouse ≡ y.state.devices.mouse

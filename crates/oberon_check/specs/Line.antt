@@ -2,7 +2,7 @@
 use Rattle.std.specs.Prelude.{ℕ, List, ◌++◌, codes}
 use Rattle.std.specs.Fmt.{decimal}
 use Rattle.oberon_check.specs.declared.part.Part.{Part}
-use Rattle.oberon_check.specs.declared.part.Part.TheVariants.{R, H, Pc, Flags, Stop, Timer, Switches, Leds, Mouse, Serial, Keys, Sent, Page}
+use Rattle.oberon_check.specs.declared.part.Part.TheVariants.{R, H, Pc, Flags, Stop, Timer, Rate, Phase, Switches, Leds, Mouse, Serial, Keys, Sent, Page}
 use Rattle.oberon_check.specs.declared.verdict.Verdict.{Verdict}
 use Rattle.oberon_check.specs.declared.verdict.Verdict.TheVariants.{Accepted, FalseAt}
 
@@ -14,6 +14,8 @@ part_name Pc = codes "PC"
 part_name Flags = codes "flags"
 part_name Stop = codes "stop"
 part_name Timer = codes "timer"
+part_name Rate = codes "rate"
+part_name Phase = codes "phase"
 part_name Switches = codes "switches"
 part_name Leds = codes "LEDs"
 part_name Mouse = codes "mouse"

@@ -56,6 +56,12 @@ fn device_difference(claimed: &Devices, devices: &Devices) -> Option<Part>
     if claimed.timer() != devices.timer() {
         return Some(Part::Timer);
     }
+    if claimed.rate() != devices.rate() {
+        return Some(Part::Rate);
+    }
+    if claimed.phase() != devices.phase() {
+        return Some(Part::Phase);
+    }
     if claimed.switches() != devices.switches() {
         return Some(Part::Switches);
     }

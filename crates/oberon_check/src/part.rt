@@ -24,6 +24,10 @@ pub enum Part {
     Stop,
     /// The timer: `timer`.
     Timer,
+    /// How many instructions a millisecond of the timer has: `rate`.
+    Rate,
+    /// How many instructions of the timer's next millisecond are done: `phase`.
+    Phase,
     /// The buttons and switches: `switches`.
     Switches,
     /// The LEDs: `LEDs`.
@@ -51,6 +55,8 @@ impl fmt::Display for Part {
             Part::Flags => write!(f, "flags"),
             Part::Stop => write!(f, "stop"),
             Part::Timer => write!(f, "timer"),
+            Part::Rate => write!(f, "rate"),
+            Part::Phase => write!(f, "phase"),
             Part::Switches => write!(f, "switches"),
             Part::Leds => write!(f, "LEDs"),
             Part::Mouse => write!(f, "mouse"),

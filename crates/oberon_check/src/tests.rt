@@ -6,8 +6,11 @@ ghost use Rattle.oberon_format.specs.Recording.{last_of};
 ghost use Rattle.oberon_check.specs.Work.{IsPartOf};
 
 use super::*;
+use crate::difference::first_difference;
 use oberon_claims::{Claims, Pass};
 use oberon_format::{Recording, read};
+use risc_devices::Devices;
+use risc_machine::Machine;
 use std::alloc::{AllocError, Global};
 use std::sync::Wait;
 use std::sync::atomic::{AtomicU64, Ordering};
@@ -194,6 +197,65 @@ fn collect_where_all_hold(rt: HostRuntime) -> Result<(), Fail> {
         steps: 0,
     };
     assert_eq!(rt; collected(alloc, &r, &[])?, Ok(accepted));
+    Ok(())
+}
+
+// The first part in which checkpoint 0 differs from a machine that has another timer, of this rate and phase.
+fn difference_of_timer(
+    alloc: Global,
+    r: &Recording,
+    timer: u32,
+    rate: u32,
+    phase: u32,
+) -> Result<Option<Part>, Fail> {
+    if r.count() < 1 {
+        return Err("no checkpoint".into());
+    }
+    let from = r.checkpoint(0);
+    let Ok(devices) = Devices::new(timer, rate, phase, 0, 0, 0, 0, &[]) else {
+        return Err("no such phase".into());
+    };
+    let machine = Machine::start(alloc, r.pool(), &from.table, from.cpu, devices)?;
+    Ok(first_difference(&machine, true, r.pool(), from))
+}
+
+#[test]
+fn differences_of_timers(rt: HostRuntime) -> Result<(), Fail> {
+    let alloc = rt.alloc();
+    let r = jump_recording(alloc, &[at(0, 0, 0)])?;
+    for (timer, rate, phase, part) in [
+        (0, 0, 0, None),
+        (7, 10, 3, Some(Part::Timer)),
+        (0, 10, 3, Some(Part::Rate)),
+    ] {
+        let found = difference_of_timer(alloc, &r, timer, rate, phase)?;
+        assert_eq!(rt; found, part);
+    }
+    Ok(())
+}
+
+#[test]
+fn names_of_parts(rt: HostRuntime) -> Result<(), Fail> {
+    let alloc = rt.alloc();
+    for (part, name) in [
+        (Part::R(15), "R15"),
+        (Part::H, "H"),
+        (Part::Pc, "PC"),
+        (Part::Flags, "flags"),
+        (Part::Stop, "stop"),
+        (Part::Timer, "timer"),
+        (Part::Rate, "rate"),
+        (Part::Phase, "phase"),
+        (Part::Switches, "switches"),
+        (Part::Leds, "LEDs"),
+        (Part::Mouse, "mouse"),
+        (Part::Serial, "serial"),
+        (Part::Keys, "keys"),
+        (Part::Sent, "out"),
+        (Part::Page(1023), "page 1023"),
+    ] {
+        assert_eq!(rt; format!(in alloc; "{part}")?.as_str(), name);
+    }
     Ok(())
 }
 

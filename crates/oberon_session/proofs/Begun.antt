@@ -5,7 +5,7 @@ use Rattle.std.proofs.lemmas.List.Elements.{All-map, All-replicate, All-set}
 use Rattle.std.specs.List.{All}
 use Rattle.std.specs.Prelude.{slice_index}
 use Rattle.risc_machine.specs.MachineState.{CpuState, State}
-use Rattle.risc_devices.specs.DeviceState.{DeviceState, IsDeviceState}
+use Rattle.risc_devices.specs.DeviceState.{DeviceState, IsDeviceState, is_phase}
 use Rattle.risc_devices.specs.InputKind.{is_mouse}
 use Rattle.risc_pages.specs.Content.{table_words}
 use Rattle.risc_pages.specs.Pages.{ArePages, IsPage}
@@ -57,9 +57,11 @@ none-of (x ∷ xs) none = absurd (omega arith)
 -- ---- checkpoint 0
 
 zero-devices : IsDeviceState no_devices
-unfolding is_mouse
+unfolding is_mouse is_phase
 zero-devices = record {
   timer = omega arith;
+  rate = omega arith;
+  phase = refl;
   switches = omega arith;
   leds = omega arith;
   mouse = refl;
@@ -123,6 +125,7 @@ module _ (s : SessionParts) where
                 bounded = omega arith;
                 cpu = lawful.cpu;
                 devices = zero-devices;
+                rate = refl;
                 table = record { count = table.count; fit = λ j d within. omega (arith, table.named j d within, few, lawful.few) };
                 named = table.named;
                 bytes = λ j d within. absurd (omega arith);

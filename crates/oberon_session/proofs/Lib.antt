@@ -4,6 +4,7 @@ mod Orders
 mod Lawful
 mod RuleLemmas
 mod Runs
+mod Rates
 mod Layouts
 mod Contents
 mod Steps

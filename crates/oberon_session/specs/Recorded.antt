@@ -27,9 +27,9 @@ numbered pages (suc n) = slice_set (numbered pages n) (slice_index (places_in pa
 unfoldable pub first_laid : List PlacedWords → Laid
 first_laid pages = record { pool = map (λ page. page.words) pages; table = numbered pages (length pages) }
 
--- devices that are all zeros, with no keys
+-- devices that are all zeros, with no keys; the timer doesn't count by itself
 abbrev pub no_devices : DeviceState
-no_devices = record { timer = 0; switches = 0; leds = 0; mouse = 0; serial = 0; received = false; keys = [] }
+no_devices = record { timer = 0; rate = 0; phase = 0; switches = 0; leds = 0; mouse = 0; serial = 0; received = false; keys = [] }
 
 -- the state in which the session begins
 unfoldable pub first_state : SessionParts → State

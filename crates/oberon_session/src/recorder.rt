@@ -74,7 +74,7 @@ fn begin(alloc: Global, session: &Session) -> Result<Recorder, RecordFault>
 fn zero_devices() -> Devices
     ensures { result ≡ no_devices }
 {
-    match Devices::new(0, 0, 0, 0, 0, &[]) {
+    match Devices::new(0, 0, 0, 0, 0, 0, 0, &[]) {
         Ok(devices) => devices,
         Err(_) => unreachable!(),
     }

@@ -96,7 +96,7 @@ fn first_place() -> Table
 fn start(alloc: Global, pool: &Pool) -> Result<Machine<'_>, AllocError>
     requires { length pool.now ≡ 1 }
 {
-    let Ok(devices) = Devices::new(0, 0, 0, 0, 0, &[]) else {
+    let Ok(devices) = Devices::new(0, 0, 0, 0, 0, 0, 0, &[]) else {
         return Err(AllocError);
     };
     let flags = Flags {

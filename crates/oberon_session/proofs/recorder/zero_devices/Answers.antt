@@ -1,9 +1,10 @@
 use Rattle.std.proofs.Common.{arith, refl}
 use Rattle.std.proofs.lemmas.Bool.{false≢true}
+use Rattle.risc_devices.specs.DeviceState.{is_phase}
 use Rattle.risc_devices.specs.InputKind.{is_mouse}
 use Rattle.oberon_session.proofs.recorder.zero_devices.Goals as goal
 
 pub unreachable-requires : goal.unreachable-requires
-unfolding is_mouse
+unfolding is_mouse is_phase
 unreachable-requires c =
-    false≢true (c.in-Err.ensures.range.1 (record { switches_fit = omega arith; mouse_fits = refl; serial_fits = omega arith; keys_fit = omega arith }))
+    false≢true (c.in-Err.ensures.range.1 (record { phase_fits = refl; switches_fit = omega arith; mouse_fits = refl; serial_fits = omega arith; keys_fit = omega arith }))
