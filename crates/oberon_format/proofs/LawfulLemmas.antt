@@ -1,5 +1,5 @@
 -- Parts are lawful exactly where the text laid out of them has no fault.
-use Rattle.std.proofs.Common.{◌≡◌, ◌<◌, ◌≤◌, ◌+◌, ◌-◌, ◌*◌, ◌∙◌, ℕ, zero, suc, Bool, true, ◌&&◌, eqb, List, [], ◌∷◌, map, get_or, length, None, refl, sym, ap, subst, arith, add-one, eq-eqb, false, Option, Some}
+use Rattle.std.proofs.Common.{◌≡◌, ◌<◌, ◌≤◌, ◌+◌, ◌-◌, ◌*◌, ◌∙◌, ℕ, zero, suc, Bool, true, ◌&&◌, eqb, List, [], ◌∷◌, ◌++◌, map, get_or, length, None, refl, sym, ap, subst, arith, add-one, eq-eqb, false, Option, Some}
 use Rattle.std.specs.Prelude.{slice_index, replicate, nat_le, nat_lt, if◌then◌else◌, ◌==◌}
 use Rattle.std.specs.List.{list_all}
 use Rattle.std.specs.Option.{IfNone}
@@ -15,17 +15,18 @@ use Rattle.risc_pages.specs.Pages.{ArePages}
 use Rattle.risc_machine.specs.MachineState.{CpuState}
 use Rattle.oberon_format.specs.declared.fault.Fault.{Fault}
 use Rattle.oberon_format.specs.declared.fault.Fault.TheVariants as fault
-use Rattle.oberon_format.specs.declared.ranges.TheConstants.{MAX_COUNT, MAX_OUTPUT, MAX_PAGES, MAX_EVENTS, MAX_CHECKPOINTS, COUNTER_END, MAX_STOP}
 use Rattle.oberon_format.specs.CheckpointParts.{CheckpointParts, no_checkpoint}
 use Rattle.oberon_format.specs.declared.fields.CheckpointFields.{CheckpointFields}
+use Rattle.oberon_format.specs.declared.layout.TheConstants.{HEADER_LEN, LAST_AT}
+use Rattle.oberon_format.specs.declared.ranges.TheConstants.{MAX_COUNT, MAX_OUTPUT, MAX_PAGES, MAX_EVENTS, MAX_CHECKPOINTS, COUNTER_END, MAX_STOP}
 use Rattle.oberon_format.specs.Fields.{Fields, EventFields, sent_below}
-use Rattle.oberon_format.specs.FirstFault.{first_broken, each}
+use Rattle.oberon_format.specs.FirstFault.{Rule, first_broken, each}
 use Rattle.oberon_format.specs.FlagsNumber.{flags_number}
 use Rattle.oberon_format.specs.Layout.{page_number_place}
 use Rattle.oberon_format.specs.PartFields.{fields_of_parts, fault_of_parts, event_fields, no_event, checkpoint_fields}
 use Rattle.oberon_format.specs.Ranges.{is_count, is_output, in_ranges, are_keys, is_checkpoint}
 use Rattle.oberon_format.specs.Recording.{RecordingParts, IsLawful, checkpoint_at, count_at, output_of}
-use Rattle.oberon_format.specs.Rules.{header_rules, event_rules, event_floor, place_of_checkpoint, page_number_rules, rules_at, count_before, checkpoint_rules}
+use Rattle.oberon_format.specs.Rules.{header_rules, limit_rules, place_of_output, event_rules, event_floor, place_of_checkpoint, page_number_rules, rules_at, count_before, checkpoint_rules}
 use Rattle.oberon_format.specs.Formed.{IsFormed, AreFormed}
 use Rattle.oberon_format.proofs.RuleLemmas.{any_in_end, any_in_checkpoints, AreMet, met_parts, parts_met, each_holds, each_all, rule_holds, and_left, and_right}
 use Rattle.oberon_format.proofs.PartLemmas.{member, event_here, checkpoint_here, before_more, sent_none, sent_more, total_le, sent_all, rules_here, ends_met}
@@ -87,6 +88,21 @@ parts_header r within =
     let e : nat_le (length r.checkpoints) MAX_CHECKPOINTS ≡ true = le-leb _ _ within.few in
     let g : nat_le (24 + 1024 * length r.pool + 16 * length r.inputs + 4228 * length r.checkpoints) f.long ≡ true = le-leb _ _ (omega arith) in
     rw (a, b, c, d, e, g) refl
+
+-- rules that hold behind others
+end_met : (xs rest : List Rule) → first_broken rest ≡ None → first_broken (xs ++ rest) ≡ first_broken xs
+end_met [] rest h = h
+end_met ((true, f) ∷ xs) rest h = end_met xs rest h
+end_met ((false, f) ∷ xs) rest h = refl
+
+-- the header of parts has the fault of its limits
+pub parts_limits : (r : RecordingParts) → first_broken (header_rules (fields_of_parts r)) ≡ first_broken (limit_rules (length r.pool) (length r.inputs) (length r.checkpoints))
+parts_limits r =
+    let f = fields_of_parts r in
+    let a : nat_le HEADER_LEN f.long ≡ true = le-leb _ _ (omega arith) in
+    let b : nat_le (place_of_output f) f.long ≡ true = le-leb _ _ (omega arith) in
+    let ends : first_broken ((true, fault.Limit LAST_AT) ∷ (nat_le (place_of_output f) f.long, fault.Short f.long) ∷ []) ≡ None = rw b refl in
+    rw a (end_met (limit_rules (length r.pool) (length r.inputs) (length r.checkpoints)) ((true, fault.Limit LAST_AT) ∷ (nat_le (place_of_output f) f.long, fault.Short f.long) ∷ []) ends)
 
 -- what the tests of counts and of output say
 first_count : (before count : ℕ) → is_count 0 before count ≡ true → count ≡ 0

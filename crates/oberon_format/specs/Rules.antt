@@ -19,18 +19,25 @@ place_of_checkpoint f k = checkpoint_start f.pages f.events k
 abbrev pub place_of_output : Fields → ℕ
 place_of_output f = place_of_checkpoint f f.checkpoints
 
+-- the numbers of pages, events and checkpoints that a header names
+abbrev pub limit_rules : ℕ → ℕ → ℕ → List Rule
+limit_rules pages events checkpoints =
+    (nat_le pages MAX_PAGES, fault.Limit PAGES_AT)
+    ∷ (nat_le events MAX_EVENTS, fault.Limit EVENTS_AT)
+    ∷ (nat_le 1 checkpoints && nat_le checkpoints MAX_CHECKPOINTS, fault.Limit CHECKPOINTS_AT)
+    ∷ []
+
 -- the header: it is there, its six numbers are in their ranges, and what it names is there
 abbrev pub header_rules : Fields → List Rule
 header_rules f =
-    (nat_le HEADER_LEN f.long, fault.Short f.long)
+    ((nat_le HEADER_LEN f.long, fault.Short f.long)
     ∷ (f.first == MAGIC, fault.Magic MAGIC_AT)
     ∷ (f.version == VERSION, fault.Version VERSION_AT)
-    ∷ (nat_le f.pages MAX_PAGES, fault.Limit PAGES_AT)
-    ∷ (nat_le f.events MAX_EVENTS, fault.Limit EVENTS_AT)
-    ∷ (nat_le 1 f.checkpoints && nat_le f.checkpoints MAX_CHECKPOINTS, fault.Limit CHECKPOINTS_AT)
-    ∷ (f.last == 0, fault.Limit LAST_AT)
+    ∷ [])
+    ++ limit_rules f.pages f.events f.checkpoints
+    ++ ((f.last == 0, fault.Limit LAST_AT)
     ∷ (nat_le (place_of_output f) f.long, fault.Short f.long)
-    ∷ []
+    ∷ [])
 
 -- the count of the event before event i
 abbrev pub event_floor : Fields → ℕ → ℕ

@@ -13,6 +13,7 @@ mod flags;
 mod formed;
 mod laws;
 mod layout;
+mod limits;
 mod line;
 mod number;
 mod parts;

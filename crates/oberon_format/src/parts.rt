@@ -14,7 +14,8 @@ use crate::checkpoint::Checkpoint;
 use crate::fault::Fault;
 use crate::fields::{CheckpointFields, checkpoint_fault};
 use crate::formed::all_formed;
-use crate::layout::{CHECKPOINTS_AT, EVENTS_AT, PAGES_AT, checkpoint_start};
+use crate::layout::checkpoint_start;
+use crate::limits::limits_fault;
 use crate::ranges::{MAX_CHECKPOINTS, MAX_EVENTS, MAX_PAGES};
 use crate::recording::Recording;
 use risc_machine::Inputs;
@@ -72,16 +73,11 @@ fn counts_fault(pool: &Pool, inputs: &Inputs, checkpoints: &[Checkpoint]) -> Opt
     ensures events { IfNone result (length inputs.now ≤ MAX_EVENTS) }
     ensures few { IfNone result (length checkpoints.now ≤ MAX_CHECKPOINTS) }
 {
-    if pool.len() > MAX_PAGES {
-        return Some(Fault::Limit(PAGES_AT as u64));
-    }
-    if inputs.events().len() > MAX_EVENTS as usize {
-        return Some(Fault::Limit(EVENTS_AT as u64));
-    }
-    if checkpoints.len() < 1 || checkpoints.len() > MAX_CHECKPOINTS as usize {
-        return Some(Fault::Limit(CHECKPOINTS_AT as u64));
-    }
-    None
+    limits_fault(
+        pool.len() as usize,
+        inputs.events().len(),
+        checkpoints.len(),
+    )
 }
 
 /// The first fault of the checkpoints.

@@ -13,12 +13,12 @@ ghost use Rattle.oberon_format.specs.TextFields.{first_fault_of, fields_of, even
 use crate::fault::Fault;
 use crate::fields::{CheckpointFields, checkpoint_fault};
 use crate::layout::{
-    CHECKPOINTS_AT, EVENT_LEN, EVENTS_AT, HEADER_LEN, KIND_AT, LAST_AT, MAGIC, MAGIC_AT, PAGES_AT,
-    VALUE_AT, VERSION, VERSION_AT, checkpoint_count, checkpoint_start, event_count, event_start,
-    page_count,
+    EVENT_LEN, HEADER_LEN, KIND_AT, LAST_AT, MAGIC, MAGIC_AT, VALUE_AT, VERSION, VERSION_AT,
+    checkpoint_count, checkpoint_start, event_count, event_start, page_count,
 };
+use crate::limits::limits_fault;
 use crate::number::{table_of, u32_at, u64_at};
-use crate::ranges::{MAX_CHECKPOINTS, MAX_COUNT, MAX_EVENTS, MAX_OUTPUT, MAX_PAGES, is_input};
+use crate::ranges::{MAX_COUNT, MAX_EVENTS, MAX_OUTPUT, MAX_PAGES, is_input};
 
 /// The first fault of the header, and of the length that it asks for.
 fn header_fault(text: &[u8]) -> Option<Fault>
@@ -36,21 +36,15 @@ fn header_fault(text: &[u8]) -> Option<Fault>
         return Some(Fault::Version(VERSION_AT as u64));
     }
     let pages = page_count(text);
-    if pages > MAX_PAGES {
-        return Some(Fault::Limit(PAGES_AT as u64));
-    }
     let events = event_count(text);
-    if events > MAX_EVENTS {
-        return Some(Fault::Limit(EVENTS_AT as u64));
-    }
-    let checkpoints = checkpoint_count(text);
-    if checkpoints < 1 || checkpoints > MAX_CHECKPOINTS {
-        return Some(Fault::Limit(CHECKPOINTS_AT as u64));
+    let checkpoints = checkpoint_count(text) as usize;
+    if let Some(fault) = limits_fault(pages as usize, events as usize, checkpoints) {
+        return Some(fault);
     }
     if u32_at(text, LAST_AT) != 0 {
         return Some(Fault::Limit(LAST_AT as u64));
     }
-    let output = checkpoint_start(pages, events, checkpoints as usize) as u64;
+    let output = checkpoint_start(pages, events, checkpoints) as u64;
     if len < output {
         return Some(Fault::Short(len));
     }

@@ -1,0 +1,30 @@
+//! The limits of the numbers that a header names, tested for the header of a text and for parts alike.
+
+ghost use Rattle.std.specs.Prelude.{◌≡◌, ◌≤◌};
+ghost use Rattle.std.specs.Option.{IfNone};
+ghost use Rattle.oberon_format.specs.FirstFault.{first_broken};
+ghost use Rattle.oberon_format.specs.Rules.{limit_rules};
+
+use crate::fault::Fault;
+use crate::layout::{CHECKPOINTS_AT, EVENTS_AT, PAGES_AT};
+use crate::ranges::{MAX_CHECKPOINTS, MAX_EVENTS, MAX_PAGES};
+
+/// The first fault of the numbers of pages, events and checkpoints.
+pub(crate) fn limits_fault(pages: usize, events: usize, checkpoints: usize) -> Option<Fault>
+    ensures fault { result ≡ first_broken (limit_rules pages events checkpoints) }
+    ensures pages { IfNone result (pages ≤ MAX_PAGES) }
+    ensures events { IfNone result (events ≤ MAX_EVENTS) }
+    ensures some { IfNone result (1 ≤ checkpoints) }
+    ensures few { IfNone result (checkpoints ≤ MAX_CHECKPOINTS) }
+{
+    if pages > MAX_PAGES as usize {
+        return Some(Fault::Limit(PAGES_AT as u64));
+    }
+    if events > MAX_EVENTS as usize {
+        return Some(Fault::Limit(EVENTS_AT as u64));
+    }
+    if checkpoints < 1 || checkpoints > MAX_CHECKPOINTS as usize {
+        return Some(Fault::Limit(CHECKPOINTS_AT as u64));
+    }
+    None
+}
