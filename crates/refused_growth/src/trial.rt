@@ -11,6 +11,9 @@ use std::io;
 /// How many instructions a trial runs.
 const STEPS: u64 = 4;
 
+/// How many instructions a millisecond of the timer has: a refused instruction is counted once, when it is done.
+const RATE: u32 = 3;
+
 /// A program from word 0 on, in a memory that is zero elsewhere.
 #[derive(Clone, Copy)]
 pub struct Trial {
@@ -63,12 +66,15 @@ impl Trial {
     /// Prints the parts of the machine that its program changes, and what it sent.
     fn show<H: Print>(&self, rt: &H, machine: &Machine, output: &[u8]) -> io::Result<()> {
         let cpu = machine.cpu();
+        let devices = machine.devices();
         let memory = machine.memory();
         println!(rt;
-            "{}: R0 {:08X}, PC {}, word 256 {:08X}, place 1 owned {}, sent {:?}",
+            "{}: R0 {:08X}, PC {}, timer {}, phase {}, word 256 {:08X}, place 1 owned {}, sent {:?}",
             self.name,
             cpu.r[0],
             cpu.pc,
+            devices.timer(),
+            devices.phase(),
             memory.read(256),
             memory.owned(1),
             output
@@ -92,11 +98,11 @@ fn first_place() -> Table
     table
 }
 
-/// The machine with all zeros but for the page of the program at place 0.
+/// The machine with all zeros but for the page of the program at place 0 and the timer's rate.
 fn start(alloc: Global, pool: &Pool) -> Result<Machine<'_>, AllocError>
     requires { length pool.now ≡ 1 }
 {
-    let Ok(devices) = Devices::new(0, 0, 0, 0, 0, 0, 0, &[]) else {
+    let Ok(devices) = Devices::new(0, RATE, 0, 0, 0, 0, 0, &[]) else {
         return Err(AllocError);
     };
     let flags = Flags {
