@@ -1,12 +1,13 @@
 -- Steps and runs keep the number of registers and the number of words of the memory.
-use Rattle.std.proofs.Common.{◌≡◌, ℕ, zero, suc, ◌+◌, ◌*◌, Bool, true, false, List, [], ◌∷◌, length, None, Ok, Err, nat_eq, cond, refl, ◌∙◌, arith, length-append}
+use Rattle.std.proofs.Common.{◌≡◌, ℕ, zero, suc, ◌+◌, ◌*◌, Bool, true, false, List, [], ◌∷◌, length, Option, None, Ok, Err, nat_eq, cond, refl, ◌∙◌, arith, length-append}
 use Rattle.std.proofs.lemmas.List.{length-set}
+use Rattle.risc_devices.specs.Ticks.{ticked}
 use Rattle.risc_pages.specs.Pages.{ArePages, page_of}
 use Rattle.risc_pages.specs.Content.{IsNamed, table_words}
 use Rattle.risc_pages.proofs.PoolLemmas.{IsPage-page_of}
 use Rattle.risc_machine.specs.declared.event.Event.{Event}
 use Rattle.risc_machine.specs.MachineState.{CpuState, State}
-use Rattle.risc_machine.specs.Exec.{moved_on, with_register, with_outcome, operated, branched, load_at, device_store, store_at, perform, fetched, exec}
+use Rattle.risc_machine.specs.Exec.{moved_on, with_register, with_outcome, operated, branched, load_at, device_store, store_at, perform, fetched, counted, exec}
 use Rattle.risc_machine.specs.Replay.{feed, fed, run_of}
 
 -- as many registers, and as many words
@@ -70,8 +71,16 @@ fetched-words s = grind (arith, perform-words)
 fetched-sizes : (s : State) → SameSizes s (fetched s).0
 fetched-sizes s = record { registers = fetched-registers s; words = fetched-words s }
 
-running-sizes : (running : Bool) (s : State) → SameSizes s (cond running (fetched s) (s, None)).0
-running-sizes true s = fetched-sizes s
+either-sizes : (running : Bool) (s : State) (o : State × Option ℕ) → SameSizes s o.0 → SameSizes s (cond running (record o.0 { devices = ticked o.0.devices }, o.1) o).0
+either-sizes true s o sizes = record { registers = sizes.registers; words = sizes.words }
+either-sizes false s o sizes = sizes
+
+counted-sizes : (s : State) (o : State × Option ℕ) → SameSizes s o.0 → SameSizes s (counted o).0
+unfolding counted
+counted-sizes s o sizes = either-sizes (nat_eq o.0.cpu.stop 0) s o sizes
+
+running-sizes : (running : Bool) (s : State) → SameSizes s (cond running (counted (fetched s)) (s, None)).0
+running-sizes true s = counted-sizes s (fetched s) (fetched-sizes s)
 running-sizes false s = same s
 
 exec-sizes : (s : State) → SameSizes s (exec s).0

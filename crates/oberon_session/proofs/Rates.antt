@@ -1,14 +1,15 @@
 -- Nothing changes the timer's rate: a session keeps that of its first state.
-use Rattle.std.proofs.Common.{◌≡◌, ℕ, zero, suc, ◌+◌, ◌%◌, ◌^◌, Bool, true, false, cond, List, [], ◌∷◌, drop, None, nat_eq, refl, ◌∙◌, arith}
+use Rattle.std.proofs.Common.{◌≡◌, ℕ, zero, suc, ◌+◌, ◌%◌, ◌^◌, Bool, true, false, cond, List, [], ◌∷◌, drop, Option, None, nat_eq, refl, ◌∙◌, arith}
 use Rattle.risc_devices.specs.declared.input.Input.{Input}
 use Rattle.risc_devices.specs.declared.kind.Kind.{Kind}
 use Rattle.risc_devices.specs.declared.kind.Kind.TheVariants.{Timer, Switches, Mouse, Key, Serial}
 use Rattle.risc_devices.specs.DeviceState.{DeviceState}
 use Rattle.risc_devices.specs.DeviceWords.{after_read, after_write}
 use Rattle.risc_devices.specs.Input.{taken_input, taken_value}
+use Rattle.risc_devices.specs.Ticks.{ticked}
 use Rattle.risc_machine.specs.declared.event.Event.{Event}
 use Rattle.risc_machine.specs.MachineState.{State}
-use Rattle.risc_machine.specs.Exec.{load_at, device_store, store_at, perform, fetched, exec}
+use Rattle.risc_machine.specs.Exec.{load_at, device_store, store_at, perform, fetched, counted, exec}
 use Rattle.risc_machine.specs.Replay.{feed, fed, run_of}
 use Rattle.oberon_session.specs.Recorded.{first_state, state_at}
 use Rattle.oberon_session.specs.SessionParts.{SessionParts}
@@ -41,6 +42,11 @@ write-rate : (d : DeviceState) (word value : ℕ) → (after_write d word value)
 unfolding after_write
 write-rate d word value = either (nat_eq word 1) (record d { leds = value % 2 ^ 8 }) d d.rate refl refl
 
+tick-rate : (d : DeviceState) → (ticked d).rate ≡ d.rate
+unfolding ticked
+tick-rate d =
+    either (nat_eq d.rate 0) d _ d.rate refl (either (nat_eq (d.phase + 1) d.rate) (record d { timer = (d.timer + 1) % 2 ^ 32; phase = 0 }) (record d { phase = d.phase + 1 }) d.rate refl refl)
+
 fed-rate : (es : List Event) (n : ℕ) (d : DeviceState) → (fed es n d).rate ≡ d.rate
 fed-rate [] n d = refl
 fed-rate (e ∷ es) n d =
@@ -68,12 +74,20 @@ fetched-rate : (s : State) → rate_of (fetched s).0 ≡ rate_of s
 unfolding fetched
 fetched-rate s = grind (arith, perform-rate)
 
+counted-rate : (o : State × Option ℕ) → rate_of (counted o).0 ≡ rate_of o.0
+unfolding counted
+counted-rate o = at (nat_eq o.0.cpu.stop 0)
+  where
+    at : (running : Bool) → rate_of (cond running (record o.0 { devices = ticked o.0.devices }, o.1) o).0 ≡ rate_of o.0
+    at true = tick-rate o.0.devices
+    at false = refl
+
 exec-rate : (s : State) → rate_of (exec s).0 ≡ rate_of s
 unfolding exec
 exec-rate s = at (nat_eq s.cpu.stop 0)
   where
-    at : (running : Bool) → rate_of (cond running (fetched s) (s, None)).0 ≡ rate_of s
-    at true = fetched-rate s
+    at : (running : Bool) → rate_of (cond running (counted (fetched s)) (s, None)).0 ≡ rate_of s
+    at true = counted-rate (fetched s) ∙ fetched-rate s
     at false = refl
 
 feed-rate : (es : List Event) (n : ℕ) (s : State) → rate_of (feed es n s) ≡ rate_of s
