@@ -14,7 +14,6 @@ TOP = Path(__file__).resolve().parents[2]
 TOOLS = TOP / "tools"
 EXAMPLES = TOP / "examples"
 PROGRAM = TOP / "crates/oberon_replay/out/oberon_replay"
-STORED = (TOP / "crates/oberon_replay/stdin").read_bytes()
 JUMP = 0xE7FFFFFF
 
 
@@ -111,6 +110,16 @@ def rejoining(claimed: int) -> bytes:
         Claim(count, words, b"", 0, 0, b"", {0: 1}) for count, words in ((0, [0] * 25), (2, first), (4, second))
     ]
     return lay(1, [page(0x45000001, 0xE7FFFFFE)], [], claims)
+
+
+def stored() -> bytes:
+    """The text of version 1 of a recording with R0 = 5 after 100 instructions: 9,504 bytes."""
+    first = Claim(0, [0] * 25, b"", 0, 0, b"", {0: 1})
+    second = Claim(100, [5] + [0] * 16 + [100] + [0] * 7, b"", 0, 0, b"", {0: 1})
+    return lay(1, [page(0x40000005)], [], [first, second])
+
+
+STORED = stored()
 
 
 class ToolTest(unittest.TestCase):

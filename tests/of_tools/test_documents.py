@@ -55,6 +55,15 @@ class DocumentsTest(ToolTest):
                 told += "\n" * bool(told and not told.endswith("\n"))
                 self.assertTrue(command.prints(told), f"{document.name}: $ {command.line}\n{told}")
 
+    def test_the_tools_run_as_the_readme_shows_them(self) -> None:
+        for part in PARTS:
+            (self.folder / part).symlink_to(TOP / part)
+        lines = [line for line in (TOP / "README.md").read_text().splitlines() if line.startswith("tools/")]
+        self.assertEqual(len(lines), 4)
+        for line in lines:
+            ran = run(["bash", "-c", line], cwd=self.folder, env={**os.environ, "PYTHONDONTWRITEBYTECODE": "1"})
+            self.assertEqual((ran.status, ran.errors), (0, ""), line)
+
     def test_tables_are_those_of_the_listing(self) -> None:
         tables = 0
         for document in SHOWING:

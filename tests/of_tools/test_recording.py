@@ -1,5 +1,6 @@
 """The reader of recordings, over both versions of their text."""
 
+import hashlib
 import random
 import unittest
 from dataclasses import replace
@@ -45,6 +46,7 @@ class RecordingTest(unittest.TestCase):
             Claim(100, [5] + [0] * 16 + [100] + [0] * 7, b"", 0, 0, b"", {0: 1}),
         ]
         self.assertEqual(lay(1, [page(0x40000005)], [], claims), STORED)
+        self.assertEqual(hashlib.sha256(STORED).hexdigest(), "e9db2f05971668f2c01c7971bdb56a3b6335032e5f6d41d96ef339deca8afdd3")
         text = lay(2, [page(0x40000005)], [], claims)
         self.assertEqual(len(text), 1344)
         second = recording.read(text)
