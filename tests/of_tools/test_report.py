@@ -10,7 +10,7 @@ from pathlib import Path
 from PIL import Image
 
 import browser
-from samples import EXAMPLES, JUMP, PROGRAM, STORED, ToolTest, record, rejoining, run, session, tool
+from samples import EXAMPLES, JUMP, PROGRAM, STORED, Claim, ToolTest, lay, page, record, rejoining, run, session, tool
 
 # The dots of a page's pictures, row by row from the top: a bit for each that is dark, as a base64 text.
 DOTS = """
@@ -31,8 +31,6 @@ DOTS = """
   return [document.images.length > 0 && document.images[0].naturalWidth, dots];
 })()
 """
-# Fills the display from its start, a word at each store: R0 is stored at R1, which goes on by 4; four steps a turn.
-FILLER = (0x6100000E, 0x41167F00, 0x5000FFFF, 0xA0100000, 0x41180004, 0x40080001, 0xE7FFFFFC)
 
 
 class ReportTest(ToolTest):
@@ -93,6 +91,20 @@ class ReportWordsTest(ReportTest):
             record(session([0xC7000001], [1, 2, 9])),
         ):
             self.assertIn(b"<h1", self.report(text).read_bytes())
+
+    def test_what_is_claimed_of_a_false_part_is_shown(self) -> None:
+        words = [*[0] * 17, 0, *[0] * 7]
+        true = Claim(0, words, b"", 0, 0, b"", {0: 1})
+        pool = [page(JUMP), page(JUMP, 0xABCD)]
+        for false, line, shown in (
+            (Claim(5, words, b"", 0, 0, b"", {0: 2}), "part page 0", "00000000  ff ff ff e7 cd ab 00 00"),
+            (Claim(5, words, b"", 0, 0, b"Hi", {0: 1}), "part out", "00000000  48 69"),
+            (Claim(5, words, b"\x41", 0, 0, b"", {0: 1}), "part keys", "Claimed is\n<code>41</code>"),
+            (Claim(5, [*[0] * 18, 2, *[0] * 6], b"", 0, 0, b"", {0: 1}), "part flags", "<code>--C-</code>"),
+        ):
+            told = self.report(lay(1, pool, [], [true, false])).read_text()
+            self.assertIn(f"false checkpoint 1 at 5 {line}</h1>", told)
+            self.assertIn(shown, told)
 
     def test_names_and_sent_bytes_are_shown_as_they_are(self) -> None:
         text = record(session([0x5100FFC8, 0x4000003C, 0xA0100000, 0x40000007, 0xA0100000, JUMP], [9]))
