@@ -1,0 +1,143 @@
+"""A headless Chromium, spoken to over a pipe in the DevTools protocol."""
+
+import base64
+import json
+import os
+import shutil
+import subprocess
+import tempfile
+from collections.abc import Iterator
+from contextlib import contextmanager
+from dataclasses import dataclass
+from pathlib import Path
+
+FLAGS = ("--headless=new", "--no-sandbox", "--disable-gpu", "--hide-scrollbars", "--no-first-run", "--disable-extensions",
+         "--disable-background-networking", "--host-resolver-rules=MAP * ~NOTFOUND", "--force-device-scale-factor=1")
+
+
+class Pipe:
+    """The pipe to a browser: what it is asked, and what it tells."""
+
+    def __init__(self, to_browser: int, from_browser: int) -> None:
+        self._to = to_browser
+        self._from = from_browser
+        self._rest = b""
+        self._asked = 0
+
+    def send(self, message: dict) -> int:
+        """Asks something, and gives the number by which the answer will be known."""
+        self._asked += 1
+        os.write(self._to, json.dumps({"id": self._asked, **message}).encode() + b"\0")
+        return self._asked
+
+    def receive(self) -> dict:
+        """The next thing that is told."""
+        while b"\0" not in self._rest:
+            more = os.read(self._from, 1 << 20)
+            if not more:
+                raise RuntimeError("the browser ended")
+            self._rest += more
+        message, _, self._rest = self._rest.partition(b"\0")
+        return json.loads(message)
+
+
+class Page:
+    """A page that is open, and what its console and its network told."""
+
+    def __init__(self, pipe: Pipe, path: Path) -> None:
+        self._pipe = pipe
+        self._session = ""
+        self.errors: list[str] = []
+        self.requests: list[str] = []
+        self._target = self._ask("Target.createTarget", url="about:blank")["targetId"]
+        self._session = self._ask("Target.attachToTarget", targetId=self._target, flatten=True)["sessionId"]
+        for domain in ("Page", "Runtime", "Log", "Network"):
+            self._ask(f"{domain}.enable")
+        self._ask("Page.navigate", url=path.resolve().as_uri())
+        while self._read().get("method") != "Page.loadEventFired":
+            pass
+
+    def answer(self, expression: str) -> object:
+        """The value of an expression of JavaScript in the page; promises are waited for."""
+        told = self._ask("Runtime.evaluate", expression=expression, awaitPromise=True, returnByValue=True)
+        if "exceptionDetails" in told:
+            raise RuntimeError(told["exceptionDetails"])
+        return told["result"].get("value")
+
+    def screenshot(self, width: int, height: int) -> bytes:
+        """A picture of the page in a window of this size, as PNG."""
+        self._ask("Emulation.setDeviceMetricsOverride", width=width, height=height, deviceScaleFactor=1, mobile=False)
+        self.answer("Promise.all([...document.images].map(it => it.decode()))")
+        return base64.b64decode(self._ask("Page.captureScreenshot", format="png")["data"])
+
+    def printed(self) -> bytes:
+        """The page as a printer would get it, as PDF."""
+        return base64.b64decode(self._ask("Page.printToPDF", printBackground=False)["data"])
+
+    def close(self) -> None:
+        """Closes the page."""
+        self._ask("Page.close")
+
+    def _ask(self, method: str, **parameters: object) -> dict:
+        session = {"sessionId": self._session} if self._session else {}
+        asked = self._pipe.send({"method": method, "params": parameters, **session})
+        while (told := self._read()).get("id") != asked:
+            pass
+        if "error" in told:
+            raise RuntimeError(told["error"])
+        return told["result"]
+
+    def _read(self) -> dict:
+        told = self._pipe.receive()
+        self._note(told.get("method"), told.get("params", {}))
+        return told
+
+    def _note(self, method: str | None, told: dict) -> None:
+        if method == "Runtime.exceptionThrown":
+            self.errors.append(told["exceptionDetails"]["text"])
+        elif method == "Runtime.consoleAPICalled":
+            self.errors.append(str(told["args"]))
+        elif method == "Log.entryAdded":
+            self.errors.append(told["entry"]["text"])
+        elif method == "Network.requestWillBeSent":
+            self.requests.append(told["request"]["url"])
+
+
+@dataclass(frozen=True)
+class Browser:
+    """A browser that runs."""
+
+    pipe: Pipe
+
+    @contextmanager
+    def page(self, path: Path) -> Iterator[Page]:
+        """A file, opened as a page."""
+        opened = Page(self.pipe, path)
+        yield opened
+        opened.close()
+
+
+@contextmanager
+def browser() -> Iterator[Browser]:
+    """A browser of its own."""
+    to_browser, from_us = os.pipe()[::-1]
+    to_us, from_browser = os.pipe()[::-1]
+
+    def place_pipes() -> None:
+        read, write = os.dup(from_us), os.dup(to_us)
+        os.dup2(read, 3)
+        os.dup2(write, 4)
+
+    with tempfile.TemporaryDirectory(ignore_cleanup_errors=True) as folder:
+        command = [shutil.which("chromium"), *FLAGS, f"--user-data-dir={folder}", "--remote-debugging-pipe"]
+        running = subprocess.Popen(command, preexec_fn=place_pipes, close_fds=False, stdin=subprocess.DEVNULL,
+                                   stdout=subprocess.DEVNULL, stderr=subprocess.DEVNULL)
+        os.close(from_us)
+        os.close(to_us)
+        try:
+            yield Browser(Pipe(to_browser, from_browser))
+        finally:
+            os.close(to_browser)
+            os.close(from_browser)
+            running.terminate()
+            running.wait()

@@ -1,0 +1,154 @@
+"""Recordings, sessions and commands for the tests of the tools."""
+
+import json
+import os
+import struct
+import subprocess
+import tempfile
+import unittest
+from collections.abc import Iterable, Sequence
+from dataclasses import dataclass
+from pathlib import Path
+
+TOP = Path(__file__).resolve().parents[2]
+TOOLS = TOP / "tools"
+EXAMPLES = TOP / "examples"
+PROGRAM = TOP / "crates/oberon_replay/out/oberon_replay"
+JUMP = 0xE7FFFFFF
+
+
+@dataclass(frozen=True)
+class Ran:
+    """What a command printed, and its exit status."""
+
+    output: bytes
+    errors: str
+    status: int
+
+
+def run(command: Sequence[object], text: bytes = b"", **options: object) -> Ran:
+    """Runs a command with a text as its standard input."""
+    ran = subprocess.run([str(word) for word in command], input=text, capture_output=True, check=False, **options)
+    return Ran(ran.stdout, ran.stderr.decode(), ran.returncode)
+
+
+def tool(name: str, *words: object) -> Ran:
+    """Runs a tool as it lies."""
+    return run([TOOLS / name, *words], env={**os.environ, "PYTHONDONTWRITEBYTECODE": "1"})
+
+
+def record(session: dict | bytes) -> bytes:
+    """The recording of a session."""
+    text = session if isinstance(session, bytes) else json.dumps(session).encode()
+    ran = run([PROGRAM, "record"], text)
+    assert ran.status == 0, ran.output
+    return ran.output
+
+
+def session(words: Iterable[int], checkpoints: Iterable[int], inputs: Iterable[tuple] = ()) -> dict:
+    """A session that begins with these words at place 0."""
+    return {
+        "format": "oberon-session",
+        "version": 1,
+        "start": {"R": [0] * 16, "H": 0, "PC": 0, "flags": 0},
+        "pages": [{"at": 0, "hex": b"".join(struct.pack("<I", word) for word in words).hex()}],
+        "inputs": [list(event) for event in inputs],
+        "checkpoints": list(checkpoints),
+    }
+
+
+def page(*words: int) -> bytes:
+    """A page that begins with these words."""
+    return struct.pack("<256I", *words, *[0] * (256 - len(words)))
+
+
+@dataclass(frozen=True)
+class Claim:
+    """A checkpoint to lay out: 132 bytes of fields but for the output's length, rate and phase, output, and places' pages."""
+
+    count: int
+    words: Sequence[int]
+    keys: bytes
+    rate: int
+    phase: int
+    output: bytes
+    pages: dict[int, int]
+
+    def front(self) -> bytes:
+        """The fields that both versions share."""
+        return struct.pack("<Q25I", self.count, *self.words) + struct.pack(
+            "<I16sI", len(self.keys), self.keys, len(self.output)
+        )
+
+
+def lay(version: int, pool: Sequence[bytes], events: Sequence[tuple], claims: Sequence[Claim]) -> bytes:
+    """The text of a recording in a version; rate and phase are left out in version 1."""
+    header = struct.pack("<4s5I", b"ORSR", version, len(pool), len(events), len(claims), 0)
+    laid = [struct.pack("<QII", *event) for event in events]
+    before: dict[int, int] = {}
+    for claim in claims:
+        tail = _table(claim.pages) if version == 1 else _changes(claim, before)
+        laid += [claim.front(), tail]
+        before = claim.pages
+    return b"".join([header, *pool, *laid, *(claim.output for claim in claims)])
+
+
+def _table(pages: dict[int, int]) -> bytes:
+    return struct.pack("<1024I", *(pages.get(place, 0) for place in range(1024)))
+
+
+def _changes(claim: Claim, before: dict[int, int]) -> bytes:
+    places = [place for place in range(1024) if claim.pages.get(place, 0) != before.get(place, 0)]
+    pairs = [struct.pack("<2I", place, claim.pages.get(place, 0)) for place in places]
+    return struct.pack("<3I", claim.rate, claim.phase, len(pairs)) + b"".join(pairs)
+
+
+def rejoining(claimed: int) -> bytes:
+    """A recording that claims R5 in its first checkpoint, where the machine has 1, and is right in its second."""
+    first, second = ([0] * 5 + [claimed] + [0] * 19), ([0] * 5 + [1] + [0] * 19)
+    claims = [
+        Claim(count, words, b"", 0, 0, b"", {0: 1}) for count, words in ((0, [0] * 25), (2, first), (4, second))
+    ]
+    return lay(1, [page(0x45000001, 0xE7FFFFFE)], [], claims)
+
+
+def stored() -> bytes:
+    """The text of version 1 of a recording with R0 = 5 after 100 instructions: 9,504 bytes."""
+    first = Claim(0, [0] * 25, b"", 0, 0, b"", {0: 1})
+    second = Claim(100, [5] + [0] * 16 + [100] + [0] * 7, b"", 0, 0, b"", {0: 1})
+    return lay(1, [page(0x40000005)], [], [first, second])
+
+
+STORED = stored()
+
+
+class ToolTest(unittest.TestCase):
+    """A test with a folder of its own, and a way to look at commands that are refused."""
+
+    def setUp(self) -> None:
+        folder = tempfile.TemporaryDirectory()
+        self.addCleanup(folder.cleanup)
+        self.folder = Path(folder.name)
+
+    def file(self, name: str, content: bytes | str) -> Path:
+        """A file in the test's folder."""
+        path = self.folder / name
+        path.parent.mkdir(parents=True, exist_ok=True)
+        path.write_bytes(content if isinstance(content, bytes) else content.encode())
+        return path
+
+    def assert_refused(self, ran: Ran, *told: str) -> None:
+        """A command printed nothing, told what is wrong in one line, and ended with status 2."""
+        self.assertEqual(ran.status, 2, ran.errors)
+        self.assertEqual(ran.output, b"")
+        self.assertEqual(len(ran.errors.splitlines()), 1, ran.errors)
+        for words in told:
+            self.assertIn(words, ran.errors)
+
+    def assert_helps(self, name: str) -> None:
+        """A tool's help ends with an example of itself."""
+        ran = tool(name, "--help")
+        self.assertEqual(ran.status, 0)
+        lines = ran.output.decode().splitlines()
+        self.assertEqual(lines[-2], "example:")
+        self.assertTrue(lines[-1].startswith(f"  tools/{name}"))

@@ -1,0 +1,100 @@
+"""What the documents show of the program and the tools: commands and their output, tables, pictures, links, the manual page."""
+
+import io
+import os
+import re
+import shlex
+from collections.abc import Iterator
+from dataclasses import dataclass
+from pathlib import Path
+
+from PIL import Image
+
+from samples import EXAMPLES, PROGRAM, TOP, ToolTest, run, tool
+
+SHOWING = [*sorted((TOP / "docs/lessons").glob("*.md")), TOP / "docs/recording-your-system.md", TOP / "docs/suites.md"]
+LINKING = [TOP / "README.md", TOP / "examples/README.md", TOP / "tools/README.md", TOP / "docs/architecture.md", *SHOWING]
+CONSOLE = re.compile(r"^```console\n(.*?)^```$", re.DOTALL | re.MULTILINE)
+TABLE = re.compile(r"^<!-- (tools/listing .*) -->\n((?:\|.*\n)+)", re.MULTILINE)
+LINK = re.compile(r"\]\(([^)#:]+)(?:#[^)]*)?\)")
+PARTS = ("tools", "examples", "crates", "docs")
+
+
+@dataclass(frozen=True)
+class Command:
+    """A command of a document, and what it is shown to print; a line of two dots stands for any lines."""
+
+    line: str
+    output: str
+
+    def prints(self, printed: str) -> bool:
+        """Whether what was printed is what is shown."""
+        shown = re.escape(self.output).replace(re.escape("\n..\n"), r"\n(?:.*\n)*")
+        return re.fullmatch(shown, "\n" + printed) is not None
+
+
+def commands_of(document: str) -> Iterator[Command]:
+    """The commands that a document shows, in their order."""
+    for block in CONSOLE.findall(document):
+        for part in re.split(r"^\$ ", block, flags=re.MULTILINE)[1:]:
+            line, _, output = part.partition("\n")
+            yield Command(line, "\n" + output.rstrip("\n") + "\n" * bool(output.strip()))
+
+
+class DocumentsTest(ToolTest):
+    def test_commands_print_what_is_shown(self) -> None:
+        for document in SHOWING:
+            folder = self.folder / document.stem
+            folder.mkdir()
+            for part in PARTS:
+                (folder / part).symlink_to(TOP / part)
+            path = {"PATH": f"{PROGRAM.parent}:{os.environ['PATH']}", "PYTHONDONTWRITEBYTECODE": "1"}
+            for command in commands_of(document.read_text()):
+                ran = run(["bash", "-c", command.line], cwd=folder, env={**os.environ, **path})
+                told = ran.output.decode() + ran.errors
+                told += "\n" * bool(told and not told.endswith("\n"))
+                self.assertTrue(command.prints(told), f"{document.name}: $ {command.line}\n{told}")
+
+    def test_the_tools_run_as_the_readme_shows_them(self) -> None:
+        for part in PARTS:
+            (self.folder / part).symlink_to(TOP / part)
+        lines = [line for line in (TOP / "README.md").read_text().splitlines() if line.startswith("tools/")]
+        self.assertEqual(len(lines), 4)
+        for line in lines:
+            ran = run(["bash", "-c", line], cwd=self.folder, env={**os.environ, "PYTHONDONTWRITEBYTECODE": "1"})
+            self.assertEqual((ran.status, ran.errors), (0, ""), line)
+
+    def test_tables_are_those_of_the_listing(self) -> None:
+        tables = 0
+        for document in SHOWING:
+            for words, table in TABLE.findall(document.read_text()):
+                name, *rest = shlex.split(words)
+                ran = run([TOP / name, *rest], cwd=TOP)
+                self.assertEqual(table, ran.output.decode(), document.name)
+                tables += 1
+        self.assertGreaterEqual(tables, 3)
+
+    def test_links_lead_somewhere(self) -> None:
+        for document in LINKING:
+            for link in LINK.findall(document.read_text()):
+                self.assertTrue((document.parent / link).exists(), f"{document.name}: {link}")
+
+    def test_the_face_is_the_one_that_the_program_draws(self) -> None:
+        drawn = run([PROGRAM, "screen", "--at", 4], (EXAMPLES / "face.orsr").read_bytes()).output
+        shown = Image.open(TOP / "docs/pictures/face.png").tobytes()
+        self.assertEqual(shown, Image.open(io.BytesIO(drawn)).tobytes())
+
+    def test_the_manual_page_has_no_fault(self) -> None:
+        page = TOP / "docs/oberon_replay.1"
+        ran = run(["mandoc", "-Tlint", page])
+        self.assertEqual((ran.output + ran.errors.encode(), ran.status), (b"", 0))
+        for word in ("check", "record", "screen", "--workers", "--cut", "--at"):
+            self.assertIn(word.lstrip("-"), page.read_text())
+
+    def test_each_tool_is_told_of(self) -> None:
+        told = (TOP / "tools/README.md").read_text()
+        for path in sorted((TOP / "tools").iterdir()):
+            if path.is_file() and os.access(path, os.X_OK):
+                self.assertIn(f"tools/{path.name}", told)
+                self.assertEqual(tool(path.name, "--help").status, 0)
+                self.assertEqual(Path(path).read_text().splitlines()[0], "#!/usr/bin/python3")

@@ -1,0 +1,178 @@
+"""tools/report, its page in a real browser."""
+
+import base64
+import io
+import struct
+import time
+import unittest
+from pathlib import Path
+
+from PIL import Image
+
+import browser
+from samples import EXAMPLES, JUMP, PROGRAM, STORED, Claim, ToolTest, lay, page, record, rejoining, run, session, tool
+
+# The dots of a page's pictures, row by row from the top: a bit for each that is dark, as a base64 text.
+DOTS = """
+(async () => {
+  const dots = {};
+  for (const image of document.images) {
+    await image.decode();
+    const canvas = new OffscreenCanvas(1024, 768);
+    const context = canvas.getContext("2d");
+    context.drawImage(image, 0, 0, 1024, 768);
+    const data = context.getImageData(0, 0, 1024, 768).data;
+    const bits = new Uint8Array(98304);
+    for (let at = 0; at < 786432; at++) if (data[4 * at] < 128) bits[at >> 3] |= 128 >> (at & 7);
+    let text = "";
+    for (let at = 0; at < bits.length; at += 4096) text += String.fromCharCode(...bits.subarray(at, at + 4096));
+    dots[image.dataset.checkpoint] = btoa(text);
+  }
+  return [document.images.length > 0 && document.images[0].naturalWidth, dots];
+})()
+"""
+
+
+class ReportTest(ToolTest):
+    def report(self, text: bytes, name: str = "it.orsr") -> Path:
+        """The page of a text."""
+        ran = tool("report", self.file(name, text))
+        self.assertEqual((ran.status, ran.errors), (0, ""))
+        return self.file("page.html", ran.output)
+
+    def assert_sound(self, page: browser.Page, line: str, color: str) -> None:
+        """A page opened without an error and without the network, and shows the line in large, in a color."""
+        self.assertEqual(page.errors, [])
+        self.assertTrue(all(url.startswith(("file:", "data:")) for url in page.requests), page.requests)
+        self.assertEqual(page.answer("document.querySelector('h1').innerText"), line)
+        self.assertEqual(page.answer("getComputedStyle(document.querySelector('h1')).backgroundColor"), color)
+        self.assertGreater(page.answer("parseFloat(getComputedStyle(document.querySelector('h1')).fontSize)"), 24)
+
+    def assert_dots(self, page: browser.Page, text: bytes, checkpoints: list[int]) -> None:
+        """The pictures of a page are those of these checkpoints, dot by dot as the program draws them."""
+        width, dots = page.answer(DOTS)
+        self.assertEqual(width, 1024)
+        self.assertEqual([int(number) for number in dots], checkpoints)
+        for number in checkpoints:
+            drawn = run([PROGRAM, "screen", "--at", number], text).output
+            self.assertEqual(base64.b64decode(dots[str(number)]), drawn[12:], f"checkpoint {number}")
+
+
+class ReportWordsTest(ReportTest):
+    def test_helps(self) -> None:
+        self.assert_helps("report")
+
+    def test_refuses_bad_input(self) -> None:
+        self.assert_refused(tool("report"), "RECORDING")
+        self.assert_refused(tool("report", self.folder / "none"), "No such file")
+        self.assert_refused(tool("report", self.folder), "Is a directory")
+        stored = self.file("stored.orsr", STORED)
+        self.assert_refused(tool("report", stored, "--program", "/bin/none"), "no program at /bin/none")
+        self.assert_refused(tool("report", stored, "--bad"), "--bad")
+
+    def test_says_what_a_program_answered_that_fails(self) -> None:
+        failing = self.file("failing", "#!/bin/sh\necho no memory\nexit 3\n")
+        failing.chmod(0o755)
+        self.assert_refused(tool("report", self.file("stored.orsr", STORED), "--program", failing), "no memory")
+
+    def test_text_tells_what_changes(self) -> None:
+        ran = tool("report", "--text", self.file("keys.orsr", record((EXAMPLES / "keys.json").read_bytes())))
+        told = ran.output.decode()
+        self.assertTrue(told.startswith("accepted 3 checkpoints 100 steps\ncheckpoint 0 at 0\n"))
+        self.assertIn("checkpoint 2 at 40\n  R0 00000069\n  PC 2\n  LEDs 69\n", told)
+        self.assertIn("  out Hi\n", told)
+
+    def test_pages_of_odd_recordings_are_made(self) -> None:
+        for text in (
+            b"",
+            b"ORSR",
+            struct.pack("<4s5I", b"ORSR", 1, 0, 0, 1, 0) + bytes(4228),
+            record(session([0x000C0000], [1, 1 << 40])),
+            record(session([0xC7000001], [1, 2, 9])),
+        ):
+            self.assertIn(b"<h1", self.report(text).read_bytes())
+
+    def test_what_is_claimed_of_a_false_part_is_shown(self) -> None:
+        words = [*[0] * 17, 0, *[0] * 7]
+        true = Claim(0, words, b"", 0, 0, b"", {0: 1})
+        pool = [page(JUMP), page(JUMP, 0xABCD)]
+        for false, line, shown in (
+            (Claim(5, words, b"", 0, 0, b"", {0: 2}), "part page 0", "00000000  ff ff ff e7 cd ab 00 00"),
+            (Claim(5, words, b"", 0, 0, b"Hi", {0: 1}), "part out", "00000000  48 69"),
+            (Claim(5, words, b"\x41", 0, 0, b"", {0: 1}), "part keys", "Claimed is\n<code>41</code>"),
+            (Claim(5, [*[0] * 18, 2, *[0] * 6], b"", 0, 0, b"", {0: 1}), "part flags", "<code>--C-</code>"),
+        ):
+            told = self.report(lay(1, pool, [], [true, false])).read_text()
+            self.assertIn(f"false checkpoint 1 at 5 {line}</h1>", told)
+            self.assertIn(shown, told)
+
+    def test_names_and_sent_bytes_are_shown_as_they_are(self) -> None:
+        text = record(session([0x5100FFC8, 0x4000003C, 0xA0100000, 0x40000007, 0xA0100000, JUMP], [9]))
+        page = self.report(text, "<b>&.orsr").read_text()
+        self.assertIn("&lt;b&gt;&amp;.orsr", page)
+        self.assertIn(">&lt;\\07</pre>", page)
+
+
+class ReportInBrowserTest(ReportTest):
+    @classmethod
+    def setUpClass(cls) -> None:
+        cls.browser = cls.enterClassContext(browser.browser())
+
+    def test_the_face(self) -> None:
+        text = (EXAMPLES / "face.orsr").read_bytes()
+        with self.browser.page(self.report(text)) as page:
+            self.assert_sound(page, "accepted 4 checkpoints 20000000 steps", "rgb(20, 114, 59)")
+            self.assert_dots(page, text, [0, 1, 2, 3, 4])
+            shot = Image.open(io.BytesIO(page.screenshot(1280, 2200)))
+            self.assertGreater(shot.convert("L").histogram()[0], 10000)
+            self.assertTrue(page.printed().startswith(b"%PDF"))
+
+    def test_a_false_recording(self) -> None:
+        text = rejoining(9)
+        with self.browser.page(self.report(text)) as page:
+            self.assert_sound(page, "false checkpoint 1 at 2 part R5", "rgb(179, 38, 30)")
+            self.assert_dots(page, text, [0])
+            self.assertEqual(page.answer("document.querySelector('#checkpoint-1 td.false').textContent"), "00000009")
+            self.assertIn("R5", page.answer("document.querySelector('#checkpoint-1 .claim').textContent"))
+            self.assertEqual(page.answer("document.querySelectorAll('td.false').length"), 1)
+            changed = "[...document.querySelectorAll('#checkpoint-2 td.changed')].map(it => it.textContent).join()"
+            self.assertEqual(page.answer(changed), "00000001")
+
+    def test_refused_texts(self) -> None:
+        for change, line, marked in (
+            (lambda it: it[:-1], "refused 1 short at byte 9503", "··"),
+            (lambda it: it + b"\x41", "refused 8 trailing at byte 9504", "41"),
+            (lambda it: it[:4] + b"\x09" + it[5:], "refused 3 version at byte 4", "09"),
+            (lambda it: it[:5408] + b"\x02" + it[5409:], "refused 7 page at byte 5408", "02"),
+            (lambda it: b"", "refused 1 short at byte 0", "··"),
+        ):
+            with self.browser.page(self.report(change(STORED))) as page:
+                self.assert_sound(page, line, "rgb(179, 38, 30)")
+                self.assertEqual(page.answer("document.querySelector('.at').innerText"), marked)
+                self.assertEqual(page.answer("document.images.length"), 0)
+
+    def test_a_long_recording_opens_in_seconds(self) -> None:
+        inputs = [(count, "timer", count) for count in range(20000)]
+        counts = [*range(1, 3997), *range(4000, 14000, 100)]
+        text = record({**session([JUMP], counts), "inputs": inputs})
+        page_file = self.report(text)
+        self.assertLess(page_file.stat().st_size, 20_000_000)
+        start = time.monotonic()
+        with self.browser.page(page_file) as page:
+            self.assertEqual(page.answer("document.querySelectorAll('.checkpoint').length"), 4097)
+            page.answer("document.querySelector('#checkpoint-4096').scrollIntoView()")
+            self.assertLess(time.monotonic() - start, 20)
+            self.assertEqual(page.errors, [])
+            self.assert_dots(page, text, [0])
+
+    def test_pictures_that_come_again_are_there_once(self) -> None:
+        turn = (0x6100000E, 0x41167F00, 0x5000FFFF, 0xA0100000, 0x40000000, 0xA0100000, 0xE7FFFFFB)
+        text = record(session(turn, [4, 5, 6, 9, 14]))
+        with self.browser.page(self.report(text)) as page:
+            self.assert_dots(page, text, [0, 1])
+            told = "[...document.querySelectorAll('.notes a')].map(it => it.hash).join()"
+            self.assertEqual(page.answer(told), "#checkpoint-1,#checkpoint-0,#checkpoint-1,#checkpoint-1")
+
+
+if __name__ == "__main__":
+    unittest.main()

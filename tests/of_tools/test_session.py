@@ -1,0 +1,99 @@
+"""tools/session, both ways."""
+
+import json
+import struct
+
+from samples import EXAMPLES, JUMP, PROGRAM, STORED, Claim, ToolTest, lay, page, record, run, session, tool
+
+# R1 := -56; R0 := the byte at 1024 in memory; it is sent; then a jump to itself.
+PROGRAM_WORDS = (0x5100FFC8, 0x90200000, 0xA0100000, JUMP)
+
+
+class SessionTest(ToolTest):
+    def image(self) -> object:
+        """A memory image with a program at its start and a byte at 1024."""
+        return self.file("memory.bin", page(*PROGRAM_WORDS) + b"A")
+
+    def test_helps(self) -> None:
+        self.assert_helps("session")
+
+    def test_makes_a_session_that_is_recorded(self) -> None:
+        inputs = self.file("inputs.csv", "count,kind,value\r\n# keys\n0, timer, 0xFFFFFFFF\n2,key,72\n2,Mouse,0x1000\n")
+        words = ["--memory", self.image(), "--set", "R2=1024", "--set", "flags=NV", "--set", "PC=0", "--set", "H=0x10"]
+        ran = tool("session", *words, "--inputs", inputs, "--checkpoints", "2,0x4")
+        self.assertEqual((ran.status, ran.errors), (0, ""))
+        made = json.loads(ran.output)
+        self.assertEqual(made["start"], {"R": [0, 0, 1024, *[0] * 13], "H": 16, "PC": 0, "flags": 9})
+        self.assertEqual(made["inputs"], [[0, "timer", 0xFFFFFFFF], [2, "key", 72], [2, "mouse", 0x1000]])
+        self.assertEqual([it["at"] for it in made["pages"]], [0, 1])
+        recorded = record(ran.output)
+        self.assertEqual(recorded[-1:], b"A")
+        self.assertEqual(run([PROGRAM], recorded).output, b"accepted 2 checkpoints 4 steps\n")
+
+    def test_an_image_lies_where_it_is_told_to(self) -> None:
+        image = self.file("memory.bin", struct.pack("<I", JUMP))
+        for at, place, content in ((0, 0, "ffffffe7"), (1022, 0, "00" * 1022 + "ffff"), (0xFFFFC, 1023, "00" * 1020 + "ffffffe7")):
+            made = json.loads(tool("session", "--memory", image, "--at", at, "--every", 10, "--until", 35).output)
+            self.assertEqual(made["pages"][0], {"at": place, "hex": content})
+            self.assertEqual(made["checkpoints"], [10, 20, 30])
+
+    def test_of_a_recording_comes_its_session(self) -> None:
+        for name in ("hello", "keys", "face"):
+            recorded = record((EXAMPLES / f"{name}.json").read_bytes())
+            ran = tool("session", "--of", self.file("it.orsr", recorded))
+            self.assertEqual(ran.errors, "")
+            self.assertEqual(json.loads(ran.output), json.loads((EXAMPLES / f"{name}.json").read_bytes()))
+            self.assertEqual(record(ran.output), recorded)
+
+    def test_a_long_session_comes_back(self) -> None:
+        inputs = [(count // 3, kind, count % 256) for count, kind in zip(range(1000), ["timer", "key", "serial"] * 334)]
+        recorded = record(session([JUMP], range(1, 200), inputs))
+        self.assertEqual(record(tool("session", "--of", self.file("it.orsr", recorded)).output), recorded)
+
+    def test_says_what_a_session_cannot_say(self) -> None:
+        for at, name in ((18, "flags"), (19, "stop"), (20, "timer"), (21, "switches"), (22, "LEDs"), (23, "mouse"), (24, "serial")):
+            words = [0] * 25
+            words[at] = 1
+            text = lay(1, [], [], [Claim(0, words, b"", 0, 0, b"", {})])
+            ran = tool("session", "--of", self.file("it.orsr", text))
+            if name == "flags":
+                self.assertEqual(json.loads(ran.output)["start"]["flags"], 1)
+            else:
+                self.assert_refused(ran, f"its first state has {name} other than 0")
+        text = lay(1, [], [], [Claim(0, [0] * 25, b"\x00", 0, 0, b"", {})])
+        self.assert_refused(tool("session", "--of", self.file("it.orsr", text)), "keys")
+
+    def test_refuses_bad_input(self) -> None:
+        image = self.image()
+        every = ("--every", 1, "--until", 1)
+        self.assert_refused(tool("session"), "--memory")
+        self.assert_refused(tool("session", "--memory", image), "checkpoints")
+        self.assert_refused(tool("session", "--memory", image, "--every", 5), "--until")
+        self.assert_refused(tool("session", "--memory", image, *every, "--checkpoints", "1"), "either")
+        self.assert_refused(tool("session", "--memory", image, "--every", 1, "--until", 5000), "5,000 checkpoints")
+        self.assert_refused(tool("session", "--memory", image, "--every", 9, "--until", 5), "0 checkpoints")
+        self.assert_refused(tool("session", "--memory", image, "--checkpoints", "5,5"), "'5' is no count from 6")
+        self.assert_refused(tool("session", "--memory", image, "--checkpoints", "5,x"), "'x'")
+        self.assert_refused(tool("session", "--memory", image, "--at", "0xFFFFF", *every), "go beyond the memory")
+        self.assert_refused(tool("session", "--memory", self.folder / "none", *every), "No such file")
+        for assignment in ("R16=0", "R1", "R1=", "R1=0x100000000", "PC=0x400000", "flags=X", "flags=16", "R1=-1", "R1=1_0"):
+            self.assert_refused(tool("session", "--memory", image, *every, "--set", assignment), f"--set {assignment}")
+        self.assert_refused(tool("session", "--of", self.file("short.orsr", STORED[:-1])), "refused 1 short at byte 9503")
+        self.assert_refused(tool("session", "--of", self.file("it.orsr", STORED), "--set", "R1=1"), "--of takes all")
+
+    def test_refuses_bad_inputs(self) -> None:
+        for line, told in (
+            ("1,key", "three cells"),
+            ("1,key,256", "'256' is no value for key"),
+            ("1,mouse,0x800", "mask"),
+            ("1,pen,1", "'pen' is none of timer"),
+            ("x,key,1", "'x' is no count"),
+            ("4,key,1", "'4' is no count from 5"),
+            ("0x10000000001,key,1", "no count"),
+        ):
+            inputs = self.file("inputs.csv", f"count,kind,value\n5,key,1\n{line}\n" if line[0] == "4" else f"{line}\n")
+            ran = tool("session", "--memory", self.image(), "--every", 1, "--until", 1, "--inputs", inputs)
+            self.assert_refused(ran, "inputs.csv line", told)
+        inputs = self.file("inputs.csv", b"\xff\xfe\x00")
+        ran = tool("session", "--memory", self.image(), "--every", 1, "--until", 1, "--inputs", inputs)
+        self.assert_refused(ran, "inputs.csv: not a CSV file")

@@ -1,0 +1,97 @@
+"""Writes instructions in the notation of N. Wirth's The RISC Architecture: mnemonics, and assignments that tell what they do.
+
+A mark (') behind a mnemonic is bit u: with the carry, of words without sign, or the upper half. The manual has no mnemonics for
+bytes: LDB and STB stand beside LDR and STR here. Numbers are decimal, or hexadecimal with an H at their end.
+"""
+
+from dataclasses import dataclass
+
+OPERATIONS = "MOV LSL ASR ROR AND ANN IOR XOR ADD SUB MUL DIV FAD FSB FML FDV".split()
+SIGNS = " ← → rot & & or xor + - * div".split(" ")
+CONDITIONS = ("MI", "EQ", "CS", "VS", "LS", "LT", "LE", "", "PL", "NE", "CC", "VC", "HI", "GE", "GT", "NO")
+FLAGS = ("N", "Z", "C", "V", "C or Z", "N xor V", "(N xor V) or Z")
+ALWAYS, NEVER = 7, 15
+
+
+@dataclass(frozen=True)
+class Instruction:
+    """An instruction as a mnemonic with its operands, and what it does."""
+
+    mnemonic: str
+    meaning: str
+
+
+def instruction(word: int, at: int) -> Instruction:
+    """The instruction of a word that lies at a place, counted in words."""
+    if word >> 31 == 0:
+        return _register(word)
+    return _memory(word) if word >> 30 == 2 else _branch(word, at)
+
+
+def _bit(word: int, place: int) -> bool:
+    return bool(word >> place & 1)
+
+
+def _signed(word: int, bits: int) -> int:
+    low = word & (1 << bits) - 1
+    return low - (low >> bits - 1 << bits)
+
+
+def _register(word: int) -> Instruction:
+    a, b, op, u, v = word >> 24 & 15, word >> 20 & 15, word >> 16 & 15, _bit(word, 29), _bit(word, 28)
+    operand = f"R{word & 15}"
+    if _bit(word, 30):
+        operand = str((word & 0xFFFF) - (0x10000 if v else 0))
+    name = OPERATIONS[op] + "'" * u
+    if op == 0:
+        return _move(name, a, operand, word)
+    written = f"{name} R{a}, R{b}, {operand}"
+    if op >= 12:
+        return Instruction(written, "stop 1")
+    inverted = "~" if op == 5 else ""
+    carry = f" {SIGNS[op]} C" if u and op in (8, 9) else ""
+    unsigned = ", of words without sign" if u and op in (10, 11) else ""
+    return Instruction(written, f"R{a} := R{b} {SIGNS[op]} {inverted}{operand}{carry}{unsigned}")
+
+
+def _move(name: str, a: int, operand: str, word: int) -> Instruction:
+    if not _bit(word, 29):
+        return Instruction(f"{name} R{a}, {operand}", f"R{a} := {operand}")
+    if _bit(word, 30):
+        half = word & 0xFFFF
+        return Instruction(f"{name} R{a}, {half}", f"R{a} := {half:04X}0000H")
+    special = "NZCV" if _bit(word, 28) else "H"
+    return Instruction(f"{name} R{a}, {special}", f"R{a} := {special}")
+
+
+def _memory(word: int) -> Instruction:
+    a, b, offset, is_store, is_byte = word >> 24 & 15, word >> 20 & 15, _signed(word, 20), _bit(word, 29), _bit(word, 28)
+    name = ("ST" if is_store else "LD") + ("B" if is_byte else "R")
+    sum_of = f"R{b}" + (f" {'-' if offset < 0 else '+'} {abs(offset)}" if offset else "")
+    place = f"Mem[{sum_of}]" + (", a byte" if is_byte else "")
+    meaning = f"Mem[{sum_of}] := R{a}" + (", a byte" if is_byte else "") if is_store else f"R{a} := {place}"
+    return Instruction(f"{name} R{a}, R{b}, {offset}", meaning)
+
+
+def _branch(word: int, at: int) -> Instruction:
+    condition, is_link = word >> 24 & 15, _bit(word, 28)
+    name = "B" + "L" * is_link + CONDITIONS[condition]
+    if condition == NEVER:
+        meaning = "(nothing)"
+    else:
+        link = f"R15 := {4 * (at + 1)}, " if is_link else ""
+        meaning = f"{link}to {_target(word, at)}{_where(condition)}"
+    return Instruction(f"{name} {_signed(word, 22) if _bit(word, 29) else f'R{word & 15}'}", meaning)
+
+
+def _target(word: int, at: int) -> str:
+    return str((at + 1 + _signed(word, 22)) % (1 << 22)) if _bit(word, 29) else f"R{word & 15} div 4"
+
+
+def _where(condition: int) -> str:
+    if condition == ALWAYS:
+        return ""
+    flags = FLAGS[condition & 7]
+    if condition < 8:
+        return f" where {flags}"
+    return f" where ~{flags}" if len(flags) == 1 else f" where ~({flags})"

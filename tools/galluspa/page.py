@@ -1,0 +1,207 @@
+"""The page that shows a recording, and the same as plain text."""
+
+import base64
+import hashlib
+import re
+from collections.abc import Iterator
+from dataclasses import dataclass, field
+from functools import cached_property
+from itertools import islice
+from pathlib import Path
+
+from jinja2 import Environment, FileSystemLoader, StrictUndefined
+from markupsafe import Markup
+
+from galluspa import recording, states
+from galluspa.instructions import instruction
+from galluspa.pictures import Screens, screens
+from galluspa.program import ACCEPTED, FALSE, REFUSED, Answer, Program
+from galluspa.recording import PAGE_BYTES, PLACES, WORDS_IN_PAGE, Checkpoint, Recording
+from galluspa.states import Part
+
+INPUTS_IN_BLOCK = 500
+BYTES_AROUND = 128
+FALSE_LINE = re.compile(r"false checkpoint (\d+) at \d+ part (.+)")
+REFUSED_LINE = re.compile(r"refused \d+ \w+ at byte (\d+)")
+
+
+@dataclass(frozen=True)
+class Shown:
+    """A checkpoint as the page shows it; the picture is base64, and empty where the screen is that of an earlier one."""
+
+    number: int
+    count: int
+    steps: int
+    registers: list[Part]
+    others: list[Part]
+    next: str
+    places: str
+    sent: int
+    output: str
+    alike: int
+    picture: str
+
+
+@dataclass(frozen=True)
+class Line:
+    """A line of bytes around a fault, with the byte that is to be marked."""
+
+    before: str
+    marked: str
+    after: str
+
+
+@dataclass(frozen=True)
+class Fault:
+    """Where a text is refused: the byte, whether the text ends there, and the lines around it."""
+
+    at: int
+    is_end: bool
+    lines: list[Line]
+
+
+@dataclass(frozen=True)
+class Report:
+    """What the program says of a recording's text, and what there is to show of it."""
+
+    name: str
+    text: bytes = field(repr=False)
+    program: Program
+    answer: Answer
+    recording: Recording | None
+
+    @staticmethod
+    def of(program: Program, name: str, text: bytes) -> "Report":
+        """The report on a text, after the program has judged it."""
+        answer = program.check(text)
+        return Report(name, text, program, answer, None if answer.status == REFUSED else recording.read(text))
+
+    @cached_property
+    def false_claim(self) -> tuple[int, str] | None:
+        """The first false checkpoint and its first false part, where the program's line names them."""
+        told = FALSE_LINE.fullmatch(self.answer.line) if self.answer.status == FALSE else None
+        return (int(told[1]), told[2]) if told else None
+
+    def html(self) -> Iterator[str]:
+        """The page, piece by piece."""
+        folder = Path(__file__).resolve().parent
+        templates = Environment(loader=FileSystemLoader(folder), autoescape=True, trim_blocks=True, lstrip_blocks=True,
+                                undefined=StrictUndefined)
+        templates.globals["marks"] = self._marks
+        false_at, false_part = self.false_claim or (None, None)
+        return templates.get_template("report.html.j2").generate(
+            name=self.name,
+            size=len(self.text),
+            digest=hashlib.sha256(self.text).hexdigest(),
+            line=self.answer.line,
+            is_accepted=self.answer.status == ACCEPTED,
+            recording=self.recording,
+            fault=self._fault(),
+            false_at=false_at,
+            false_part=false_part,
+            claimed=self._claimed(),
+            shown=self._shown() if self.recording else (),
+            inputs=self._inputs() if self.recording else (),
+        )
+
+    def plain(self) -> Iterator[str]:
+        """The lines of a text that tells the line, the first state, and what changed at each checkpoint."""
+        yield self.answer.line
+        if fault := self._fault():
+            yield from (line.before + line.marked + line.after for line in fault.lines)
+        if not self.recording:
+            return
+        before = None
+        for number, checkpoint in enumerate(self.recording.checkpoints):
+            yield f"checkpoint {number} at {checkpoint.count}"
+            told = [f"{part.name} {part.text}" for part in self._parts(checkpoint, before) if self._is_told(part, before)]
+            told += [f"next {self._next(checkpoint)}"] if self._next(checkpoint) else []
+            told += [f"out {line}" for line in states.text(checkpoint.output).split("\n") if checkpoint.output]
+            if places := self._places(checkpoint, before):
+                told.append(f"places {places}")
+            yield from (f"  {line}" for line in told)
+            before = checkpoint
+
+    @staticmethod
+    def _is_told(part: Part, before: Checkpoint | None) -> bool:
+        is_blank = part.text.strip("0-, ") in ("", "running", "none")
+        return part.is_changed if before else not is_blank
+
+    def _parts(self, checkpoint: Checkpoint, before: Checkpoint | None) -> list[Part]:
+        return [*states.registers(checkpoint, before), *states.others(checkpoint, before, self.recording.version)]
+
+    def _shown(self) -> Iterator[Shown]:
+        drawn = screens(self.program, self.recording)
+        before = None
+        for number, checkpoint in enumerate(self.recording.checkpoints):
+            yield self._shown_of(number, checkpoint, before, drawn)
+            before = checkpoint
+
+    def _shown_of(self, number: int, checkpoint: Checkpoint, before: Checkpoint | None, drawn: Screens) -> Shown:
+        return Shown(
+            number=number,
+            count=checkpoint.count,
+            steps=checkpoint.count - before.count if before else 0,
+            registers=states.registers(checkpoint, before),
+            others=states.others(checkpoint, before, self.recording.version),
+            next=self._next(checkpoint),
+            places=self._places(checkpoint, before),
+            sent=len(checkpoint.output),
+            output=states.text(checkpoint.output),
+            alike=drawn.first[number],
+            picture=base64.b64encode(drawn.pictures.get(number, b"")).decode(),
+        )
+
+    def _places(self, checkpoint: Checkpoint, before: Checkpoint | None) -> str:
+        return states.ranges(self.recording.changed_places(before, checkpoint)) if before else ""
+
+    def _next(self, checkpoint: Checkpoint) -> str:
+        """The instruction that a running machine does next."""
+        if checkpoint.stop or checkpoint.pc >= PLACES * WORDS_IN_PAGE:
+            return ""
+        word = self.recording.word(checkpoint, checkpoint.pc)
+        told = instruction(word, checkpoint.pc)
+        return f"{checkpoint.pc}  {word:08X}  {told.mnemonic}   {told.meaning}"
+
+    def _marks(self, shown: Shown, part: Part) -> Markup:
+        """The class of a part's cell."""
+        names = ["changed"] * part.is_changed + ["false"] * (self.false_claim == (shown.number, part.name))
+        return Markup(f' class="{" ".join(names)}"') if names else Markup("")
+
+    def _claimed(self) -> list[str]:
+        """What the first false checkpoint claims of its first false part."""
+        if not self.false_claim:
+            return []
+        number, name = self.false_claim
+        checkpoint = self.recording.checkpoints[number]
+        if name.startswith("page "):
+            place = int(name.removeprefix("page "))
+            return list(states.hexdump(self.recording.page(checkpoint.table[place]), place * PAGE_BYTES))
+        if name == "out":
+            return list(states.hexdump(checkpoint.output, 0)) or ["no byte"]
+        return [part.text for part in self._parts(checkpoint, None) if part.name == name]
+
+    def _inputs(self) -> Iterator[str]:
+        events = iter(self.recording.events)
+        while block := list(islice(events, INPUTS_IN_BLOCK)):
+            yield "\n".join(f"{taken.count:>13,}  {states.event(taken)}" for taken in block)
+
+    def _fault(self) -> Fault | None:
+        told = REFUSED_LINE.fullmatch(self.answer.line)
+        if self.answer.status != REFUSED or not told:
+            return None
+        at = int(told[1])
+        start = max(0, at - BYTES_AROUND) & -16
+        content = self.text[start : at + BYTES_AROUND & -16]
+        lines = [_marked(line, at - start - 16 * row) for row, line in enumerate(states.hexdump(content, start))]
+        if at == start + len(content) and at % 16 == 0:
+            lines.append(_marked(f"{at:08X}  ", 0))
+        return Fault(at, at >= len(self.text), lines)
+
+
+def _marked(line: str, column: int) -> Line:
+    """A line of sixteen bytes, of which the one in a column is marked; in a place without a byte stand two dots."""
+    if not 0 <= column < 16:
+        return Line(line, "", "")
+    at = 10 + 3 * column
+    return Line(line[:at], line[at : at + 2].strip() or "··", line[at + 2 :])

@@ -1,0 +1,208 @@
+"""Reads lawful recordings, of versions 1 and 2, as docs/formats.md lays them out.
+
+Whether a text is lawful says the program, and only it: ask it first (`lawful` does). A text that the program would refuse
+is refused here too, or read in some way, but never with a traceback.
+"""
+
+import struct
+import sys
+from array import array
+from collections.abc import Iterator
+from dataclasses import dataclass
+
+from galluspa.command import Refused
+from galluspa.program import REFUSED, Program
+
+PLACES = 1024
+PAGE_BYTES = 1024
+WORDS_IN_PAGE = 256
+NO_PAGE = bytes(PAGE_BYTES)
+DISPLAY_START = 0xE7F00
+DISPLAY_END = 0xFFF00
+
+KINDS = {1: "timer", 2: "switches", 3: "mouse", 4: "key", 5: "serial"}
+STOPS = ("running", "float", "divisor", "fetch", "address")
+FLAGS = "NZCV"
+
+_HEADER = struct.Struct("<4s5I")
+_EVENT = struct.Struct("<QII")
+_STATE = struct.Struct("<Q16I10I16sI")
+_COUNTING = struct.Struct("<3I")
+
+
+@dataclass(frozen=True)
+class Event:
+    """An input: the count of the instruction before which it is taken, its kind (1 to 5) and its value."""
+
+    count: int
+    kind: int
+    value: int
+
+
+@dataclass(frozen=True)
+class Checkpoint:
+    """What is claimed of the machine at a count, with the bytes sent since the checkpoint before.
+
+    `start` is the offset of its first byte in the text. A recording of version 1 has rate and phase 0.
+    """
+
+    start: int
+    count: int
+    registers: tuple[int, ...]
+    h: int
+    pc: int
+    flags: int
+    stop: int
+    timer: int
+    rate: int
+    phase: int
+    switches: int
+    leds: int
+    mouse: int
+    serial: int
+    keys: bytes
+    output: bytes
+    table: array
+
+
+@dataclass(frozen=True)
+class Recording:
+    """A recording: its version, its pool of pages, its inputs and its checkpoints, the first state among them."""
+
+    version: int
+    pool: memoryview
+    events: list[Event]
+    checkpoints: list[Checkpoint]
+
+    @property
+    def pages(self) -> int:
+        """How many pages the pool has."""
+        return len(self.pool) // PAGE_BYTES
+
+    def page(self, number: int) -> bytes:
+        """The content of a page by its number; number 0 is the page of zeros."""
+        return bytes(self.pool[(number - 1) * PAGE_BYTES : number * PAGE_BYTES]) if number else NO_PAGE
+
+    def memory(self, checkpoint: Checkpoint, start: int, end: int) -> bytes:
+        """The claimed bytes of memory from one byte address up to another."""
+        first = start // PAGE_BYTES
+        numbers = checkpoint.table[first : -(-end // PAGE_BYTES)]
+        content = b"".join(map(self.page, numbers))
+        return content[start - first * PAGE_BYTES : end - first * PAGE_BYTES]
+
+    def word(self, checkpoint: Checkpoint, number: int) -> int:
+        """A claimed word of memory, by its number below 262,144."""
+        page = self.page(checkpoint.table[number // WORDS_IN_PAGE])
+        return struct.unpack_from("<I", page, number % WORDS_IN_PAGE * 4)[0]
+
+    def changed_places(self, before: Checkpoint, after: Checkpoint) -> list[int]:
+        """The places of memory whose content is another at one checkpoint than at another."""
+        if before.table == after.table:
+            return []
+        pairs = zip(before.table, after.table)
+        return [at for at, (old, new) in enumerate(pairs) if old != new and self.page(old) != self.page(new)]
+
+
+def lawful(program: Program, name: str, text: bytes) -> Recording:
+    """The recording of a text that the program finds lawful; its line is the refusal where it doesn't."""
+    answer = program.screen(text, 0)
+    if answer.status == REFUSED:
+        raise Refused(f"{name}: {answer.line}")
+    return read(text)
+
+
+def read(text: bytes) -> Recording:
+    """The recording of a lawful text."""
+    try:
+        return _read(text)
+    except (struct.error, IndexError, ValueError) as error:
+        raise Refused("the text is no lawful recording") from error
+
+
+def _read(text: bytes) -> Recording:
+    magic, version, pages, events, checkpoints, _ = _HEADER.unpack_from(text)
+    if magic != b"ORSR" or version not in (1, 2):
+        raise ValueError
+    pool_end = _HEADER.size + pages * PAGE_BYTES
+    events_end = pool_end + events * _EVENT.size
+    return Recording(
+        version=version,
+        pool=memoryview(text)[_HEADER.size : pool_end],
+        events=[Event(*fields) for fields in _EVENT.iter_unpack(text[pool_end:events_end])],
+        checkpoints=list(_with_output(text, _claims(text, version, events_end, checkpoints))),
+    )
+
+
+@dataclass(frozen=True)
+class _Claim:
+    """A checkpoint as its fields say it, and where the next one begins."""
+
+    start: int
+    fields: tuple
+    rate: int
+    phase: int
+    table: array
+    end: int
+
+
+def _claims(text: bytes, version: int, start: int, number: int) -> list[_Claim]:
+    table = array("I", bytes(4 * PLACES))
+    claims = []
+    for _ in range(number):
+        tail = start + _STATE.size
+        rate, phase, changes = _COUNTING.unpack_from(text, tail) if version == 2 else (0, 0, 0)
+        if version == 1:
+            end = tail + 4 * PLACES
+            table = _words(text[tail:end])
+        else:
+            end = tail + _COUNTING.size + 8 * changes
+            table = _changed(table, _words(text[tail + _COUNTING.size : end]))
+        if end > len(text):
+            raise ValueError
+        claims.append(_Claim(start, _STATE.unpack_from(text, start), rate, phase, table, end))
+        start = end
+    return claims
+
+
+def _words(text: bytes) -> array:
+    words = array("I", text)
+    if sys.byteorder == "big":
+        words.byteswap()
+    return words
+
+
+def _changed(table: array, changes: array) -> array:
+    """The table that comes of one by changes: pairs of a place and its new page number."""
+    if not changes:
+        return table
+    after = table[:]
+    for place, page in zip(changes[::2], changes[1::2]):
+        after[place] = page
+    return after
+
+
+def _with_output(text: bytes, claims: list[_Claim]) -> Iterator[Checkpoint]:
+    sent = claims[-1].end
+    for claim in claims:
+        count, *words, keys, length = claim.fields
+        h, pc, flags, stop, timer, switches, leds, mouse, serial, waiting = words[16:]
+        yield Checkpoint(
+            start=claim.start,
+            count=count,
+            registers=tuple(words[:16]),
+            h=h,
+            pc=pc,
+            flags=flags,
+            stop=stop,
+            timer=timer,
+            rate=claim.rate,
+            phase=claim.phase,
+            switches=switches,
+            leds=leds,
+            mouse=mouse,
+            serial=serial,
+            keys=keys[:waiting],
+            output=text[sent : sent + length],
+            table=claim.table,
+        )
+        sent += length

@@ -1,0 +1,95 @@
+"""How the parts of a claimed state are written, and what changed from one checkpoint to the next."""
+
+from collections.abc import Iterator
+from dataclasses import dataclass
+
+from galluspa.recording import FLAGS, KINDS, STOPS, Checkpoint, Event
+
+
+@dataclass(frozen=True)
+class Part:
+    """A part of a state but for its memory: its name in the lines of the program, what is claimed, and whether it changed."""
+
+    name: str
+    text: str
+    is_changed: bool
+
+
+def registers(checkpoint: Checkpoint, before: Checkpoint | None) -> list[Part]:
+    """R0 to R15."""
+    olds = before.registers if before else checkpoint.registers
+    pairs = enumerate(zip(checkpoint.registers, olds, strict=True))
+    return [Part(f"R{at}", f"{value:08X}", value != old) for at, (value, old) in pairs]
+
+
+def others(checkpoint: Checkpoint, before: Checkpoint | None, version: int) -> list[Part]:
+    """H, PC, the flags, the stop and the devices; rate and phase where the version has them."""
+    olds = dict(_others(before or checkpoint))
+    return [
+        Part(name, text, text != olds[name])
+        for name, text in _others(checkpoint)
+        if version > 1 or name not in ("rate", "phase")
+    ]
+
+
+def _others(checkpoint: Checkpoint) -> Iterator[tuple[str, str]]:
+    yield "H", f"{checkpoint.h:08X}"
+    yield "PC", f"{checkpoint.pc}"
+    yield "flags", flags(checkpoint.flags)
+    yield "stop", STOPS[checkpoint.stop] if checkpoint.stop < len(STOPS) else f"{checkpoint.stop}"
+    yield "timer", f"{checkpoint.timer}"
+    yield "rate", f"{checkpoint.rate}"
+    yield "phase", f"{checkpoint.phase}"
+    yield "switches", f"{checkpoint.switches:03X}"
+    yield "LEDs", f"{checkpoint.leds:02X}"
+    yield "mouse", mouse(checkpoint.mouse)
+    yield "serial", f"{checkpoint.serial & 0xFF:02X}" + (", received" if checkpoint.serial >> 8 else "")
+    yield "keys", checkpoint.keys.hex(" ").upper() or "none"
+
+
+def flags(value: int) -> str:
+    """The letters of the flags that are set, with a dash for each that is not."""
+    return "".join(letter if value >> 3 - at & 1 else "-" for at, letter in enumerate(FLAGS))
+
+
+def mouse(value: int) -> str:
+    """A mouse word as its x and y, and its three keys as they lie."""
+    x, y, keys = value & 0x3FF, value >> 12 & 0x3FF, value >> 24 & 7
+    return f"{x}, {y}" + (f", keys {keys:03b}" if keys else "")
+
+
+def event(taken: Event) -> str:
+    """An input by its kind and value, and the sign of a byte that has one."""
+    kind = KINDS.get(taken.kind, f"kind {taken.kind}")
+    if kind == "mouse":
+        return f"mouse {mouse(taken.value)}"
+    if kind == "switches":
+        return f"switches {taken.value:03X}"
+    if kind in ("key", "serial"):
+        sign = f" ({chr(taken.value)})" if 0x20 < taken.value < 0x7F else ""
+        return f"{kind} {taken.value:02X}{sign}"
+    return f"{kind} {taken.value}"
+
+
+def text(sent: bytes) -> str:
+    """Bytes as text: line feeds and signs of ASCII as they are, other bytes as a backslash and two digits."""
+    return "".join(chr(byte) if 0x20 <= byte < 0x7F and byte != 0x5C or byte == 10 else f"\\{byte:02x}" for byte in sent)
+
+
+def ranges(numbers: list[int]) -> str:
+    """Rising numbers, with what follows in a row joined, as in 1, 4 to 7."""
+    runs: list[list[int]] = []
+    for number in numbers:
+        if runs and number == runs[-1][-1] + 1:
+            runs[-1][1:] = [number]
+        else:
+            runs.append([number])
+    return ", ".join(f"{run[0]}" if len(run) == 1 else f"{run[0]} to {run[1]}" for run in runs)
+
+
+def hexdump(content: bytes, start: int) -> Iterator[str]:
+    """Lines of sixteen bytes, each with the place of its first."""
+    for at in range(0, len(content), 16):
+        line = content[at : at + 16]
+        signs = "".join(chr(byte) if 0x20 <= byte < 0x7F else "." for byte in line)
+        yield f"{start + at:08X}  {line.hex(' '):47}  {signs}"
