@@ -25,7 +25,7 @@ of_recording one text faultless r is =
     (line_of v.0, status_of v.0, inl (record { recording = r; is_text = is; verdict = v.0; is_verdict = v.1; line_is = refl; status_is = refl }), only)
   where
     v : (v : Verdict) × IsVerdict r v
-    v = some_verdict r is.1.lawful
+    v = some_verdict r is.is.lawful
 
     same : (other : List ℕ) (number : ℕ) → IsLineOfRecording text other number → (other ≡ line_of v.0) × (number ≡ status_of v.0)
     same other number a =

@@ -6,7 +6,7 @@ use Rattle.risc_devices.specs.DeviceState.{DeviceState}
 use Rattle.risc_machine.specs.declared.event.Event.{Event}
 use Rattle.oberon_format.specs.declared.layout.TheConstants.{VERSION}
 use Rattle.oberon_format.specs.CheckpointParts.{CheckpointParts, no_checkpoint}
-use Rattle.oberon_format.specs.Layout.{word_at, event_place, checkpoint_place}
+use Rattle.oberon_format.specs.Layout.{checkpoints, word_at, event_place, checkpoint_place}
 use Rattle.oberon_format.specs.PartFields.{fields_of_parts, fault_of_parts, event_fields, checkpoint_fields}
 use Rattle.oberon_format.specs.Recording.{RecordingParts, checkpoint_at}
 use Rattle.oberon_format.specs.Formed.{AreFormed}
@@ -14,6 +14,7 @@ use Rattle.oberon_format.specs.Text.{IsEvent, IsDevices, IsCheckpoint, IsLaidOut
 use Rattle.oberon_format.specs.TextFields.{fields_of, event_of, checkpoint_of, first_fault_of}
 use Rattle.oberon_format.proofs.Keys.{range-split, length-range}
 use Rattle.oberon_format.proofs.PartLemmas.{member, event_here, checkpoint_here, number_here}
+use Rattle.oberon_format.proofs.Places.{found, start-is}
 use Rattle.oberon_format.proofs.SameFields.{SameFields, same_rules}
 
 -- an event that stands at a place has its fields there
@@ -46,6 +47,8 @@ checkpoint_stands text place c is =
 pub fields_agree : (text : List ℕ) (r : RecordingParts) → AreFormed r.checkpoints → IsLaidOut VERSION text r → SameFields (fields_of text) (fields_of_parts r)
 fields_agree text r formed is =
     let long = is.long in
+    let end = start-is text (checkpoints text) in
+    let stand = found text r.checkpoints is.checkpoints_stand in
     let cp = is.page_count in
     let ce = is.event_count in
     let ck = is.checkpoint_count in
@@ -59,11 +62,11 @@ fields_agree text r formed is =
       last = is.zero;
       event = events_agree text r is;
       checkpoint = λ k lt.
-          checkpoint_stands text (checkpoint_place text k) (checkpoint_at r k) (is.checkpoints_stand k no_checkpoint lt)
+          checkpoint_stands text (checkpoint_place text k) (checkpoint_at r k) (stand k no_checkpoint lt)
           ∙ sym (checkpoint_here r k lt);
       page_number = λ k j lt less.
           let table = (formed k no_checkpoint lt).table.count in
-          (is.checkpoints_stand k no_checkpoint lt).tail.table j 0 (omega arith) ∙ ap (λ (h : ℕ → ℕ). h j) (sym (number_here r k lt));
+          (stand k no_checkpoint lt).tail.table j 0 (omega arith) ∙ ap (λ (h : ℕ → ℕ). h j) (sym (number_here r k lt));
     }
 
 pub text_agrees : (text : List ℕ) (r : RecordingParts) → AreFormed r.checkpoints → IsLaidOut VERSION text r → first_fault_of text ≡ fault_of_parts r

@@ -15,7 +15,8 @@ use Rattle.risc_pages.specs.Pages.{IsPage}
 use Rattle.oberon_format.specs.declared.layout.TheConstants.{MAGIC, VERSION, CHECKPOINT_LEN, MAGIC_AT}
 use Rattle.oberon_format.specs.CheckpointParts.{CheckpointParts, no_checkpoint}
 use Rattle.oberon_format.specs.FlagsNumber.{flags_number}
-use Rattle.oberon_format.specs.Layout.{word_at, long_at, event_place, checkpoint_place, output_place}
+use Rattle.oberon_format.proofs.Places.{found, start-is}
+use Rattle.oberon_format.specs.Layout.{checkpoints, word_at, long_at, event_place, checkpoint_place, output_place}
 use Rattle.oberon_format.specs.Recording.{RecordingParts, IsLawful, IsFit, output_of}
 use Rattle.oberon_format.specs.Spelling.{word_bytes, long_bytes, words_bytes, event_bytes, cpu_bytes, device_bytes, checkpoint_bytes, header_bytes, spelling}
 use Rattle.oberon_format.specs.Text.{EachAt, AreWords, AreBytes, IsEvent, IsCpu, IsDevices, IsCheckpoint, IsLaidOut, TextIn}
@@ -188,6 +189,8 @@ is_spelling text r h p is =
     let nk = length r.checkpoints in
     let out = output_of r.checkpoints in
     let long = is.long in
+    let end = start-is text (checkpoints text) in
+    let stand = found text r.checkpoints is.checkpoints_stand in
     let cp = is.page_count in
     let ce = is.event_count in
     let ck = is.checkpoint_count in
@@ -199,12 +202,12 @@ is_spelling text r h p is =
     let s2 = holds_all event_bytes 16 text (24 + 1024 * np) r.inputs (omega arith)
     (λ i d lt. holds_at text (event_place text i) (24 + 1024 * np + 16 * i) 16 _ (omega arith) (event_back text (event_place text i) (get_or r.inputs i d) h (omega arith) (is.events_stand i d lt))) in
     let s3 = holds_all checkpoint_bytes 4228 text (24 + 1024 * np + 16 * ne) r.checkpoints (omega arith)
-    (λ i d lt. holds_at text (checkpoint_place text i) (24 + 1024 * np + 16 * ne + 4228 * i) 4228 _ (omega arith) (checkpoint_back text (checkpoint_place text i) r.pool (get_or r.checkpoints i d) h (omega arith) (is.checkpoints_stand i d lt) (fits i d lt))) in
+    (λ i d lt. holds_at text (checkpoint_place text i) (24 + 1024 * np + 16 * ne + 4228 * i) 4228 _ (omega arith) (checkpoint_back text (checkpoint_place text i) r.pool (get_or r.checkpoints i d) h (omega arith) (stand i d lt) (fits i d lt))) in
     let j1 = holds_join text 0 24 24 (1024 * np) (24 + 1024 * np) _ _ s0 s1 (omega arith) refl in
     let j2 = holds_join text 0 (24 + 1024 * np) (24 + 1024 * np) (16 * ne) (24 + 1024 * np + 16 * ne) _ _ j1 s2 (omega arith) refl in
     let j3 = holds_join text 0 (24 + 1024 * np + 16 * ne) (24 + 1024 * np + 16 * ne) (4228 * nk) (24 + 1024 * np + 16 * ne + 4228 * nk) _ _ j2 s3 (omega arith) refl in
     let front : take (24 + 1024 * np + 16 * ne + 4228 * nk) text ≡ header_bytes r ++ flat_map words_bytes r.pool ++ flat_map event_bytes r.inputs ++ flat_map checkpoint_bytes r.checkpoints = holds_front text (24 + 1024 * np + 16 * ne + 4228 * nk) _ j3 in
-    let back : drop (24 + 1024 * np + 16 * ne + 4228 * nk) text ≡ out = ap (λ (k : ℕ). drop k text) (sym place4) ∙ is.output in
+    let back : drop (24 + 1024 * np + 16 * ne + 4228 * nk) text ≡ out = ap (λ (k : ℕ). drop k text) (sym (end ∙ place4)) ∙ is.output in
     sym (take-append-drop (24 + 1024 * np + 16 * ne + 4228 * nk) text) ∙ ap (λ (l : List ℕ). l ++ drop (24 + 1024 * np + 16 * ne + 4228 * nk) text) front ∙ ap (λ (l : List ℕ). header_bytes r ++ flat_map words_bytes r.pool ++ flat_map event_bytes r.inputs ++ flat_map checkpoint_bytes r.checkpoints ++ l) back
 
 -- a recording has at most one text

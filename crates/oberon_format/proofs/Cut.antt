@@ -8,11 +8,12 @@ use Rattle.oberon_format.specs.declared.fields.CheckpointFields.{CheckpointField
 use Rattle.oberon_format.specs.declared.layout.TheConstants.{LONGEST_TEXT, MAGIC_AT, VERSION_AT, PAGES_AT, EVENTS_AT, CHECKPOINTS_AT, LAST_AT, KIND_AT, VALUE_AT, COUNTER_AT, FLAGS_AT, STOP_AT, SWITCHES_AT, LEDS_AT, MOUSE_AT, SERIAL_AT, WAITING_AT, KEYS_AT, SENT_AT, TABLE_AT}
 use Rattle.oberon_format.specs.declared.ranges.TheConstants.{MAX_PAGES, MAX_EVENTS, MAX_CHECKPOINTS}
 use Rattle.oberon_format.specs.Fields.{EventFields}
-use Rattle.oberon_format.specs.Layout.{checkpoint_place, checkpoint_start, event_place, event_start, long_at, page_number_place, word_at}
+use Rattle.oberon_format.specs.Layout.{checkpoints, checkpoint_place, checkpoint_start, event_place, event_start, long_at, page_number_place, word_at}
 use Rattle.oberon_format.specs.Rules.{rules}
 use Rattle.oberon_format.specs.TextFields.{checkpoint_of, event_of, first_fault_of, page_number_of}
 use Rattle.oberon_format.specs.Recording.{RecordingParts}
 use Rattle.oberon_format.specs.Text.{Text}
+use Rattle.oberon_format.proofs.Places.{start-is}
 use Rattle.oberon_format.proofs.Versions.{in_version}
 use Rattle.oberon_format.proofs.LongFields.{AgreeWithin, faults_same, fields}
 
@@ -121,7 +122,7 @@ first_fault_of-take n text over within =
 
 -- the longest text has 101,479,580 bytes: 24 of the header, 65,536 pages, 1,000,000 events, 4,097 checkpoints, and the output
 pub text_within : (text : List ℕ) (r : RecordingParts) → Text text r → length text ≤ LONGEST_TEXT
-text_within text r some = let is = in_version text r some in omega (arith, is.laid.long, is.laid.page_count, is.laid.event_count, is.laid.checkpoint_count, is.lawful.pages, is.lawful.events, is.lawful.few, is.lawful.output)
+text_within text r some = let is = in_version text r some in omega (arith, start-is text (checkpoints text), is.laid.long, is.laid.page_count, is.laid.event_count, is.laid.checkpoint_count, is.lawful.pages, is.lawful.events, is.lawful.few, is.lawful.output)
 
 -- so no text of a recording is cut off there
 pub cut_is_no_text : (n : ℕ) (text : List ℕ) (r : RecordingParts) → LONGEST_TEXT < n → n ≤ length text → Text (take n text) r → ⊥

@@ -21,8 +21,8 @@ use Rattle.oberon_format.specs.Layout.{word_at, long_at, pages, events, checkpoi
 use Rattle.oberon_format.specs.Ranges.{in_ranges, are_keys}
 use Rattle.oberon_format.specs.Recording.{RecordingParts, output_of}
 use Rattle.oberon_format.specs.Formed.{IsFormed, AreFormed}
-use Rattle.oberon_format.specs.Tested.{Meets}
-use Rattle.oberon_format.specs.Text.{EachAt, AreWords, AreBytes, IsPageAt, IsEventAt, IsCpu, IsDevices, IsCheckpoint, IsCheckpointAt, IsLaidOut, Text}
+use Rattle.oberon_format.specs.Tested.{IsCheckpointAt, Meets}
+use Rattle.oberon_format.specs.Text.{EachAt, AreWords, AreBytes, IsPageAt, IsEventAt, IsCpu, IsDevices, IsCheckpoint, IsLaidOut, Text}
 use Rattle.oberon_format.specs.TextFields.{checkpoint_of}
 use Rattle.oberon_format.proofs.Back.{all_bytes}
 use Rattle.oberon_format.proofs.Each.{each_push}
@@ -226,7 +226,7 @@ devices_fit text place room bytes fits =
 record Checkpoints (text : List ℕ) (n : ℕ) : Type 0 where
   list : List CheckpointParts
   count : length list ≡ n
-  stand : EachAt (IsCheckpointAt VERSION text) list
+  stand : EachAt (IsCheckpointAt text) list
   formed : AreFormed list
   output : slice_range text (output_place text) (output_place text + output_below text n) ≡ output_of list
 
@@ -304,7 +304,7 @@ checkpoints_of text (suc n) bytes meets le =
     record {
       list = so_far.list ++ made ∷ [];
       count = omega (arith, length-append so_far.list (made ∷ []));
-      stand = each_push (IsCheckpointAt VERSION text) so_far.list n made so_far.count so_far.stand (checkpoint_stands text place from room fits few keys);
+      stand = each_push (IsCheckpointAt text) so_far.list n made so_far.count so_far.stand (checkpoint_stands text place from room fits few keys);
       formed = All-push IsFormed so_far.list made so_far.formed (checkpoint_formed text place from room bytes few);
       output = ap (slice_range text (output_place text)) end ∙ output_more text n from so_far.list made meets lt refl so_far.output (sent_is text place from);
     }
@@ -319,4 +319,4 @@ has_recording text bytes meets =
     let r : RecordingParts = record { pool = ps.pool; inputs = es.list; checkpoints = cs.list } in
     let laid : IsLaidOut VERSION text r = text_read text ps.pool es.list cs.list meets ps.count ps.stand es.count es.stand cs.count cs.stand output in
     let ordered = events_ordered text es.list meets es.count es.stand in
-    (r, (VERSION, record { lawful = read_lawful text r meets ps.whole ordered cs.formed laid; laid = laid }))
+    (r, record { version = VERSION; is = record { lawful = read_lawful text r meets ps.whole ordered cs.formed laid; laid = laid } })

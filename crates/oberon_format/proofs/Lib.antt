@@ -7,6 +7,7 @@ pub mod Output
 pub mod PartLemmas
 pub mod SameFields
 pub mod Versions
+pub mod Places
 pub mod TextLemmas
 mod SameRules
 mod LongFields

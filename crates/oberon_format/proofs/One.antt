@@ -12,7 +12,7 @@ use Rattle.risc_machine.specs.MachineState.{CpuState, IsCpuState}
 use Rattle.oberon_format.specs.declared.layout.TheConstants.{VERSION, TABLE_AT}
 use Rattle.oberon_format.specs.CheckpointParts.{CheckpointParts, no_checkpoint}
 use Rattle.oberon_format.specs.FlagsNumber.{bits_number, flags_number}
-use Rattle.oberon_format.specs.Layout.{page_place, event_place, checkpoint_place}
+use Rattle.oberon_format.specs.Layout.{page_place, event_place, start}
 use Rattle.oberon_format.specs.Recording.{RecordingParts, IsFit, checkpoint_at, output_of}
 use Rattle.oberon_format.specs.Text.{AreWords, IsEvent, IsCpu, IsDevices, IsCheckpoint, TextIn}
 
@@ -123,7 +123,7 @@ checkpoints_same text r s a b =
     let lengths : (i : ℕ) → i < length r.checkpoints → length (checkpoint_at r i).sent ≡ length (checkpoint_at s i).sent = λ i lt. sym (stands_r i no_checkpoint lt).front.sent ∙ (stands_s i no_checkpoint (omega arith)).front.sent in
     let sent = same_sent r.checkpoints s.checkpoints len lengths (sym a.laid.output ∙ b.laid.output) in
     let each : (i : ℕ) → i < length r.checkpoints → checkpoint_at r i ≡ checkpoint_at s i = λ i lt.
-    same_checkpoint text (checkpoint_place text i) r.pool s.pool (checkpoint_at r i) (checkpoint_at s i) (a.lawful.fit i lt) (b.lawful.fit i (omega arith)) (sent i lt) (stands_r i no_checkpoint lt) (stands_s i no_checkpoint (omega arith)) in
+    same_checkpoint text (start text i) r.pool s.pool (checkpoint_at r i) (checkpoint_at s i) (a.lawful.fit i lt) (b.lawful.fit i (omega arith)) (sent i lt) (stands_r i no_checkpoint lt) (stands_s i no_checkpoint (omega arith)) in
     same_members r.checkpoints s.checkpoints len (λ i d lt. get_or_default r.checkpoints i d no_checkpoint lt ∙ each i lt ∙ get_or_default s.checkpoints i no_checkpoint d (omega arith))
 
 -- a text is that of one recording

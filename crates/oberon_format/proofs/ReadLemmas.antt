@@ -15,11 +15,12 @@ use Rattle.oberon_format.specs.Ranges.{is_event}
 use Rattle.oberon_format.specs.Recording.{RecordingParts, IsLawful, output_of}
 use Rattle.oberon_format.specs.Rules.{event_rules, event_floor}
 use Rattle.oberon_format.specs.Formed.{AreFormed}
-use Rattle.oberon_format.specs.Tested.{Meets}
-use Rattle.oberon_format.specs.Text.{EachAt, IsPageAt, IsEventAt, IsCheckpointAt, IsLaidOut}
+use Rattle.oberon_format.specs.Tested.{IsCheckpointAt, Meets}
+use Rattle.oberon_format.specs.Text.{EachAt, IsPageAt, IsEventAt, IsLaidOut}
 use Rattle.oberon_format.specs.TextFields.{fields_of, event_of}
 use Rattle.oberon_format.proofs.Agree.{text_agrees}
 use Rattle.oberon_format.proofs.LawfulLemmas.{faultless_lawful}
+use Rattle.oberon_format.proofs.Places.{stand_there, start-is}
 use Rattle.oberon_format.proofs.PartLemmas.{member}
 use Rattle.oberon_format.proofs.RuleLemmas.{each_holds, rule_holds, and_left, and_right}
 
@@ -45,10 +46,11 @@ events_ordered text es meets len each place lt =
 -- the parts that were read are those of the text
 pub text_read : (text : List ℕ) (pool : List (List ℕ)) (inputs : List Event) (cs : List CheckpointParts) → Meets text
     → length pool ≡ pages text → EachAt (IsPageAt text) pool → length inputs ≡ events text → EachAt (IsEventAt text) inputs
-    → length cs ≡ checkpoints text → EachAt (IsCheckpointAt VERSION text) cs → drop (output_place text) text ≡ output_of cs
+    → length cs ≡ checkpoints text → EachAt (IsCheckpointAt text) cs → drop (output_place text) text ≡ output_of cs
     → IsLaidOut VERSION text (record { pool = pool; inputs = inputs; checkpoints = cs })
 text_read text pool inputs cs meets np each_page ne each_event nk each_checkpoint output =
     let long = meets.sized.long in
+    let end = start-is text (checkpoints text) in
     let rest = length-drop (output_place text) text in
     let same : length (drop (output_place text) text) ≡ length (output_of cs) = ap (λ (l : List ℕ). length l) output in
     record {
@@ -61,8 +63,8 @@ text_read text pool inputs cs meets np each_page ne each_event nk each_checkpoin
       zero = meets.zero_is;
       pages_stand = each_page;
       events_stand = each_event;
-      checkpoints_stand = each_checkpoint;
-      output = output;
+      checkpoints_stand = stand_there text cs each_checkpoint;
+      output = ap (λ (k : ℕ). drop k text) end ∙ output;
     }
 
 pub read_lawful : (text : List ℕ) (r : RecordingParts) → Meets text → ArePages r.pool → AreOrdered r.inputs → AreFormed r.checkpoints → IsLaidOut VERSION text r → IsLawful r

@@ -14,11 +14,12 @@ use Rattle.oberon_format.specs.declared.layout.TheConstants.{MAGIC, VERSION, MAG
 use Rattle.oberon_format.specs.declared.ranges.TheConstants.{MAX_OUTPUT}
 use Rattle.oberon_format.specs.CheckpointParts.{CheckpointParts, no_checkpoint}
 use Rattle.oberon_format.specs.FlagsNumber.{flags_number}
-use Rattle.oberon_format.specs.Layout.{word_at, page_place, event_place, checkpoint_place, output_place}
+use Rattle.oberon_format.specs.Layout.{checkpoints, word_at, page_place, event_place, checkpoint_place, output_place}
 use Rattle.oberon_format.specs.Recording.{RecordingParts, IsLawful, IsFit, output_of}
 use Rattle.oberon_format.specs.Spelling.{word_bytes, long_bytes, words_bytes, event_bytes, cpu_bytes, device_bytes, checkpoint_bytes, header_bytes, spelling}
 use Rattle.oberon_format.specs.Text.{IsEvent, IsCpu, IsDevices, IsCheckpoint, IsLaidOut, Text}
 use Rattle.oberon_format.proofs.LawfulLemmas.{flags_fit, serial_fits}
+use Rattle.oberon_format.proofs.Places.{stand_there, start-is}
 use Rattle.oberon_format.proofs.Stands.{AreWide, Stands, stands_whole, stands_left, stands_right, stands_from, stands_range, word_stands, long_stands, words_stand, each_stands, stands_regroup, length-word_bytes, length-long_bytes, length-words_bytes, length-flat_map}
 use Rattle.oberon_format.proofs.WriteLemmas.{sent_le}
 
@@ -260,11 +261,12 @@ spelled r p =
     let e2 : 24 + 1024 * np ≡ event_place text 0 = rw header.p (omega arith) in
     let e3 : 24 + 1024 * np + 16 * ne ≡ checkpoint_place text 0 = rw (header.p, header.e) (omega arith) in
     let e4 : 24 + 1024 * np + 16 * ne + 4228 * nk ≡ output_place text = rw (header.p, header.e, header.k) refl in
+    let end = start-is text (checkpoints text) in
     let pages_at = each_stands words_bytes 1024 text 24 r.pool page_len (stands_right text 0 24 H P s2 l1) in
     let events_at = each_stands event_bytes 16 text (24 + 1024 * np) r.inputs event_len (stands_from text (24 + 1024 * np) (H ++ P) E s3 l2) in
     let checkpoints_at = each_stands checkpoint_bytes 4228 text (24 + 1024 * np + 16 * ne) r.checkpoints checkpoint_len (stands_from text (24 + 1024 * np + 16 * ne) (H ++ P ++ E) C s4 l3) in
     record {
-      long = omega (arith, length-append (H ++ P ++ E ++ C) O);
+      long = omega (arith, end, length-append (H ++ P ++ E ++ C) O);
       magic = header.m;
       version = header.v;
       page_count = header.p;
@@ -273,10 +275,10 @@ spelled r p =
       zero = header.z;
       pages_stand = λ i d h. words_stand text (page_place i) (get_or r.pool i d) (p.pool i d h).fit (pages_at i d h);
       events_stand = λ i d h. event_stands text (event_place text i) (get_or r.inputs i d) (rw header.p (events_at i d h));
-      checkpoints_stand = λ i d h. checkpoint_stands text (checkpoint_place text i) r.pool (get_or r.checkpoints i d) (fits i d h) (sent i d h) (rw (header.p, header.e) (checkpoints_at i d h));
-      output = ap (λ (k : ℕ). drop k text) (sym e4) ∙ drop_at (H ++ P ++ E ++ C) O (24 + 1024 * np + 16 * ne + 4228 * nk) l4;
+      checkpoints_stand = stand_there text r.checkpoints (λ i d h. checkpoint_stands text (checkpoint_place text i) r.pool (get_or r.checkpoints i d) (fits i d h) (sent i d h) (rw (header.p, header.e) (checkpoints_at i d h)));
+      output = ap (λ (k : ℕ). drop k text) (end ∙ sym e4) ∙ drop_at (H ++ P ++ E ++ C) O (24 + 1024 * np + 16 * ne + 4228 * nk) l4;
     }
 
 -- the bytes of a lawful recording are its text
 pub is_text : (r : RecordingParts) (bytes : List ℕ) → IsLawful r → bytes ≡ spelling r → Text bytes r
-is_text r bytes lawful e = (VERSION, record { lawful = lawful; laid = subst (λ (t : List ℕ). IsLaidOut VERSION t r) (sym e) (spelled r lawful) })
+is_text r bytes lawful e = record { version = VERSION; is = record { lawful = lawful; laid = subst (λ (t : List ℕ). IsLaidOut VERSION t r) (sym e) (spelled r lawful) } }

@@ -7,4 +7,4 @@ use Rattle.oberon_format.specs.Text.{Text, TextIn}
 
 -- which the end of checkpoint 0 says
 pub in_version : (text : List ℕ) (r : RecordingParts) → Text text r → TextIn VERSION text r
-in_version text r (version, is) = subst (λ (v : ℕ). TextIn v text r) (is.laid.checkpoints_stand 0 no_checkpoint is.lawful.some).tail.known is
+in_version text r some = subst (λ (v : ℕ). TextIn v text r) (some.is.laid.checkpoints_stand 0 no_checkpoint some.is.lawful.some).tail.known some.is

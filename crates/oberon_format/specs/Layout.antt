@@ -1,7 +1,7 @@
 -- Where the parts of a text of version 1 begin (this project's own format). Numbers are unsigned, with their lowest byte first, and
 -- offsets count bytes from 0: a header of 24 bytes, pages of 1,024, events of 16, checkpoints of 4,228, and the output. The names
 -- of these lengths, and of the places of fields, stand in the code's module `layout`.
-use Rattle.std.specs.Prelude.{ℕ, ◌+◌, ◌*◌, List}
+use Rattle.std.specs.Prelude.{ℕ, zero, suc, ◌+◌, ◌*◌, List}
 use Rattle.byteorder.specs.Endian.{little_from}
 use Rattle.oberon_format.specs.declared.layout.TheConstants.{HEADER_LEN, PAGE_LEN, EVENT_LEN, CHECKPOINT_LEN, PAGES_AT, EVENTS_AT, CHECKPOINTS_AT, TABLE_AT}
 
@@ -48,3 +48,8 @@ checkpoint_place text k = checkpoint_start (pages text) (events text) k
 
 abbrev pub output_place : List ℕ → ℕ
 output_place text = checkpoint_place text (checkpoints text)
+
+-- the same places, as a running sum: behind the events the checkpoints stand one behind the other
+unfoldable pub start : List ℕ → ℕ → ℕ
+start text zero = event_place text (events text)
+start text (suc k) = start text k + CHECKPOINT_LEN

@@ -8,7 +8,7 @@ use Rattle.oberon_format.specs.declared.layout.TheConstants.{MAGIC, VERSION, MAG
 use Rattle.oberon_format.specs.CheckpointParts.{CheckpointParts}
 use Rattle.oberon_format.specs.FlagsNumber.{flags_number}
 use Rattle.oberon_format.specs.KeyBytes.{key_bytes}
-use Rattle.oberon_format.specs.Layout.{word_at, long_at, pages, events, checkpoints, page_place, event_place, checkpoint_place, output_place}
+use Rattle.oberon_format.specs.Layout.{word_at, long_at, pages, events, checkpoints, page_place, event_place, start}
 use Rattle.oberon_format.specs.Recording.{RecordingParts, IsLawful, output_of}
 
 -- each member of a list is as its number says
@@ -69,12 +69,9 @@ pub record IsCheckpoint (version : ℕ) (text : List ℕ) (place : ℕ) (c : Che
   pub front : IsFront text place c
   pub tail : IsTail version text place c
 
-abbrev pub IsCheckpointAt : ℕ → List ℕ → ℕ → CheckpointParts → Type 0
-IsCheckpointAt version text k c = IsCheckpoint version text (checkpoint_place text k) c
-
 -- the text is of this version, and has the length, and at each place the field, of these parts
 pub record IsLaidOut (v : ℕ) (text : List ℕ) (r : RecordingParts) : Type 0 where
-  pub long : length text ≡ output_place text + length (output_of r.checkpoints)
+  pub long : length text ≡ start text (checkpoints text) + length (output_of r.checkpoints)
   pub magic : word_at text MAGIC_AT ≡ MAGIC
   pub version : word_at text VERSION_AT ≡ v
   pub page_count : pages text ≡ length r.pool
@@ -83,8 +80,8 @@ pub record IsLaidOut (v : ℕ) (text : List ℕ) (r : RecordingParts) : Type 0 w
   pub zero : word_at text LAST_AT ≡ 0
   pub pages_stand : EachAt (IsPageAt text) r.pool
   pub events_stand : EachAt (IsEventAt text) r.inputs
-  pub checkpoints_stand : EachAt (IsCheckpointAt v text) r.checkpoints
-  pub output : drop (output_place text) text ≡ output_of r.checkpoints
+  pub checkpoints_stand : EachAt (λ k c. IsCheckpoint v text (start text k) c) r.checkpoints
+  pub output : drop (start text (checkpoints text)) text ≡ output_of r.checkpoints
 
 -- the text of a recording in one version: the recording is lawful, and the text is laid out of it
 pub record TextIn (version : ℕ) (text : List ℕ) (r : RecordingParts) : Type 0 where
@@ -92,8 +89,9 @@ pub record TextIn (version : ℕ) (text : List ℕ) (r : RecordingParts) : Type 
   pub laid : IsLaidOut version text r
 
 -- the text of a recording in some version
-abbrev pub Text : List ℕ → RecordingParts → Type 0
-Text text r = (version : ℕ) × TextIn version text r
+pub record Text (text : List ℕ) (r : RecordingParts) : Type 0 where
+  pub version : ℕ
+  pub is : TextIn version text r
 
 -- each member is a byte
 abbrev pub AreBytes : List ℕ → Type 0

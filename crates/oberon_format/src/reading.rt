@@ -6,8 +6,8 @@ ghost use Rattle.oberon_format.specs.Layout.{word_at, pages, events, checkpoints
 ghost use Rattle.oberon_format.specs.Parts.{parts_of};
 ghost use Rattle.oberon_format.specs.Ranges.{in_ranges, are_keys};
 ghost use Rattle.oberon_format.specs.Recording.{output_of};
-ghost use Rattle.oberon_format.specs.Tested.{IsSized, Meets};
-ghost use Rattle.oberon_format.specs.Text.{EachAt, AreWords, IsPageAt, IsEvent, IsEventAt, IsCpu, IsDevices, IsCheckpoint, IsCheckpointAt, Text};
+ghost use Rattle.oberon_format.specs.Tested.{IsCheckpointAt, IsSized, Meets};
+ghost use Rattle.oberon_format.specs.Text.{EachAt, AreWords, IsPageAt, IsEvent, IsEventAt, IsCpu, IsDevices, IsCheckpoint, Text};
 ghost use Rattle.oberon_format.specs.TextFields.{first_fault_of, checkpoint_of};
 ghost use Rattle.risc_devices.specs.InputKind.{IsInput};
 ghost use Rattle.risc_machine.specs.MachineState.{cpu_state};
@@ -202,7 +202,7 @@ fn checkpoint_of(
 fn checkpoints_of(alloc: Global, text: &[u8]) -> Result<Vec<Checkpoint>, AllocError>
     requires { Meets text.now }
     ensures count { IfOk result (λ list. length list.items ≡ checkpoints text.now) }
-    ensures stand { IfOk result (λ list. EachAt (IsCheckpointAt VERSION text.now) (map checkpoint_parts list.items)) }
+    ensures stand { IfOk result (λ list. EachAt (IsCheckpointAt text.now) (map checkpoint_parts list.items)) }
     ensures output { IfOk result (λ list. drop (output_place text.now) text.now ≡ output_of (map checkpoint_parts list.items)) }
 {
     let pages = page_count(text);

@@ -12,7 +12,7 @@ accepted r text is_text truth = inl (record {
   is_text = is_text;
   verdict = Accepted (last_of r) (count_at r (last_of r));
   is_verdict = record {
-    true_at = λ k above within. truth k (omega (arith, is_text.1.lawful.some));
+    true_at = λ k above within. truth k (omega (arith, is_text.is.lawful.some));
     checkpoints_is = refl;
     steps_is = refl;
   };

@@ -1,6 +1,6 @@
 use Rattle.std.proofs.Common.{◌≡◌, ◌<◌, ◌∙◌, [], ◌∷◌, refl, ap, sym, subst, ◌++◌, map, length, length-append, arith}
 use Rattle.std.proofs.lemmas.List.{map-append, length-map}
-use Rattle.oberon_format.specs.declared.layout.TheConstants.{VERSION}
+use Rattle.oberon_format.specs.Tested.{IsCheckpointAt}
 use Rattle.oberon_format.specs.CheckpointParts.{checkpoint_parts}
 use Rattle.oberon_format.specs.Recording.{output_of}
 use Rattle.oberon_format.specs.Text.{EachAt}
@@ -9,7 +9,6 @@ use Rattle.oberon_format.proofs.RuleLemmas.{output_below_none, output_below_more
 use Rattle.oberon_format.proofs.Output.{ranges_hold, keys_hold, output_fits, output_more, output_all, range-none}
 use Rattle.oberon_format.proofs.reading.checkpoints_of.Goals as goal
 use Rattle.oberon_format.specs.Layout.{checkpoint_place, checkpoints, output_place}
-use Rattle.oberon_format.specs.Text.{IsCheckpointAt}
 
 pub loop-k-init : goal.loop-k-init
 loop-k-init c =
@@ -56,7 +55,7 @@ loop-k-preserved c =
     let count : length parts ≡ k = length-map items checkpoint_parts ∙ c.loop-k.invariant.len in
     rw c.in_ok-push.ensures.items (record {
       len = omega (arith, length-append items (checkpoint ∷ []));
-      each = subst (EachAt (IsCheckpointAt VERSION text)) (sym pushed) (each_push (IsCheckpointAt VERSION text) parts k part count c.loop-k.invariant.each stands);
+      each = subst (EachAt (IsCheckpointAt text)) (sym pushed) (each_push (IsCheckpointAt text) parts k part count c.loop-k.invariant.each stands);
       from_is = omega arith;
       output = rw own (output_more text k c.loop-k.from parts part c.requires lt c.loop-k.invariant.from_is c.loop-k.invariant.output sent ∙ ap output_of (sym pushed));
     })

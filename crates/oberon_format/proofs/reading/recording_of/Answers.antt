@@ -29,4 +29,4 @@ returns c =
     c.in_ok-pool.ensures.0 c.in_ok-pool.ensures.1 c.in_ok-inputs.ensures.0 c.in_ok-inputs.ensures.1
     (length-map items checkpoint_parts ∙ c.in_ok-checkpoints.ensures.count) c.in_ok-checkpoints.ensures.stand c.in_ok-checkpoints.ensures.output in
     let lawful = read_lawful text _ c.requires c.len-pages.ensures.pages c.events-events.ensures.ordered formed laid in
-    subst (Text text) (sym c.from_lawful.ensures) (VERSION, record { lawful = lawful; laid = laid })
+    subst (Text text) (sym c.from_lawful.ensures) (record { version = VERSION; is = record { lawful = lawful; laid = laid } })
