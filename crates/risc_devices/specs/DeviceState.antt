@@ -4,9 +4,10 @@ use Rattle.std.specs.Prelude.{ℕ, ◌+◌, ◌/◌, ◌%◌, ◌^◌, ◌<◌, 
 use Rattle.risc_devices.specs.InputKind.{is_mouse}
 
 -- What the devices hold. The timer counts milliseconds: `rate` is how many instructions a millisecond has, 0 for a timer that
--- does not count by itself, and `phase` how many of them are done (both are this project's own choice). The buttons are bits 11 to 8 of `switches`, and the switches bits 7 to 0. `serial` is the byte that
--- the serial line holds, and `received` whether it came since the last read: that the line holds one byte, and keeps it once
--- it was read, is this project's own choice. `keys` are the key codes that wait, oldest first.
+-- does not count by itself, and `phase` how many of them are done (both are this project's own choice). The buttons are bits
+-- 11 to 8 of `switches`, and the switches bits 7 to 0. `serial` is the byte that the serial line holds, and `received` whether
+-- it came since the last read: that the line holds one byte, and keeps it once it was read, is this project's own choice.
+-- `keys` are the key codes that wait, oldest first.
 pub record DeviceState : Type 0 where
   pub timer : ℕ
   pub rate : ℕ
