@@ -1,40 +1,68 @@
 -- A text that is laid out of parts has their fields, and so their first fault.
-use Rattle.std.proofs.Common.{◌≡◌, ◌<◌, ◌≤◌, ◌+◌, ◌-◌, ◌∙◌, ℕ, List, ◌++◌, get_or, length, drop, sym, ap, arith}
-use Rattle.std.specs.Prelude.{slice_range, replicate}
-use Rattle.std.proofs.lemmas.List.{drop_at}
-use Rattle.risc_devices.specs.DeviceState.{DeviceState}
+use Rattle.std.proofs.Common.{◌≡◌, ◌<◌, ◌≤◌, ◌+◌, ◌-◌, ◌∙◌, ℕ, zero, suc, true, false, List, get_or, length, refl, sym, ap, subst, inl, inr, arith}
+use Rattle.std.specs.Prelude.{slice_index, slice_index_or, ◌==◌}
+use Rattle.std.proofs.lemmas.Bool.{ne_eqb}
+use Rattle.std.proofs.lemmas.List.{get_or-map, get_or-replicate}
 use Rattle.risc_machine.specs.declared.event.Event.{Event}
-use Rattle.oberon_format.specs.declared.layout.TheConstants.{VERSION}
+use Rattle.risc_pages.specs.Tables.{zero_numbers}
+use Rattle.oberon_format.specs.declared.change.Change.{Change}
+use Rattle.oberon_format.specs.declared.layout.TheConstants.{FIRST_VERSION, VERSION, PLACES, RATE_AT, PHASE_AT}
+use Rattle.oberon_format.specs.Changes.{changes, no_change, number_after}
 use Rattle.oberon_format.specs.CheckpointParts.{CheckpointParts, no_checkpoint}
-use Rattle.oberon_format.specs.Layout.{checkpoints, word_at, event_place, checkpoint_place}
-use Rattle.oberon_format.specs.PartFields.{fields_of_parts, fault_of_parts, event_fields, checkpoint_fields}
-use Rattle.oberon_format.specs.Recording.{RecordingParts, checkpoint_at}
 use Rattle.oberon_format.specs.Formed.{AreFormed}
-use Rattle.oberon_format.specs.Text.{IsEvent, IsDevices, IsCheckpoint, IsLaidOut}
-use Rattle.oberon_format.specs.TextFields.{fields_of, event_of, checkpoint_of, first_fault_of}
-use Rattle.oberon_format.proofs.Keys.{range-split, length-range}
-use Rattle.oberon_format.proofs.PartLemmas.{member, event_here, checkpoint_here, number_here}
-use Rattle.oberon_format.proofs.Places.{found, start-is}
+use Rattle.oberon_format.specs.FirstFault.{first_broken}
+use Rattle.oberon_format.specs.Layout.{version, event_place, change_place, change_count, later_word, start}
+use Rattle.oberon_format.specs.PartFields.{fields_laid, event_fields, no_event, checkpoint_fields, changes_laid}
+use Rattle.oberon_format.specs.Ranges.{is_version}
+use Rattle.oberon_format.specs.Recording.{RecordingParts, checkpoint_at, table_before, output_of}
+use Rattle.oberon_format.specs.Rules.{rules}
+use Rattle.oberon_format.specs.Text.{IsEvent, IsChange, IsChanged, IsCheckpoint, IsLaidOut}
+use Rattle.oberon_format.specs.TextFields.{fields_of, event_of, checkpoint_of, change_at, change_of, number_before, page_number_of, first_fault_of}
+use Rattle.oberon_format.proofs.ChangeLemmas.{change_in, changes-make, after-same}
+use Rattle.oberon_format.proofs.PartLemmas.{member}
+use Rattle.oberon_format.proofs.Places.{count_laid, start-laid}
+use Rattle.oberon_format.proofs.RuleLemmas.{version_cases}
 use Rattle.oberon_format.proofs.SameFields.{SameFields, same_rules}
 
 -- an event that stands at a place has its fields there
 event_stands : (text : List ℕ) (place : ℕ) (e : Event) → IsEvent text place e → event_of text place ≡ event_fields e
 event_stands text place e is = λ i. record { count = is.count i; kind = is.kind i; value = is.value i }
 
-events_agree : (text : List ℕ) (r : RecordingParts) → IsLaidOut VERSION text r → (i : ℕ) → i < length r.inputs → (fields_of text).event i ≡ (fields_of_parts r).event i
-events_agree text r is i lt =
-    let d = member r.inputs i lt in
-    event_stands text (event_place text i) (get_or r.inputs i d) (is.events_stand i d lt) ∙ sym (event_here r i d lt)
+events_agree : (v : ℕ) (text : List ℕ) (r : RecordingParts) → IsLaidOut v text r
+    → (i : ℕ) → i < length r.inputs → (fields_of text).event i ≡ (fields_laid v r).event i
+events_agree v text r is i lt =
+    let e = member r.inputs i lt in
+    event_stands text (event_place text i) (get_or r.inputs i e) (is.events_stand i e lt) ∙ sym (get_or-map event_fields r.inputs i e no_event lt)
+
+-- the rate and the phase of a checkpoint that stands at a place
+rate_stands : (v : ℕ) (text : List ℕ) (place : ℕ) (before : List ℕ) (c : CheckpointParts)
+    → is_version v ≡ true → version text ≡ v → IsCheckpoint v text place before c → later_word text (place + RATE_AT) ≡ c.devices.rate
+rate_stands v text place before c known of is =
+    elim (version_cases v known) [
+      | inl first ↦ let rate = (is.in_first first).rate in rw (of, first) (sym rate)
+      | inr second ↦ let rate = (is.in_second second).rate in rw (of, second) rate
+    ]
+
+phase_stands : (v : ℕ) (text : List ℕ) (place : ℕ) (before : List ℕ) (c : CheckpointParts)
+    → is_version v ≡ true → version text ≡ v → IsCheckpoint v text place before c → later_word text (place + PHASE_AT) ≡ c.devices.phase
+phase_stands v text place before c known of is =
+    elim (version_cases v known) [
+      | inl first ↦ let phase = (is.in_first first).phase in rw (of, first) (sym phase)
+      | inr second ↦ let phase = (is.in_second second).phase in rw (of, second) phase
+    ]
 
 -- a checkpoint that stands at a place has its fields there
-checkpoint_stands : (text : List ℕ) (place : ℕ) (c : CheckpointParts) → IsCheckpoint VERSION text place c → checkpoint_of text place ≡ checkpoint_fields c
-checkpoint_stands text place c is =
+checkpoint_stands : (v : ℕ) (text : List ℕ) (place : ℕ) (before : List ℕ) (c : CheckpointParts)
+    → is_version v ≡ true → version text ≡ v → IsCheckpoint v text place before c → checkpoint_of text place ≡ checkpoint_fields v before c
+checkpoint_stands v text place before c known of is =
+    let rate = rate_stands v text place before c known of is in
+    let phase = phase_stands v text place before c known of is in
+    let count = count_laid v text place before c known of is in
     λ i. record {
       count = is.front.count i;
       pc = is.front.cpu.pc i;
       flags = is.front.cpu.flags i;
       stop = is.front.cpu.stop i;
-      rate = sym is.front.devices.rate i;
       switches = is.front.devices.switches i;
       leds = is.front.devices.leds i;
       mouse = is.front.devices.mouse i;
@@ -42,32 +70,111 @@ checkpoint_stands text place c is =
       waiting = is.front.devices.waiting i;
       keys = is.front.devices.keys i;
       output = is.front.sent i;
+      rate = rate i;
+      phase = phase i;
+      changes = count i;
     }
 
-pub fields_agree : (text : List ℕ) (r : RecordingParts) → AreFormed r.checkpoints → IsLaidOut VERSION text r → SameFields (fields_of text) (fields_of_parts r)
-fields_agree text r formed is =
+-- a change that stands at a place
+change_stands : (text : List ℕ) (at : ℕ) (change : Change) → IsChange text at change → change_at text at ≡ change
+change_stands text at change is = λ i. record { place = is.place i; number = is.number i }
+
+-- change i of a checkpoint of version 2
+changes_stand : (text : List ℕ) (place : ℕ) (before : List ℕ) (c : CheckpointParts) → IsChanged text place before c → (i : ℕ) → i < length (changes before c.table)
+    → change_of text place i ≡ change_in before c.table i
+changes_stand text place before c is i lt = change_stands text (change_place place i) (change_in before c.table i) (is.changes i no_change lt)
+
+-- the table before each checkpoint but the first is that of the one before
+table_next : (cs : List CheckpointParts) (k : ℕ) → table_before cs (suc k) ≡ (slice_index_or cs k no_checkpoint).table
+table_next cs k =
+    let later : (suc k == 0) ≡ false = ne_eqb (suc k) 0 (λ e. omega arith) in
+    let back : suc k - 1 ≡ k = omega arith in
+    rw (later, back) refl
+
+-- the numbers before a checkpoint of version 2 are those of the table before it
+no_numbers : (p : ℕ) → p < PLACES → 0 ≡ slice_index zero_numbers p
+unfolding zero_numbers
+no_numbers p less = sym (get_or-replicate PLACES p 0 0 less)
+
+numbers_stand : (text : List ℕ) (r : RecordingParts) → IsLaidOut VERSION text r → (k p : ℕ) → k ≤ length r.checkpoints → p < PLACES
+    → number_before text k p ≡ slice_index (table_before r.checkpoints k) p
+unfolding number_before
+numbers_stand text r is zero p le less = no_numbers p less
+numbers_stand text r is (suc k) p le less =
+    let lt : k < length r.checkpoints = omega arith in
+    let before = table_before r.checkpoints k in
+    let c = checkpoint_at r k in
+    let changed = (is.checkpoints_stand k no_checkpoint lt).in_second refl in
+    let count : change_count text (start text k) ≡ length (changes before c.table) =
+    count_laid VERSION text (start text k) before c refl is.version (is.checkpoints_stand k no_checkpoint lt) in
+    ap (λ (n : ℕ). number_after (change_of text (start text k)) (number_before text k) n p) count
+    ∙ after-same (change_of text (start text k)) (change_in before c.table) (number_before text k) (slice_index before) (length (changes before c.table)) p
+    (changes_stand text (start text k) before c changed) (numbers_stand text r is k p (omega arith) less)
+    ∙ changes-make before c.table p less
+    ∙ ap (λ (table : List ℕ). slice_index table p) (sym (table_next r.checkpoints k))
+
+-- the page numbers of a text of either version
+pages_agree : (v : ℕ) (text : List ℕ) (r : RecordingParts) → AreFormed r.checkpoints → IsLaidOut v text r → (k p : ℕ) → k < length r.checkpoints → p < PLACES
+    → page_number_of text k p ≡ slice_index (checkpoint_at r k).table p
+pages_agree v text r formed is k p lt less =
+    let of = is.version in
+    elim (version_cases v is.known) [
+      | inl first ↦
+          let table = (formed k no_checkpoint lt).table.count in
+          let number = ((is.checkpoints_stand k no_checkpoint lt).in_first first).table p 0 (omega arith) in
+          rw (of, first) number
+      | inr second ↦
+          let number = numbers_stand text r (subst (λ (n : ℕ). IsLaidOut n text r) second is) (suc k) p (omega arith) less in
+          let here = number ∙ ap (λ (table : List ℕ). slice_index table p) (table_next r.checkpoints k) in
+          rw (of, second) here
+    ]
+
+-- in version 1 a checkpoint has no changes, in version 2 it has those of its table
+no_change_laid : (v : ℕ) (before : List ℕ) (c : CheckpointParts) (i : ℕ) → v ≡ FIRST_VERSION → i < changes_laid v before c → ⊥
+no_change_laid v before c i first lt =
+    let none : changes_laid v before c ≡ 0 = rw first refl in
+    omega arith
+
+change_laid : (v : ℕ) (before : List ℕ) (c : CheckpointParts) (i : ℕ) → v ≡ VERSION → i < changes_laid v before c → i < length (changes before c.table)
+change_laid v before c i second lt =
+    let all : changes_laid v before c ≡ length (changes before c.table) = rw second refl in
+    omega arith
+
+-- the changes of a text of either version: in version 1 there are none
+changes_agree : (v : ℕ) (text : List ℕ) (r : RecordingParts) → IsLaidOut v text r → (k i : ℕ) → k < length r.checkpoints
+    → i < changes_laid v (table_before r.checkpoints k) (checkpoint_at r k)
+    → change_of text (start text k) i ≡ change_in (table_before r.checkpoints k) (checkpoint_at r k).table i
+changes_agree v text r is k i lt less =
+    elim (version_cases v is.known) [
+      | inl first ↦ absurd (no_change_laid v (table_before r.checkpoints k) (checkpoint_at r k) i first less)
+      | inr second ↦
+          changes_stand text (start text k) (table_before r.checkpoints k) (checkpoint_at r k) ((is.checkpoints_stand k no_checkpoint lt).in_second second) i
+          (change_laid v (table_before r.checkpoints k) (checkpoint_at r k) i second less)
+    ]
+
+-- all fields
+fields_agree : (v : ℕ) (text : List ℕ) (r : RecordingParts) → AreFormed r.checkpoints → IsLaidOut v text r → SameFields (fields_of text) (fields_laid v r)
+fields_agree v text r formed is =
     let long = is.long in
-    let end = start-is text (checkpoints text) in
-    let stand = found text r.checkpoints is.checkpoints_stand in
-    let cp = is.page_count in
-    let ce = is.event_count in
-    let ck = is.checkpoint_count in
+    let count = is.checkpoint_count in
+    let end = start-laid v text r is (length r.checkpoints) (omega arith) in
     record {
-      long = omega arith;
+      long = long ∙ ap (λ (k : ℕ). start text k + length (output_of r.checkpoints)) count ∙ ap (λ (n : ℕ). n + length (output_of r.checkpoints)) end;
       first = is.magic;
       version = is.version;
       pages = is.page_count;
       events = is.event_count;
       checkpoints = is.checkpoint_count;
       last = is.zero;
-      event = events_agree text r is;
+      event = events_agree v text r is;
+      start = start-laid v text r is;
       checkpoint = λ k lt.
-          checkpoint_stands text (checkpoint_place text k) (checkpoint_at r k) (stand k no_checkpoint lt)
-          ∙ sym (checkpoint_here r k lt);
-      page_number = λ k j lt less.
-          let table = (formed k no_checkpoint lt).table.count in
-          (stand k no_checkpoint lt).tail.table j 0 (omega arith) ∙ ap (λ (h : ℕ → ℕ). h j) (sym (number_here r k lt));
+          checkpoint_stands v text (start text k) (table_before r.checkpoints k) (checkpoint_at r k) is.known is.version (is.checkpoints_stand k no_checkpoint lt);
+      change = λ k i lt. changes_agree v text r is k i lt;
+      page_number = λ k p lt. pages_agree v text r formed is k p lt;
     }
 
-pub text_agrees : (text : List ℕ) (r : RecordingParts) → AreFormed r.checkpoints → IsLaidOut VERSION text r → first_fault_of text ≡ fault_of_parts r
-text_agrees text r formed is = same_rules (fields_of text) (fields_of_parts r) (fields_agree text r formed is)
+-- and so the first fault
+pub text_agrees : (v : ℕ) (text : List ℕ) (r : RecordingParts) → AreFormed r.checkpoints → IsLaidOut v text r
+    → first_fault_of text ≡ first_broken (rules (fields_laid v r))
+text_agrees v text r formed is = same_rules (fields_of text) (fields_laid v r) (fields_agree v text r formed is)

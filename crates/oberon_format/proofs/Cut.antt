@@ -1,21 +1,24 @@
 -- How long the text of a recording can be, and that a text that is cut off behind so many bytes has the first fault of the whole.
-use Rattle.std.proofs.Common.{◌≡◌, ◌≤◌, ◌<◌, ◌+◌, ◌-◌, ◌∙◌, ℕ, suc, Bool, true, false, List, arith, refl, ap, ap₂, drop, length, take}
-use Rattle.std.proofs.lemmas.Bool.{leb-true, leb-false}
+use Rattle.std.proofs.Common.{◌≡◌, ◌≤◌, ◌<◌, ◌+◌, ◌-◌, ◌*◌, ◌==◌, ◌∙◌, ℕ, zero, suc, cond, if◌then◌else◌, sym, subst, Bool, true, false, List, arith, refl, ap, ap₂, drop, length, take}
+use Rattle.std.proofs.lemmas.Bool.{eqb-true, leb-true, leb-false}
 use Rattle.std.proofs.lemmas.List.{drop-take, get_or-take, length-take, take-take}
 use Rattle.std.specs.Prelude.{nat_le, slice_range}
 use Rattle.oberon_format.specs.FirstFault.{first_broken}
 use Rattle.oberon_format.specs.declared.fields.CheckpointFields.{CheckpointFields}
-use Rattle.oberon_format.specs.declared.layout.TheConstants.{LONGEST_TEXT, MAGIC_AT, VERSION_AT, PAGES_AT, EVENTS_AT, CHECKPOINTS_AT, LAST_AT, KIND_AT, VALUE_AT, COUNTER_AT, FLAGS_AT, STOP_AT, SWITCHES_AT, LEDS_AT, MOUSE_AT, SERIAL_AT, WAITING_AT, KEYS_AT, SENT_AT, TABLE_AT}
-use Rattle.oberon_format.specs.declared.ranges.TheConstants.{MAX_PAGES, MAX_EVENTS, MAX_CHECKPOINTS}
-use Rattle.oberon_format.specs.Fields.{EventFields}
-use Rattle.oberon_format.specs.Layout.{checkpoints, checkpoint_place, checkpoint_start, event_place, event_start, long_at, page_number_place, word_at}
-use Rattle.oberon_format.specs.Rules.{rules}
-use Rattle.oberon_format.specs.TextFields.{checkpoint_of, event_of, first_fault_of, page_number_of}
-use Rattle.oberon_format.specs.Recording.{RecordingParts}
+use Rattle.oberon_format.specs.declared.layout.TheConstants.{LONGEST_TEXT, MAGIC_AT, VERSION_AT, PAGES_AT, EVENTS_AT, CHECKPOINTS_AT, LAST_AT, KIND_AT, VALUE_AT, COUNTER_AT, FLAGS_AT, STOP_AT, SWITCHES_AT, LEDS_AT, MOUSE_AT, SERIAL_AT, WAITING_AT, KEYS_AT, SENT_AT, RATE_AT, PHASE_AT, CHANGE_COUNT_AT, NUMBER_AT, FIRST_VERSION, PLACES, CHECKPOINT_LEN, CHANGES_AT, CHANGE_LEN}
+use Rattle.oberon_format.specs.Changes.{changes, number_after}
+use Rattle.oberon_format.specs.CheckpointParts.{CheckpointParts}
+use Rattle.oberon_format.specs.Fields.{Fields, total}
+use Rattle.oberon_format.specs.Layout.{version, pages, events, checkpoints, event_place, event_start, long_at, page_number_place, change_place, checkpoint_size, change_count, later_word, start, word_at}
+use Rattle.oberon_format.specs.Rules.{named_len, rules}
+use Rattle.oberon_format.specs.TextFields.{change_at, change_of, checkpoint_of, event_of, fields_of, first_fault_of, number_before, page_number_of}
+use Rattle.oberon_format.specs.PartFields.{changes_laid, start_laid}
+use Rattle.oberon_format.specs.Recording.{RecordingParts, checkpoint_at, table_before}
 use Rattle.oberon_format.specs.Text.{Text}
-use Rattle.oberon_format.proofs.Places.{start-is}
-use Rattle.oberon_format.proofs.Versions.{in_version}
-use Rattle.oberon_format.proofs.LongFields.{AgreeWithin, faults_same, fields}
+use Rattle.oberon_format.proofs.ChangeLemmas.{after-same, changes-few}
+use Rattle.oberon_format.proofs.Places.{start-laid}
+use Rattle.oberon_format.proofs.Room.{start_none, named_first}
+use Rattle.oberon_format.proofs.LongFields.{AreFew, AgreeBelow, AgreeAt, Agree, most, faults_same, fields}
 
 -- numbers in bytes that were not cut off
 word_at-take : (n : ℕ) (text : List ℕ) (place : ℕ) → place + 4 ≤ n → word_at (take n text) place ≡ word_at text place
@@ -62,8 +65,16 @@ slice_range-take n text from to within = go (nat_le from n) refl
         let none : to - from ≡ 0 = omega arith in
         rw none refl
 
-checkpoint_of-take : (n : ℕ) (text : List ℕ) (place : ℕ) → place + TABLE_AT ≤ n → checkpoint_of (take n text) place ≡ checkpoint_of text place
-checkpoint_of-take n text place within =
+-- a text that is cut off behind the header has the version of the whole
+version-take : (n : ℕ) (text : List ℕ) → LONGEST_TEXT < n → version (take n text) ≡ version text
+version-take n text over = word_at-take n text VERSION_AT (omega arith)
+
+later_word-take : (n : ℕ) (text : List ℕ) (place : ℕ) → LONGEST_TEXT < n → place + 4 ≤ n → later_word (take n text) place ≡ later_word text place
+later_word-take n text place over within =
+    ap₂ (λ (v word : ℕ). if v == FIRST_VERSION then 0 else word) (version-take n text over) (word_at-take n text place within)
+
+checkpoint_of-take : (n : ℕ) (text : List ℕ) (place : ℕ) → LONGEST_TEXT < n → place + CHANGES_AT ≤ n → checkpoint_of (take n text) place ≡ checkpoint_of text place
+checkpoint_of-take n text place over within =
     let count = long_at-take n text place (omega arith) in
     let pc = word_at-take n text (place + COUNTER_AT) (omega arith) in
     let flags = word_at-take n text (place + FLAGS_AT) (omega arith) in
@@ -75,54 +86,292 @@ checkpoint_of-take n text place within =
     let waiting = word_at-take n text (place + WAITING_AT) (omega arith) in
     let keys = slice_range-take n text (place + KEYS_AT) (place + SENT_AT) (omega arith) in
     let output = word_at-take n text (place + SENT_AT) (omega arith) in
-    rw (count, pc, flags, stop, switches, leds, mouse, serial, waiting, keys, output) refl
-
--- fields with one header
-same_header : (first first' version version' pages pages' events events' checkpoints checkpoints' last last' long : ℕ)
-    (event : ℕ → EventFields) (checkpoint : ℕ → CheckpointFields) (number : ℕ → ℕ → ℕ)
-    → first ≡ first' → version ≡ version' → pages ≡ pages' → events ≡ events' → checkpoints ≡ checkpoints' → last ≡ last'
-    → fields first version pages events checkpoints last long event checkpoint number ≡ fields first' version' pages' events' checkpoints' last' long event checkpoint number
-same_header first first' version version' pages pages' events events' checkpoints checkpoints' last last' long event checkpoint number a b c d e f = rw (a, b, c, d, e, f) refl
-
--- what rules look at was not cut off
-agree_cut : (n : ℕ) (text : List ℕ) → LONGEST_TEXT < n → word_at (take n text) PAGES_AT ≤ MAX_PAGES → word_at (take n text) EVENTS_AT ≤ MAX_EVENTS → word_at (take n text) CHECKPOINTS_AT ≤ MAX_CHECKPOINTS
-    → AgreeWithin (word_at (take n text) EVENTS_AT) (word_at (take n text) CHECKPOINTS_AT)
-    (λ i. event_of (take n text) (event_place (take n text) i)) (λ i. event_of text (event_place text i))
-    (λ k. checkpoint_of (take n text) (checkpoint_place (take n text) k)) (λ k. checkpoint_of text (checkpoint_place text k))
-    (λ k. page_number_of (take n text) (checkpoint_place (take n text) k)) (λ k. page_number_of text (checkpoint_place text k))
-agree_cut n text over few_pages few_events few_checkpoints =
-    let pages = word_at-take n text PAGES_AT (omega arith) in
-    let events = word_at-take n text EVENTS_AT (omega arith) in
-    record {
-      of_events = λ i below. event_of-take n text (event_place (take n text) i) (omega arith) ∙ ap (λ p. event_of text (event_start p i)) pages;
-      of_checkpoints = λ k below. checkpoint_of-take n text (checkpoint_place (take n text) k) (omega arith)
-          ∙ ap₂ (λ p e. checkpoint_of text (checkpoint_start p e k)) pages events;
-      of_numbers = λ k j below under. word_at-take n text (page_number_place (checkpoint_place (take n text) k) j) (omega arith)
-          ∙ ap₂ (λ p e. page_number_of text (checkpoint_start p e k) j) pages events;
+    let rate = later_word-take n text (place + RATE_AT) over (omega arith) in
+    let phase = later_word-take n text (place + PHASE_AT) over (omega arith) in
+    let changes = later_word-take n text (place + CHANGE_COUNT_AT) over (omega arith) in
+    λ i. record {
+      count = count i;
+      pc = pc i;
+      flags = flags i;
+      stop = stop i;
+      switches = switches i;
+      leds = leds i;
+      mouse = mouse i;
+      serial = serial i;
+      waiting = waiting i;
+      keys = keys i;
+      output = output i;
+      rate = rate i;
+      phase = phase i;
+      changes = changes i;
     }
+
+change_at-take : (n : ℕ) (text : List ℕ) (place : ℕ) → place + CHANGE_LEN ≤ n → change_at (take n text) place ≡ change_at text place
+change_at-take n text place within =
+    let at = word_at-take n text place (omega arith) in
+    let number = word_at-take n text (place + NUMBER_AT) (omega arith) in
+    λ i. record { place = at i; number = number i }
+
+-- a checkpoint with few enough changes is no longer than the longest
+size_most : (version changes : ℕ) → changes ≤ PLACES → checkpoint_size version changes ≤ CHANGES_AT + CHANGE_LEN * PLACES
+size_most version changes few = go (version == FIRST_VERSION)
+  where
+    go : (b : Bool) → cond b CHECKPOINT_LEN (CHANGES_AT + CHANGE_LEN * changes) ≤ CHANGES_AT + CHANGE_LEN * PLACES
+    go true = omega arith
+    go false = omega arith
+
+-- how long a text is to be by its header
+named_most : (text : List ℕ) → AreFew (pages text) (events text) (checkpoints text) → named_len (fields_of text) ≤ LONGEST_TEXT
+named_most text few = go (version text == FIRST_VERSION) refl
+  where
+    go : (b : Bool) → (version text == FIRST_VERSION) ≡ b → named_len (fields_of text) ≤ LONGEST_TEXT
+    go true is =
+        let few_pages = few.of_pages in
+        let few_events = few.of_events in
+        let few_checkpoints = few.of_checkpoints in
+        let begin = start_none text in
+        let named = named_first text (eqb-true (version text) FIRST_VERSION is) in
+        omega arith
+    go false is =
+        let few_pages = few.of_pages in
+        let few_events = few.of_events in
+        let begin = start_none text in
+        let named : named_len (fields_of text) ≡ start text 0 = rw is refl in
+        omega arith
+
+-- a page number in each version
+page_first : (text : List ℕ) (k p : ℕ) → (version text == FIRST_VERSION) ≡ true → page_number_of text k p ≡ word_at text (page_number_place (start text k) p)
+page_first text k p first = rw first refl
+
+page_later : (text : List ℕ) (k p : ℕ) → (version text == FIRST_VERSION) ≡ false → page_number_of text k p ≡ number_before text (suc k) p
+page_later text k p later = rw later refl
+
+-- a text that is cut off, and the whole, by the numbers of the header of the whole
+module _ (n : ℕ) (text : List ℕ) (over : LONGEST_TEXT < n) where
+  abbrev cut : List ℕ
+  cut = take n text
+
+  -- the texts agree up to checkpoint k, or in checkpoint k
+  abbrev Below : ℕ → Type 0
+  Below k = AgreeBelow (word_at text MAGIC_AT) (version text) (pages text) (events text) (checkpoints text) (word_at text LAST_AT)
+      (length cut) (length text) (λ i. event_of cut (event_place cut i)) (λ i. event_of text (event_place text i)) (start cut) (start text)
+      (λ k. checkpoint_of cut (start cut k)) (λ k. checkpoint_of text (start text k)) (λ k. change_of cut (start cut k)) (λ k. change_of text (start text k))
+      (page_number_of cut) (page_number_of text) k
+
+  abbrev Here : ℕ → Type 0
+  Here k = AgreeAt (word_at text MAGIC_AT) (version text) (pages text) (events text) (checkpoints text) (word_at text LAST_AT)
+      (length cut) (length text) (λ i. event_of cut (event_place cut i)) (λ i. event_of text (event_place text i)) (start cut) (start text)
+      (λ k. checkpoint_of cut (start cut k)) (λ k. checkpoint_of text (start text k)) (λ k. change_of cut (start cut k)) (λ k. change_of text (start text k))
+      (page_number_of cut) (page_number_of text) k
+
+  -- where the checkpoints begin
+  events_begin : event_place cut (events cut) ≡ event_place text (events text)
+  events_begin = ap₂ event_start (word_at-take n text PAGES_AT (omega arith)) (word_at-take n text EVENTS_AT (omega arith))
+
+  -- all before checkpoint 0 agrees
+  begins : Below 0
+  unfolding start total
+  begins =
+      let same = events_begin in
+      record {
+        place = same;
+        near = omega arith;
+        of_checkpoints = λ j less. absurd (omega arith);
+        of_numbers = λ j p less inside. absurd (omega arith);
+        sent = omega arith;
+      }
+
+  -- both are of one version
+  first_cut : (version text == FIRST_VERSION) ≡ true → (version cut == FIRST_VERSION) ≡ true
+  first_cut first = ap (λ (v : ℕ). v == FIRST_VERSION) (version-take n text over) ∙ first
+
+  later_cut : (version text == FIRST_VERSION) ≡ false → (version cut == FIRST_VERSION) ≡ false
+  later_cut later = ap (λ (v : ℕ). v == FIRST_VERSION) (version-take n text over) ∙ later
+
+  -- the numbers before checkpoint k of version 2
+  numbers_below : (k : ℕ) → Below k → (version text == FIRST_VERSION) ≡ false → (p : ℕ) → p < PLACES → number_before cut k p ≡ number_before text k p
+  unfolding number_before
+  numbers_below zero below later p inside = refl
+  numbers_below (suc k) below later p inside = sym (page_later cut k p (later_cut later)) ∙ below.of_numbers k p (omega arith) inside ∙ page_later text k p later
+
+  module _ (few : AreFew (pages text) (events text) (checkpoints text)) (k : ℕ) (less : k < checkpoints text) (below : Below k) where
+    -- there is room for the longest checkpoint
+    room : start text k + (CHANGES_AT + CHANGE_LEN * PLACES) ≤ n
+    room =
+        let few_pages = few.of_pages in
+        let few_events = few.of_events in
+        let few_checkpoints = few.of_checkpoints in
+        let place = below.place in
+        let near = below.near in
+        omega arith
+
+    -- what stands in checkpoint k
+    fields_here : checkpoint_of cut (start cut k) ≡ checkpoint_of text (start text k)
+    fields_here =
+        let space = room in
+        ap (checkpoint_of cut) below.place ∙ checkpoint_of-take n text (start text k) over (omega arith)
+
+    count_here : change_count cut (start cut k) ≡ change_count text (start text k)
+    count_here = ap (λ (c : CheckpointFields). c.changes) fields_here
+
+    change_here : (i : ℕ) → i < PLACES → change_of cut (start cut k) i ≡ change_of text (start text k) i
+    change_here i inside =
+        let space = room in
+        ap (λ (place : ℕ). change_of cut place i) below.place ∙ change_at-take n text (change_place (start text k) i) (omega arith)
+
+    -- where the next checkpoint begins
+    place_next : start cut (suc k) ≡ start text (suc k)
+    unfolding start
+    place_next = ap₂ (λ (place size : ℕ). place + size) below.place (ap₂ checkpoint_size (version-take n text over) count_here)
+
+    near_next : change_count cut (start cut k) ≤ PLACES → start cut (suc k) ≤ most (pages text) (events text) (suc k)
+    unfolding start
+    near_next few_changes =
+        let near = below.near in
+        let size = size_most (version cut) (change_count cut (start cut k)) few_changes in
+        omega arith
+
+    -- its page numbers
+    number_first : (version text == FIRST_VERSION) ≡ true → (p : ℕ) → p < PLACES → page_number_of cut k p ≡ page_number_of text k p
+    number_first first p inside =
+        let space = room in
+        page_first cut k p (first_cut first)
+        ∙ ap (λ (place : ℕ). word_at cut (page_number_place place p)) below.place
+        ∙ word_at-take n text (page_number_place (start text k) p) (omega arith)
+        ∙ sym (page_first text k p first)
+
+    number_later : (version text == FIRST_VERSION) ≡ false → change_count cut (start cut k) ≤ PLACES → (p : ℕ) → p < PLACES
+        → page_number_of cut k p ≡ page_number_of text k p
+    unfolding number_before
+    number_later later few_changes p inside =
+        page_later cut k p (later_cut later)
+        ∙ after-same (change_of cut (start cut k)) (change_of text (start text k)) (number_before cut k) (number_before text k) (change_count cut (start cut k)) p
+        (λ i under. change_here i (omega arith)) (numbers_below k below later p inside)
+        ∙ ap (λ (m : ℕ). number_after (change_of text (start text k)) (number_before text k) m p) count_here
+        ∙ sym (page_later text k p later)
+
+    number_here : change_count cut (start cut k) ≤ PLACES → (p : ℕ) → p < PLACES → page_number_of cut k p ≡ page_number_of text k p
+    number_here few_changes p inside = go (version text == FIRST_VERSION) refl
+      where
+        go : (b : Bool) → (version text == FIRST_VERSION) ≡ b → page_number_of cut k p ≡ page_number_of text k p
+        go true first = number_first first p inside
+        go false later = number_later later few_changes p inside
+
+    -- all of checkpoint k
+    here : Here k
+    here = record {
+      of_checkpoint = fields_here;
+      place = λ few_changes. place_next;
+      near = near_next;
+      of_changes = λ few_changes i under. change_here i (omega arith);
+      of_numbers = number_here;
+    }
+
+  -- the fields of the text that is cut off, with the header of the whole
+  fields_cut : fields_of cut ≡ fields (word_at text MAGIC_AT) (version text) (pages text) (events text) (checkpoints text) (word_at text LAST_AT)
+      (length cut) (λ i. event_of cut (event_place cut i)) (start cut) (λ k. checkpoint_of cut (start cut k))
+      (λ k. change_of cut (start cut k)) (page_number_of cut)
+  fields_cut =
+      let first = word_at-take n text MAGIC_AT (omega arith) in
+      let of_version = word_at-take n text VERSION_AT (omega arith) in
+      let of_pages = word_at-take n text PAGES_AT (omega arith) in
+      let of_events = word_at-take n text EVENTS_AT (omega arith) in
+      let of_checkpoints = word_at-take n text CHECKPOINTS_AT (omega arith) in
+      let last = word_at-take n text LAST_AT (omega arith) in
+      λ i. record {
+        long = length cut;
+        first = first i;
+        version = of_version i;
+        pages = of_pages i;
+        events = of_events i;
+        checkpoints = of_checkpoints i;
+        last = last i;
+        event = λ j. event_of cut (event_place cut j);
+        start = start cut;
+        checkpoint = λ k. checkpoint_of cut (start cut k);
+        change = λ k. change_of cut (start cut k);
+        page_number = page_number_of cut;
+      }
+
+  -- both name few enough parts
+  few_cut : AreFew (pages text) (events text) (checkpoints text) → AreFew (pages cut) (events cut) (checkpoints cut)
+  few_cut few =
+      let of_pages = word_at-take n text PAGES_AT (omega arith) in
+      let of_events = word_at-take n text EVENTS_AT (omega arith) in
+      let of_checkpoints = word_at-take n text CHECKPOINTS_AT (omega arith) in
+      let few_pages = few.of_pages in
+      let few_events = few.of_events in
+      let few_checkpoints = few.of_checkpoints in
+      record { of_pages = omega arith; of_events = omega arith; of_checkpoints = omega arith }
+
+  -- an event
+  event_same : AreFew (pages text) (events text) (checkpoints text) → (i : ℕ) → i < events text
+      → event_of cut (event_place cut i) ≡ event_of text (event_place text i)
+  event_same few i less =
+      let of_pages = word_at-take n text PAGES_AT (omega arith) in
+      let few_pages = few.of_pages in
+      let few_events = few.of_events in
+      event_of-take n text (event_place cut i) (omega arith) ∙ ap (λ (p : ℕ). event_of text (event_start p i)) of_pages
+
+  -- what rules look at was not cut off
+  agree_cut : AreFew (pages text) (events text) (checkpoints text)
+      → Agree (word_at text MAGIC_AT) (version text) (pages text) (events text) (checkpoints text) (word_at text LAST_AT)
+      (length cut) (length text) (λ i. event_of cut (event_place cut i)) (λ i. event_of text (event_place text i)) (start cut) (start text)
+      (λ k. checkpoint_of cut (start cut k)) (λ k. checkpoint_of text (start text k)) (λ k. change_of cut (start cut k)) (λ k. change_of text (start text k))
+      (page_number_of cut) (page_number_of text)
+  agree_cut few = record {
+    named = subst (λ (f : Fields). named_len f ≤ LONGEST_TEXT) fields_cut (named_most cut (few_cut few));
+    named' = named_most text few;
+    of_events = event_same few;
+    begin = begins;
+    each_here = here few;
+  }
 
 -- a text that is cut off there has the first fault of the whole
 pub first_fault_of-take : (n : ℕ) (text : List ℕ) → LONGEST_TEXT < n → n ≤ length text → first_fault_of (take n text) ≡ first_fault_of text
 first_fault_of-take n text over within =
     let cut : List ℕ = take n text in
-    let first = word_at-take n text MAGIC_AT (omega arith) in
-    let version = word_at-take n text VERSION_AT (omega arith) in
-    let pages = word_at-take n text PAGES_AT (omega arith) in
-    let events = word_at-take n text EVENTS_AT (omega arith) in
-    let checkpoints = word_at-take n text CHECKPOINTS_AT (omega arith) in
-    let last = word_at-take n text LAST_AT (omega arith) in
-    faults_same (word_at cut MAGIC_AT) (word_at cut VERSION_AT) (word_at cut PAGES_AT) (word_at cut EVENTS_AT) (word_at cut CHECKPOINTS_AT) (word_at cut LAST_AT) (length cut) (length text)
-    (λ i. event_of cut (event_place cut i)) (λ i. event_of text (event_place text i))
-    (λ k. checkpoint_of cut (checkpoint_place cut k)) (λ k. checkpoint_of text (checkpoint_place text k))
-    (λ k. page_number_of cut (checkpoint_place cut k)) (λ k. page_number_of text (checkpoint_place text k))
-    (agree_cut n text over)
+    ap (λ (f : Fields). first_broken (rules f)) (fields_cut n text over)
+    ∙ faults_same (word_at text MAGIC_AT) (version text) (pages text) (events text) (checkpoints text) (word_at text LAST_AT)
+    (length cut) (length text) (λ i. event_of cut (event_place cut i)) (λ i. event_of text (event_place text i)) (start cut) (start text)
+    (λ k. checkpoint_of cut (start cut k)) (λ k. checkpoint_of text (start text k)) (λ k. change_of cut (start cut k)) (λ k. change_of text (start text k))
+    (page_number_of cut) (page_number_of text) (agree_cut n text over)
     (simp length-take (omega arith)) (omega arith)
-    ∙ ap (λ r. first_broken (rules r)) (same_header (word_at cut MAGIC_AT) (word_at text MAGIC_AT) (word_at cut VERSION_AT) (word_at text VERSION_AT) (word_at cut PAGES_AT) (word_at text PAGES_AT) (word_at cut EVENTS_AT) (word_at text EVENTS_AT) (word_at cut CHECKPOINTS_AT) (word_at text CHECKPOINTS_AT) (word_at cut LAST_AT) (word_at text LAST_AT) (length text)
-    (λ i. event_of text (event_place text i)) (λ k. checkpoint_of text (checkpoint_place text k)) (λ k. page_number_of text (checkpoint_place text k)) first version pages events checkpoints last)
 
--- the longest text has 101,479,580 bytes: 24 of the header, 65,536 pages, 1,000,000 events, 4,097 checkpoints, and the output
+-- there are at most as many changes as places
+changes_laid_few : (v : ℕ) (before : List ℕ) (c : CheckpointParts) → changes_laid v before c ≤ PLACES
+changes_laid_few v before c = go (v == FIRST_VERSION)
+  where
+    go : (b : Bool) → cond b 0 (length (changes before c.table)) ≤ PLACES
+    go true = omega arith
+    go false = changes-few before c.table
+
+-- how far checkpoints reach at most where they are laid out
+laid_most : (v : ℕ) (r : RecordingParts) (k : ℕ) → start_laid v r k ≤ most (length r.pool) (length r.inputs) k
+unfolding start_laid
+laid_most v r zero = omega arith
+laid_most v r (suc k) =
+    let so_far = laid_most v r k in
+    let changes = changes_laid v (table_before r.checkpoints k) (checkpoint_at r k) in
+    let size = size_most v changes (changes_laid_few v (table_before r.checkpoints k) (checkpoint_at r k)) in
+    omega arith
+
+-- the longest text has 118,310,056 bytes: 24 of the header, 65,536 pages, 1,000,000 events, 4,097 checkpoints that change each place
+-- of the table, and the output
 pub text_within : (text : List ℕ) (r : RecordingParts) → Text text r → length text ≤ LONGEST_TEXT
-text_within text r some = let is = in_version text r some in omega (arith, start-is text (checkpoints text), is.laid.long, is.laid.page_count, is.laid.event_count, is.laid.checkpoint_count, is.lawful.pages, is.lawful.events, is.lawful.few, is.lawful.output)
+text_within text r some =
+    let laid = some.is.laid in
+    let lawful = some.is.lawful in
+    let long = laid.long in
+    let count = laid.checkpoint_count in
+    let end = start-laid some.version text r laid (length r.checkpoints) (omega arith) in
+    let same : start text (checkpoints text) ≡ start text (length r.checkpoints) = ap (start text) count in
+    let near = laid_most some.version r (length r.checkpoints) in
+    let few_pages = lawful.pages in
+    let few_events = lawful.events in
+    let few_checkpoints = lawful.few in
+    let output = lawful.output in
+    omega arith
 
 -- so no text of a recording is cut off there
 pub cut_is_no_text : (n : ℕ) (text : List ℕ) (r : RecordingParts) → LONGEST_TEXT < n → n ≤ length text → Text (take n text) r → ⊥

@@ -1,19 +1,24 @@
 -- Worked examples of the definitions: each computes to the value that the format gives.
-use Rattle.std.proofs.Common.{◌≡◌, ℕ, true, false, List, [], ◌∷◌, ◌+◌, ◌++◌, replicate, None, Some, refl}
+use Rattle.std.proofs.Common.{◌≡◌, ℕ, zero, suc, true, false, List, [], ◌∷◌, ◌+◌, ◌*◌, ◌++◌, replicate, None, Some, refl}
 use Rattle.std.specs.Prelude.{slice_index}
+use Rattle.risc_devices.specs.DeviceState.{is_phase}
 use Rattle.risc_devices.specs.Input as input
+use Rattle.risc_pages.specs.Tables.{zero_numbers}
 use Rattle.oberon_format.specs.declared.fault.Fault.TheVariants as fault
-use Rattle.oberon_format.specs.declared.layout.TheConstants.{MAGIC}
+use Rattle.oberon_format.specs.declared.change.Change.{Change}
+use Rattle.oberon_format.specs.declared.fields.CheckpointFields.{CheckpointFields}
+use Rattle.oberon_format.specs.declared.layout.TheConstants.{MAGIC, LONGEST_TEXT}
+use Rattle.oberon_format.specs.Changes.{changes_below, no_change, number_after}
 use Rattle.oberon_format.specs.CheckpointParts.{no_checkpoint}
 use Rattle.oberon_format.specs.Fields.{Fields, total}
 use Rattle.oberon_format.specs.FirstFault.{first_broken, each}
 use Rattle.oberon_format.specs.FlagsNumber.{bits_number}
-use Rattle.oberon_format.specs.Layout.{word_at, long_at, checkpoint_start, page_number_place}
-use Rattle.oberon_format.specs.PartFields.{no_event, no_fields, fault_of_parts}
+use Rattle.oberon_format.specs.Layout.{word_at, long_at, event_start, page_number_place, change_place, checkpoint_size, start}
+use Rattle.oberon_format.specs.PartFields.{checkpoint_fields, no_event, start_laid, fault_of_parts}
 use Rattle.oberon_format.specs.Ranges.{is_count, is_output, is_event, are_keys}
-use Rattle.oberon_format.specs.Rules.{rules, rules_at, page_number_rules, end_rules}
+use Rattle.oberon_format.specs.Rules.{rules, checkpoint_rules, page_number_rules, change_rules, end_rules}
 use Rattle.oberon_format.specs.Spelling.{word_bytes, long_bytes}
-use Rattle.oberon_format.specs.TextFields.{first_fault_of}
+use Rattle.oberon_format.specs.TextFields.{first_fault_of, number_before}
 
 -- the text of a header: its magic is right, its numbers are given by their bytes
 abbrev header : List ℕ → List ℕ → List ℕ → List ℕ → List ℕ → List ℕ
@@ -55,20 +60,77 @@ unfolding rules word_at
 last-is-one = refl
 
 header-alone : first_fault_of (header one_word zero_word zero_word one_word zero_word) ≡ Some (fault.Short 24)
-unfolding rules word_at
+unfolding rules word_at start
 header-alone = refl
 
--- one checkpoint and nothing else take 4,252 bytes
+-- in version 1 one checkpoint and nothing else take 4,252 bytes
 smallest-cut : first_fault_of (header one_word zero_word zero_word one_word zero_word ++ replicate 4227 0) ≡ Some (fault.Short 4251)
-unfolding rules word_at
+unfolding rules word_at start
 smallest-cut = refl
 
 -- the first checkpoint at count 1
 begins-at-one : first_fault_of (header one_word zero_word zero_word one_word zero_word ++ 1 ∷ replicate 4227 0) ≡ Some (fault.Checkpoint 24)
-unfolding rules word_at long_at each total rules_at
+unfolding rules word_at long_at start each total checkpoint_rules
 begins-at-one = refl
 
--- a text of a checkpoint and no more, of this length
+-- in version 2 they take 168 where no place of the table is changed
+abbrev two_word : List ℕ
+two_word = 2 ∷ 0 ∷ 0 ∷ 0 ∷ []
+
+header-of-version-two : first_fault_of (header two_word zero_word zero_word one_word zero_word) ≡ Some (fault.Short 24)
+unfolding rules word_at start each total checkpoint_rules
+header-of-version-two = refl
+
+smallest-cut-of-version-two : first_fault_of (header two_word zero_word zero_word one_word zero_word ++ replicate 143 0) ≡ Some (fault.Short 167)
+unfolding rules word_at start each total checkpoint_rules
+smallest-cut-of-version-two = refl
+
+smallest-of-version-two : first_fault_of (header two_word zero_word zero_word one_word zero_word ++ replicate 144 0) ≡ None
+unfolding rules word_at long_at start each total checkpoint_rules is_phase input.is_mouse
+smallest-of-version-two = refl
+
+byte-after-version-two : first_fault_of (header two_word zero_word zero_word one_word zero_word ++ replicate 145 0) ≡ Some (fault.Trailing 168)
+unfolding rules word_at long_at start each total checkpoint_rules is_phase input.is_mouse
+byte-after-version-two = refl
+
+-- a checkpoint of version 2 with this rate and phase, this number of changes, and these changes, in a text without pages
+abbrev with_changes : List ℕ → List ℕ → List ℕ → List ℕ → List ℕ
+with_changes rate phase count behind = header two_word zero_word zero_word one_word zero_word ++ replicate 132 0 ++ rate ++ phase ++ count ++ behind
+
+abbrev ten_word : List ℕ
+ten_word = 10 ∷ 0 ∷ 0 ∷ 0 ∷ []
+
+phase-at-the-rate : first_fault_of (with_changes ten_word ten_word zero_word []) ≡ Some (fault.Checkpoint 24)
+unfolding rules word_at long_at start each total checkpoint_rules is_phase
+phase-at-the-rate = refl
+
+phase-below-the-rate : first_fault_of (with_changes ten_word one_word zero_word []) ≡ None
+unfolding rules word_at long_at start each total checkpoint_rules is_phase input.is_mouse
+phase-below-the-rate = refl
+
+-- 1,025 changes
+many-changes : first_fault_of (with_changes zero_word zero_word (1 ∷ 4 ∷ 0 ∷ 0 ∷ []) []) ≡ Some (fault.Checkpoint 24)
+unfolding rules word_at long_at start each total checkpoint_rules is_phase input.is_mouse
+many-changes = refl
+
+changes-cut : first_fault_of (with_changes zero_word zero_word one_word zero_word) ≡ Some (fault.Short 172)
+unfolding rules word_at long_at start each total checkpoint_rules is_phase input.is_mouse
+changes-cut = refl
+
+-- place 0 is changed to page 0, which stood there, and to page 1, which isn't there
+change-to-the-same : first_fault_of (with_changes zero_word zero_word one_word (zero_word ++ zero_word)) ≡ Some (fault.Page 168)
+unfolding rules word_at long_at start each total checkpoint_rules is_phase input.is_mouse
+change-to-the-same = refl
+
+change-to-no-page : first_fault_of (with_changes zero_word zero_word one_word (zero_word ++ one_word)) ≡ Some (fault.Page 168)
+unfolding rules word_at long_at start each total checkpoint_rules is_phase input.is_mouse
+change-to-no-page = refl
+
+-- the fields of a checkpoint of version 1 that are all 0
+abbrev no_fields : CheckpointFields
+no_fields = checkpoint_fields 1 [] no_checkpoint
+
+-- a text of version 1 of a checkpoint and no more, of this length
 abbrev of_length : ℕ → Fields
 of_length n = record {
   long = n;
@@ -79,7 +141,9 @@ of_length n = record {
   checkpoints = 1;
   last = 0;
   event = λ i. no_event;
+  start = λ k. 24 + 4228 * k;
   checkpoint = λ k. no_fields;
+  change = λ k i. no_change;
   page_number = λ k j. 0;
 }
 
@@ -96,13 +160,78 @@ unknown-page : first_broken (each 3 (page_number_rules 1 5276 (slice_index (1 �
 unfolding each
 unknown-page = refl
 
+-- the page numbers that a checkpoint of version 2 leaves: page 7 at place 3
+number-that-was-changed : number_before (with_changes zero_word zero_word one_word (3 ∷ 0 ∷ 0 ∷ 0 ∷ 7 ∷ 0 ∷ 0 ∷ 0 ∷ [])) 1 3 ≡ 7
+unfolding number_before number_after start word_at
+number-that-was-changed = refl
+
+number-that-was-left : number_before (with_changes zero_word zero_word one_word (3 ∷ 0 ∷ 0 ∷ 0 ∷ 7 ∷ 0 ∷ 0 ∷ 0 ∷ [])) 1 4 ≡ 0
+unfolding number_before number_after start word_at
+number-that-was-left = refl
+
+-- changes over a pool of one page, where places 3 and 4 have pages 0 and 1: place 3 after place 4, a place that no table has, a page
+-- that isn't there, and the page that stood there
+abbrev had : ℕ → ℕ
+had = slice_index (0 ∷ 0 ∷ 0 ∷ 0 ∷ 1 ∷ [])
+
+abbrev pair : ℕ → ℕ → Change
+pair place number = record { place = place; number = number }
+
+-- both are changed, the first and then the second
+abbrev two_of : Change → Change → ℕ → Change
+two_of a b zero = a
+two_of a b (suc i) = b
+
+lawful-changes : first_broken (each 2 (change_rules 1 1048 had (two_of (pair 3 1) (pair 4 0)))) ≡ None
+unfolding each
+lawful-changes = refl
+
+places-fall : first_broken (each 2 (change_rules 1 1048 had (two_of (pair 4 0) (pair 3 1)))) ≡ Some (fault.Page 1200)
+unfolding each
+places-fall = refl
+
+place-twice : first_broken (each 2 (change_rules 1 1048 had (two_of (pair 3 1) (pair 3 1)))) ≡ Some (fault.Page 1200)
+unfolding each
+place-twice = refl
+
+place-too-high : first_broken (each 1 (change_rules 1 1048 had (two_of (pair 1024 1) no_change))) ≡ Some (fault.Page 1192)
+unfolding each
+place-too-high = refl
+
+changed-to-no-page : first_broken (each 1 (change_rules 1 1048 had (two_of (pair 3 2) no_change))) ≡ Some (fault.Page 1192)
+unfolding each
+changed-to-no-page = refl
+
+changed-to-the-same : first_broken (each 1 (change_rules 1 1048 had (two_of (pair 4 1) no_change))) ≡ Some (fault.Page 1192)
+unfolding each
+changed-to-the-same = refl
+
+-- what they leave
+changed-place : number_after (two_of (pair 3 1) (pair 4 0)) had 2 3 ≡ 1
+unfolding number_after
+changed-place = refl
+
+place-left : number_after (two_of (pair 3 1) (pair 4 0)) had 2 5 ≡ 0
+unfolding number_after
+place-left = refl
+
+-- and the changes between two tables, up to place 2
+changes-between : changes_below 3 (5 ∷ 6 ∷ 7 ∷ 8 ∷ []) (5 ∷ 9 ∷ 0 ∷ 1 ∷ []) ≡ pair 1 9 ∷ pair 2 0 ∷ []
+unfolding changes_below
+changes-between = refl
+
 -- parts without a checkpoint, and with a first one at count 7
 no-parts : fault_of_parts (record { pool = []; inputs = []; checkpoints = [] }) ≡ Some (fault.Limit 16)
-unfolding rules
+unfolding rules start_laid
 no-parts = refl
 
-parts-at-seven : fault_of_parts (record { pool = []; inputs = []; checkpoints = record { count = 7; cpu = no_checkpoint.cpu; devices = no_checkpoint.devices; sent = []; table = replicate 1024 0 } ∷ [] }) ≡ Some (fault.Checkpoint 24)
-unfolding rules each total rules_at
+parts-at-seven :
+    fault_of_parts (record {
+      pool = [];
+      inputs = [];
+      checkpoints = record { count = 7; cpu = no_checkpoint.cpu; devices = no_checkpoint.devices; sent = []; table = replicate 1024 0 } ∷ [];
+    }) ≡ Some (fault.Checkpoint 24)
+unfolding rules start_laid each total checkpoint_rules changes_below zero_numbers is_phase
 parts-at-seven = refl
 
 -- ranges
@@ -146,13 +275,19 @@ sixteen-keys : are_keys (record no_fields { waiting = 16; keys = replicate 16 1 
 sixteen-keys = refl
 
 -- where fields stand
-second-checkpoint : checkpoint_start 1 0 1 ≡ 5276
+second-checkpoint : event_start 1 0 + checkpoint_size 1 0 ≡ 5276
 second-checkpoint = refl
 
 first-number-of-the-second-checkpoint : page_number_place 5276 0 ≡ 5408
 first-number-of-the-second-checkpoint = refl
 
-longest-text : checkpoint_start 65536 1000000 4097 + 1048576 ≡ 101479580
+second-checkpoint-of-version-two : event_start 1 0 + checkpoint_size 2 3 ≡ 1216
+second-checkpoint-of-version-two = refl
+
+second-change : change_place 1048 1 ≡ 1200
+second-change = refl
+
+longest-text : event_start 65536 1000000 + checkpoint_size 2 1024 * 4097 + 1048576 ≡ LONGEST_TEXT
 longest-text = refl
 
 -- numbers and their bytes

@@ -1,6 +1,6 @@
 -- A text without fault is that of a recording, which is built here of the text alone.
-use Rattle.std.proofs.Common.{◌≡◌, ◌<◌, ◌≤◌, ◌+◌, ◌-◌, ◌*◌, ◌/◌, ◌%◌, ◌^◌, ◌∙◌, ℕ, zero, suc, true, List, [], ◌∷◌, ◌++◌, length, map, drop, get_or, refl, sym, ap, subst, inl, inr, arith, length-append}
-use Rattle.std.specs.Prelude.{All, slice_index, slice_range, ◌==◌, if◌then◌else◌}
+use Rattle.std.proofs.Common.{◌≡◌, Option, Some, None, ◌<◌, ◌≤◌, ◌+◌, ◌-◌, ◌*◌, ◌/◌, ◌%◌, ◌^◌, ◌∙◌, ℕ, zero, suc, Bool, true, false, cond, List, [], ◌∷◌, ◌++◌, length, map, drop, get_or, refl, sym, ap, subst, inl, inr, arith, length-append}
+use Rattle.std.specs.Prelude.{All, MatchOption, slice_index, slice_range, ◌==◌, if◌then◌else◌}
 use Rattle.std.specs.List.{range_with_len}
 use Rattle.std.proofs.lemmas.Bool.{cases_lt, ltb-true, leb-true}
 use Rattle.std.proofs.lemmas.List.{get_or_past}
@@ -14,22 +14,27 @@ use Rattle.risc_devices.proofs.InputLemmas.{input_of, kind_of-input_of, value_of
 use Rattle.risc_machine.specs.declared.event.Event.{Event}
 use Rattle.risc_machine.specs.MachineState.{CpuState}
 use Rattle.risc_pages.specs.Pages.{IsPage, ArePages}
-use Rattle.oberon_format.specs.declared.layout.TheConstants.{VERSION, CHECKPOINT_LEN, AUXILIARY_AT, COUNTER_AT, FLAGS_AT, STOP_AT, TIMER_AT, SWITCHES_AT, LEDS_AT, MOUSE_AT, SERIAL_AT, WAITING_AT, KEYS_AT, SENT_AT, TABLE_AT}
+use Rattle.oberon_format.specs.declared.layout.TheConstants.{FIRST_VERSION, PLACES, REGISTERS_AT, AUXILIARY_AT, COUNTER_AT, FLAGS_AT, STOP_AT, TIMER_AT, SWITCHES_AT, LEDS_AT, MOUSE_AT, SERIAL_AT, WAITING_AT, KEYS_AT, SENT_AT, RATE_AT, PHASE_AT, CHANGES_AT, NUMBER_AT}
+use Rattle.oberon_format.specs.declared.fault.Fault.{Fault}
 use Rattle.oberon_format.specs.CheckpointParts.{CheckpointParts}
 use Rattle.oberon_format.specs.FlagsNumber.{bits_number}
-use Rattle.oberon_format.specs.Layout.{word_at, long_at, pages, events, checkpoints, page_place, event_place, checkpoint_place, output_place}
+use Rattle.oberon_format.specs.Layout.{word_at, long_at, version, pages, events, checkpoints, page_place, page_number_place, change_place, event_place, later_word, change_count, start, output_place}
 use Rattle.oberon_format.specs.Ranges.{in_ranges, are_keys}
 use Rattle.oberon_format.specs.Recording.{RecordingParts, output_of}
 use Rattle.oberon_format.specs.Formed.{IsFormed, AreFormed}
-use Rattle.oberon_format.specs.Tested.{IsCheckpointAt, Meets}
-use Rattle.oberon_format.specs.Text.{EachAt, AreWords, AreBytes, IsPageAt, IsEventAt, IsCpu, IsDevices, IsCheckpoint, IsLaidOut, Text}
-use Rattle.oberon_format.specs.TextFields.{checkpoint_of}
+use Rattle.oberon_format.specs.Tested.{HasNumbers, Meets, StandIn}
+use Rattle.oberon_format.specs.Text.{EachAt, AreWords, AreBytes, IsPageAt, IsEventAt, IsCpu, IsDevices, IsFront, IsLaidOut, Text}
+use Rattle.oberon_format.specs.TextFields.{change_of, checkpoint_of, first_fault_of, number_before, page_number_of}
+use Rattle.oberon_format.proofs.Agree.{text_agrees}
 use Rattle.oberon_format.proofs.Back.{all_bytes}
+use Rattle.oberon_format.proofs.ChangeLemmas.{after-bounded}
 use Rattle.oberon_format.proofs.Each.{each_push}
 use Rattle.oberon_format.proofs.Keys.{keys-stand, length-range}
+use Rattle.oberon_format.proofs.LawfulLemmas.{lawful_formed, lawful_faultless}
 use Rattle.oberon_format.proofs.Output.{ranges_hold, keys_hold, output_fits, output_more, output_all, range-none}
-use Rattle.oberon_format.proofs.ReadLemmas.{events_ordered, text_read, read_lawful}
-use Rattle.oberon_format.proofs.RuleLemmas.{event_input, output_below, output_below_none, output_below_more, and_left, and_right}
+use Rattle.oberon_format.proofs.ReadLemmas.{events_ordered, stand_next, text_read, read_lawful}
+use Rattle.oberon_format.proofs.Room.{front_there}
+use Rattle.oberon_format.proofs.RuleLemmas.{none_meets, event_input, output_below, output_below_none, output_below_more, and_left, and_right}
 
 -- numbers of bytes fit
 word_fits : (text : List ℕ) (place : ℕ) → AreBytes text → word_at text place < 2 ^ 32
@@ -40,27 +45,69 @@ long_fits : (text : List ℕ) (place : ℕ) → AreBytes text → long_at text p
 unfolding long_at
 long_fits text place bytes = little_from-lt place 8 text (all_bytes text bytes)
 
+-- the first n numbers of a function
+numbers_of : (ℕ → ℕ) → ℕ → List ℕ
+numbers_of number n = map number (range_with_len 0 n)
+
+numbers_length : (number : ℕ → ℕ) (n : ℕ) → length (numbers_of number n) ≡ n
+unfolding numbers_of
+numbers_length number n = length-map-range_with_len number 0 n
+
+numbers_are : (number : ℕ → ℕ) (n i d : ℕ) → i < n → get_or (numbers_of number n) i d ≡ number i
+unfolding numbers_of
+numbers_are number n i d lt = get_or-map-range_with_len number 0 n i i d lt (omega arith)
+
+numbers_fit : (number : ℕ → ℕ) (n : ℕ) → ((i : ℕ) → number i < 2 ^ 32) → All (λ x. x < 2 ^ 32) (numbers_of number n)
+numbers_fit number n each i d lt =
+    let len = numbers_length number n in
+    subst (λ (x : ℕ). x < 2 ^ 32) (sym (numbers_are number n i d (omega arith))) (each i)
+
 -- the words from a place on
-words_from : List ℕ → ℕ → ℕ → List ℕ
-words_from text place n = map (λ i. word_at text (place + 4 * i)) (range_with_len 0 n)
+abbrev words_from : List ℕ → ℕ → ℕ → List ℕ
+words_from text place n = numbers_of (λ i. word_at text (place + 4 * i)) n
 
 words_length : (text : List ℕ) (place n : ℕ) → length (words_from text place n) ≡ n
-unfolding words_from
-words_length text place n = length-map-range_with_len (λ (i : ℕ). word_at text (place + 4 * i)) 0 n
-
-words_are : (text : List ℕ) (place n i d : ℕ) → i < n → get_or (words_from text place n) i d ≡ word_at text (place + 4 * i)
-unfolding words_from
-words_are text place n i d lt = get_or-map-range_with_len (λ (k : ℕ). word_at text (place + 4 * k)) 0 n i i d lt (omega arith)
+words_length text place n = numbers_length (λ i. word_at text (place + 4 * i)) n
 
 words_stand : (text : List ℕ) (place n : ℕ) → AreWords text place (words_from text place n)
 words_stand text place n i d lt =
     let len = words_length text place n in
-    sym (words_are text place n i d (omega arith))
+    sym (numbers_are (λ k. word_at text (place + 4 * k)) n i d (omega arith))
 
 words_fit : (text : List ℕ) (place n : ℕ) → AreBytes text → All (λ x. x < 2 ^ 32) (words_from text place n)
-words_fit text place n bytes i d lt =
-    let len = words_length text place n in
-    subst (λ (x : ℕ). x < 2 ^ 32) (sym (words_are text place n i d (omega arith))) (word_fits text (place + 4 * i) bytes)
+words_fit text place n bytes = numbers_fit (λ i. word_at text (place + 4 * i)) n (λ i. word_fits text (place + 4 * i) bytes)
+
+-- the words that only version 2 has fit, and so do page numbers of either version
+later_fits : (text : List ℕ) (place : ℕ) → AreBytes text → later_word text place < 2 ^ 32
+later_fits text place bytes = go (version text == FIRST_VERSION)
+  where
+    go : (b : Bool) → cond b 0 (word_at text place) < 2 ^ 32
+    go true = omega arith
+    go false = word_fits text place bytes
+
+before_fits : (text : List ℕ) (k p : ℕ) → AreBytes text → number_before text k p ≤ 2 ^ 32 - 1
+unfolding number_before
+before_fits text zero p bytes = omega arith
+before_fits text (suc k) p bytes =
+    after-bounded (change_of text (start text k)) (number_before text k) (change_count text (start text k)) p (2 ^ 32 - 1)
+    (λ i lt. let fits = word_fits text (change_place (start text k) i + NUMBER_AT) bytes in omega arith) (before_fits text k p bytes)
+
+number_fits : (text : List ℕ) (k p : ℕ) → AreBytes text → page_number_of text k p < 2 ^ 32
+number_fits text k p bytes = go (version text == FIRST_VERSION)
+  where
+    go : (b : Bool) → cond b (word_at text (page_number_place (start text k) p)) (number_before text (suc k) p) < 2 ^ 32
+    go true = word_fits text (page_number_place (start text k) p) bytes
+    go false = let fits = before_fits text (suc k) p bytes in omega arith
+
+-- the table of checkpoint k
+abbrev table_of : List ℕ → ℕ → List ℕ
+table_of text k = numbers_of (page_number_of text k) PLACES
+
+table_length : (text : List ℕ) (k : ℕ) → length (table_of text k) ≡ PLACES
+table_length text k = numbers_length (page_number_of text k) PLACES
+
+table_has : (text : List ℕ) (k : ℕ) → HasNumbers (table_of text k) (page_number_of text k)
+table_has text k p lt = numbers_are (page_number_of text k) PLACES p 0 lt
 
 -- so many pages
 record Pages (text : List ℕ) (n : ℕ) : Type 0 where
@@ -116,7 +163,7 @@ cpu_at : List ℕ → ℕ → CpuState
 cpu_at text place =
     let flags = word_at text (place + FLAGS_AT) in
     record {
-      r = words_from text (place + 8) 16;
+      r = words_from text (place + REGISTERS_AT) 16;
       h = word_at text (place + AUXILIARY_AT);
       pc = word_at text (place + COUNTER_AT);
       flags = record { n = flags / 8 % 2 == 1; z = flags / 4 % 2 == 1; c = flags / 2 % 2 == 1; v = flags % 2 == 1 };
@@ -129,7 +176,7 @@ flags_back x lt = grind (arith, nat_tests)
 cpu_stands : (text : List ℕ) (place : ℕ) → word_at text (place + FLAGS_AT) < 16 → IsCpu text place (cpu_at text place)
 unfolding cpu_at
 cpu_stands text place few = record {
-  registers = words_stand text (place + 8) 16;
+  registers = words_stand text (place + REGISTERS_AT) 16;
   h = refl;
   pc = refl;
   flags = sym (flags_back (word_at text (place + FLAGS_AT)) few);
@@ -142,8 +189,8 @@ devices_at text place =
     let serial = word_at text (place + SERIAL_AT) in
     record {
       timer = word_at text (place + TIMER_AT);
-      rate = 0;
-      phase = 0;
+      rate = later_word text (place + RATE_AT);
+      phase = later_word text (place + PHASE_AT);
       switches = word_at text (place + SWITCHES_AT);
       leds = word_at text (place + LEDS_AT);
       mouse = word_at text (place + MOUSE_AT);
@@ -158,6 +205,7 @@ serial_back x lt = grind (arith, nat_tests)
 -- what the ranges of a checkpoint's fields say
 record Small (text : List ℕ) (place : ℕ) : Type 0 where
   flags : word_at text (place + FLAGS_AT) < 16
+  phase : is_phase (later_word text (place + RATE_AT)) (later_word text (place + PHASE_AT)) ≡ true
   switches : word_at text (place + SWITCHES_AT) < 4096
   leds : word_at text (place + LEDS_AT) < 256
   mouse : is_mouse (word_at text (place + MOUSE_AT)) ≡ true
@@ -166,36 +214,39 @@ record Small (text : List ℕ) (place : ℕ) : Type 0 where
 
 small : (text : List ℕ) (place : ℕ) → in_ranges (checkpoint_of text place) ≡ true → are_keys (checkpoint_of text place) ≡ true → Small text place
 small text place ranges keys =
-    let serial = and_right _ _ ranges in
-    let a = and_left _ _ ranges in
-    let mouse = and_right _ _ a in
-    let b = and_left _ _ a in
-    let leds = and_right _ _ b in
-    let c = and_left _ _ b in
-    let switches = and_right _ _ c in
-    let d = and_left _ _ c in
-    let e = and_left _ _ d in
-    let f = and_left _ _ e in
-    let flags = and_right _ _ f in
+    let of_serial = and_left _ _ ranges in
+    let of_mouse = and_left _ _ of_serial in
+    let of_leds = and_left _ _ of_mouse in
+    let of_switches = and_left _ _ of_leds in
+    let of_phase = and_left _ _ of_switches in
+    let of_stop = and_left _ _ of_phase in
+    let of_flags = and_left _ _ of_stop in
     record {
-      flags = ltb-true _ _ flags;
-      switches = ltb-true _ _ switches;
-      leds = ltb-true _ _ leds;
-      mouse = mouse;
-      serial = ltb-true _ _ serial;
+      flags = ltb-true _ _ (and_right _ _ of_flags);
+      phase = and_right _ _ of_phase;
+      switches = ltb-true _ _ (and_right _ _ of_switches);
+      leds = ltb-true _ _ (and_right _ _ of_leds);
+      mouse = and_right _ _ of_mouse;
+      serial = ltb-true _ _ (and_right _ _ of_serial);
       keys = leb-true _ _ (and_left _ _ keys);
     }
 
-devices_stand : (text : List ℕ) (place : ℕ) → place + CHECKPOINT_LEN ≤ length text → Small text place → are_keys (checkpoint_of text place) ≡ true → IsDevices text place (devices_at text place)
+-- as many key codes as wait
+codes_length : (text : List ℕ) (place : ℕ) → place + CHANGES_AT ≤ length text → word_at text (place + WAITING_AT) ≤ 16
+    → length (slice_range text (place + KEYS_AT) (place + KEYS_AT + word_at text (place + WAITING_AT))) ≡ word_at text (place + WAITING_AT)
+codes_length text place room few =
+    let end = place + KEYS_AT + word_at text (place + WAITING_AT) in
+    omega (arith, length-range text (place + KEYS_AT) end (omega arith) (omega arith))
+
+devices_stand : (text : List ℕ) (place : ℕ) → place + CHANGES_AT ≤ length text → Small text place → are_keys (checkpoint_of text place) ≡ true
+    → IsDevices text place (devices_at text place)
 unfolding devices_at
 devices_stand text place room fits keys =
     let n = word_at text (place + WAITING_AT) in
     let few = fits.keys in
-    let len : length (slice_range text (place + KEYS_AT) (place + KEYS_AT + n)) ≡ n = omega (arith, length-range text (place + KEYS_AT) (place + KEYS_AT + n) (omega arith) (omega arith)) in
+    let len = codes_length text place room few in
     record {
       timer = refl;
-      rate = refl;
-      phase = refl;
       switches = refl;
       leds = refl;
       mouse = refl;
@@ -204,53 +255,83 @@ devices_stand text place room fits keys =
       keys = rw len (keys-stand text place room keys);
     }
 
-devices_fit : (text : List ℕ) (place : ℕ) → place + CHECKPOINT_LEN ≤ length text → AreBytes text → Small text place → IsDeviceState (devices_at text place)
-unfolding devices_at is_phase
+devices_fit : (text : List ℕ) (place : ℕ) → place + CHANGES_AT ≤ length text → AreBytes text → Small text place → IsDeviceState (devices_at text place)
+unfolding devices_at
 devices_fit text place room bytes fits =
     let n = word_at text (place + WAITING_AT) in
     let few = fits.keys in
-    let len : length (slice_range text (place + KEYS_AT) (place + KEYS_AT + n)) ≡ n = omega (arith, length-range text (place + KEYS_AT) (place + KEYS_AT + n) (omega arith) (omega arith)) in
+    let len = codes_length text place room few in
     record {
       timer = word_fits text (place + TIMER_AT) bytes;
-      rate = omega arith;
-      phase = refl;
+      rate = later_fits text (place + RATE_AT) bytes;
+      phase = fits.phase;
       switches = fits.switches;
       leds = fits.leds;
       mouse = fits.mouse;
       serial = omega arith;
       keys = omega arith;
-      codes = All-take (λ code. code < 2 ^ 8) (place + KEYS_AT + n - (place + KEYS_AT)) (drop (place + KEYS_AT) text) (All-drop (λ code. code < 2 ^ 8) (place + KEYS_AT) text bytes);
+      codes = All-take (λ code. code < 2 ^ 8) (place + KEYS_AT + n - (place + KEYS_AT)) (drop (place + KEYS_AT) text)
+          (All-drop (λ code. code < 2 ^ 8) (place + KEYS_AT) text bytes);
     }
 
 -- so many checkpoints, and their output up to there
 record Checkpoints (text : List ℕ) (n : ℕ) : Type 0 where
   list : List CheckpointParts
   count : length list ≡ n
-  stand : EachAt (IsCheckpointAt text) list
+  stand : StandIn text list
   formed : AreFormed list
   output : slice_range text (output_place text) (output_place text + output_below text n) ≡ output_of list
 
-checkpoint_made : (text : List ℕ) (place from : ℕ) → CheckpointParts
-checkpoint_made text place from = record {
-  count = long_at text place;
-  cpu = cpu_at text place;
-  devices = devices_at text place;
-  sent = slice_range text from (from + word_at text (place + SENT_AT));
-  table = words_from text (place + TABLE_AT) 1024;
+-- checkpoint k, whose output is told from a place on
+checkpoint_made : (text : List ℕ) (k from : ℕ) → CheckpointParts
+checkpoint_made text k from = record {
+  count = long_at text (start text k);
+  cpu = cpu_at text (start text k);
+  devices = devices_at text (start text k);
+  sent = slice_range text from (from + word_at text (start text k + SENT_AT));
+  table = table_of text k;
 }
 
-checkpoint_stands : (text : List ℕ) (place from : ℕ) → place + CHECKPOINT_LEN ≤ length text → from + word_at text (place + SENT_AT) ≤ length text → Small text place → are_keys (checkpoint_of text place) ≡ true
-    → IsCheckpoint VERSION text place (checkpoint_made text place from)
+-- its front stands
+front_stands : (text : List ℕ) (k from : ℕ) → start text k + CHANGES_AT ≤ length text → from + word_at text (start text k + SENT_AT) ≤ length text
+    → Small text (start text k) → are_keys (checkpoint_of text (start text k)) ≡ true → IsFront text (start text k) (checkpoint_made text k from)
 unfolding checkpoint_made
-checkpoint_stands text place from room fits few keys = record {
-  front = record {
-    count = refl;
-    cpu = cpu_stands text place few.flags;
-    devices = devices_stand text place room few keys;
-    sent = omega (arith, length-range text from (from + word_at text (place + SENT_AT)) (omega arith) fits);
-  };
-  tail = record { known = refl; table = words_stand text (place + TABLE_AT) 1024 };
-}
+front_stands text k from room fits few keys =
+    let place = start text k in
+    record {
+      count = refl;
+      cpu = cpu_stands text place few.flags;
+      devices = devices_stand text place room few keys;
+      sent = omega (arith, length-range text from (from + word_at text (place + SENT_AT)) (omega arith) fits);
+    }
+
+-- what the checkpoint has of the text
+rate_is : (text : List ℕ) (k from : ℕ) → (checkpoint_made text k from).devices.rate ≡ later_word text (start text k + RATE_AT)
+unfolding checkpoint_made devices_at
+rate_is text k from = refl
+
+phase_is : (text : List ℕ) (k from : ℕ) → (checkpoint_made text k from).devices.phase ≡ later_word text (start text k + PHASE_AT)
+unfolding checkpoint_made devices_at
+phase_is text k from = refl
+
+table_is : (text : List ℕ) (k from : ℕ) → (checkpoint_made text k from).table ≡ table_of text k
+unfolding checkpoint_made
+table_is text k from = refl
+
+sent_is : (text : List ℕ) (k from : ℕ) → (checkpoint_made text k from).sent ≡ slice_range text from (from + word_at text (start text k + SENT_AT))
+unfolding checkpoint_made
+sent_is text k from = refl
+
+-- it stands behind those before it
+checkpoint_stands : (text : List ℕ) (k from : ℕ) (cs : List CheckpointParts) → Meets text → k < checkpoints text
+    → from + word_at text (start text k + SENT_AT) ≤ length text → length cs ≡ k → StandIn text cs → StandIn text (cs ++ checkpoint_made text k from ∷ [])
+checkpoint_stands text k from cs meets lt fits count stand =
+    let made = checkpoint_made text k from in
+    let keys = keys_hold text k meets lt in
+    let front = front_stands text k from (front_there text k meets lt) fits (small text (start text k) (ranges_hold text k meets lt) keys) keys in
+    stand_next text cs made k meets lt count stand front (rate_is text k from) (phase_is text k from)
+    (ap (λ (t : List ℕ). length t) (table_is text k from) ∙ table_length text k)
+    (λ p less. ap (λ (t : List ℕ). slice_index t p) (table_is text k from) ∙ table_has text k p less)
 
 each_word : (text : List ℕ) (place n a : ℕ) → AreBytes text → slice_index (words_from text place n) a < 2 ^ 32
 each_word text place n a bytes =
@@ -260,20 +341,20 @@ each_word text place n a bytes =
       | inr more ↦ rw (get_or_past (words_from text place n) a 0 (omega arith)) (omega arith)
     ]
 
-sent_is : (text : List ℕ) (place from : ℕ) → (checkpoint_made text place from).sent ≡ slice_range text from (from + word_at text (place + SENT_AT))
-unfolding checkpoint_made
-sent_is text place from = refl
-
-checkpoint_formed : (text : List ℕ) (place from : ℕ) → place + CHECKPOINT_LEN ≤ length text → AreBytes text → Small text place → IsFormed (checkpoint_made text place from)
+-- and it is formed
+checkpoint_formed : (text : List ℕ) (k from : ℕ) → start text k + CHANGES_AT ≤ length text → AreBytes text → Small text (start text k)
+    → IsFormed (checkpoint_made text k from)
 unfolding checkpoint_made cpu_at
-checkpoint_formed text place from room bytes few = record {
-  registers = words_length text (place + 8) 16;
-  words = λ a. each_word text (place + 8) 16 a bytes;
-  auxiliary = word_fits text (place + AUXILIARY_AT) bytes;
-  devices = devices_fit text place room bytes few;
-  table = record { count = words_length text (place + TABLE_AT) 1024; fit = words_fit text (place + TABLE_AT) 1024 bytes };
-  bytes = All-take (λ byte. byte < 2 ^ 8) (from + word_at text (place + SENT_AT) - from) (drop from text) (All-drop (λ byte. byte < 2 ^ 8) from text bytes);
-}
+checkpoint_formed text k from room bytes few =
+    let place = start text k in
+    record {
+      registers = words_length text (place + REGISTERS_AT) 16;
+      words = λ a. each_word text (place + REGISTERS_AT) 16 a bytes;
+      auxiliary = word_fits text (place + AUXILIARY_AT) bytes;
+      devices = devices_fit text place room bytes few;
+      table = record { count = table_length text k; fit = numbers_fit (page_number_of text k) PLACES (λ p. number_fits text k p bytes) };
+      bytes = All-take (λ byte. byte < 2 ^ 8) (from + word_at text (place + SENT_AT) - from) (drop from text) (All-drop (λ byte. byte < 2 ^ 8) from text bytes);
+    }
 
 checkpoints_of : (text : List ℕ) (n : ℕ) → AreBytes text → Meets text → n ≤ checkpoints text → Checkpoints text n
 checkpoints_of text zero bytes meets le =
@@ -288,14 +369,12 @@ checkpoints_of text zero bytes meets le =
 checkpoints_of text (suc n) bytes meets le =
     let so_far = checkpoints_of text n bytes meets (omega arith) in
     let lt : n < checkpoints text = omega arith in
-    let place = checkpoint_place text n in
+    let place = start text n in
     let from = output_place text + output_below text n in
-    let long = meets.sized.long in
-    let room : place + CHECKPOINT_LEN ≤ length text = omega arith in
+    let room = front_there text n meets lt in
     let fits = output_fits text n meets lt in
-    let keys = keys_hold text n meets lt in
-    let few = small text place (ranges_hold text n meets lt) keys in
-    let made = checkpoint_made text place from in
+    let few = small text place (ranges_hold text n meets lt) (keys_hold text n meets lt) in
+    let made = checkpoint_made text n from in
     let count = so_far.count in
     let more = output_below_more text n in
     let next : suc n ≡ n + 1 = omega arith in
@@ -304,19 +383,34 @@ checkpoints_of text (suc n) bytes meets le =
     record {
       list = so_far.list ++ made ∷ [];
       count = omega (arith, length-append so_far.list (made ∷ []));
-      stand = each_push (IsCheckpointAt text) so_far.list n made so_far.count so_far.stand (checkpoint_stands text place from room fits few keys);
-      formed = All-push IsFormed so_far.list made so_far.formed (checkpoint_formed text place from room bytes few);
-      output = ap (slice_range text (output_place text)) end ∙ output_more text n from so_far.list made meets lt refl so_far.output (sent_is text place from);
+      stand = checkpoint_stands text n from so_far.list meets lt fits so_far.count so_far.stand;
+      formed = All-push IsFormed so_far.list made so_far.formed (checkpoint_formed text n from room bytes few);
+      output = ap (slice_range text (output_place text)) end ∙ output_more text n from so_far.list made meets lt refl so_far.output (sent_is text n from);
     }
 
 -- a text without fault has a recording
-pub has_recording : (text : List ℕ) → AreBytes text → Meets text → (r : RecordingParts) × Text text r
+has_recording : (text : List ℕ) → AreBytes text → Meets text → (r : RecordingParts) × Text text r
 has_recording text bytes meets =
     let ps = pages_of text (pages text) bytes in
     let es = events_of text (events text) bytes meets (omega arith) in
     let cs = checkpoints_of text (checkpoints text) bytes meets (omega arith) in
     let output = output_all text (checkpoints text) (output_place text + output_below text (checkpoints text)) cs.list meets refl refl cs.output in
     let r : RecordingParts = record { pool = ps.pool; inputs = es.list; checkpoints = cs.list } in
-    let laid : IsLaidOut VERSION text r = text_read text ps.pool es.list cs.list meets ps.count ps.stand es.count es.stand cs.count cs.stand output in
+    let laid : IsLaidOut (version text) text r = text_read text ps.pool es.list cs.list meets ps.count ps.stand es.count es.stand cs.count cs.stand output in
     let ordered = events_ordered text es.list meets es.count es.stand in
-    (r, record { version = VERSION; is = record { lawful = read_lawful text r meets ps.whole ordered cs.formed laid; laid = laid } })
+    (r, record { version = version text; is = record { lawful = read_lawful text r meets ps.whole ordered cs.formed laid; laid = laid } })
+
+-- a text has a recording or a first fault
+by_fault : (text : List ℕ) (o : Option Fault) → AreBytes text → first_fault_of text ≡ o
+    → MatchOption o ((r : RecordingParts) × Text text r) (λ fault. (r : RecordingParts) → ¬ (Text text r))
+by_fault text None bytes e = has_recording text bytes (none_meets text e)
+by_fault text (Some f) bytes e = λ r is.
+    let v = is.version in
+    let laid = is.is.laid in
+    let lawful = is.is.lawful in
+    let none : first_fault_of text ≡ None = text_agrees v text r (lawful_formed r lawful) laid ∙ lawful_faultless v r laid.known lawful in
+    absurd cc
+
+pub text_or_fault : (text : List ℕ) → AreBytes text
+    → MatchOption (first_fault_of text) ((r : RecordingParts) × Text text r) (λ fault. (r : RecordingParts) → ¬ (Text text r))
+text_or_fault text bytes = by_fault text (first_fault_of text) bytes refl

@@ -4,7 +4,7 @@ use Rattle.std.specs.Prelude.{slice_range, replicate, nat_le}
 use Rattle.std.specs.List.{list_all}
 use Rattle.std.proofs.lemmas.Bool.{eqb-true, leb-true}
 use Rattle.std.proofs.lemmas.List.{take-append-drop, length-drop, length-take, drop-drop, take-take, drop-take}
-use Rattle.oberon_format.specs.declared.layout.TheConstants.{CHECKPOINT_LEN, WAITING_AT, KEYS_AT, SENT_AT}
+use Rattle.oberon_format.specs.declared.layout.TheConstants.{CHANGES_AT, WAITING_AT, KEYS_AT, SENT_AT}
 use Rattle.oberon_format.proofs.RuleLemmas.{and_left, and_right}
 use Rattle.oberon_format.specs.Layout.{word_at}
 use Rattle.oberon_format.specs.Ranges.{are_keys}
@@ -39,7 +39,7 @@ range-drop xs a n c le =
 pub length-range : (xs : List ℕ) (a b : ℕ) → a ≤ b → b ≤ length xs → length (slice_range xs a b) ≡ b - a
 length-range xs a b ab fits = omega (arith, length-take (b - a) (drop a xs), length-drop a xs)
 
-pub keys-stand : (text : List ℕ) (place : ℕ) → place + CHECKPOINT_LEN ≤ length text → are_keys (checkpoint_of text place) ≡ true
+pub keys-stand : (text : List ℕ) (place : ℕ) → place + CHANGES_AT ≤ length text → are_keys (checkpoint_of text place) ≡ true
     → slice_range text (place + KEYS_AT) (place + SENT_AT) ≡ slice_range text (place + KEYS_AT) (place + KEYS_AT + word_at text (place + WAITING_AT)) ++ replicate (16 - word_at text (place + WAITING_AT)) 0
 keys-stand text place room h =
     let n = word_at text (place + WAITING_AT) in

@@ -1,6 +1,5 @@
 -- The laws of texts and recordings.
-use Rattle.std.proofs.Common.{◌≡◌, ◌<◌, ◌-◌, ◌^◌, ◌∙◌, ℕ, zero, suc, List, [], ◌∷◌, ◌++◌, length, get_or, Option, Some, None, refl, subst, arith}
-use Rattle.std.specs.Prelude.{MatchOption}
+use Rattle.std.proofs.Common.{◌≡◌, ◌<◌, ◌-◌, ◌^◌, ℕ, zero, suc, List, [], ◌∷◌, ◌++◌, length, get_or, subst, arith}
 use Rattle.std.specs.List.{flat_map}
 use Rattle.std.specs.Int.{byte_at, bytes_low_first}
 use Rattle.std.proofs.lemmas.List.{get_or_default}
@@ -8,20 +7,18 @@ use Rattle.std.proofs.lemmas.List.Elements.{All-nil, All-cons, All-append, All-r
 use Rattle.risc_devices.specs.DeviceState.{DeviceState, IsDeviceState}
 use Rattle.risc_machine.specs.declared.event.Event.{Event}
 use Rattle.risc_machine.specs.MachineState.{CpuState}
-use Rattle.oberon_format.specs.declared.fault.Fault.{Fault}
+use Rattle.risc_pages.specs.Tables.{zero_numbers}
+use Rattle.oberon_format.specs.declared.change.Change.{Change}
+use Rattle.oberon_format.specs.declared.layout.TheConstants.{VERSION}
+use Rattle.oberon_format.specs.Changes.{changes}
 use Rattle.oberon_format.specs.CheckpointParts.{CheckpointParts, no_checkpoint}
-use Rattle.oberon_format.specs.Laws.{IsOnlyText}
-use Rattle.oberon_format.specs.Recording.{RecordingParts, IsLawful, IsFit}
-use Rattle.oberon_format.specs.Spelling.{word_bytes, long_bytes, words_bytes, event_bytes, cpu_bytes, device_bytes, checkpoint_bytes, header_bytes, spelling}
-use Rattle.oberon_format.specs.Text.{AreBytes, Text}
-use Rattle.oberon_format.specs.TextFields.{first_fault_of}
-use Rattle.oberon_format.proofs.Agree.{text_agrees}
+use Rattle.oberon_format.specs.Layout.{version}
+use Rattle.oberon_format.specs.Recording.{RecordingParts, IsLawful, IsFit, output_of}
+use Rattle.oberon_format.specs.Spelling.{word_bytes, long_bytes, words_bytes, event_bytes, cpu_bytes, device_bytes, front_bytes, change_bytes, changes_bytes, changed_bytes, tail_bytes, checkpoint_bytes, checkpoints_bytes, header_bytes, spelling}
+use Rattle.oberon_format.specs.Text.{AreBytes, TextIn, Text}
 use Rattle.oberon_format.proofs.Back.{same_text}
-use Rattle.oberon_format.proofs.Exists.{has_recording}
-use Rattle.oberon_format.proofs.LawfulLemmas.{lawful_formed, lawful_faultless}
-use Rattle.oberon_format.proofs.Versions.{in_version}
-use Rattle.oberon_format.proofs.RuleLemmas.{none_meets}
-use Rattle.oberon_format.proofs.Spelled.{is_text}
+use Rattle.oberon_format.proofs.One.{in_version, same_recording}
+use Rattle.oberon_format.proofs.Spelled.{spelled}
 
 -- the bytes of numbers are bytes
 byte_small : (i n : ℕ) → byte_at i n < 2 ^ 8
@@ -64,36 +61,51 @@ device_are d fits =
     join _ _ (join _ _ (join _ _ (join _ _ (join _ _ (join _ _ (word_are _) (word_are _)) (word_are _)) (word_are _)) (word_are _)) (word_are _))
     (join _ _ fits.codes (All-replicate (λ byte. byte < 2 ^ 8) (16 - length d.keys) 0 (omega arith)))
 
-checkpoint_are : (pool : List (List ℕ)) (c : CheckpointParts) → IsFit pool c → AreBytes (checkpoint_bytes c)
-unfolding checkpoint_bytes
-checkpoint_are pool c fits = join _ _ (join _ _ (join _ _ (join _ _ (long_are _) (cpu_are c.cpu)) (device_are c.devices fits.devices)) (word_are _)) (words_are_bytes c.table)
+front_are : (pool : List (List ℕ)) (c : CheckpointParts) → IsFit pool c → AreBytes (front_bytes c)
+unfolding front_bytes
+front_are pool c fits = join _ _ (join _ _ (join _ _ (long_are _) (cpu_are c.cpu)) (device_are c.devices fits.devices)) (word_are _)
 
-header_are : (r : RecordingParts) → AreBytes (header_bytes r)
+change_are : (change : Change) → AreBytes (change_bytes change)
+unfolding change_bytes
+change_are change = join _ _ (word_are _) (word_are _)
+
+changed_are : (before : List ℕ) (c : CheckpointParts) → AreBytes (changed_bytes before c)
+unfolding changed_bytes changes_bytes
+changed_are before c =
+    let cs = changes before c.table in
+    join _ _ (join _ _ (word_are _) (word_are _)) (join _ _ (word_are _) (all_are change_bytes cs (λ i d lt. change_are (get_or cs i d))))
+
+checkpoint_are : (pool : List (List ℕ)) (before : List ℕ) (c : CheckpointParts) → IsFit pool c → AreBytes (checkpoint_bytes VERSION before c)
+unfolding checkpoint_bytes tail_bytes
+checkpoint_are pool before c fits = join _ _ (front_are pool c fits) (changed_are before c)
+
+checkpoints_are : (pool : List (List ℕ)) (before : List ℕ) (cs : List CheckpointParts) → ((i : ℕ) → i < length cs → IsFit pool (get_or cs i no_checkpoint)) → AreBytes (checkpoints_bytes VERSION before cs)
+unfolding checkpoints_bytes
+checkpoints_are pool before [] fits = All-nil (λ byte. byte < 2 ^ 8)
+checkpoints_are pool before (c ∷ cs) fits = join _ _ (checkpoint_are pool before c (fits 0 (omega arith))) (checkpoints_are pool c.table cs (λ i lt. fits (suc i) (omega arith)))
+
+header_are : (r : RecordingParts) → AreBytes (header_bytes VERSION r)
 unfolding header_bytes
 header_are r = join _ _ (join _ _ (join _ _ (join _ _ (join _ _ (word_are _) (word_are _)) (word_are _)) (word_are _)) (word_are _)) (word_are _)
 
-spelling_are : (r : RecordingParts) → IsLawful r → AreBytes (spelling r)
+output_are : (pool : List (List ℕ)) (cs : List CheckpointParts) → ((i : ℕ) → i < length cs → IsFit pool (get_or cs i no_checkpoint)) → AreBytes (output_of cs)
+output_are pool cs fits = all_are (λ (c : CheckpointParts). c.sent) cs (λ i d lt. subst (λ (c : CheckpointParts). AreBytes c.sent) (get_or_default cs i no_checkpoint d lt) (fits i lt).bytes)
+
+spelling_are : (r : RecordingParts) → IsLawful r → AreBytes (spelling VERSION r)
 unfolding spelling
 spelling_are r lawful =
-    let fits : (i : ℕ) (d : CheckpointParts) → i < length r.checkpoints → IsFit r.pool (get_or r.checkpoints i d) = λ i d lt. subst (IsFit r.pool) (get_or_default r.checkpoints i no_checkpoint d lt) (lawful.fit i lt) in
     join _ _ (join _ _ (join _ _ (join _ _ (header_are r) (all_are words_bytes r.pool (λ i d lt. words_are_bytes (get_or r.pool i d)))) (all_are event_bytes r.inputs (λ i d lt. event_are (get_or r.inputs i d))))
-    (all_are checkpoint_bytes r.checkpoints (λ i d lt. checkpoint_are r.pool (get_or r.checkpoints i d) (fits i d lt))))
-    (all_are (λ (c : CheckpointParts). c.sent) r.checkpoints (λ i d lt. (fits i d lt).bytes))
+    (checkpoints_are r.pool zero_numbers r.checkpoints lawful.fit))
+    (output_are r.pool r.checkpoints lawful.fit)
 
--- a lawful recording has exactly one text
-pub only_text : (r : RecordingParts) → IsLawful r → (text : List ℕ) × IsOnlyText text r
-only_text r lawful =
-    let is = is_text r (spelling r) lawful refl in
-    let bytes = spelling_are r lawful in
-    (spelling r, record { bytes = bytes; is = is; only = λ other are text. same_text r other (spelling r) are bytes (in_version other r text) (in_version (spelling r) r is) })
+-- a lawful recording has a text of the version that is written
+pub one_text : (r : RecordingParts) → IsLawful r → (text : List ℕ) × AreBytes text × TextIn VERSION text r
+one_text r lawful = (spelling VERSION r, spelling_are r lawful, spelled r lawful)
 
--- a text has a recording or a first fault
-by_fault : (text : List ℕ) (o : Option Fault) → AreBytes text → first_fault_of text ≡ o → MatchOption o ((r : RecordingParts) × Text text r) (λ fault. (r : RecordingParts) → ¬ (Text text r))
-by_fault text None bytes e = has_recording text bytes (none_meets text e)
-by_fault text (Some f) bytes e = λ r is.
-    let so = in_version text r is in
-    let none : first_fault_of text ≡ None = text_agrees text r (lawful_formed r so.lawful) so.laid ∙ lawful_faultless r so.lawful in
-    absurd cc
+-- what is read of the text that is written is what was written
+pub read_back : (r s : RecordingParts) (text : List ℕ) → TextIn VERSION text r → Text text s → s ≡ r
+read_back r s text written read = same_recording text s r read (record { version = VERSION; is = written })
 
-pub text_or_fault : (text : List ℕ) → AreBytes text → MatchOption (first_fault_of text) ((r : RecordingParts) × Text text r) (λ fault. (r : RecordingParts) → ¬ (Text text r))
-text_or_fault text bytes = by_fault text (first_fault_of text) bytes refl
+-- and what is written of what was read of a text of that version is the text
+pub written_back : (text other : List ℕ) (r : RecordingParts) → AreBytes text → AreBytes other → version text ≡ VERSION → Text text r → TextIn VERSION other r → other ≡ text
+written_back text other r bytes others is read written = same_text VERSION r text other bytes others (in_version VERSION text r is read) written

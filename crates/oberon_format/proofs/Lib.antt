@@ -1,14 +1,18 @@
 pub mod CheckpointLemmas
 pub mod Numbers
 pub mod RuleLemmas
+pub mod ChangeLemmas
+pub mod Walk
 pub mod Each
 pub mod Keys
+pub mod Room
 pub mod Output
+pub mod Tables
+pub mod TextLemmas
 pub mod PartLemmas
 pub mod SameFields
-pub mod Versions
+pub mod PartRules
 pub mod Places
-pub mod TextLemmas
 mod SameRules
 mod LongFields
 pub mod Cut

@@ -1,13 +1,14 @@
 -- No rule is broken with want of memory.
 use Rattle.std.proofs.Common.{ℕ, zero, suc, Bool, true, false, List, [], ◌∷◌, ◌++◌}
-use Rattle.std.specs.Prelude.{IfSome}
+use Rattle.std.specs.Prelude.{IfSome, ◌==◌, if◌then◌else◌}
 use Rattle.oberon_format.specs.declared.fault.Fault.{Fault}
+use Rattle.oberon_format.specs.declared.layout.TheConstants.{FIRST_VERSION, VERSION, PLACES}
 use Rattle.oberon_format.specs.Fields.{Fields}
 use Rattle.oberon_format.specs.FirstFault.{Rule, each, first_broken}
 use Rattle.oberon_format.specs.Line.{IsNamedFault}
-use Rattle.oberon_format.specs.PartFields.{fields_of_parts, fault_of_parts}
+use Rattle.oberon_format.specs.PartFields.{fields_laid, fault_of_parts}
 use Rattle.oberon_format.specs.Recording.{RecordingParts}
-use Rattle.oberon_format.specs.Rules.{checkpoint_rules, end_rules, event_rules, header_rules, rules, rules_at}
+use Rattle.oberon_format.specs.Rules.{changed_rules, checkpoint_rules, end_rules, event_rules, header_rules, rules, whole_rules}
 use Rattle.oberon_format.specs.TextFields.{fields_of, first_fault_of}
 
 -- the first broken rule names a fault
@@ -39,9 +40,21 @@ named_header f =
     named_cons _ _ _ tt (named_cons _ _ _ tt (named_cons _ _ _ tt (named_cons _ _ _ tt
     (named_cons _ _ _ tt (named_cons _ _ _ tt (named_cons _ _ _ tt (named_cons _ _ _ tt named_nil)))))))
 
+-- a checkpoint of version 1
+named_whole : (f : Fields) (k : ℕ) → AreNamed (whole_rules f k)
+named_whole f k = named_cons _ _ _ tt (named_each PLACES _ (λ j. named_cons _ _ _ tt named_nil))
+
+-- one of version 2
+named_changed : (f : Fields) (k : ℕ) → AreNamed (changed_rules f k)
+named_changed f k =
+    named_cons _ _ _ tt (named_cons _ _ _ tt (named_cons _ _ _ tt (named_each (f.checkpoint k).changes _ (λ i. named_cons _ _ _ tt named_nil))))
+
 named_checkpoint : (f : Fields) (k : ℕ) → AreNamed (checkpoint_rules f k)
-unfolding rules_at
-named_checkpoint f k = named_cons _ _ _ tt (named_each 1024 _ (λ j. named_cons _ _ _ tt named_nil))
+unfolding checkpoint_rules
+named_checkpoint f k = go (f.version == FIRST_VERSION) where
+  go : (b : Bool) → AreNamed (if b then whole_rules f k else changed_rules f k)
+  go true = named_whole f k
+  go false = named_changed f k
 
 named_end : (f : Fields) → AreNamed (end_rules f)
 named_end f = named_cons _ _ _ tt (named_cons _ _ _ tt named_nil)
@@ -63,4 +76,4 @@ text_named text = rules_named (fields_of text)
 
 pub parts_named : (r : RecordingParts) → IfSome (fault_of_parts r) IsNamedFault
 unfolding AreNamed
-parts_named r = rules_named (fields_of_parts r)
+parts_named r = rules_named (fields_laid VERSION r)

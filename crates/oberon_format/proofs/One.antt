@@ -1,7 +1,8 @@
 -- A text is that of at most one recording.
-use Rattle.std.proofs.Common.{◌≡◌, ◌<◌, ◌+◌, ◌-◌, ◌/◌, ◌%◌, ◌^◌, ◌∙◌, ℕ, zero, suc, Bool, true, false, List, [], ◌∷◌, length, take, drop, get_or, refl, sym, ap, subst, arith}
+use Rattle.std.proofs.Common.{◌≡◌, ◌<◌, ◌+◌, ◌-◌, ◌/◌, ◌%◌, ◌^◌, ◌∙◌, ℕ, zero, suc, Bool, true, false, List, [], ◌∷◌, length, take, drop, get_or, refl, sym, ap, subst, inl, inr, arith}
 use Rattle.std.proofs.Props.{props}
-use Rattle.std.specs.Prelude.{replicate, ◌==◌}
+use Rattle.std.specs.Prelude.{replicate, slice_index, ◌==◌}
+use Rattle.std.proofs.lemmas.Bool.{ne_eqb}
 use Rattle.std.proofs.lemmas.List.{take_at, drop_at, get_or_default}
 use Rattle.risc_devices.specs.declared.input.Input.{Input}
 use Rattle.risc_devices.specs.DeviceState.{DeviceState, IsDeviceState}
@@ -9,12 +10,18 @@ use Rattle.risc_devices.proofs.InputLemmas.{same_input}
 use Rattle.risc_devices.proofs.DeviceLemmas.{same_devices}
 use Rattle.risc_machine.specs.declared.event.Event.{Event}
 use Rattle.risc_machine.specs.MachineState.{CpuState, IsCpuState}
-use Rattle.oberon_format.specs.declared.layout.TheConstants.{VERSION, TABLE_AT}
+use Rattle.risc_pages.specs.Tables.{IsTable}
+use Rattle.oberon_format.specs.declared.change.Change.{Change}
+use Rattle.oberon_format.specs.declared.layout.TheConstants.{PLACES, TABLE_AT}
+use Rattle.oberon_format.specs.Changes.{changes, no_change, number_after}
 use Rattle.oberon_format.specs.CheckpointParts.{CheckpointParts, no_checkpoint}
 use Rattle.oberon_format.specs.FlagsNumber.{bits_number, flags_number}
-use Rattle.oberon_format.specs.Layout.{page_place, event_place, start}
-use Rattle.oberon_format.specs.Recording.{RecordingParts, IsFit, checkpoint_at, output_of}
-use Rattle.oberon_format.specs.Text.{AreWords, IsEvent, IsCpu, IsDevices, IsCheckpoint, TextIn}
+use Rattle.oberon_format.specs.Layout.{version, page_place, event_place, change_place, start}
+use Rattle.oberon_format.specs.Ranges.{is_version}
+use Rattle.oberon_format.specs.Recording.{RecordingParts, IsFit, checkpoint_at, table_before, output_of}
+use Rattle.oberon_format.specs.Text.{AreWords, IsEvent, IsCpu, IsDevices, IsWhole, IsChange, IsChanged, IsCheckpoint, TextIn, Text}
+use Rattle.oberon_format.proofs.ChangeLemmas.{changes-make}
+use Rattle.oberon_format.proofs.RuleLemmas.{version_cases}
 
 -- lists of one length with the same members
 same_members : {X : Type 0} (xs ys : List X) → length xs ≡ length ys → ((i : ℕ) (d : X) → i < length xs → get_or xs i d ≡ get_or ys i d) → xs ≡ ys
@@ -87,12 +94,12 @@ same_cpu text place a b fit_a fit_b x y =
     let stop : a.stop ≡ b.stop = sym x.stop ∙ y.stop in
     λ i. record { r = registers i; h = h i; pc = pc i; flags = record { n = n i; z = z i; c = c i; v = v i }; stop = stop i }
 
-same_devices_at : (text : List ℕ) (place : ℕ) (a b : DeviceState) → IsDeviceState a → IsDeviceState b → IsDevices text place a → IsDevices text place b → a ≡ b
-same_devices_at text place a b fit_a fit_b x y =
+same_devices_at : (text : List ℕ) (place : ℕ) (a b : DeviceState) → IsDeviceState a → IsDeviceState b → a.rate ≡ b.rate → a.phase ≡ b.phase → IsDevices text place a → IsDevices text place b → a ≡ b
+same_devices_at text place a b fit_a fit_b rate phase x y =
     let len : length a.keys ≡ length b.keys = sym x.waiting ∙ y.waiting in
     let keys : a.keys ≡ b.keys =
     sym (take_at a.keys (replicate (16 - length a.keys) 0) (length b.keys) len) ∙ ap (take (length b.keys)) (sym x.keys ∙ y.keys) ∙ take_at b.keys (replicate (16 - length b.keys) 0) (length b.keys) refl in
-    same_devices a b fit_a fit_b (sym x.timer ∙ y.timer) (x.rate ∙ sym y.rate) (x.phase ∙ sym y.phase) (sym x.switches ∙ y.switches) (sym x.leds ∙ y.leds) (sym x.mouse ∙ y.mouse) (sym x.serial ∙ y.serial) keys
+    same_devices a b fit_a fit_b (sym x.timer ∙ y.timer) rate phase (sym x.switches ∙ y.switches) (sym x.leds ∙ y.leds) (sym x.mouse ∙ y.mouse) (sym x.serial ∙ y.serial) keys
 
 -- outputs of one length each that are the same in all
 same_sent : (cs ds : List CheckpointParts) → length cs ≡ length ds → ((i : ℕ) → i < length cs → length (get_or cs i no_checkpoint).sent ≡ length (get_or ds i no_checkpoint).sent)
@@ -107,33 +114,120 @@ same_sent (c ∷ cs) (d ∷ ds) len each same (suc i) lt =
     let rest : output_of cs ≡ output_of ds = sym (drop_at c.sent (output_of cs) (length d.sent) first) ∙ ap (drop (length d.sent)) same ∙ drop_at d.sent (output_of ds) (length d.sent) refl in
     same_sent cs ds (omega arith) (λ k less. each (suc k) (omega arith)) rest i (omega arith)
 
-same_checkpoint : (text : List ℕ) (place : ℕ) (p q : List (List ℕ)) (c d : CheckpointParts) → IsFit p c → IsFit q d → c.sent ≡ d.sent → IsCheckpoint VERSION text place c → IsCheckpoint VERSION text place d → c ≡ d
-same_checkpoint text place p q c d fit_c fit_d sent x y =
+-- what follows the front of two checkpoints is the same
+record SameRest (c d : CheckpointParts) : Type 0 where
+  rate : c.devices.rate ≡ d.devices.rate
+  phase : c.devices.phase ≡ d.devices.phase
+  table : c.table ≡ d.table
+
+-- in version 1, where it stands at one place
+whole_same : (text : List ℕ) (place : ℕ) (c d : CheckpointParts) → IsTable c.table → IsTable d.table → IsWhole text place c → IsWhole text place d → SameRest c d
+whole_same text place c d fit_c fit_d x y = record {
+  rate = x.rate ∙ sym y.rate;
+  phase = x.phase ∙ sym y.phase;
+  table = same_words text (place + TABLE_AT) c.table d.table (fit_c.count ∙ sym fit_d.count) x.table y.table;
+}
+
+-- changes that stand at one place
+same_change : (text : List ℕ) (place : ℕ) (a b : Change) → IsChange text place a → IsChange text place b → a ≡ b
+same_change text place a b x y =
+    let places : a.place ≡ b.place = sym x.place ∙ y.place in
+    let numbers : a.number ≡ b.number = sym x.number ∙ y.number in
+    λ i. record { place = places i; number = numbers i }
+
+-- the same changes of one table make the same table
+same_made : (before xs ys : List ℕ) → IsTable xs → IsTable ys → changes before xs ≡ changes before ys → xs ≡ ys
+same_made before xs ys fit_x fit_y same =
+    let count_x = fit_x.count in
+    let count_y = fit_y.count in
+    let made : List Change → ℕ → ℕ = λ cs p. number_after (λ i. get_or cs i no_change) (slice_index before) (length cs) p in
+    let at : (p : ℕ) → p < PLACES → slice_index xs p ≡ slice_index ys p =
+    λ p lt. sym (changes-make before xs p lt) ∙ ap (λ (cs : List Change). made cs p) same ∙ changes-make before ys p lt in
+    same_members xs ys (count_x ∙ sym count_y) (λ p d lt. get_or_default xs p d 0 lt ∙ at p (omega arith) ∙ get_or_default ys p 0 d (omega arith))
+
+-- in version 2, where it stands at one place after one table
+changed_same : (text : List ℕ) (place : ℕ) (before : List ℕ) (c d : CheckpointParts) → IsTable c.table → IsTable d.table → IsChanged text place before c → IsChanged text place before d → SameRest c d
+changed_same text place before c d fit_c fit_d x y =
+    let xs = changes before c.table in
+    let ys = changes before d.table in
+    let len : length xs ≡ length ys = sym x.count ∙ y.count in
+    let same : xs ≡ ys = same_members xs ys len (λ i e lt. same_change text (change_place place i) (get_or xs i e) (get_or ys i e) (x.changes i e lt) (y.changes i e (omega arith))) in
+    record { rate = sym x.rate ∙ y.rate; phase = sym x.phase ∙ y.phase; table = same_made before c.table d.table fit_c fit_d same }
+
+-- so in each version that is known
+rest_same : (v : ℕ) (text : List ℕ) (place : ℕ) (before : List ℕ) (c d : CheckpointParts) → is_version v ≡ true → IsTable c.table → IsTable d.table
+    → IsCheckpoint v text place before c → IsCheckpoint v text place before d → SameRest c d
+rest_same v text place before c d known fit_c fit_d x y =
+    elim (version_cases v known) [
+      | inl first ↦ whole_same text place c d fit_c fit_d (x.in_first first) (y.in_first first)
+      | inr later ↦ changed_same text place before c d fit_c fit_d (x.in_second later) (y.in_second later)
+    ]
+
+-- checkpoints that stand at one place after one table, and sent the same
+same_checkpoint : (v : ℕ) (text : List ℕ) (place : ℕ) (before : List ℕ) (p q : List (List ℕ)) (c d : CheckpointParts) → is_version v ≡ true → IsFit p c → IsFit q d → c.sent ≡ d.sent
+    → IsCheckpoint v text place before c → IsCheckpoint v text place before d → c ≡ d
+same_checkpoint v text place before p q c d known fit_c fit_d sent x y =
+    let rest = rest_same v text place before c d known fit_c.table fit_d.table x y in
     let count : c.count ≡ d.count = sym x.front.count ∙ y.front.count in
     let cpu = same_cpu text place c.cpu d.cpu fit_c.cpu fit_d.cpu x.front.cpu y.front.cpu in
-    let devices = same_devices_at text place c.devices d.devices fit_c.devices fit_d.devices x.front.devices y.front.devices in
-    let table : c.table ≡ d.table = same_words text (place + TABLE_AT) c.table d.table (fit_c.table.count ∙ sym fit_d.table.count) x.tail.table y.tail.table in
+    let devices = same_devices_at text place c.devices d.devices fit_c.devices fit_d.devices rest.rate rest.phase x.front.devices y.front.devices in
+    let table = rest.table in
     λ i. record { count = count i; cpu = cpu i; devices = devices i; sent = sent i; table = table i }
 
-checkpoints_same : (text : List ℕ) (r s : RecordingParts) → TextIn VERSION text r → TextIn VERSION text s → r.checkpoints ≡ s.checkpoints
-checkpoints_same text r s a b =
+-- the table before a checkpoint that is not the first is that of the one before
+table_before-next : (cs : List CheckpointParts) (k : ℕ) → table_before cs (suc k) ≡ (get_or cs k no_checkpoint).table
+table_before-next cs k =
+    let less : suc k - 1 ≡ k = omega arith in
+    let none : (suc k == 0) ≡ false = ne_eqb (suc k) 0 (omega arith) in
+    rw (none, less) refl
+
+-- each checkpoint of one text, the first one first
+checkpoint_same : (v : ℕ) (text : List ℕ) (r s : RecordingParts) → TextIn v text r → TextIn v text s
+    → ((i : ℕ) → i < length r.checkpoints → (checkpoint_at r i).sent ≡ (checkpoint_at s i).sent) → (i : ℕ) → i < length r.checkpoints → checkpoint_at r i ≡ checkpoint_at s i
+checkpoint_same v text r s a b sent i lt = go i lt where
+  len : length r.checkpoints ≡ length s.checkpoints
+  len = sym a.laid.checkpoint_count ∙ b.laid.checkpoint_count
+
+  after_one : (k : ℕ) → k < length r.checkpoints → table_before r.checkpoints k ≡ table_before s.checkpoints k → checkpoint_at r k ≡ checkpoint_at s k
+  after_one k less before =
+      let here = len in
+      same_checkpoint v text (start text k) (table_before s.checkpoints k) r.pool s.pool (checkpoint_at r k) (checkpoint_at s k) a.laid.known (a.lawful.fit k less) (b.lawful.fit k (omega arith)) (sent k less)
+      (subst (λ (t : List ℕ). IsCheckpoint v text (start text k) t (checkpoint_at r k)) before (a.laid.checkpoints_stand k no_checkpoint less)) (b.laid.checkpoints_stand k no_checkpoint (omega arith))
+
+  go : (k : ℕ) → k < length r.checkpoints → checkpoint_at r k ≡ checkpoint_at s k
+  go zero less = after_one zero less refl
+  go (suc k) less =
+      let table : (checkpoint_at r k).table ≡ (checkpoint_at s k).table = ap (λ (c : CheckpointParts). c.table) (go k (omega arith)) in
+      after_one (suc k) less (table_before-next r.checkpoints k ∙ table ∙ sym (table_before-next s.checkpoints k))
+
+-- so all checkpoints are the same
+checkpoints_same : (v : ℕ) (text : List ℕ) (r s : RecordingParts) → TextIn v text r → TextIn v text s → r.checkpoints ≡ s.checkpoints
+checkpoints_same v text r s a b =
     let len : length r.checkpoints ≡ length s.checkpoints = sym a.laid.checkpoint_count ∙ b.laid.checkpoint_count in
     let stands_r = a.laid.checkpoints_stand in
     let stands_s = b.laid.checkpoints_stand in
-    let lengths : (i : ℕ) → i < length r.checkpoints → length (checkpoint_at r i).sent ≡ length (checkpoint_at s i).sent = λ i lt. sym (stands_r i no_checkpoint lt).front.sent ∙ (stands_s i no_checkpoint (omega arith)).front.sent in
+    let lengths : (i : ℕ) → i < length r.checkpoints → length (checkpoint_at r i).sent ≡ length (checkpoint_at s i).sent =
+    λ i lt. sym (stands_r i no_checkpoint lt).front.sent ∙ (stands_s i no_checkpoint (omega arith)).front.sent in
     let sent = same_sent r.checkpoints s.checkpoints len lengths (sym a.laid.output ∙ b.laid.output) in
-    let each : (i : ℕ) → i < length r.checkpoints → checkpoint_at r i ≡ checkpoint_at s i = λ i lt.
-    same_checkpoint text (start text i) r.pool s.pool (checkpoint_at r i) (checkpoint_at s i) (a.lawful.fit i lt) (b.lawful.fit i (omega arith)) (sent i lt) (stands_r i no_checkpoint lt) (stands_s i no_checkpoint (omega arith)) in
+    let each = checkpoint_same v text r s a b sent in
     same_members r.checkpoints s.checkpoints len (λ i d lt. get_or_default r.checkpoints i d no_checkpoint lt ∙ each i lt ∙ get_or_default s.checkpoints i no_checkpoint d (omega arith))
 
--- a text is that of one recording
-pub same_recording : (text : List ℕ) (r s : RecordingParts) → TextIn VERSION text r → TextIn VERSION text s → r ≡ s
-same_recording text r s a b =
+-- a text is that of one recording in a version
+same_in : (v : ℕ) (text : List ℕ) (r s : RecordingParts) → TextIn v text r → TextIn v text s → r ≡ s
+same_in v text r s a b =
     let pages_len : length r.pool ≡ length s.pool = sym a.laid.page_count ∙ b.laid.page_count in
     let pool : r.pool ≡ s.pool = same_members r.pool s.pool pages_len (λ i d lt.
     same_words text (page_place i) (get_or r.pool i d) (get_or s.pool i d) ((a.lawful.pool i d lt).whole ∙ sym (b.lawful.pool i d (omega arith)).whole) (a.laid.pages_stand i d lt) (b.laid.pages_stand i d (omega arith))) in
     let events_len : length r.inputs ≡ length s.inputs = sym a.laid.event_count ∙ b.laid.event_count in
     let inputs : r.inputs ≡ s.inputs = same_members r.inputs s.inputs events_len (λ i d lt.
     same_event_at text (event_place text i) (get_or r.inputs i d) (get_or s.inputs i d) (a.laid.events_stand i d lt) (b.laid.events_stand i d (omega arith))) in
-    let checkpoints = checkpoints_same text r s a b in
+    let checkpoints = checkpoints_same v text r s a b in
     λ i. record { pool = pool i; inputs = inputs i; checkpoints = checkpoints i }
+
+-- the version of a text is its own
+pub in_version : (v : ℕ) (text : List ℕ) (r : RecordingParts) → version text ≡ v → Text text r → TextIn v text r
+in_version v text r is some = subst (λ (w : ℕ). TextIn w text r) (sym some.is.laid.version ∙ is) some.is
+
+-- a text is that of one recording
+pub same_recording : (text : List ℕ) (r s : RecordingParts) → Text text r → Text text s → r ≡ s
+same_recording text r s a b = same_in (version text) text r s (in_version (version text) text r refl a) (in_version (version text) text s refl b)

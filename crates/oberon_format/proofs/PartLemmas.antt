@@ -1,17 +1,21 @@
--- The fields of parts, member by member, and the sums of their outputs.
-use Rattle.std.proofs.Common.{◌≡◌, ◌<◌, ◌≤◌, ◌+◌, ◌*◌, ◌∙◌, ℕ, List, [], map, get_or, length, true, sym, ap, arith, add-one, refl, zero, suc, ◌∷◌, inl, inr, eq-eqb, length-append}
-use Rattle.std.specs.Prelude.{slice_index, None, nat_le, ◌==◌}
-use Rattle.std.proofs.lemmas.List.{get_or-map}
-use Rattle.std.proofs.lemmas.Bool.{le-leb, cases_lt}
+-- The fields of parts, member by member, where their checkpoints are laid out, and the sums of their outputs.
+use Rattle.std.proofs.Common.{◌≡◌, ◌<◌, ◌≤◌, ◌+◌, ◌-◌, ◌*◌, ◌∙◌, ℕ, Bool, true, false, List, [], ◌∷◌, get_or, length, refl, sym, ap, arith, add-one, zero, suc, inl, inr, eq-eqb, length-append}
+use Rattle.std.specs.Prelude.{None, slice_index, slice_index_or, nat_le, ◌==◌, if◌then◌else◌}
+use Rattle.std.proofs.lemmas.List.{get_or-map, get_or-replicate}
+use Rattle.std.proofs.lemmas.Bool.{le-leb, ne_eqb, cases_lt}
 use Rattle.std.proofs.lemmas.Bool.Decides.{nat_tests}
 use Rattle.risc_machine.specs.declared.event.Event.{Event}
+use Rattle.risc_pages.specs.Tables.{zero_numbers}
+use Rattle.oberon_format.specs.declared.layout.TheConstants.{FIRST_VERSION, VERSION, CHECKPOINT_LEN, CHANGE_LEN, CHANGES_AT, PLACES}
+use Rattle.oberon_format.specs.Changes.{changes}
 use Rattle.oberon_format.specs.CheckpointParts.{CheckpointParts, no_checkpoint}
-use Rattle.oberon_format.specs.declared.fields.CheckpointFields.{CheckpointFields}
 use Rattle.oberon_format.specs.Fields.{Fields, total, sent_below}
 use Rattle.oberon_format.specs.FirstFault.{first_broken}
-use Rattle.oberon_format.specs.PartFields.{fields_of_parts, event_fields, no_event, checkpoint_fields, no_fields}
-use Rattle.oberon_format.specs.Recording.{RecordingParts, checkpoint_at, output_of}
-use Rattle.oberon_format.specs.Rules.{event_floor, count_before, checkpoint_rules, place_of_checkpoint, rules_at, end_rules, whole}
+use Rattle.oberon_format.specs.Layout.{event_start, checkpoint_size}
+use Rattle.oberon_format.specs.PartFields.{fields_laid, start_laid, changes_laid, event_fields, no_event}
+use Rattle.oberon_format.specs.Recording.{RecordingParts, checkpoint_at, table_before, output_of}
+use Rattle.oberon_format.specs.Rules.{event_floor, count_before, stood, end_rules, whole}
+use Rattle.oberon_format.proofs.ChangeLemmas.{changes-few}
 
 -- a member at its number
 pub member : {X : Type 0} (xs : List X) (i : ℕ) → i < length xs → X
@@ -19,22 +23,39 @@ member [] i lt = absurd (omega arith)
 member (x ∷ xs) zero lt = x
 member (x ∷ xs) (suc i) lt = member xs i (omega arith)
 
-pub event_here : (r : RecordingParts) (i : ℕ) (e : Event) → i < length r.inputs → (fields_of_parts r).event i ≡ event_fields (get_or r.inputs i e)
-event_here r i e lt = get_or-map event_fields r.inputs i e no_event lt
+-- an event of parts has its fields
+pub event_here : (v : ℕ) (r : RecordingParts) (i : ℕ) (e : Event) → i < length r.inputs → (fields_laid v r).event i ≡ event_fields (get_or r.inputs i e)
+event_here v r i e lt = get_or-map event_fields r.inputs i e no_event lt
 
-pub checkpoint_here : (r : RecordingParts) (k : ℕ) → k < length r.checkpoints → (fields_of_parts r).checkpoint k ≡ checkpoint_fields (checkpoint_at r k)
-checkpoint_here r k lt = get_or-map checkpoint_fields r.checkpoints k no_checkpoint no_fields lt
-
-pub number_here : (r : RecordingParts) (k : ℕ) → k < length r.checkpoints → (fields_of_parts r).page_number k ≡ slice_index (checkpoint_at r k).table
-number_here r k lt =
-    ap (λ (xs : List ℕ). slice_index xs) (get_or-map (λ (c : CheckpointParts). c.table) r.checkpoints k no_checkpoint [] lt)
-
+-- what comes before each event and each checkpoint but the first
 pub floor_more : (f : Fields) (i : ℕ) → event_floor f (i + 1) ≡ (f.event i).count
 floor_more f i = grind (arith, nat_tests)
 
 pub before_more : (f : Fields) (k : ℕ) → count_before f (k + 1) ≡ (f.checkpoint k).count
 before_more f k = grind (arith, nat_tests)
 
+pub stood_more : (f : Fields) (k p : ℕ) → stood f (k + 1) p ≡ f.page_number k p
+stood_more f k p = grind (arith, nat_tests)
+
+-- the table before each checkpoint but the first is that of the one before
+pub table_next : (cs : List CheckpointParts) (k : ℕ) → table_before cs (suc k) ≡ (slice_index_or cs k no_checkpoint).table
+table_next cs k =
+    let later : (suc k == 0) ≡ false = ne_eqb (suc k) 0 (λ e. omega arith) in
+    let back : suc k - 1 ≡ k = omega arith in
+    rw (later, back) refl
+
+-- the numbers that stood before a checkpoint of parts are those of the table before it
+pub zero_number : (p : ℕ) → p < PLACES → slice_index zero_numbers p ≡ 0
+unfolding zero_numbers
+zero_number p lt = get_or-replicate PLACES p 0 0 lt
+
+pub stood_laid : (v : ℕ) (r : RecordingParts) (k p : ℕ) → p < PLACES → stood (fields_laid v r) k p ≡ slice_index (table_before r.checkpoints k) p
+stood_laid v r zero p lt = sym (zero_number p lt)
+stood_laid v r (suc k) p lt =
+    ap (λ (n : ℕ). stood (fields_laid v r) n p) (sym (add-one k)) ∙ stood_more (fields_laid v r) k p
+    ∙ ap (λ (table : List ℕ). slice_index table p) (sym (table_next r.checkpoints k))
+
+-- what is sent before a checkpoint
 pub sent_none : (f : Fields) → sent_below f 0 ≡ 0
 unfolding total
 sent_none f = refl
@@ -43,6 +64,7 @@ pub sent_more : (f : Fields) (k : ℕ) → sent_below f (k + 1) ≡ sent_below f
 unfolding total
 sent_more f k = rw (add-one k) refl
 
+-- a sum grows with its length
 pub total_le : (f : ℕ → ℕ) (k n : ℕ) → k ≤ n → total f k ≤ total f n
 unfolding total
 total_le f k zero le = let e : k ≡ 0 = omega arith in rw e (omega arith)
@@ -52,53 +74,76 @@ total_le f k (suc n) le =
       | inr more ↦ let e : k ≡ suc n = omega arith in rw e (omega arith)
     ]
 
--- the rules of checkpoint k of the parts
-pub rules_here : (r : RecordingParts) (k place before sent : ℕ) → k < length r.checkpoints
-    → place ≡ 24 + 1024 * length r.pool + 16 * length r.inputs + 4228 * k
-    → before ≡ count_before (fields_of_parts r) k → sent ≡ sent_below (fields_of_parts r) k
-    → checkpoint_rules (fields_of_parts r) k ≡ rules_at (length r.pool) place k before sent (checkpoint_fields (checkpoint_at r k)) (slice_index (checkpoint_at r k).table)
-rules_here r k place before sent lt at b s =
-    let f = fields_of_parts r in
-    let c = checkpoint_fields (checkpoint_at r k) in
-    let n = slice_index (checkpoint_at r k).table in
-    ap (λ (x : CheckpointFields). rules_at (length r.pool) (place_of_checkpoint f k) k (count_before f k) (sent_below f k) x (f.page_number k)) (checkpoint_here r k lt)
-    ∙ ap (λ (g : ℕ → ℕ). rules_at (length r.pool) (place_of_checkpoint f k) k (count_before f k) (sent_below f k) c g) (number_here r k lt)
-    ∙ ap (λ (p : ℕ). rules_at (length r.pool) p k (count_before f k) (sent_below f k) c n) (sym at)
-    ∙ ap (λ (p : ℕ). rules_at (length r.pool) place k p (sent_below f k) c n) (sym b)
-    ∙ ap (λ (p : ℕ). rules_at (length r.pool) place k before p c n) (sym s)
+-- a checkpoint has at most as many changes as a table has places
+pub laid_few : (v : ℕ) (before : List ℕ) (c : CheckpointParts) → changes_laid v before c ≤ PLACES
+laid_few v before c = go (v == FIRST_VERSION) where
+  go : (b : Bool) → (if b then 0 else length (changes before c.table)) ≤ PLACES
+  go true = omega arith
+  go false = changes-few before c.table
 
--- the same, of a checkpoint that is known by its parts
-pub rules_with : (r : RecordingParts) (k pages place before sent : ℕ) (c : CheckpointParts) → k < length r.checkpoints → checkpoint_at r k ≡ c → pages ≡ length r.pool
-    → place ≡ 24 + 1024 * length r.pool + 16 * length r.inputs + 4228 * k
-    → before ≡ count_before (fields_of_parts r) k → sent ≡ sent_below (fields_of_parts r) k
-    → checkpoint_rules (fields_of_parts r) k ≡ rules_at pages place k before sent (checkpoint_fields c) (slice_index c.table)
-rules_with r k pages place before sent c lt here count at b s =
-    rules_here r k place before sent lt at b s
-    ∙ ap (λ (x : CheckpointParts). rules_at (length r.pool) place k before sent (checkpoint_fields x) (slice_index x.table)) here
-    ∙ ap (λ (p : ℕ). rules_at p place k before sent (checkpoint_fields c) (slice_index c.table)) (sym count)
+-- and so it is at most this long
+pub size_few : (v changes : ℕ) → changes ≤ PLACES → checkpoint_size v changes ≤ CHANGES_AT + CHANGE_LEN * PLACES
+size_few v changes few = go (v == FIRST_VERSION) where
+  go : (b : Bool) → (if b then CHECKPOINT_LEN else CHANGES_AT + CHANGE_LEN * changes) ≤ CHANGES_AT + CHANGE_LEN * PLACES
+  go true = omega arith
+  go false = omega arith
 
+-- where checkpoint 0 is laid out, and where the one after each
+pub laid_first : (v : ℕ) (r : RecordingParts) → start_laid v r 0 ≡ event_start (length r.pool) (length r.inputs)
+unfolding start_laid
+laid_first v r = refl
+
+pub laid_next : (v : ℕ) (r : RecordingParts) (k : ℕ)
+    → start_laid v r (suc k) ≡ start_laid v r k + checkpoint_size v (changes_laid v (table_before r.checkpoints k) (checkpoint_at r k))
+unfolding start_laid
+laid_next v r k = refl
+
+-- the places of checkpoints rise
+pub laid_le : (v : ℕ) (r : RecordingParts) (k n : ℕ) → k ≤ n → start_laid v r k ≤ start_laid v r n
+laid_le v r k zero le = let e : k ≡ 0 = omega arith in rw e (omega arith)
+laid_le v r k (suc n) le =
+    elim (cases_lt k (suc n)) [
+      | inl less ↦ let ih = laid_le v r k n (omega arith) in let next = laid_next v r n in omega arith
+      | inr more ↦ let e : k ≡ suc n = omega arith in rw e (omega arith)
+    ]
+
+-- each checkpoint of version 2 has its room
+pub changed_room : (r : RecordingParts) (k : ℕ) → start_laid VERSION r k + CHANGES_AT ≤ start_laid VERSION r (suc k)
+changed_room r k = let next = laid_next VERSION r k in omega arith
+
+-- no further than so many of the longest checkpoints reach
+pub laid_within : (v : ℕ) (r : RecordingParts) (k : ℕ)
+    → start_laid v r k ≤ event_start (length r.pool) (length r.inputs) + (CHANGES_AT + CHANGE_LEN * PLACES) * k
+laid_within v r zero = let first = laid_first v r in omega arith
+laid_within v r (suc k) =
+    let ih = laid_within v r k in
+    let next = laid_next v r k in
+    let changes = changes_laid v (table_before r.checkpoints k) (checkpoint_at r k) in
+    let few = size_few v changes (laid_few v (table_before r.checkpoints k) (checkpoint_at r k)) in
+    omega arith
+
+-- the length of all output is the sum of the checkpoints' outputs
 total_head : (f : ℕ → ℕ) (n : ℕ) → total f (suc n) ≡ f 0 + total (λ i. f (suc i)) n
 unfolding total
 total_head f zero = omega arith
 total_head f (suc n) = let ih = total_head f n in omega arith
 
--- the length of all output is the sum of the checkpoints' outputs
-output_total : (cs : List CheckpointParts) → total (λ i. (get_or (map checkpoint_fields cs) i no_fields).output) (length cs) ≡ length (output_of cs)
+output_total : (cs : List CheckpointParts) → total (λ i. length (get_or cs i no_checkpoint).sent) (length cs) ≡ length (output_of cs)
 unfolding total
 output_total [] = refl
 output_total (c ∷ cs) =
-    total_head (λ i. (get_or (map checkpoint_fields (c ∷ cs)) i no_fields).output) (length cs)
+    total_head (λ i. length (get_or (c ∷ cs) i no_checkpoint).sent) (length cs)
     ∙ ap (λ (n : ℕ). length c.sent + n) (output_total cs)
     ∙ sym (length-append c.sent (output_of cs))
 
-pub sent_all : (r : RecordingParts) → sent_below (fields_of_parts r) (length r.checkpoints) ≡ length (output_of r.checkpoints)
-sent_all r = output_total r.checkpoints
+pub sent_all : (v : ℕ) (r : RecordingParts) → sent_below (fields_laid v r) (length r.checkpoints) ≡ length (output_of r.checkpoints)
+sent_all v r = output_total r.checkpoints
 
 -- the length of the parts' text is right
-pub ends_met : (r : RecordingParts) → first_broken (end_rules (fields_of_parts r)) ≡ None
-ends_met r =
-    let f = fields_of_parts r in
-    let same : whole f ≡ f.long = ap (λ (n : ℕ). 24 + 1024 * length r.pool + 16 * length r.inputs + 4228 * length r.checkpoints + n) (sent_all r) in
+pub ends_met : (v : ℕ) (r : RecordingParts) → first_broken (end_rules (fields_laid v r)) ≡ None
+ends_met v r =
+    let f = fields_laid v r in
+    let same : whole f ≡ f.long = ap (λ (n : ℕ). start_laid v r (length r.checkpoints) + n) (sent_all v r) in
     let a : nat_le (whole f) f.long ≡ true = le-leb _ _ (omega arith) in
     let b : (f.long == whole f) ≡ true = eq-eqb _ _ (sym same) in
     rw (a, b) refl

@@ -1,21 +1,80 @@
--- Where checkpoints stand: the running sum of their lengths is what the rules and the code count.
-use Rattle.std.proofs.Common.{◌≡◌, ℕ, zero, suc, List, sym, subst, arith}
-use Rattle.std.specs.Prelude.{slice_index_or}
-use Rattle.oberon_format.specs.declared.layout.TheConstants.{VERSION}
-use Rattle.oberon_format.specs.CheckpointParts.{CheckpointParts}
-use Rattle.oberon_format.specs.Layout.{checkpoint_place, start}
-use Rattle.oberon_format.specs.Recording.{RecordingParts}
-use Rattle.oberon_format.specs.Tested.{IsCheckpointAt}
-use Rattle.oberon_format.specs.Text.{EachAt, IsCheckpoint, IsLaidOut}
+-- Where checkpoints stand: the running sum that a text's own numbers tell is that of the recording it is laid out of.
+use Rattle.std.proofs.Common.{◌≡◌, ◌<◌, ◌≤◌, ◌+◌, ◌-◌, ◌∙◌, ℕ, zero, suc, true, false, List, ◌∷◌, length, refl, sym, ap, subst, inl, inr, ⊎_elim, arith}
+use Rattle.std.specs.Prelude.{◌==◌, if◌then◌else◌, slice_index_or}
+use Rattle.std.proofs.lemmas.Bool.{ne_eqb, cases_lt}
+use Rattle.oberon_format.specs.declared.layout.TheConstants.{FIRST_VERSION, VERSION}
+use Rattle.oberon_format.specs.CheckpointParts.{CheckpointParts, no_checkpoint}
+use Rattle.oberon_format.specs.Layout.{version, pages, events, start, checkpoint_size, change_count}
+use Rattle.oberon_format.specs.PartFields.{changes_laid, start_laid}
+use Rattle.oberon_format.specs.Ranges.{is_version}
+use Rattle.oberon_format.specs.Recording.{RecordingParts, checkpoint_at, table_before}
+use Rattle.oberon_format.specs.Spelling.{checkpoint_bytes}
+use Rattle.oberon_format.specs.Text.{IsCheckpoint, IsLaidOut}
+use Rattle.oberon_format.proofs.RuleLemmas.{version_cases}
 
-pub start-is : (text : List ℕ) (k : ℕ) → start text k ≡ checkpoint_place text k
-unfolding start
-start-is text zero = omega arith
-start-is text (suc k) = let so = start-is text k in omega arith
+-- the table before checkpoint k of those that follow a table
+abbrev pub table_from : List ℕ → List CheckpointParts → ℕ → List ℕ
+table_from before cs k = if k == 0 then before else (slice_index_or cs (k - 1) no_checkpoint).table
 
--- checkpoints at the places of the sum are where the rules look for them, and the other way round
-pub found : (text : List ℕ) (cs : List CheckpointParts) → EachAt (λ k c. IsCheckpoint VERSION text (start text k) c) cs → EachAt (IsCheckpointAt text) cs
-found text cs each i d lt = subst (λ (place : ℕ). IsCheckpoint VERSION text place (slice_index_or cs i d)) (start-is text i) (each i d lt)
+-- for all but the first it is as after the table of the first
+table_from-next : (before : List ℕ) (c : CheckpointParts) (cs : List CheckpointParts) (k : ℕ) → table_from before (c ∷ cs) (suc k) ≡ table_from c.table cs k
+table_from-next before c cs zero = refl
+table_from-next before c cs (suc k) =
+    let left : suc (suc k) - 1 ≡ suc k = omega arith in
+    let right : suc k - 1 ≡ k = omega arith in
+    let no : (suc (suc k) == 0) ≡ false = ne_eqb (suc (suc k)) 0 (omega arith) in
+    let none : (suc k == 0) ≡ false = ne_eqb (suc k) 0 (omega arith) in
+    rw (left, right, no, none) refl
 
-pub stand_there : (text : List ℕ) (cs : List CheckpointParts) → EachAt (IsCheckpointAt text) cs → EachAt (λ k c. IsCheckpoint VERSION text (start text k) c) cs
-stand_there text cs each i d lt = subst (λ (place : ℕ). IsCheckpoint VERSION text place (slice_index_or cs i d)) (sym (start-is text i)) (each i d lt)
+-- the bytes of checkpoint k of those that follow a table
+abbrev pub bytes_at : ℕ → List ℕ → List CheckpointParts → ℕ → List ℕ
+bytes_at v before cs k = checkpoint_bytes v (table_from before cs k) (slice_index_or cs k no_checkpoint)
+
+-- which are those after the table of the first, for all but the first
+pub bytes_at-next : (v : ℕ) (before : List ℕ) (c : CheckpointParts) (cs : List CheckpointParts) (k : ℕ) → bytes_at v before (c ∷ cs) (suc k) ≡ bytes_at v c.table cs k
+bytes_at-next v before c cs k = ap (λ (t : List ℕ). checkpoint_bytes v t (slice_index_or cs k no_checkpoint)) (table_from-next before c cs k)
+
+-- the number of changes that stands in a text is that of its checkpoint
+pub count_laid : (v : ℕ) (text : List ℕ) (place : ℕ) (before : List ℕ) (c : CheckpointParts) → is_version v ≡ true → version text ≡ v → IsCheckpoint v text place before c
+    → change_count text place ≡ changes_laid v before c
+count_laid v text place before c known is stands =
+    ⊎_elim (λ (first : v ≡ FIRST_VERSION). rw (is, first) refl) (λ (second : v ≡ VERSION). let count = (stands.in_second second).count in rw (is, second) count) (version_cases v known)
+
+-- the sum goes on where the numbers of changes are those laid out
+start-sum : (v : ℕ) (text : List ℕ) (r : RecordingParts) → version text ≡ v → pages text ≡ length r.pool → events text ≡ length r.inputs
+    → ((k : ℕ) → k < length r.checkpoints → start text k ≡ start_laid v r k → change_count text (start text k) ≡ changes_laid v (table_before r.checkpoints k) (checkpoint_at r k))
+    → (k : ℕ) → k ≤ length r.checkpoints → start text k ≡ start_laid v r k
+unfolding start start_laid
+start-sum v text r is page_count event_count counts zero le = rw (page_count, event_count) refl
+start-sum v text r is page_count event_count counts (suc k) le =
+    let n = changes_laid v (table_before r.checkpoints k) (checkpoint_at r k) in
+    let so_far : start text k ≡ start_laid v r k = start-sum v text r is page_count event_count counts k (omega arith) in
+    let count : change_count text (start text k) ≡ n = counts k (omega arith) so_far in
+    ap (λ (m : ℕ). start text k + checkpoint_size (version text) m) count
+    ∙ ap (λ (m : ℕ). start text k + checkpoint_size m n) is
+    ∙ ap (λ (m : ℕ). m + checkpoint_size v n) so_far
+
+-- where a checkpoint begins in a text is where it is laid out
+pub start-laid : (v : ℕ) (text : List ℕ) (r : RecordingParts) → IsLaidOut v text r → (k : ℕ) → k ≤ length r.checkpoints → start text k ≡ start_laid v r k
+start-laid v text r laid =
+    start-sum v text r laid.version laid.page_count laid.event_count
+    (λ k lt at. count_laid v text (start text k) (table_before r.checkpoints k) (checkpoint_at r k) laid.known laid.version (laid.checkpoints_stand k no_checkpoint lt))
+
+-- and where all stand where they are laid out, the text finds them there
+pub start-found : (v : ℕ) (text : List ℕ) (r : RecordingParts) → is_version v ≡ true → version text ≡ v → pages text ≡ length r.pool → events text ≡ length r.inputs
+    → ((k : ℕ) → k < length r.checkpoints → IsCheckpoint v text (start_laid v r k) (table_before r.checkpoints k) (checkpoint_at r k))
+    → (k : ℕ) → k ≤ length r.checkpoints → start text k ≡ start_laid v r k
+start-found v text r known is page_count event_count stand =
+    start-sum v text r is page_count event_count (λ k lt at.
+    count_laid v text (start text k) (table_before r.checkpoints k) (checkpoint_at r k) known is
+    (subst (λ (p : ℕ). IsCheckpoint v text p (table_before r.checkpoints k) (checkpoint_at r k)) (sym at) (stand k lt)))
+
+-- places rise
+pub laid_rises : (v : ℕ) (r : RecordingParts) (k n : ℕ) → k ≤ n → start_laid v r k ≤ start_laid v r n
+unfolding start_laid
+laid_rises v r k zero le = let e : k ≡ 0 = omega arith in let same = ap (start_laid v r) e in omega arith
+laid_rises v r k (suc n) le =
+    elim (cases_lt k (suc n)) [
+      | inl less ↦ let so = laid_rises v r k n (omega arith) in omega arith
+      | inr more ↦ let e : k ≡ suc n = omega arith in let same = ap (start_laid v r) e in omega arith
+    ]

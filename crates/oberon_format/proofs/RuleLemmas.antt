@@ -1,17 +1,18 @@
--- The first broken rule of lists of rules.
-use Rattle.std.proofs.Common.{◌≡◌, ◌<◌, ◌+◌, ◌-◌, ℕ, zero, suc, Bool, true, false, ◌&&◌, List, [], ◌∷◌, ◌++◌, length, Some, None, refl, ap, sym, ◌∙◌, arith, add-suc, add-zero, add-one, inl, inr}
-use Rattle.std.proofs.lemmas.Bool.{cases_lt}
+-- The first broken rule of lists of rules, and what a text has of which some rules are met.
+use Rattle.std.proofs.Common.{◌≡◌, ◌<◌, ◌≤◌, ◌+◌, ◌-◌, ℕ, zero, suc, Bool, true, false, ◌&&◌, ◌||◌, List, [], ◌∷◌, ◌++◌, length, Some, None, refl, ap, sym, ◌∙◌, arith, add-suc, add-zero, add-one, inl, inr, ◌⊎◌, eq-eqb}
+use Rattle.std.specs.Prelude.{nat_le, ◌==◌}
+use Rattle.std.proofs.lemmas.Bool.{cases_lt, leb-true, le-leb, eqb-true}
 use Rattle.oberon_format.specs.declared.fault.Fault.{Fault}
 use Rattle.oberon_format.specs.declared.fault.Fault.TheVariants as fault
-use Rattle.oberon_format.specs.declared.layout.TheConstants.{MAGIC, VERSION, MAGIC_AT, VERSION_AT, LAST_AT, SENT_AT}
+use Rattle.oberon_format.specs.declared.layout.TheConstants.{MAGIC, FIRST_VERSION, VERSION, MAGIC_AT, LAST_AT, KIND_AT, VALUE_AT, SENT_AT, CHANGES_AT, PLACES}
 use Rattle.std.proofs.lemmas.Bool.Decides.{nat_tests}
 use Rattle.oberon_format.specs.Fields.{Fields, sent_below, total}
 use Rattle.oberon_format.specs.FirstFault.{Rule, each, first_broken}
-use Rattle.oberon_format.specs.Layout.{checkpoint_place, checkpoints, event_place, events, long_at, pages, word_at}
-use Rattle.oberon_format.specs.Ranges.{is_checkpoint, is_event}
-use Rattle.oberon_format.specs.Rules.{checkpoint_rules, count_before, end_rules, event_floor, event_rules, header_rules, page_number_rules, rules, rules_at, whole}
+use Rattle.oberon_format.specs.Layout.{page_number_place, change_place, checkpoints, event_place, events, long_at, pages, start, version, word_at}
+use Rattle.oberon_format.specs.Ranges.{is_version, is_change, is_checkpoint, is_event}
+use Rattle.oberon_format.specs.Rules.{checkpoint_rules, whole_rules, changed_rules, change_rules, place_floor, stood, count_before, end_rules, event_floor, event_rules, header_rules, page_number_rules, rules, whole}
 use Rattle.oberon_format.specs.Tested.{IsSized, Meets}
-use Rattle.oberon_format.specs.TextFields.{checkpoint_of, event_of, fields_of, first_fault_of, page_number_of}
+use Rattle.oberon_format.specs.TextFields.{checkpoint_of, event_of, fields_of, first_fault_of}
 use Rattle.risc_devices.specs.InputKind.{is_input}
 
 pub met-append : (xs ys : List Rule) → first_broken xs ≡ None → first_broken (xs ++ ys) ≡ first_broken ys
@@ -59,11 +60,11 @@ pub output_below_none : (text : List ℕ) → output_below text 0 ≡ 0
 unfolding total
 output_below_none text = refl
 
-pub output_below_more : (text : List ℕ) (k : ℕ) → output_below text (k + 1) ≡ output_below text k + word_at text (checkpoint_place text k + SENT_AT)
+pub output_below_more : (text : List ℕ) (k : ℕ) → output_below text (k + 1) ≡ output_below text k + word_at text (start text k + SENT_AT)
 unfolding total
 output_below_more text k = rw (add-one k) refl
 
-pub count_before_more : (text : List ℕ) (k : ℕ) → count_before (fields_of text) (k + 1) ≡ long_at text (checkpoint_place text k)
+pub count_before_more : (text : List ℕ) (k : ℕ) → count_before (fields_of text) (k + 1) ≡ long_at text (start text k)
 count_before_more text k = grind (arith, nat_tests)
 
 pub any_in_header : (x : Fields) (f : Fault) → first_broken (header_rules x) ≡ Some f → first_broken (rules x) ≡ Some f
@@ -138,6 +139,8 @@ rule_holds false f xs h = absurd cc
 
 pub header_sized : (text : List ℕ) → first_broken (header_rules (fields_of text)) ≡ None → IsSized text
 header_sized text h = record {
+  header = grind (arith, nat_tests);
+  known = grind (arith, nat_tests);
   pages = grind (arith, nat_tests);
   events = grind (arith, nat_tests);
   some = grind (arith, nat_tests);
@@ -145,8 +148,8 @@ header_sized text h = record {
   long = grind (arith, nat_tests);
 }
 
-pub header_exact : (text : List ℕ) → first_broken (header_rules (fields_of text)) ≡ None → (word_at text MAGIC_AT ≡ MAGIC) × (word_at text VERSION_AT ≡ VERSION) × (word_at text LAST_AT ≡ 0)
-header_exact text h = (grind (arith, nat_tests), grind (arith, nat_tests), grind (arith, nat_tests))
+pub header_exact : (text : List ℕ) → first_broken (header_rules (fields_of text)) ≡ None → (word_at text MAGIC_AT ≡ MAGIC) × (word_at text LAST_AT ≡ 0)
+header_exact text h = (grind (arith, nat_tests), grind (arith, nat_tests))
 
 pub end_whole : (text : List ℕ) → first_broken (end_rules (fields_of text)) ≡ None → length text ≡ whole (fields_of text)
 end_whole text h = grind (arith, nat_tests)
@@ -189,8 +192,7 @@ none_meets text h =
     record {
       faultless = h;
       magic_is = exact.0;
-      version = exact.1;
-      zero_is = exact.2;
+      zero_is = exact.1;
       sized = sized;
       events_meet = are.events;
       checkpoints_meet = are.checkpoints;
@@ -206,15 +208,116 @@ pub and_right : (a b : Bool) → (a && b) ≡ true → b ≡ true
 and_right true b h = h
 and_right false b h = absurd cc
 
-pub event_input : (text : List ℕ) (i : ℕ) → Meets text → i < events text → is_input (word_at text (event_place text i + 8)) (word_at text (event_place text i + 12)) ≡ true
+pub event_input : (text : List ℕ) (i : ℕ) → Meets text → i < events text → is_input (word_at text (event_place text i + KIND_AT)) (word_at text (event_place text i + VALUE_AT)) ≡ true
 event_input text i meets lt =
     let one = each_holds (event_rules (fields_of text)) (events text) i lt meets.events_meet in
     let holds = rule_holds (is_event (event_floor (fields_of text) i) (event_of text (event_place text i))) (fault.Event (event_place text i)) [] one in
     and_right _ _ holds.0
 
-pub checkpoint_holds : (text : List ℕ) (k : ℕ) → Meets text → k < checkpoints text → is_checkpoint k (count_before (fields_of text) k) (output_below text k) (checkpoint_of text (checkpoint_place text k)) ≡ true
-unfolding rules_at
+-- which versions there are
+version_of : (v : ℕ) (a b : Bool) → (v == FIRST_VERSION) ≡ a → (v == VERSION) ≡ b → (a || b) ≡ true → (v ≡ FIRST_VERSION) ⊎ (v ≡ VERSION)
+version_of v true b first later h = inl (eqb-true v FIRST_VERSION first)
+version_of v false true first later h = inr (eqb-true v VERSION later)
+version_of v false false first later h = absurd cc
+
+pub version_cases : (v : ℕ) → is_version v ≡ true → (v ≡ FIRST_VERSION) ⊎ (v ≡ VERSION)
+version_cases v known = version_of v (v == FIRST_VERSION) (v == VERSION) refl refl known
+
+pub is_first : (v : ℕ) → v ≡ FIRST_VERSION → (v == FIRST_VERSION) ≡ true
+is_first v is = eq-eqb v FIRST_VERSION is
+
+pub is_later : (v : ℕ) → v ≡ VERSION → (v == FIRST_VERSION) ≡ false
+is_later v is = rw is refl
+
+-- and by that test
+pub later_by : (v : ℕ) → is_version v ≡ true → (v == FIRST_VERSION) ≡ false → v ≡ VERSION
+later_by v known test =
+    elim (version_cases v known) [
+      | inl first ↦ let wrong = is_first v first in absurd cc
+      | inr later ↦ later
+    ]
+
+-- the rules of a checkpoint by the version
+pub rules_whole : (f : Fields) (k : ℕ) → f.version ≡ FIRST_VERSION → checkpoint_rules f k ≡ whole_rules f k
+unfolding checkpoint_rules
+rules_whole f k is = rw (is_first f.version is) refl
+
+pub rules_changed : (f : Fields) (k : ℕ) → f.version ≡ VERSION → checkpoint_rules f k ≡ changed_rules f k
+unfolding checkpoint_rules
+rules_changed f k is = rw (is_later f.version is) refl
+
+-- a checkpoint of version 1 that meets its rules
+pub record WholeMet (f : Fields) (k : ℕ) : Type 0 where
+  pub fields : is_checkpoint k (count_before f k) (sent_below f k) (f.checkpoint k) ≡ true
+  pub numbers : (j : ℕ) → j < PLACES → f.page_number k j ≤ f.pages
+
+-- one of version 2
+pub record ChangedMet (f : Fields) (k : ℕ) : Type 0 where
+  pub room : f.start k + CHANGES_AT ≤ f.long
+  pub fields : is_checkpoint k (count_before f k) (sent_below f k) (f.checkpoint k) ≡ true
+  pub ends : f.start (suc k) ≤ f.long
+  pub each_change : (i : ℕ) → i < (f.checkpoint k).changes → is_change f.pages (place_floor (f.change k) i) (stood f k) (f.change k i) ≡ true
+
+-- a list of rules whose first one is met has the first fault of the rest
+pub rule_met : (b : Bool) (f : Fault) (xs : List Rule) → b ≡ true → first_broken ((b, f) ∷ xs) ≡ first_broken xs
+rule_met b f xs is = rw is refl
+
+-- and one whose first rule is not met has its fault
+pub rule_unmet : (b : Bool) (f : Fault) (xs : List Rule) → b ≡ false → first_broken ((b, f) ∷ xs) ≡ Some f
+rule_unmet b f xs is = rw is refl
+
+pub whole_met : (f : Fields) (k : ℕ) → f.version ≡ FIRST_VERSION → first_broken (checkpoint_rules f k) ≡ None → WholeMet f k
+whole_met f k is met =
+    let numbers = page_number_rules f.pages (f.start k) (f.page_number k) in
+    let all : first_broken (whole_rules f k) ≡ None = ap (λ (xs : List Rule). first_broken xs) (sym (rules_whole f k is)) ∙ met in
+    let one = rule_holds (is_checkpoint k (count_before f k) (sent_below f k) (f.checkpoint k)) (fault.Checkpoint (f.start k)) (each PLACES numbers) all in
+    record {
+      fields = one.0;
+      numbers = λ j lt.
+          let holds = rule_holds (nat_le (f.page_number k j) f.pages) (fault.Page (page_number_place (f.start k) j)) [] (each_holds numbers PLACES j lt one.1) in
+          leb-true (f.page_number k j) f.pages holds.0;
+    }
+
+pub whole_meets : (f : Fields) (k : ℕ) → f.version ≡ FIRST_VERSION → WholeMet f k → first_broken (checkpoint_rules f k) ≡ None
+whole_meets f k is met =
+    let numbers = page_number_rules f.pages (f.start k) (f.page_number k) in
+    ap (λ (xs : List Rule). first_broken xs) (rules_whole f k is)
+    ∙ rule_met (is_checkpoint k (count_before f k) (sent_below f k) (f.checkpoint k)) (fault.Checkpoint (f.start k)) (each PLACES numbers) met.fields
+    ∙ each_all numbers PLACES (λ j lt. rule_met (nat_le (f.page_number k j) f.pages) (fault.Page (page_number_place (f.start k) j)) [] (le-leb _ _ (met.numbers j lt)))
+
+pub changed_met : (f : Fields) (k : ℕ) → f.version ≡ VERSION → first_broken (checkpoint_rules f k) ≡ None → ChangedMet f k
+changed_met f k is met =
+    let n = (f.checkpoint k).changes in
+    let changes = change_rules f.pages (f.start k) (stood f k) (f.change k) in
+    let ends = (nat_le (f.start (suc k)) f.long, fault.Short f.long) ∷ each n changes in
+    let all : first_broken (changed_rules f k) ≡ None = ap (λ (xs : List Rule). first_broken xs) (sym (rules_changed f k is)) ∙ met in
+    let room = rule_holds (nat_le (f.start k + CHANGES_AT) f.long) (fault.Short f.long) ((is_checkpoint k (count_before f k) (sent_below f k) (f.checkpoint k), fault.Checkpoint (f.start k)) ∷ ends) all in
+    let fields = rule_holds (is_checkpoint k (count_before f k) (sent_below f k) (f.checkpoint k)) (fault.Checkpoint (f.start k)) ends room.1 in
+    let end = rule_holds (nat_le (f.start (suc k)) f.long) (fault.Short f.long) (each n changes) fields.1 in
+    record {
+      room = leb-true _ _ room.0;
+      fields = fields.0;
+      ends = leb-true _ _ end.0;
+      each_change = λ i lt.
+          (rule_holds (is_change f.pages (place_floor (f.change k) i) (stood f k) (f.change k i)) (fault.Page (change_place (f.start k) i)) [] (each_holds changes n i lt end.1)).0;
+    }
+
+pub changed_meets : (f : Fields) (k : ℕ) → f.version ≡ VERSION → ChangedMet f k → first_broken (checkpoint_rules f k) ≡ None
+changed_meets f k is met =
+    let n = (f.checkpoint k).changes in
+    let changes = change_rules f.pages (f.start k) (stood f k) (f.change k) in
+    let ends = (nat_le (f.start (suc k)) f.long, fault.Short f.long) ∷ each n changes in
+    ap (λ (xs : List Rule). first_broken xs) (rules_changed f k is)
+    ∙ rule_met (nat_le (f.start k + CHANGES_AT) f.long) (fault.Short f.long) ((is_checkpoint k (count_before f k) (sent_below f k) (f.checkpoint k), fault.Checkpoint (f.start k)) ∷ ends) (le-leb _ _ met.room)
+    ∙ rule_met (is_checkpoint k (count_before f k) (sent_below f k) (f.checkpoint k)) (fault.Checkpoint (f.start k)) ends met.fields
+    ∙ rule_met (nat_le (f.start (suc k)) f.long) (fault.Short f.long) (each n changes) (le-leb _ _ met.ends)
+    ∙ each_all changes n (λ i lt. rule_met (is_change f.pages (place_floor (f.change k) i) (stood f k) (f.change k i)) (fault.Page (change_place (f.start k) i)) [] (met.each_change i lt))
+
+-- the fields of a checkpoint of a text that breaks no rule are in their ranges
+pub checkpoint_holds : (text : List ℕ) (k : ℕ) → Meets text → k < checkpoints text → is_checkpoint k (count_before (fields_of text) k) (output_below text k) (checkpoint_of text (start text k)) ≡ true
 checkpoint_holds text k meets lt =
     let one = each_holds (checkpoint_rules (fields_of text)) (checkpoints text) k lt meets.checkpoints_meet in
-    let place = checkpoint_place text k in
-    (rule_holds (is_checkpoint k (count_before (fields_of text) k) (output_below text k) (checkpoint_of text place)) (fault.Checkpoint place) (each 1024 (page_number_rules (pages text) place (page_number_of text place))) one).0
+    elim (version_cases (version text) meets.sized.known) [
+      | inl first ↦ (whole_met (fields_of text) k first one).fields
+      | inr later ↦ (changed_met (fields_of text) k later one).fields
+    ]

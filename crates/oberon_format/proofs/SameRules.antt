@@ -1,21 +1,32 @@
 -- When two lists of rules have one first fault.
-use Rattle.std.proofs.Common.{◌≡◌, ◌<◌, ◌==◌, ℕ, zero, suc, Bool, true, false, List, [], ◌∷◌, ◌++◌, Some, None, arith, refl, ap₂}
+use Rattle.std.proofs.Common.{◌≡◌, ◌<◌, ◌==◌, ℕ, zero, suc, Bool, true, false, List, [], ◌∷◌, ◌++◌, Option, Some, None, arith, refl, sym, ap₂, ◌∙◌}
 use Rattle.std.specs.Prelude.{nat_le}
 use Rattle.std.proofs.lemmas.Bool.{le-leb, ne_eqb}
 use Rattle.oberon_format.specs.declared.fault.Fault.{Fault}
 use Rattle.oberon_format.specs.declared.fault.Fault.TheVariants as fault
 use Rattle.oberon_format.specs.FirstFault.{Rule, each, first_broken}
+use Rattle.oberon_format.proofs.RuleLemmas.{met-append, broken-append}
 
 -- the rules after one that both lists begin with
-pub same_after : (holds : Bool) (fault : Fault) (p q : List Rule) → (holds ≡ true → first_broken p ≡ first_broken q) → first_broken ((holds, fault) ∷ p) ≡ first_broken ((holds, fault) ∷ q)
+pub same_after : (holds : Bool) (fault : Fault) (p q : List Rule) → (holds ≡ true → first_broken p ≡ first_broken q)
+    → first_broken ((holds, fault) ∷ p) ≡ first_broken ((holds, fault) ∷ q)
 same_after true fault p q same = same refl
 same_after false fault p q same = refl
 
--- the rules after some that both lists begin with
-pub same_behind : (front p q : List Rule) → (first_broken front ≡ None → first_broken p ≡ first_broken q) → first_broken (front ++ p) ≡ first_broken (front ++ q)
-same_behind [] p q same = same refl
-same_behind ((true, fault) ∷ rest) p q same = same_behind rest p q same
-same_behind ((false, fault) ∷ rest) p q same = refl
+-- the rules after two that are the same
+pub same_rule : (holds holds' : Bool) (fault fault' : Fault) (p q : List Rule) → holds ≡ holds' → fault ≡ fault' → (holds ≡ true → first_broken p ≡ first_broken q)
+    → first_broken ((holds, fault) ∷ p) ≡ first_broken ((holds', fault') ∷ q)
+same_rule holds holds' fault fault' p q is names same =
+    same_after holds fault p q same ∙ ap₂ (λ (b : Bool) (f : Fault). first_broken ((b, f) ∷ q)) is names
+
+-- the rules behind some that have one first fault
+pub same_behind : (front front' p q : List Rule) → first_broken front ≡ first_broken front' → (first_broken front ≡ None → first_broken p ≡ first_broken q)
+    → first_broken (front ++ p) ≡ first_broken (front' ++ q)
+same_behind front front' p q same rest = go (first_broken front) refl (sym same)
+  where
+    go : (o : Option Fault) → first_broken front ≡ o → first_broken front' ≡ first_broken front → first_broken (front ++ p) ≡ first_broken (front' ++ q)
+    go None a b = met-append front p a ∙ rest a ∙ sym (met-append front' q (b ∙ a))
+    go (Some fault) a b = broken-append front p fault a ∙ sym (broken-append front' q fault (b ∙ a))
 
 -- rules after two that hold
 pub both_pass : (holds holds' : Bool) (fault fault' : Fault) (p q : List Rule) → holds ≡ true → holds' ≡ true → first_broken p ≡ first_broken q

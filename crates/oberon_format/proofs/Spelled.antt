@@ -10,17 +10,22 @@ use Rattle.risc_devices.proofs.InputLemmas.{kind_fits, value_fits, mouse_word_fi
 use Rattle.risc_machine.specs.declared.event.Event.{Event}
 use Rattle.risc_machine.specs.MachineState.{CpuState, IsCpuState}
 use Rattle.risc_pages.specs.Pages.{IsPage}
+use Rattle.risc_pages.specs.Tables.{zero_numbers, IsTable}
+use Rattle.oberon_format.specs.declared.change.Change.{Change}
 use Rattle.oberon_format.specs.declared.layout.TheConstants.{MAGIC, VERSION, MAGIC_AT}
 use Rattle.oberon_format.specs.declared.ranges.TheConstants.{MAX_OUTPUT}
+use Rattle.oberon_format.specs.Changes.{changes, no_change}
 use Rattle.oberon_format.specs.CheckpointParts.{CheckpointParts, no_checkpoint}
 use Rattle.oberon_format.specs.FlagsNumber.{flags_number}
-use Rattle.oberon_format.specs.Layout.{checkpoints, word_at, page_place, event_place, checkpoint_place, output_place}
-use Rattle.oberon_format.specs.Recording.{RecordingParts, IsLawful, IsFit, output_of}
-use Rattle.oberon_format.specs.Spelling.{word_bytes, long_bytes, words_bytes, event_bytes, cpu_bytes, device_bytes, checkpoint_bytes, header_bytes, spelling}
-use Rattle.oberon_format.specs.Text.{IsEvent, IsCpu, IsDevices, IsCheckpoint, IsLaidOut, Text}
+use Rattle.oberon_format.specs.Layout.{word_at, page_place, event_place, checkpoint_size, start, output_place}
+use Rattle.oberon_format.specs.PartFields.{changes_laid, start_laid}
+use Rattle.oberon_format.specs.Recording.{RecordingParts, IsLawful, IsFit, checkpoint_at, table_before, output_of}
+use Rattle.oberon_format.specs.Spelling.{word_bytes, long_bytes, words_bytes, event_bytes, cpu_bytes, device_bytes, front_bytes, change_bytes, changes_bytes, changed_bytes, tail_bytes, checkpoint_bytes, checkpoints_bytes, header_bytes, spelling}
+use Rattle.oberon_format.specs.Text.{IsEvent, IsCpu, IsDevices, IsFront, IsChange, IsChanged, IsCheckpoint, IsLaidOut, TextIn}
+use Rattle.oberon_format.proofs.ChangeLemmas.{change_in, changes-few, changes-lawful, changes-new}
 use Rattle.oberon_format.proofs.LawfulLemmas.{flags_fit, serial_fits}
-use Rattle.oberon_format.proofs.Places.{stand_there, start-is}
-use Rattle.oberon_format.proofs.Stands.{AreWide, Stands, stands_whole, stands_left, stands_right, stands_from, stands_range, word_stands, long_stands, words_stand, each_stands, stands_regroup, length-word_bytes, length-long_bytes, length-words_bytes, length-flat_map}
+use Rattle.oberon_format.proofs.Places.{start-found}
+use Rattle.oberon_format.proofs.Stands.{AreWide, Stands, AreSpaced, stands_whole, stands_left, stands_right, stands_from, stands_range, word_stands, long_stands, words_stand, each_stands, blocks_stand, length-blocks, length-word_bytes, length-long_bytes, length-words_bytes, length-flat_map}
 use Rattle.oberon_format.proofs.WriteLemmas.{sent_le}
 
 -- words are numbers of four bytes
@@ -79,14 +84,14 @@ cpu_stands text place cpu p s =
       stop = rw (← at 76) (word_stands text (place + 8 + 76) cpu.stop (stands_right text (place + 8) 76 (r ++ h ++ pc ++ f) st s l4) (omega arith));
     }
 
--- a timer that doesn't count by itself has phase 0
-phase_none : (rate phase : ℕ) → rate ≡ 0 → IsPhase rate phase → phase ≡ 0
+-- a phase is a number of four bytes, as its rate is
+phase_fits : (rate phase : ℕ) → rate < 2 ^ 32 → IsPhase rate phase → phase < 2 ^ 32
 unfolding is_phase
-phase_none rate phase still fits = grind (arith, nat_tests)
+phase_fits rate phase small fits = grind (arith, nat_tests)
 
-pub device_stands : (text : List ℕ) (place : ℕ) (d : DeviceState) → IsDeviceState d → d.rate ≡ 0 → Stands text (place + 88) (device_bytes d) → IsDevices text place d
+pub device_stands : (text : List ℕ) (place : ℕ) (d : DeviceState) → IsDeviceState d → Stands text (place + 88) (device_bytes d) → IsDevices text place d
 unfolding device_bytes
-device_stands text place d p still all =
+device_stands text place d p all =
     let a = word_bytes d.timer in
     let b = word_bytes d.switches in
     let e = word_bytes d.leds in
@@ -125,8 +130,6 @@ device_stands text place d p still all =
     let to : place + 128 ≡ place + 88 + 24 + length (ks ++ zs) = omega arith in
     record {
       timer = word_stands text (place + 88) d.timer (stands_left text (place + 88) a b s2) p.timer;
-      rate = still;
-      phase = phase_none d.rate d.phase still p.phase;
       switches = rw (← at 4) (word_stands text (place + 88 + 4) d.switches (stands_right text (place + 88) 4 (a) b s2 l1) (omega arith));
       leds = rw (← at 8) (word_stands text (place + 88 + 8) d.leds (stands_right text (place + 88) 8 (a ++ b) e s3 l2) (omega arith));
       mouse = rw (← at 12) (word_stands text (place + 88 + 12) d.mouse (stands_right text (place + 88) 12 (a ++ b ++ e) m s4 l3) (omega arith));
@@ -143,70 +146,140 @@ pub length-cpu_bytes : (cpu : CpuState) → length cpu.r ≡ 16 → length (cpu_
 unfolding cpu_bytes
 length-cpu_bytes cpu len = simp (length-append, length-word_bytes, length-words_bytes) (omega arith)
 
-pub checkpoint_stands : (text : List ℕ) (place : ℕ) (pool : List (List ℕ)) (c : CheckpointParts) → IsFit pool c → length c.sent ≤ MAX_OUTPUT → Stands text place (checkpoint_bytes c) → IsCheckpoint VERSION text place c
-unfolding checkpoint_bytes
-checkpoint_stands text place pool c p few s =
+-- what a checkpoint begins with
+front_stands : (text : List ℕ) (place : ℕ) (pool : List (List ℕ)) (c : CheckpointParts) → IsFit pool c → length c.sent ≤ MAX_OUTPUT → Stands text place (front_bytes c) → IsFront text place c
+unfolding front_bytes
+front_stands text place pool c p few s =
     let bounded = p.bounded in
     let a = long_bytes c.count in
     let b = cpu_bytes c.cpu in
     let d = device_bytes c.devices in
     let e = word_bytes (length c.sent) in
-    let t = words_bytes c.table in
-    let s5 = s in
-    let s4 = stands_left text (place) (a ++ b ++ d ++ e) t s5 in
-    let s3 = stands_left text (place) (a ++ b ++ d) e s4 in
+    let s3 = stands_left text (place) (a ++ b ++ d) e s in
     let s2 = stands_left text (place) (a ++ b) d s3 in
-    let s1 = stands_left text (place) (a) b s2 in
     let z1 = length-long_bytes c.count in
     let l1 : length a ≡ 8 = omega arith in
     let z2 = length-cpu_bytes c.cpu p.cpu.count in
     let l2 : length (a ++ b) ≡ 88 = omega (arith, length-append (a) b) in
     let z3 = length-device_bytes c.devices p.devices.keys in
     let l3 : length (a ++ b ++ d) ≡ 128 = omega (arith, length-append (a ++ b) d) in
-    let z4 = length-word_bytes (length c.sent) in
-    let l4 : length (a ++ b ++ d ++ e) ≡ 132 = omega (arith, length-append (a ++ b ++ d) e) in
-    let z5 = length-words_bytes c.table in
     record {
-      front = record {
-        count = long_stands text place c.count (stands_left text place a b s2) (omega arith);
-        cpu = cpu_stands text place c.cpu p.cpu (stands_right text (place) 8 (a) b s2 l1);
-        devices = device_stands text place c.devices p.devices p.rate (stands_right text (place) 88 (a ++ b) d s3 l2);
-        sent = word_stands text (place + 128) (length c.sent) (stands_right text (place) 128 (a ++ b ++ d) e s4 l3) (omega arith);
-      };
-      tail = record { known = refl; table = words_stand text (place + 132) c.table p.table.fit (stands_right text (place) 132 (a ++ b ++ d ++ e) t s5 l4) };
+      count = long_stands text place c.count (stands_left text place a b s2) (omega arith);
+      cpu = cpu_stands text place c.cpu p.cpu (stands_right text (place) 8 (a) b s2 l1);
+      devices = device_stands text place c.devices p.devices (stands_right text (place) 88 (a ++ b) d s3 l2);
+      sent = word_stands text (place + 128) (length c.sent) (stands_right text (place) 128 (a ++ b ++ d) e s l3) (omega arith);
     }
 
-pub length-checkpoint_bytes : (pool : List (List ℕ)) (c : CheckpointParts) → IsFit pool c → length (checkpoint_bytes c) ≡ 4228
-unfolding checkpoint_bytes
-length-checkpoint_bytes pool c p =
+-- which is as long in each version
+length-front_bytes : (pool : List (List ℕ)) (c : CheckpointParts) → IsFit pool c → length (front_bytes c) ≡ 132
+unfolding front_bytes
+length-front_bytes pool c p =
     let z2 = length-cpu_bytes c.cpu p.cpu.count in
     let z3 = length-device_bytes c.devices p.devices.keys in
-    let z5 = p.table.count in
-    simp (length-append, length-word_bytes, length-long_bytes, length-words_bytes) (omega arith)
+    simp (length-append, length-word_bytes, length-long_bytes) (omega arith)
+
+-- a change
+change_stands : (text : List ℕ) (place : ℕ) (change : Change) → change.place < 2 ^ 32 → change.number < 2 ^ 32 → Stands text place (change_bytes change) → IsChange text place change
+unfolding change_bytes
+change_stands text place change low small s =
+    let a = word_bytes change.place in
+    let b = word_bytes change.number in
+    record {
+      place = word_stands text place change.place (stands_left text place a b s) low;
+      number = word_stands text (place + 4) change.number (stands_right text place 4 a b s (length-word_bytes change.place)) small;
+    }
+
+-- which has eight bytes
+length-change_bytes : (change : Change) → length (change_bytes change) ≡ 8
+unfolding change_bytes
+length-change_bytes change = simp (length-append, length-word_bytes)
+
+-- the numbers of a change between tables are of four bytes each
+change_low : (before table : List ℕ) (i : ℕ) (d : Change) → i < length (changes before table) → (get_or (changes before table) i d).place < 2 ^ 32
+change_low before table i d lt =
+    let inside = (changes-lawful before table).inside i lt in
+    rw (get_or_default (changes before table) i d no_change lt) (omega arith)
+
+change_small : (before table : List ℕ) → IsTable table → (i : ℕ) (d : Change) → i < length (changes before table) → (get_or (changes before table) i d).number < 2 ^ 32
+change_small before table fits i d lt =
+    let count = fits.count in
+    let inside = (changes-lawful before table).inside i lt in
+    let p = (change_in before table i).place in
+    let is : (change_in before table i).number ≡ slice_index table p = changes-new before table i lt in
+    let small : slice_index table p < 2 ^ 32 = fits.fit p 0 (omega arith) in
+    rw (get_or_default (changes before table) i d no_change lt) (omega arith)
+
+-- what follows in version 2
+changed_stands : (text : List ℕ) (place : ℕ) (before : List ℕ) (c : CheckpointParts) → IsDeviceState c.devices → IsTable c.table → Stands text (place + 132) (changed_bytes before c)
+    → IsChanged text place before c
+unfolding changed_bytes changes_bytes
+changed_stands text place before c devices table s =
+    let cs = changes before c.table in
+    let a = word_bytes c.devices.rate in
+    let b = word_bytes c.devices.phase in
+    let n = word_bytes (length cs) in
+    let m = flat_map change_bytes cs in
+    let few = changes-few before c.table in
+    let s2 = stands_left text (place + 132) (a ++ b) (n ++ m) s in
+    let l1 : length a ≡ 4 = length-word_bytes c.devices.rate in
+    let l2 : length (a ++ b) ≡ 8 = omega (arith, length-append a b, length-word_bytes c.devices.phase) in
+    let s3 : Stands text (place + 132 + 8) (n ++ m) = stands_right text (place + 132) 8 (a ++ b) (n ++ m) s l2 in
+    let s4 : Stands text (place + 132 + 8 + 4) m = stands_right text (place + 132 + 8) 4 n m s3 (length-word_bytes (length cs)) in
+    let e1 : place + 132 + 4 ≡ place + 136 = omega arith in
+    let e2 : place + 132 + 8 ≡ place + 140 = omega arith in
+    let e3 : place + 132 + 8 + 4 ≡ place + 144 = omega arith in
+    let each = each_stands change_bytes 8 text (place + 144) cs (λ i d h. length-change_bytes (get_or cs i d)) (subst (λ (p : ℕ). Stands text p m) e3 s4) in
+    record {
+      rate = word_stands text (place + 132) c.devices.rate (stands_left text (place + 132) a b s2) devices.rate;
+      phase = rw (← e1) (word_stands text (place + 132 + 4) c.devices.phase (stands_right text (place + 132) 4 a b s2 l1) (phase_fits c.devices.rate c.devices.phase devices.rate devices.phase));
+      count = rw (← e2) (word_stands text (place + 132 + 8) (length cs) (stands_left text (place + 132 + 8) n m s3) (omega arith));
+      changes = λ i d h. change_stands text (place + 144 + 8 * i) (get_or cs i d) (change_low before c.table i d h) (change_small before c.table table i d h) (each i d h);
+    }
+
+-- a checkpoint of version 2
+checkpoint_stands : (text : List ℕ) (place : ℕ) (pool : List (List ℕ)) (before : List ℕ) (c : CheckpointParts) → IsFit pool c → length c.sent ≤ MAX_OUTPUT
+    → Stands text place (checkpoint_bytes VERSION before c) → IsCheckpoint VERSION text place before c
+unfolding checkpoint_bytes tail_bytes
+checkpoint_stands text place pool before c p few s =
+    let f = front_bytes c in
+    let t = tail_bytes VERSION before c in
+    record {
+      front = front_stands text place pool c p few (stands_left text place f t s);
+      in_first = λ is. absurd (omega arith);
+      in_second = λ is. changed_stands text place before c p.devices p.table (stands_right text place 132 f t s (length-front_bytes pool c p));
+    }
+
+-- whose length its changes tell
+length-checkpoint_bytes : (pool : List (List ℕ)) (before : List ℕ) (c : CheckpointParts) → IsFit pool c → length (checkpoint_bytes VERSION before c) ≡ checkpoint_size VERSION (changes_laid VERSION before c)
+unfolding checkpoint_bytes tail_bytes changed_bytes changes_bytes
+length-checkpoint_bytes pool before c p =
+    let front = length-front_bytes pool c p in
+    let all = length-flat_map change_bytes 8 (changes before c.table) (λ i d h. length-change_bytes (get_or (changes before c.table) i d)) in
+    simp (length-append, length-word_bytes) (omega arith)
 
 pub length-page_bytes : (page : List ℕ) → IsPage page → length (words_bytes page) ≡ 1024
 length-page_bytes page h = let l = h.whole in omega (arith, length-words_bytes page)
 
 record Header (text : List ℕ) (r : RecordingParts) : Type 0 where
   m : word_at text MAGIC_AT ≡ MAGIC
-  v : word_at text 4 ≡ 1
+  v : word_at text 4 ≡ VERSION
   p : word_at text 8 ≡ length r.pool
   e : word_at text 12 ≡ length r.inputs
   k : word_at text 16 ≡ length r.checkpoints
   z : word_at text 20 ≡ 0
 
-length-header_bytes : (r : RecordingParts) → length (header_bytes r) ≡ 24
+length-header_bytes : (r : RecordingParts) → length (header_bytes VERSION r) ≡ 24
 unfolding header_bytes
 length-header_bytes r = simp (length-append, length-word_bytes)
 
-header_stands : (text : List ℕ) (r : RecordingParts) → IsLawful r → Stands text 0 (header_bytes r) → Header text r
+header_stands : (text : List ℕ) (r : RecordingParts) → IsLawful r → Stands text 0 (header_bytes VERSION r) → Header text r
 unfolding header_bytes
 header_stands text r p s =
     let few_pages = p.pages in
     let few_events = p.events in
     let few_checkpoints = p.few in
     let a = word_bytes MAGIC in
-    let b = word_bytes 1 in
+    let b = word_bytes VERSION in
     let d = word_bytes (length r.pool) in
     let e = word_bytes (length r.inputs) in
     let f = word_bytes (length r.checkpoints) in
@@ -216,30 +289,33 @@ header_stands text r p s =
     let s3 = stands_left text 0 (a ++ b ++ d) e s4 in
     let s2 = stands_left text 0 (a ++ b) d s3 in
     let l1 : length a ≡ 4 = length-word_bytes MAGIC in
-    let l2 : length (a ++ b) ≡ 8 = omega (arith, length-append a b, length-word_bytes 1) in
+    let l2 : length (a ++ b) ≡ 8 = omega (arith, length-append a b, length-word_bytes VERSION) in
     let l3 : length (a ++ b ++ d) ≡ 12 = omega (arith, length-append (a ++ b) d, length-word_bytes (length r.pool)) in
     let l4 : length (a ++ b ++ d ++ e) ≡ 16 = omega (arith, length-append (a ++ b ++ d) e, length-word_bytes (length r.inputs)) in
     let l5 : length (a ++ b ++ d ++ e ++ f) ≡ 20 = omega (arith, length-append (a ++ b ++ d ++ e) f, length-word_bytes (length r.checkpoints)) in
     record {
       m = word_stands text MAGIC_AT MAGIC (stands_left text 0 a b s2) (omega arith);
-      v = word_stands text 4 1 (stands_right text 0 4 a b s2 l1) (omega arith);
+      v = word_stands text 4 VERSION (stands_right text 0 4 a b s2 l1) (omega arith);
       p = word_stands text 8 (length r.pool) (stands_right text 0 8 (a ++ b) d s3 l2) (omega arith);
       e = word_stands text 12 (length r.inputs) (stands_right text 0 12 (a ++ b ++ d) e s4 l3) (omega arith);
       k = word_stands text 16 (length r.checkpoints) (stands_right text 0 16 (a ++ b ++ d ++ e) f s5 l4) (omega arith);
       z = word_stands text 20 0 (stands_right text 0 20 (a ++ b ++ d ++ e ++ f) g s l5) (omega arith);
     }
 
-pub spelled : (r : RecordingParts) → IsLawful r → IsLaidOut VERSION (spelling r) r
-unfolding spelling
-spelled r p =
-    let fits : (i : ℕ) (d : CheckpointParts) → i < length r.checkpoints → IsFit r.pool (get_or r.checkpoints i d) = λ i d h. subst (IsFit r.pool) (get_or_default r.checkpoints i no_checkpoint d h) (p.fit i h) in
-    let sent : (i : ℕ) (d : CheckpointParts) → i < length r.checkpoints → length (get_or r.checkpoints i d).sent ≤ MAX_OUTPUT = λ i d h. let le = sent_le r.checkpoints i d h in let limit = p.output in omega arith in
-    let H = header_bytes r in
+-- the bytes of a lawful recording are laid out as its text
+laid_out : (r : RecordingParts) → IsLawful r → IsLaidOut VERSION (spelling VERSION r) r
+unfolding spelling start_laid
+laid_out r p =
+    let cs = r.checkpoints in
+    let fits : (i : ℕ) → i < length cs → IsFit r.pool (checkpoint_at r i) = p.fit in
+    let sent : (i : ℕ) → i < length cs → length (checkpoint_at r i).sent ≤ MAX_OUTPUT = λ i h. let le = sent_le cs i no_checkpoint h in let limit = p.output in omega arith in
+    let H = header_bytes VERSION r in
     let P = flat_map words_bytes r.pool in
     let E = flat_map event_bytes r.inputs in
-    let C = flat_map checkpoint_bytes r.checkpoints in
-    let O = output_of r.checkpoints in
+    let C = checkpoints_bytes VERSION zero_numbers cs in
+    let O = output_of cs in
     let text = H ++ P ++ E ++ C ++ O in
+    let place = start_laid VERSION r in
     let s5 = stands_whole text in
     let s4 = stands_left text 0 (H ++ P ++ E ++ C) O s5 in
     let s3 = stands_left text 0 (H ++ P ++ E) C s4 in
@@ -247,38 +323,42 @@ spelled r p =
     let header = header_stands text r p (stands_left text 0 H P s2) in
     let np = length r.pool in
     let ne = length r.inputs in
-    let nk = length r.checkpoints in
     let page_len : (i : ℕ) (d : List ℕ) → i < length r.pool → length (words_bytes (get_or r.pool i d)) ≡ 1024 = λ i d h. length-page_bytes (get_or r.pool i d) (p.pool i d h) in
     let event_len : (i : ℕ) (d : Event) → i < length r.inputs → length (event_bytes (get_or r.inputs i d)) ≡ 16 = λ i d h. length-event_bytes (get_or r.inputs i d) in
-    let checkpoint_len : (i : ℕ) (d : CheckpointParts) → i < length r.checkpoints → length (checkpoint_bytes (get_or r.checkpoints i d)) ≡ 4228 = λ i d h. length-checkpoint_bytes r.pool (get_or r.checkpoints i d) (fits i d h) in
+    let spaced : AreSpaced place VERSION zero_numbers cs = λ k h. ap (λ (n : ℕ). place k + n) (sym (length-checkpoint_bytes r.pool (table_before cs k) (checkpoint_at r k) (fits k h))) in
     let l1 : length H ≡ 24 = length-header_bytes r in
     let lp = length-flat_map words_bytes 1024 r.pool page_len in
     let le = length-flat_map event_bytes 16 r.inputs event_len in
-    let lc = length-flat_map checkpoint_bytes 4228 r.checkpoints checkpoint_len in
+    let lc : place (length cs) ≡ place 0 + length C = length-blocks VERSION place zero_numbers cs spaced in
     let l2 : length (H ++ P) ≡ 24 + 1024 * np = omega (arith, length-append H P) in
-    let l3 : length (H ++ P ++ E) ≡ 24 + 1024 * np + 16 * ne = omega (arith, length-append (H ++ P) E) in
-    let l4 : length (H ++ P ++ E ++ C) ≡ 24 + 1024 * np + 16 * ne + 4228 * nk = omega (arith, length-append (H ++ P ++ E) C) in
+    let first : place 0 ≡ 24 + 1024 * np + 16 * ne = refl in
+    let l3 : length (H ++ P ++ E) ≡ place 0 = omega (arith, length-append (H ++ P) E) in
+    let l4 : length (H ++ P ++ E ++ C) ≡ place (length cs) = omega (arith, length-append (H ++ P ++ E) C) in
     let e2 : 24 + 1024 * np ≡ event_place text 0 = rw header.p (omega arith) in
-    let e3 : 24 + 1024 * np + 16 * ne ≡ checkpoint_place text 0 = rw (header.p, header.e) (omega arith) in
-    let e4 : 24 + 1024 * np + 16 * ne + 4228 * nk ≡ output_place text = rw (header.p, header.e, header.k) refl in
-    let end = start-is text (checkpoints text) in
     let pages_at = each_stands words_bytes 1024 text 24 r.pool page_len (stands_right text 0 24 H P s2 l1) in
     let events_at = each_stands event_bytes 16 text (24 + 1024 * np) r.inputs event_len (stands_from text (24 + 1024 * np) (H ++ P) E s3 l2) in
-    let checkpoints_at = each_stands checkpoint_bytes 4228 text (24 + 1024 * np + 16 * ne) r.checkpoints checkpoint_len (stands_from text (24 + 1024 * np + 16 * ne) (H ++ P ++ E) C s4 l3) in
+    let blocks = blocks_stand VERSION text place zero_numbers cs spaced (stands_from text (place 0) (H ++ P ++ E) C s4 l3) in
+    let stand : (k : ℕ) → k < length cs → IsCheckpoint VERSION text (place k) (table_before cs k) (checkpoint_at r k) =
+    λ k h. checkpoint_stands text (place k) r.pool (table_before cs k) (checkpoint_at r k) (fits k h) (sent k h) (blocks k h) in
+    let found : (k : ℕ) → k ≤ length cs → start text k ≡ place k = start-found VERSION text r refl header.v header.p header.e stand in
+    let end : output_place text ≡ place (length cs) = ap (start text) header.k ∙ found (length cs) (omega arith) in
     record {
-      long = omega (arith, end, length-append (H ++ P ++ E ++ C) O);
+      long = omega (arith, length-append (H ++ P ++ E ++ C) O);
       magic = header.m;
       version = header.v;
+      known = refl;
       page_count = header.p;
       event_count = header.e;
       checkpoint_count = header.k;
       zero = header.z;
       pages_stand = λ i d h. words_stand text (page_place i) (get_or r.pool i d) (p.pool i d h).fit (pages_at i d h);
       events_stand = λ i d h. event_stands text (event_place text i) (get_or r.inputs i d) (rw header.p (events_at i d h));
-      checkpoints_stand = stand_there text r.checkpoints (λ i d h. checkpoint_stands text (checkpoint_place text i) r.pool (get_or r.checkpoints i d) (fits i d h) (sent i d h) (rw (header.p, header.e) (checkpoints_at i d h)));
-      output = ap (λ (k : ℕ). drop k text) (end ∙ sym e4) ∙ drop_at (H ++ P ++ E ++ C) O (24 + 1024 * np + 16 * ne + 4228 * nk) l4;
+      checkpoints_stand = λ k d h.
+          subst (λ (c : CheckpointParts). IsCheckpoint VERSION text (start text k) (table_before cs k) c) (get_or_default cs k no_checkpoint d h)
+          (subst (λ (n : ℕ). IsCheckpoint VERSION text n (table_before cs k) (checkpoint_at r k)) (sym (found k (omega arith))) (stand k h));
+      output = ap (λ (k : ℕ). drop k text) end ∙ drop_at (H ++ P ++ E ++ C) O (place (length cs)) l4;
     }
 
--- the bytes of a lawful recording are its text
-pub is_text : (r : RecordingParts) (bytes : List ℕ) → IsLawful r → bytes ≡ spelling r → Text bytes r
-is_text r bytes lawful e = record { version = VERSION; is = record { lawful = lawful; laid = subst (λ (t : List ℕ). IsLaidOut VERSION t r) (sym e) (spelled r lawful) } }
+-- and so they are its text
+pub spelled : (r : RecordingParts) → IsLawful r → TextIn VERSION (spelling VERSION r) r
+spelled r lawful = record { lawful = lawful; laid = laid_out r lawful }

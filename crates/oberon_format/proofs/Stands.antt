@@ -6,8 +6,10 @@ use Rattle.std.proofs.lemmas.List.{drop_at, take_at, append-nil}
 use Rattle.byteorder.specs.Endian.{little_from, little_bytes}
 use Rattle.byteorder.specs.Numbers.{little_number-reads_back, length-bytes_low_first}
 use Rattle.oberon_format.proofs.Numbers.{little_from-drop}
+use Rattle.oberon_format.proofs.Places.{bytes_at, bytes_at-next}
+use Rattle.oberon_format.specs.CheckpointParts.{CheckpointParts}
 use Rattle.oberon_format.specs.Layout.{long_at, word_at}
-use Rattle.oberon_format.specs.Spelling.{long_bytes, word_bytes, words_bytes}
+use Rattle.oberon_format.specs.Spelling.{long_bytes, word_bytes, words_bytes, checkpoint_bytes, checkpoints_bytes}
 use Rattle.oberon_format.specs.Text.{AreWords, EachAt}
 
 -- numbers of four bytes
@@ -39,9 +41,6 @@ stands_right text place n xs ys s e = record {
   is = s.is ∙ ap (λ (l : List ℕ). s.front ++ l) (append_assoc xs ys s.back) ∙ sym (append_assoc s.front xs (ys ++ s.back));
   here = omega (arith, length-append s.front xs, s.here, e);
 }
-
-pub stands_regroup : (text : List ℕ) (place : ℕ) (xs ys zs : List ℕ) → Stands text place (xs ++ ys ++ zs) → Stands text place (xs ++ (ys ++ zs))
-stands_regroup text place xs ys zs s = subst (Stands text place) (append_assoc xs ys zs) s
 
 pub stands_from : (text : List ℕ) (n : ℕ) (xs ys : List ℕ) → Stands text 0 (xs ++ ys) → length xs ≡ n → Stands text n ys
 stands_from text n xs ys s e = subst (λ (k : ℕ). Stands text k ys) (zero-add n) (stands_right text 0 n xs ys s e)
@@ -102,3 +101,35 @@ words_stand text place xs wide s i d h =
 
 pub length-words_bytes : (xs : List ℕ) → length (words_bytes xs) ≡ 4 * length xs
 length-words_bytes xs = length-flat_map word_bytes 4 xs (λ k e lt. length-word_bytes (get_or xs k e))
+
+-- each place is as far behind the one before as these checkpoints are long
+abbrev pub AreSpaced : (ℕ → ℕ) → ℕ → List ℕ → List CheckpointParts → Type 0
+AreSpaced place v before cs = (k : ℕ) → k < length cs → place (suc k) ≡ place k + length (bytes_at v before cs k)
+
+-- so are the places of all but the first
+spaced_on : (place : ℕ → ℕ) (v : ℕ) (before : List ℕ) (c : CheckpointParts) (cs : List CheckpointParts) → AreSpaced place v before (c ∷ cs) → AreSpaced (λ i. place (suc i)) v c.table cs
+spaced_on place v before c cs next i lt = next (suc i) (omega arith) ∙ ap (λ (l : List ℕ). place (suc i) + length l) (bytes_at-next v before c cs i)
+
+-- checkpoints, each of its own length
+pub blocks_stand : (v : ℕ) (text : List ℕ) (place : ℕ → ℕ) (before : List ℕ) (cs : List CheckpointParts) → AreSpaced place v before cs
+    → Stands text (place 0) (checkpoints_bytes v before cs) → (k : ℕ) → k < length cs → Stands text (place k) (bytes_at v before cs k)
+unfolding checkpoints_bytes
+blocks_stand v text place before [] next s k lt = absurd (omega arith)
+blocks_stand v text place before (c ∷ cs) next s zero lt = stands_left text (place 0) (checkpoint_bytes v before c) (checkpoints_bytes v c.table cs) s
+blocks_stand v text place before (c ∷ cs) next s (suc k) lt =
+    let first = checkpoint_bytes v before c in
+    let rest = checkpoints_bytes v c.table cs in
+    let behind : Stands text (place 0 + length first) rest = stands_right text (place 0) (length first) first rest s refl in
+    let there : Stands text (place 1) rest = subst (λ (p : ℕ). Stands text p rest) (sym (next 0 (omega arith))) behind in
+    let so = blocks_stand v text (λ i. place (suc i)) c.table cs (spaced_on place v before c cs next) there k (omega arith) in
+    subst (Stands text (place (suc k))) (sym (bytes_at-next v before c cs k)) so
+
+-- and the length of all of them
+pub length-blocks : (v : ℕ) (place : ℕ → ℕ) (before : List ℕ) (cs : List CheckpointParts) → AreSpaced place v before cs
+    → place (length cs) ≡ place 0 + length (checkpoints_bytes v before cs)
+unfolding checkpoints_bytes
+length-blocks v place before [] next = omega arith
+length-blocks v place before (c ∷ cs) next =
+    let rest = length-blocks v (λ i. place (suc i)) c.table cs (spaced_on place v before c cs next) in
+    let first = next 0 (omega arith) in
+    omega (arith, length-append (checkpoint_bytes v before c) (checkpoints_bytes v c.table cs))

@@ -1,11 +1,23 @@
 -- What is written of a list, member by member.
-use Rattle.std.proofs.Common.{◌≡◌, ◌<◌, ◌≤◌, ◌+◌, ◌∙◌, ℕ, zero, suc, List, [], ◌∷◌, ◌++◌, length, take, get_or, sym, ap, arith, length-append}
+use Rattle.std.proofs.Common.{◌≡◌, ◌≢◌, ◌<◌, ◌≤◌, ◌+◌, ◌*◌, ◌∙◌, ℕ, zero, suc, List, [], ◌∷◌, ◌++◌, length, map, take, get_or, sym, ap, arith, add-one, append-nil, append_assoc, length-append}
+use Rattle.std.specs.Prelude.{slice_index}
 use Rattle.std.specs.List.{flat_map}
-use Rattle.std.proofs.lemmas.List.{take_more, take_all, flat_map_more}
+use Rattle.std.proofs.lemmas.List.{take_more, flat_map_more}
 use Rattle.std.proofs.lemmas.Bool.Decides.{nat_tests}
 use Rattle.risc_pages.specs.Pages.{page_of, zero_page}
-use Rattle.oberon_format.specs.CheckpointParts.{CheckpointParts}
-use Rattle.oberon_format.specs.Recording.{output_of}
+use Rattle.oberon_format.specs.declared.change.Change.{Change}
+use Rattle.oberon_format.specs.declared.checkpoint.Checkpoint.{Checkpoint}
+use Rattle.oberon_format.specs.declared.layout.TheConstants.{VERSION}
+use Rattle.oberon_format.specs.declared.ranges.TheConstants.{MAX_PAGES, MAX_EVENTS}
+use Rattle.oberon_format.specs.Changes.{changes, changes_below}
+use Rattle.oberon_format.specs.CheckpointParts.{CheckpointParts, checkpoint_parts, no_checkpoint}
+use Rattle.oberon_format.specs.Layout.{checkpoint_size}
+use Rattle.oberon_format.specs.PartFields.{start_laid}
+use Rattle.oberon_format.specs.Recording.{RecordingParts, checkpoint_at, table_before, output_of}
+use Rattle.oberon_format.specs.Spelling.{change_bytes, checkpoint_bytes, checkpoints_bytes}
+use Rattle.oberon_format.proofs.ChangeLemmas.{below_more, below_same, changes-few}
+use Rattle.oberon_format.proofs.CheckpointLemmas.{checkpoint_at-is}
+use Rattle.oberon_format.proofs.Places.{bytes_at, bytes_at-next}
 
 -- the bytes of one member more
 pub written_next : {X : Type 0} (f : X → List ℕ) (xs : List X) (k : ℕ) (d : X) (start out more : List ℕ) → k < length xs → out ≡ start ++ flat_map f (take k xs) → more ≡ out ++ f (get_or xs k d)
@@ -14,16 +26,57 @@ written_next {X} f xs k d start out more lt so_far now =
     now ∙ ap (λ (l : List ℕ). l ++ f (get_or xs k d)) so_far ∙ flat_map_more f start (take k xs) (get_or xs k d)
     ∙ ap (λ (l : List X). start ++ flat_map f l) (sym (take_more xs k d lt))
 
--- the bytes of all members
-pub written_all : {X : Type 0} (f : X → List ℕ) (xs : List X) (k : ℕ) (start out : List ℕ) → length xs ≤ k → out ≡ start ++ flat_map f (take k xs) → out ≡ start ++ flat_map f xs
-written_all {X} f xs k start out le so_far = so_far ∙ ap (λ (l : List X). start ++ flat_map f l) (take_all k xs le)
+-- the bytes of one checkpoint more
+pub checkpoints_more : (v : ℕ) (before : List ℕ) (cs : List CheckpointParts) (k : ℕ) → k < length cs
+    → checkpoints_bytes v before (take (suc k) cs) ≡ checkpoints_bytes v before (take k cs) ++ bytes_at v before cs k
+unfolding checkpoints_bytes
+checkpoints_more v before [] k lt = absurd (omega arith)
+checkpoints_more v before (c ∷ cs) zero lt = append-nil (checkpoint_bytes v before c)
+checkpoints_more v before (c ∷ cs) (suc k) lt =
+    let first = checkpoint_bytes v before c in
+    let so_far = checkpoints_bytes v c.table (take k cs) in
+    ap (λ (l : List ℕ). first ++ l) (checkpoints_more v c.table cs k (omega arith))
+    ∙ sym (append_assoc first so_far (bytes_at v c.table cs k))
+    ∙ ap (λ (l : List ℕ). first ++ so_far ++ l) (sym (bytes_at-next v before c cs k))
 
--- the length of one member more
-pub length_next : (cs : List CheckpointParts) (k : ℕ) (d : CheckpointParts) → k < length cs → length (output_of (take (k + 1) cs)) ≡ length (output_of (take k cs)) + length (get_or cs k d).sent
-length_next cs k d lt =
-    ap (λ (l : List CheckpointParts). length (output_of l)) (take_more cs k d lt)
-    ∙ ap (λ (l : List ℕ). length l) (sym (flat_map_more (λ (c : CheckpointParts). c.sent) [] (take k cs) (get_or cs k d)))
-    ∙ length-append (output_of (take k cs)) (get_or cs k d).sent
+-- the bytes of the changes of one place more, where the tables agree in it and where they don't
+pub changes_skipped : (before table start out : List ℕ) (p : ℕ) → slice_index before p ≡ slice_index table p → out ≡ start ++ flat_map change_bytes (changes_below p before table)
+    → out ≡ start ++ flat_map change_bytes (changes_below (p + 1) before table)
+changes_skipped before table start out p same so_far =
+    so_far ∙ ap (λ (cs : List Change). start ++ flat_map change_bytes cs) (sym (ap (λ (n : ℕ). changes_below n before table) (add-one p) ∙ below_same p before table same))
+
+pub changes_next : (before table start out more : List ℕ) (p : ℕ) → slice_index before p ≢ slice_index table p → out ≡ start ++ flat_map change_bytes (changes_below p before table)
+    → more ≡ out ++ change_bytes (record { place = p; number = slice_index table p }) → more ≡ start ++ flat_map change_bytes (changes_below (p + 1) before table)
+changes_next before table start out more p other so_far now =
+    let here : Change = record { place = p; number = slice_index table p } in
+    let below = changes_below p before table in
+    now ∙ ap (λ (l : List ℕ). l ++ change_bytes here) so_far ∙ flat_map_more change_bytes start below here
+    ∙ ap (λ (cs : List Change). start ++ flat_map change_bytes cs) (sym (ap (λ (n : ℕ). changes_below n before table) (add-one p) ∙ below_more p before table other))
+
+-- checkpoint k, as Rust has it and as parts
+written_at : (r : RecordingParts) (cs : List Checkpoint) (k : ℕ) (c : Checkpoint) → map checkpoint_parts cs ≡ r.checkpoints → k < length cs → c ≡ get_or cs k c → checkpoint_parts c ≡ checkpoint_at r k
+written_at r cs k c same lt is = sym (checkpoint_at-is cs k c lt is) ∙ ap (λ (l : List CheckpointParts). get_or l k no_checkpoint) same
+
+-- the length of one checkpoint more
+pub laid_next : (r : RecordingParts) (cs : List Checkpoint) (k : ℕ) (c : Checkpoint) (before : List ℕ) → map checkpoint_parts cs ≡ r.checkpoints → k < length cs → c ≡ get_or cs k c
+    → before ≡ table_before (map checkpoint_parts cs) k → start_laid VERSION r (k + 1) ≡ start_laid VERSION r k + checkpoint_size VERSION (length (changes before c.table))
+unfolding start_laid
+laid_next r cs k c before same lt is b =
+    let at : checkpoint_parts c ≡ checkpoint_at r k = written_at r cs k c same lt is in
+    let table : c.table ≡ (checkpoint_at r k).table = ap (λ (x : CheckpointParts). x.table) at in
+    let before_is : before ≡ table_before r.checkpoints k = b ∙ ap (λ (l : List CheckpointParts). table_before l k) same in
+    ap (start_laid VERSION r) (add-one k)
+    ∙ ap (λ (t : List ℕ). start_laid VERSION r k + checkpoint_size VERSION (length (changes t (checkpoint_at r k).table))) (sym before_is)
+    ∙ ap (λ (t : List ℕ). start_laid VERSION r k + checkpoint_size VERSION (length (changes before t))) (sym table)
+
+-- where a checkpoint is laid out is within a limit
+pub laid_bounded : (r : RecordingParts) (k : ℕ) → length r.pool ≤ MAX_PAGES → length r.inputs ≤ MAX_EVENTS → start_laid VERSION r k ≤ 83108888 + 8336 * k
+unfolding start_laid
+laid_bounded r zero pages events = omega arith
+laid_bounded r (suc k) pages events =
+    let so_far = laid_bounded r k pages events in
+    let few = changes-few (table_before r.checkpoints k) (checkpoint_at r k).table in
+    omega arith
 
 -- page number p + 1 is page p of the pool
 pub next_page : (pool : List (List ℕ)) (p : ℕ) → page_of pool (p + 1) ≡ get_or pool p zero_page

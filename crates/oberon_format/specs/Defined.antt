@@ -2,7 +2,7 @@
 use Rattle.std.specs.Prelude.{ℕ, ◌≡◌, ◌-◌, List}
 use Rattle.risc_pages.specs.Content.{table_words}
 use Rattle.risc_machine.specs.MachineState.{State}
-use Rattle.risc_machine.specs.Replay.{run_of, sent_of}
+use Rattle.risc_machine.specs.OneRun.{sent_between, state_from}
 use Rattle.oberon_format.specs.CheckpointParts.{CheckpointParts}
 use Rattle.oberon_format.specs.Recording.{RecordingParts, checkpoint_at, count_at}
 
@@ -21,11 +21,11 @@ claimed r k = claim_of r.pool (checkpoint_at r k)
 
 -- the state at a count, in one run from checkpoint 0
 abbrev pub state_at : RecordingParts → ℕ → State
-state_at r n = run_of r.inputs 0 n (claimed r 0).state
+state_at r n = state_from r.inputs (claimed r 0).state n
 
 -- the bytes that this run sends from one count up to another
 abbrev pub output_between : RecordingParts → ℕ → ℕ → List ℕ
-output_between r from to = sent_of r.inputs from (to - from) (state_at r from)
+output_between r from to = sent_between r.inputs (claimed r 0).state from to
 
 -- what this run gives at checkpoint k, with its output since the checkpoint before. At checkpoint 0 that is no output
 abbrev pub defined : RecordingParts → ℕ → Outcome

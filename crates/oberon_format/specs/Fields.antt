@@ -1,5 +1,6 @@
 -- The fields of a recording's text that rules speak of, whatever the layout in which they stand.
 use Rattle.std.specs.Prelude.{ℕ, zero, suc, ◌+◌}
+use Rattle.oberon_format.specs.declared.change.Change.{Change}
 use Rattle.oberon_format.specs.declared.fields.CheckpointFields.{CheckpointFields}
 
 -- an event: its count, the number of its kind, and its value
@@ -8,8 +9,8 @@ pub record EventFields : Type 0 where
   pub kind : ℕ
   pub value : ℕ
 
--- a text: its length, the six numbers of its header, event i, those fields of checkpoint k that have a range (the code's type
--- `CheckpointFields`), and page number j of checkpoint k
+-- a text: its length, the six numbers of its header, event i, where checkpoint k begins, those fields of checkpoint k that have a
+-- range (the code's type `CheckpointFields`), its change i, and page number j of its table
 pub record Fields : Type 0 where
   pub long : ℕ
   pub first : ℕ
@@ -19,7 +20,9 @@ pub record Fields : Type 0 where
   pub checkpoints : ℕ
   pub last : ℕ
   pub event : ℕ → EventFields
+  pub start : ℕ → ℕ
   pub checkpoint : ℕ → CheckpointFields
+  pub change : ℕ → ℕ → Change
   pub page_number : ℕ → ℕ → ℕ
 
 -- f 0 + f 1 + .. + f (k - 1)

@@ -7,22 +7,29 @@ use Rattle.oberon_format.specs.Formed.{AreFormed}
 use Rattle.oberon_format.specs.Line.{IsNamedFault}
 use Rattle.oberon_format.specs.PartFields.{fault_of_parts}
 use Rattle.oberon_format.specs.Recording.{RecordingParts, IsLawful}
-use Rattle.oberon_format.specs.Text.{AreBytes, IsLaidOut, Text}
+use Rattle.oberon_format.specs.Layout.{version}
+use Rattle.oberon_format.specs.Text.{AreBytes, IsLaidOut, TextIn, Text}
 use Rattle.oberon_format.specs.TextFields.{first_fault_of}
 
 -- a text is that of at most one recording
 abbrev pub HasOneRecording : Type 0
 HasOneRecording = (text : List ℕ) (r s : RecordingParts) → Text text r → Text text s → r ≡ s
 
--- a list of bytes that is the text of a recording, and the only one
-pub record IsOnlyText (text : List ℕ) (r : RecordingParts) : Type 0 where
-  pub bytes : AreBytes text
-  pub is : Text text r
-  pub only : (other : List ℕ) → AreBytes other → Text other r → other ≡ text
+-- a recording has at most one text of each version
+abbrev pub HasOneTextAtMost : Type 0
+HasOneTextAtMost = (version : ℕ) (r : RecordingParts) (text other : List ℕ) → AreBytes text → AreBytes other → TextIn version text r → TextIn version other r → other ≡ text
 
--- a lawful recording has exactly one text
+-- and a lawful recording has one of the version that is written
 abbrev pub HasOneText : Type 0
-HasOneText = (r : RecordingParts) → IsLawful r → (text : List ℕ) × IsOnlyText text r
+HasOneText = (r : RecordingParts) → IsLawful r → (text : List ℕ) × AreBytes text × TextIn VERSION text r
+
+-- what is read of the text that is written of a recording is that recording
+abbrev pub HasReadBack : Type 0
+HasReadBack = (r s : RecordingParts) (text : List ℕ) → TextIn VERSION text r → Text text s → s ≡ r
+
+-- what is written of a recording that was read is the text of which it was read, where that is of the version that is written
+abbrev pub HasWrittenBack : Type 0
+HasWrittenBack = (text other : List ℕ) (r : RecordingParts) → AreBytes text → AreBytes other → version text ≡ VERSION → Text text r → TextIn VERSION other r → other ≡ text
 
 -- each text has a recording exactly where it has no first fault
 abbrev pub HasTextOrFault : Type 0
@@ -32,7 +39,7 @@ HasTextOrFault = (text : List ℕ) → AreBytes text → MatchOption (first_faul
 abbrev pub HasNamedFault : Type 0
 HasNamedFault = (text : List ℕ) → IfSome (first_fault_of text) IsNamedFault
 
--- a text of version 1 that is laid out of parts has the fault of the parts
+-- a text that is laid out of parts, in the version that is written, has the fault of the parts
 abbrev pub HasFaultOfParts : Type 0
 HasFaultOfParts = (text : List ℕ) (r : RecordingParts) → AreFormed r.checkpoints → IsLaidOut VERSION text r → first_fault_of text ≡ fault_of_parts r
 

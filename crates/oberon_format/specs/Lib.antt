@@ -1,3 +1,4 @@
+pub mod Changes
 pub mod Fields
 pub mod FirstFault
 pub mod Ranges
@@ -14,6 +15,7 @@ pub mod PartFields
 pub mod Text
 pub mod Tested
 pub mod Spelling
+pub mod Migration
 pub mod Line
 pub mod Defined
 pub mod Laws

@@ -1,18 +1,19 @@
 -- The fields of a text laid out of the parts of a recording, lawful or not, and the first fault of such a text.
-use Rattle.std.specs.Prelude.{◌+◌, [], map, length, slice_index, slice_index_or, Option}
+use Rattle.std.specs.Prelude.{ℕ, zero, suc, ◌+◌, ◌==◌, if◌then◌else◌, List, map, length, slice_index, slice_index_or, Option}
 use Rattle.risc_devices.specs.DeviceState.{serial_number}
 use Rattle.risc_devices.specs.Input.{kind_of, value_of}
 use Rattle.risc_machine.specs.declared.event.Event.{Event}
+use Rattle.oberon_format.specs.Changes.{changes, no_change}
 use Rattle.oberon_format.specs.CheckpointParts.{CheckpointParts}
 use Rattle.oberon_format.specs.declared.fault.Fault.{Fault}
 use Rattle.oberon_format.specs.declared.fields.CheckpointFields.{CheckpointFields}
-use Rattle.oberon_format.specs.declared.layout.TheConstants.{MAGIC, VERSION}
+use Rattle.oberon_format.specs.declared.layout.TheConstants.{MAGIC, FIRST_VERSION, VERSION}
 use Rattle.oberon_format.specs.Fields.{EventFields, Fields}
 use Rattle.oberon_format.specs.FirstFault.{first_broken}
 use Rattle.oberon_format.specs.FlagsNumber.{flags_number}
 use Rattle.oberon_format.specs.KeyBytes.{key_bytes}
-use Rattle.oberon_format.specs.Layout.{checkpoint_start}
-use Rattle.oberon_format.specs.Recording.{RecordingParts, output_of}
+use Rattle.oberon_format.specs.Layout.{event_start, checkpoint_size}
+use Rattle.oberon_format.specs.Recording.{RecordingParts, checkpoint_at, table_before, output_of}
 use Rattle.oberon_format.specs.Rules.{rules}
 
 abbrev pub event_fields : Event → EventFields
@@ -21,13 +22,17 @@ event_fields e = record { count = e.count; kind = kind_of e.input; value = value
 abbrev pub no_event : EventFields
 no_event = record { count = 0; kind = 0; value = 0 }
 
-abbrev pub checkpoint_fields : CheckpointParts → CheckpointFields
-checkpoint_fields c = record {
+-- the number of changes that a checkpoint has in a version, after a table
+abbrev pub changes_laid : ℕ → List ℕ → CheckpointParts → ℕ
+changes_laid version before c = if version == FIRST_VERSION then 0 else length (changes before c.table)
+
+-- the fields that a checkpoint has in a version, after a table
+abbrev pub checkpoint_fields : ℕ → List ℕ → CheckpointParts → CheckpointFields
+checkpoint_fields version before c = record {
   count = c.count;
   pc = c.cpu.pc;
   flags = flags_number c.cpu;
   stop = c.cpu.stop;
-  rate = c.devices.rate;
   switches = c.devices.switches;
   leds = c.devices.leds;
   mouse = c.devices.mouse;
@@ -35,26 +40,34 @@ checkpoint_fields c = record {
   waiting = length c.devices.keys;
   keys = key_bytes c.devices;
   output = length c.sent;
+  rate = c.devices.rate;
+  phase = c.devices.phase;
+  changes = changes_laid version before c;
 }
 
-abbrev pub no_fields : CheckpointFields
-no_fields = record { count = 0; pc = 0; flags = 0; stop = 0; rate = 0; switches = 0; leds = 0; mouse = 0; serial = 0; waiting = 0; keys = []; output = 0 }
+-- where checkpoint k is laid out in a version: behind the events the checkpoints stand one behind the other
+unfoldable pub start_laid : ℕ → RecordingParts → ℕ → ℕ
+start_laid version r zero = event_start (length r.pool) (length r.inputs)
+start_laid version r (suc k) =
+    start_laid version r k + checkpoint_size version (changes_laid version (table_before r.checkpoints k) (checkpoint_at r k))
 
--- the fields of the text of these parts. A number may be too large for its field: it then breaks that field's rule
-abbrev pub fields_of_parts : RecordingParts → Fields
-fields_of_parts r = record {
-  long = checkpoint_start (length r.pool) (length r.inputs) (length r.checkpoints) + length (output_of r.checkpoints);
+-- the fields of the text of these parts in a version. A number may be too large for its field: it then breaks that field's rule
+abbrev pub fields_laid : ℕ → RecordingParts → Fields
+fields_laid version r = record {
+  long = start_laid version r (length r.checkpoints) + length (output_of r.checkpoints);
   first = MAGIC;
-  version = VERSION;
+  version = version;
   pages = length r.pool;
   events = length r.inputs;
   checkpoints = length r.checkpoints;
   last = 0;
   event = λ i. slice_index_or (map event_fields r.inputs) i no_event;
-  checkpoint = λ k. slice_index_or (map checkpoint_fields r.checkpoints) k no_fields;
-  page_number = λ k. slice_index (slice_index_or (map (λ (c : CheckpointParts). c.table) r.checkpoints) k []);
+  start = start_laid version r;
+  checkpoint = λ k. checkpoint_fields version (table_before r.checkpoints k) (checkpoint_at r k);
+  change = λ k i. slice_index_or (changes (table_before r.checkpoints k) (checkpoint_at r k).table) i no_change;
+  page_number = λ k. slice_index (checkpoint_at r k).table;
 }
 
--- the first fault of the text of these parts, if it has one
+-- the first fault of the text that is laid out of these parts as texts are written, if it has one
 abbrev pub fault_of_parts : RecordingParts → Option Fault
-fault_of_parts r = first_broken (rules (fields_of_parts r))
+fault_of_parts r = first_broken (rules (fields_laid VERSION r))

@@ -1,10 +1,17 @@
 -- The ranges of a recording's fields. All limits are this project's own choice, and their names stand in the code's module `ranges`.
-use Rattle.std.specs.Prelude.{ℕ, drop, ◌+◌, Bool, true, ◌&&◌, ◌==◌, nat_le, nat_lt, if◌then◌else◌}
+use Rattle.std.specs.Prelude.{ℕ, drop, ◌+◌, Bool, true, ◌&&◌, ◌||◌, ◌==◌, nat_le, nat_lt, not, if◌then◌else◌}
 use Rattle.std.specs.List.{list_all}
+use Rattle.risc_devices.specs.DeviceState.{is_phase}
 use Rattle.risc_devices.specs.InputKind.{is_input, is_mouse}
+use Rattle.oberon_format.specs.declared.change.Change.{Change}
 use Rattle.oberon_format.specs.declared.fields.CheckpointFields.{CheckpointFields}
+use Rattle.oberon_format.specs.declared.layout.TheConstants.{FIRST_VERSION, VERSION, PLACES}
 use Rattle.oberon_format.specs.declared.ranges.TheConstants.{MAX_COUNT, MAX_OUTPUT, COUNTER_END, FLAGS_END, MAX_STOP, SWITCHES_END, LEDS_END, SERIAL_END, MAX_KEYS}
 use Rattle.oberon_format.specs.Fields.{EventFields}
+
+-- the versions that are known
+abbrev pub is_version : ℕ → Bool
+is_version version = version == FIRST_VERSION || version == VERSION
 
 -- an event's count is not below the event's before it, which is `floor`, and its kind takes its value
 abbrev pub is_event : ℕ → EventFields → Bool
@@ -22,18 +29,25 @@ is_output k sent own = (if k == 0 then own == 0 else true) && nat_le (sent + own
 abbrev pub are_keys : CheckpointFields → Bool
 are_keys c = nat_le c.waiting MAX_KEYS && list_all (λ byte. byte == 0) (drop c.waiting c.keys)
 
--- the fields that have a range of their own; version 1 is of timers that don't count by themselves
+-- the fields that have a range of their own
 abbrev pub in_ranges : CheckpointFields → Bool
 in_ranges c =
     nat_lt c.pc COUNTER_END
     && nat_lt c.flags FLAGS_END
     && nat_le c.stop MAX_STOP
-    && c.rate == 0
+    && is_phase c.rate c.phase
     && nat_lt c.switches SWITCHES_END
     && nat_lt c.leds LEDS_END
     && is_mouse c.mouse
     && nat_lt c.serial SERIAL_END
+    && nat_le c.changes PLACES
 
--- all fields of checkpoint k before its table, after a checkpoint of count `before` and `sent` bytes of output
+-- all fields of checkpoint k, after a checkpoint of count `before` and `sent` bytes of output
 abbrev pub is_checkpoint : ℕ → ℕ → ℕ → CheckpointFields → Bool
 is_checkpoint k before sent c = is_count k before c.count && in_ranges c && are_keys c && is_output k sent c.output
+
+-- a change after which places are to be `floor` or above: its place rises and is one of the table's, its number is that of a page,
+-- and another one stood there
+abbrev pub is_change : ℕ → ℕ → (ℕ → ℕ) → Change → Bool
+is_change pages floor stood change =
+    nat_le floor change.place && nat_lt change.place PLACES && nat_le change.number pages && not (change.number == stood change.place)

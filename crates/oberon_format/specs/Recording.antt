@@ -1,9 +1,9 @@
 -- What a recording is, and which recordings are lawful. All limits are this project's own choice.
-use Rattle.std.specs.Prelude.{ℕ, ◌≡◌, ◌+◌, ◌-◌, ◌^◌, ◌<◌, ◌≤◌, List, All, [], length, slice_index_or}
+use Rattle.std.specs.Prelude.{ℕ, ◌≡◌, ◌+◌, ◌-◌, ◌^◌, ◌<◌, ◌≤◌, ◌==◌, if◌then◌else◌, List, All, [], length, slice_index_or}
 use Rattle.std.specs.List.{flat_map}
 use Rattle.risc_pages.specs.Pages.{ArePages}
 use Rattle.risc_pages.specs.Content.{IsNamed}
-use Rattle.risc_pages.specs.Tables.{IsTable}
+use Rattle.risc_pages.specs.Tables.{zero_numbers, IsTable}
 use Rattle.risc_devices.specs.DeviceState.{IsDeviceState}
 use Rattle.risc_machine.specs.declared.event.Event.{Event}
 use Rattle.risc_machine.specs.InputOrder.{AreOrdered}
@@ -25,6 +25,10 @@ checkpoint_at r k = slice_index_or r.checkpoints k no_checkpoint
 abbrev pub count_at : RecordingParts → ℕ → ℕ
 count_at r k = (checkpoint_at r k).count
 
+-- the table before checkpoint k: at first zeros, then that of the checkpoint before
+abbrev pub table_before : List CheckpointParts → ℕ → List ℕ
+table_before checkpoints k = if k == 0 then zero_numbers else (slice_index_or checkpoints (k - 1) no_checkpoint).table
+
 -- K, the number of the last checkpoint
 abbrev pub last_of : RecordingParts → ℕ
 last_of r = length r.checkpoints - 1
@@ -33,12 +37,11 @@ last_of r = length r.checkpoints - 1
 abbrev pub output_of : List CheckpointParts → List ℕ
 output_of checkpoints = flat_map (λ c. c.sent) checkpoints
 
--- a checkpoint that is in its ranges and names pages of the pool, and whose timer doesn't count by itself. It may claim any stop
+-- a checkpoint that is in its ranges and names pages of the pool. It may claim any stop
 pub record IsFit (pool : List (List ℕ)) (c : CheckpointParts) : Type 0 where
   pub bounded : c.count ≤ MAX_COUNT
   pub cpu : IsCpuState c.cpu
   pub devices : IsDeviceState c.devices
-  pub rate : c.devices.rate ≡ 0
   pub table : IsTable c.table
   pub named : IsNamed pool c.table
   pub bytes : All (λ byte. byte < 2 ^ 8) c.sent

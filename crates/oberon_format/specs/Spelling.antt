@@ -1,12 +1,15 @@
--- The bytes of a recording of version 1, one part after the other. That they are its text is proved.
-use Rattle.std.specs.Prelude.{ℕ, List, ◌++◌, length}
+-- The bytes of a recording in a version, one part after the other. That they are its text is proved.
+use Rattle.std.specs.Prelude.{ℕ, ◌==◌, if◌then◌else◌, List, [], ◌∷◌, ◌++◌, length}
 use Rattle.std.specs.List.{flat_map}
 use Rattle.byteorder.specs.Endian.{little_bytes}
+use Rattle.risc_pages.specs.Tables.{zero_numbers}
 use Rattle.risc_devices.specs.DeviceState.{DeviceState, serial_number}
 use Rattle.risc_devices.specs.Input.{kind_of, value_of}
 use Rattle.risc_machine.specs.declared.event.Event.{Event}
 use Rattle.risc_machine.specs.MachineState.{CpuState}
-use Rattle.oberon_format.specs.declared.layout.TheConstants.{MAGIC, VERSION}
+use Rattle.oberon_format.specs.declared.layout.TheConstants.{MAGIC, FIRST_VERSION}
+use Rattle.oberon_format.specs.declared.change.Change.{Change}
+use Rattle.oberon_format.specs.Changes.{changes}
 use Rattle.oberon_format.specs.CheckpointParts.{CheckpointParts}
 use Rattle.oberon_format.specs.FlagsNumber.{flags_number}
 use Rattle.oberon_format.specs.KeyBytes.{key_bytes}
@@ -34,16 +37,37 @@ device_bytes d =
     word_bytes d.timer ++ word_bytes d.switches ++ word_bytes d.leds ++ word_bytes d.mouse ++ word_bytes (serial_number d)
     ++ word_bytes (length d.keys) ++ key_bytes d
 
-unfoldable pub checkpoint_bytes : CheckpointParts → List ℕ
-checkpoint_bytes c =
-    long_bytes c.count ++ cpu_bytes c.cpu ++ device_bytes c.devices ++ word_bytes (length c.sent) ++ words_bytes c.table
+-- what a checkpoint begins with in each version
+unfoldable pub front_bytes : CheckpointParts → List ℕ
+front_bytes c = long_bytes c.count ++ cpu_bytes c.cpu ++ device_bytes c.devices ++ word_bytes (length c.sent)
 
-unfoldable pub header_bytes : RecordingParts → List ℕ
-header_bytes r =
-    word_bytes MAGIC ++ word_bytes VERSION ++ word_bytes (length r.pool) ++ word_bytes (length r.inputs)
+unfoldable pub change_bytes : Change → List ℕ
+change_bytes change = word_bytes change.place ++ word_bytes change.number
+
+unfoldable pub changes_bytes : List Change → List ℕ
+changes_bytes cs = word_bytes (length cs) ++ flat_map change_bytes cs
+
+-- what follows in version 2, after a table
+unfoldable pub changed_bytes : List ℕ → CheckpointParts → List ℕ
+changed_bytes before c = word_bytes c.devices.rate ++ word_bytes c.devices.phase ++ changes_bytes (changes before c.table)
+
+unfoldable pub tail_bytes : ℕ → List ℕ → CheckpointParts → List ℕ
+tail_bytes version before c = if version == FIRST_VERSION then words_bytes c.table else changed_bytes before c
+
+unfoldable pub checkpoint_bytes : ℕ → List ℕ → CheckpointParts → List ℕ
+checkpoint_bytes version before c = front_bytes c ++ tail_bytes version before c
+
+-- the first of these checkpoints is after a table, each other one after the one before
+unfoldable pub checkpoints_bytes : ℕ → List ℕ → List CheckpointParts → List ℕ
+checkpoints_bytes version before [] = []
+checkpoints_bytes version before (c ∷ cs) = checkpoint_bytes version before c ++ checkpoints_bytes version c.table cs
+
+unfoldable pub header_bytes : ℕ → RecordingParts → List ℕ
+header_bytes version r =
+    word_bytes MAGIC ++ word_bytes version ++ word_bytes (length r.pool) ++ word_bytes (length r.inputs)
     ++ word_bytes (length r.checkpoints) ++ word_bytes 0
 
-unfoldable pub spelling : RecordingParts → List ℕ
-spelling r =
-    header_bytes r ++ flat_map words_bytes r.pool ++ flat_map event_bytes r.inputs
-    ++ flat_map checkpoint_bytes r.checkpoints ++ output_of r.checkpoints
+unfoldable pub spelling : ℕ → RecordingParts → List ℕ
+spelling version r =
+    header_bytes version r ++ flat_map words_bytes r.pool ++ flat_map event_bytes r.inputs
+    ++ checkpoints_bytes version zero_numbers r.checkpoints ++ output_of r.checkpoints

@@ -1,15 +1,18 @@
 -- Which text is that of a recording.
-use Rattle.std.specs.Prelude.{ℕ, ◌≡◌, ◌<◌, ◌+◌, ◌*◌, ◌^◌, List, All, length, slice_index_or, drop, slice_range}
+use Rattle.std.specs.Prelude.{ℕ, true, ◌≡◌, ◌<◌, ◌+◌, ◌*◌, ◌^◌, List, All, length, slice_index_or, drop, slice_range}
 use Rattle.risc_devices.specs.DeviceState.{DeviceState, serial_number}
 use Rattle.risc_devices.specs.Input.{kind_of, value_of}
 use Rattle.risc_machine.specs.declared.event.Event.{Event}
 use Rattle.risc_machine.specs.MachineState.{CpuState}
-use Rattle.oberon_format.specs.declared.layout.TheConstants.{MAGIC, VERSION, MAGIC_AT, VERSION_AT, LAST_AT, KIND_AT, VALUE_AT, REGISTERS_AT, AUXILIARY_AT, COUNTER_AT, FLAGS_AT, STOP_AT, TIMER_AT, SWITCHES_AT, LEDS_AT, MOUSE_AT, SERIAL_AT, WAITING_AT, KEYS_AT, SENT_AT, TABLE_AT}
+use Rattle.oberon_format.specs.declared.change.Change.{Change}
+use Rattle.oberon_format.specs.declared.layout.TheConstants.{MAGIC, FIRST_VERSION, VERSION, MAGIC_AT, LAST_AT, KIND_AT, VALUE_AT, REGISTERS_AT, AUXILIARY_AT, COUNTER_AT, FLAGS_AT, STOP_AT, TIMER_AT, SWITCHES_AT, LEDS_AT, MOUSE_AT, SERIAL_AT, WAITING_AT, KEYS_AT, SENT_AT, TABLE_AT, RATE_AT, PHASE_AT, CHANGE_COUNT_AT, NUMBER_AT}
+use Rattle.oberon_format.specs.Changes.{changes}
 use Rattle.oberon_format.specs.CheckpointParts.{CheckpointParts}
 use Rattle.oberon_format.specs.FlagsNumber.{flags_number}
 use Rattle.oberon_format.specs.KeyBytes.{key_bytes}
-use Rattle.oberon_format.specs.Layout.{word_at, long_at, pages, events, checkpoints, page_place, event_place, start}
-use Rattle.oberon_format.specs.Recording.{RecordingParts, IsLawful, output_of}
+use Rattle.oberon_format.specs.Layout.{word_at, long_at, version, pages, events, checkpoints, page_place, event_place, change_place, start, output_place}
+use Rattle.oberon_format.specs.Ranges.{is_version}
+use Rattle.oberon_format.specs.Recording.{RecordingParts, IsLawful, table_before, output_of}
 
 -- each member of a list is as its number says
 abbrev pub EachAt : {X : Type 0} → (ℕ → X → Type 0) → List X → Type 0
@@ -40,11 +43,9 @@ pub record IsCpu (text : List ℕ) (place : ℕ) (cpu : CpuState) : Type 0 where
   pub flags : word_at text (place + FLAGS_AT) ≡ flags_number cpu
   pub stop : word_at text (place + STOP_AT) ≡ cpu.stop
 
--- the devices of the checkpoint at a place, whose timer doesn't count by itself
+-- the devices of the checkpoint at a place, but for the rate and the phase of the timer
 pub record IsDevices (text : List ℕ) (place : ℕ) (d : DeviceState) : Type 0 where
   pub timer : word_at text (place + TIMER_AT) ≡ d.timer
-  pub rate : d.rate ≡ 0
-  pub phase : d.phase ≡ 0
   pub switches : word_at text (place + SWITCHES_AT) ≡ d.switches
   pub leds : word_at text (place + LEDS_AT) ≡ d.leds
   pub mouse : word_at text (place + MOUSE_AT) ≡ d.mouse
@@ -52,36 +53,51 @@ pub record IsDevices (text : List ℕ) (place : ℕ) (d : DeviceState) : Type 0 
   pub waiting : word_at text (place + WAITING_AT) ≡ length d.keys
   pub keys : slice_range text (place + KEYS_AT) (place + SENT_AT) ≡ key_bytes d
 
--- what stands at a place before the table of a checkpoint: all but its table and its output, of which the length stands there
+-- what a checkpoint at a place begins with in each version: all but rate, phase, table and output, of which the length stands there
 pub record IsFront (text : List ℕ) (place : ℕ) (c : CheckpointParts) : Type 0 where
   pub count : long_at text place ≡ c.count
   pub cpu : IsCpu text place c.cpu
   pub devices : IsDevices text place c.devices
   pub sent : word_at text (place + SENT_AT) ≡ length c.sent
 
--- what follows that, in a text of a version: in version 1 the table. No other version is known
-pub record IsTail (version : ℕ) (text : List ℕ) (place : ℕ) (c : CheckpointParts) : Type 0 where
-  pub known : version ≡ VERSION
+-- what follows in version 1, whose timers don't count by themselves: the table
+pub record IsWhole (text : List ℕ) (place : ℕ) (c : CheckpointParts) : Type 0 where
+  pub rate : c.devices.rate ≡ 0
+  pub phase : c.devices.phase ≡ 0
   pub table : AreWords text (place + TABLE_AT) c.table
 
--- a checkpoint stands at a place, but for its output
-pub record IsCheckpoint (version : ℕ) (text : List ℕ) (place : ℕ) (c : CheckpointParts) : Type 0 where
-  pub front : IsFront text place c
-  pub tail : IsTail version text place c
+-- a change stands at a place
+pub record IsChange (text : List ℕ) (at : ℕ) (change : Change) : Type 0 where
+  pub place : word_at text at ≡ change.place
+  pub number : word_at text (at + NUMBER_AT) ≡ change.number
 
--- the text is of this version, and has the length, and at each place the field, of these parts
+-- what follows in version 2, after a table: rate and phase, and the changes from that table on
+pub record IsChanged (text : List ℕ) (place : ℕ) (before : List ℕ) (c : CheckpointParts) : Type 0 where
+  pub rate : word_at text (place + RATE_AT) ≡ c.devices.rate
+  pub phase : word_at text (place + PHASE_AT) ≡ c.devices.phase
+  pub count : word_at text (place + CHANGE_COUNT_AT) ≡ length (changes before c.table)
+  pub changes : EachAt (λ i change. IsChange text (change_place place i) change) (changes before c.table)
+
+-- a checkpoint stands at a place of a text of a version, after a table, but for its output
+pub record IsCheckpoint (version : ℕ) (text : List ℕ) (place : ℕ) (before : List ℕ) (c : CheckpointParts) : Type 0 where
+  pub front : IsFront text place c
+  pub in_first : version ≡ FIRST_VERSION → IsWhole text place c
+  pub in_second : version ≡ VERSION → IsChanged text place before c
+
+-- the text is of this version, which is known, and has the length, and at each place the field, of these parts
 pub record IsLaidOut (v : ℕ) (text : List ℕ) (r : RecordingParts) : Type 0 where
-  pub long : length text ≡ start text (checkpoints text) + length (output_of r.checkpoints)
+  pub long : length text ≡ output_place text + length (output_of r.checkpoints)
   pub magic : word_at text MAGIC_AT ≡ MAGIC
-  pub version : word_at text VERSION_AT ≡ v
+  pub version : version text ≡ v
+  pub known : is_version v ≡ true
   pub page_count : pages text ≡ length r.pool
   pub event_count : events text ≡ length r.inputs
   pub checkpoint_count : checkpoints text ≡ length r.checkpoints
   pub zero : word_at text LAST_AT ≡ 0
   pub pages_stand : EachAt (IsPageAt text) r.pool
   pub events_stand : EachAt (IsEventAt text) r.inputs
-  pub checkpoints_stand : EachAt (λ k c. IsCheckpoint v text (start text k) c) r.checkpoints
-  pub output : drop (start text (checkpoints text)) text ≡ output_of r.checkpoints
+  pub checkpoints_stand : EachAt (λ k c. IsCheckpoint v text (start text k) (table_before r.checkpoints k) c) r.checkpoints
+  pub output : drop (output_place text) text ≡ output_of r.checkpoints
 
 -- the text of a recording in one version: the recording is lawful, and the text is laid out of it
 pub record TextIn (version : ℕ) (text : List ℕ) (r : RecordingParts) : Type 0 where

@@ -1,11 +1,13 @@
 -- The fields of a text, and its first fault.
-use Rattle.std.specs.Prelude.{ℕ, ◌+◌, List, length, slice_range, Option}
+use Rattle.std.specs.Prelude.{ℕ, zero, suc, ◌+◌, ◌==◌, if◌then◌else◌, List, length, slice_range, Option}
+use Rattle.oberon_format.specs.declared.change.Change.{Change}
 use Rattle.oberon_format.specs.declared.fault.Fault.{Fault}
 use Rattle.oberon_format.specs.declared.fields.CheckpointFields.{CheckpointFields}
-use Rattle.oberon_format.specs.declared.layout.TheConstants.{MAGIC_AT, VERSION_AT, LAST_AT, KIND_AT, VALUE_AT, COUNTER_AT, FLAGS_AT, STOP_AT, SWITCHES_AT, LEDS_AT, MOUSE_AT, SERIAL_AT, WAITING_AT, KEYS_AT, SENT_AT}
+use Rattle.oberon_format.specs.declared.layout.TheConstants.{FIRST_VERSION, MAGIC_AT, LAST_AT, KIND_AT, VALUE_AT, COUNTER_AT, FLAGS_AT, STOP_AT, SWITCHES_AT, LEDS_AT, MOUSE_AT, SERIAL_AT, WAITING_AT, KEYS_AT, SENT_AT, RATE_AT, PHASE_AT, NUMBER_AT}
+use Rattle.oberon_format.specs.Changes.{number_after}
 use Rattle.oberon_format.specs.Fields.{EventFields, Fields}
 use Rattle.oberon_format.specs.FirstFault.{first_broken}
-use Rattle.oberon_format.specs.Layout.{word_at, long_at, pages, events, checkpoints, page_number_place, event_place, checkpoint_place}
+use Rattle.oberon_format.specs.Layout.{word_at, long_at, version, pages, events, checkpoints, page_number_place, change_place, event_place, later_word, change_count, start}
 use Rattle.oberon_format.specs.Rules.{rules}
 
 -- the event that stands at a place
@@ -16,14 +18,13 @@ event_of text place = record {
   value = word_at text (place + VALUE_AT);
 }
 
--- the fields of the checkpoint that stands at a place
+-- the fields of the checkpoint that stands at a place. In version 1 its timer doesn't count by itself, and it has no changes
 abbrev pub checkpoint_of : List ℕ → ℕ → CheckpointFields
 checkpoint_of text place = record {
   count = long_at text place;
   pc = word_at text (place + COUNTER_AT);
   flags = word_at text (place + FLAGS_AT);
   stop = word_at text (place + STOP_AT);
-  rate = 0;
   switches = word_at text (place + SWITCHES_AT);
   leds = word_at text (place + LEDS_AT);
   mouse = word_at text (place + MOUSE_AT);
@@ -31,25 +32,44 @@ checkpoint_of text place = record {
   waiting = word_at text (place + WAITING_AT);
   keys = slice_range text (place + KEYS_AT) (place + SENT_AT);
   output = word_at text (place + SENT_AT);
+  rate = later_word text (place + RATE_AT);
+  phase = later_word text (place + PHASE_AT);
+  changes = change_count text place;
 }
 
--- page number j of the checkpoint that stands at a place
+-- the change that stands at a place
+abbrev pub change_at : List ℕ → ℕ → Change
+change_at text place = record { place = word_at text place; number = word_at text (place + NUMBER_AT) }
+
+-- change i of the checkpoint of version 2 that stands at a place
+abbrev pub change_of : List ℕ → ℕ → ℕ → Change
+change_of text place i = change_at text (change_place place i)
+
+-- page number p before checkpoint k of a text of version 2: at first 0, then what the changes of the checkpoint before left
+unfoldable pub number_before : List ℕ → ℕ → ℕ → ℕ
+number_before text zero p = 0
+number_before text (suc k) p = number_after (change_of text (start text k)) (number_before text k) (change_count text (start text k)) p
+
+-- page number p of checkpoint k
 abbrev pub page_number_of : List ℕ → ℕ → ℕ → ℕ
-page_number_of text place j = word_at text (page_number_place place j)
+page_number_of text k p =
+    if version text == FIRST_VERSION then word_at text (page_number_place (start text k) p) else number_before text (suc k) p
 
 -- the fields of a text
 abbrev pub fields_of : List ℕ → Fields
 fields_of text = record {
   long = length text;
   first = word_at text MAGIC_AT;
-  version = word_at text VERSION_AT;
+  version = version text;
   pages = pages text;
   events = events text;
   checkpoints = checkpoints text;
   last = word_at text LAST_AT;
   event = λ i. event_of text (event_place text i);
-  checkpoint = λ k. checkpoint_of text (checkpoint_place text k);
-  page_number = λ k. page_number_of text (checkpoint_place text k);
+  start = start text;
+  checkpoint = λ k. checkpoint_of text (start text k);
+  change = λ k. change_of text (start text k);
+  page_number = page_number_of text;
 }
 
 -- the first fault of a text, if it has one

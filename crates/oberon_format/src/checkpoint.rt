@@ -1,5 +1,10 @@
 //! Checkpoints: what a recording claims at a count. Lists of them in order are in `recording`.
 
+ghost use Rattle.std.specs.Prelude.{◌≡◌, ◌≤◌, length, map};
+ghost use Rattle.risc_pages.specs.Tables.{zero_numbers};
+ghost use Rattle.oberon_format.specs.CheckpointParts.{checkpoint_parts};
+ghost use Rattle.oberon_format.specs.Recording.{table_before};
+
 use crate::sent::Sent;
 use risc_devices::Devices;
 use risc_machine::Cpu;
@@ -19,4 +24,21 @@ pub struct Checkpoint {
     pub sent: Sent,
     /// The memory: the page number of each of its 1,024 places, over the recording's pool.
     pub table: Table,
+}
+
+/// The table before checkpoint k: zeros, which are given, or that of the checkpoint before.
+pub(crate) fn table_before<'a>(
+    checkpoints: &'a [Checkpoint],
+    k: usize,
+    zeros: &'a Table,
+) -> &'a Table
+    requires below { k ≤ length checkpoints.now }
+    requires zeros { zeros.now ≡ zero_numbers }
+    ensures { result.now ≡ table_before (map checkpoint_parts checkpoints.now) k }
+{
+    if k == 0 {
+        zeros
+    } else {
+        &checkpoints[k - 1].table
+    }
 }

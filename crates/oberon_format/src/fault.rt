@@ -13,7 +13,7 @@ pub enum Fault {
     /// 2: the text doesn't begin with `ORSR`. The byte is 0.
     #[error("the text is not that of a recording, at byte {0}")]
     Magic(u64),
-    /// 3: the version is not 1. The byte is 4.
+    /// 3: the version is neither 1 nor 2. The byte is 4.
     #[error("the version is not known, at byte {0}")]
     Version(u64),
     /// 4: a number of the header is out of its range. The byte is that number's place.
@@ -22,10 +22,11 @@ pub enum Fault {
     /// 5: an event is out of its ranges. The byte is the event's start.
     #[error("an event is out of its ranges, at byte {0}")]
     Event(u64),
-    /// 6: a field of a checkpoint before its table is out of its range. The byte is the checkpoint's start.
+    /// 6: a field of a checkpoint is out of its range. The byte is the checkpoint's start.
     #[error("a checkpoint is out of its ranges, at byte {0}")]
     Checkpoint(u64),
-    /// 7: a table names a page that isn't there. The byte is the place of the page number.
+    /// 7: a page number of version 1 names a page that isn't there: the byte is its place. Or a change of version 2 is not lawful: the
+    /// byte is its start.
     #[error("a page number is out of its range, at byte {0}")]
     Page(u64),
     /// 8: there are bytes after the output. The byte is the first of them.

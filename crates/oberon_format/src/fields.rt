@@ -2,29 +2,30 @@
 //!
 //! Nothing here takes memory.
 
-ghost use Rattle.std.specs.Prelude.{◌≡◌, ◌≤◌, ◌+◌, ◌==◌, length, slice_index};
+ghost use Rattle.std.specs.Prelude.{◌≡◌, ◌≤◌, ◌+◌, ◌==◌};
 ghost use Rattle.std.specs.List.{list_all};
 ghost use Rattle.std.specs.Option.{IfNone};
-ghost use Rattle.oberon_format.specs.FirstFault.{first_broken, each};
+ghost use Rattle.oberon_format.specs.FirstFault.{first_broken};
 ghost use Rattle.oberon_format.specs.KeyBytes.{key_bytes};
-ghost use Rattle.oberon_format.specs.Rules.{page_number_rules, rules_at};
+ghost use Rattle.oberon_format.specs.Rules.{field_rules};
 
+use crate::change::change_count;
 use crate::checkpoint::Checkpoint;
 use crate::fault::Fault;
 use crate::flags::flags_number;
 use crate::layout::{
-    COUNTER_AT, FLAGS_AT, KEYS_AT, LEDS_AT, LONGEST_TEXT, MOUSE_AT, PLACES, SENT_AT, SERIAL_AT,
-    STOP_AT, SWITCHES_AT, TABLE_AT, WAITING_AT,
+    CHANGE_COUNT_AT, CHANGES_AT, COUNTER_AT, FLAGS_AT, KEYS_AT, LEDS_AT, MOUSE_AT, PHASE_AT,
+    PLACES, RATE_AT, SENT_AT, SERIAL_AT, STOP_AT, SWITCHES_AT, VERSION, WAITING_AT, later_word,
 };
 use crate::number::{u32_at, u64_at};
 use crate::ranges::{
     COUNTER_END, FLAGS_END, LEDS_END, MAX_KEYS, MAX_OUTPUT, MAX_STOP, SERIAL_END, SWITCHES_END,
     is_count, is_output,
 };
-use risc_devices::{Devices, is_mouse_word};
+use risc_devices::{Devices, is_mouse_word, is_phase_at};
 use risc_pages::Table;
 
-/// The fields of a checkpoint before its table that have a range. Each may be out of it.
+/// The fields of a checkpoint that have a range. Each may be out of it.
 #[derive(Drop)]
 pub(crate) struct CheckpointFields {
     /// How many instructions stand before the checkpoint.
@@ -35,8 +36,6 @@ pub(crate) struct CheckpointFields {
     pub(crate) flags: u32,
     /// The stop.
     pub(crate) stop: u32,
-    /// The timer's rate, for which a text of version 1 has no place: it is 0.
-    pub(crate) rate: u32,
     /// The switches.
     pub(crate) switches: u32,
     /// The LEDs.
@@ -51,6 +50,12 @@ pub(crate) struct CheckpointFields {
     pub(crate) keys: [u8; MAX_KEYS],
     /// The length of the output, in bytes.
     pub(crate) output: u64,
+    /// The rate of the timer: 0 in a text of version 1.
+    pub(crate) rate: u32,
+    /// The phase of the timer: 0 in a text of version 1.
+    pub(crate) phase: u32,
+    /// The number of changes of the table: 0 in a text of version 1, which has the whole table.
+    pub(crate) changes: u32,
 }
 
 impl CheckpointFields {
@@ -60,9 +65,9 @@ impl CheckpointFields {
     ghost use Rattle.oberon_format.specs.Ranges.{in_ranges, are_keys, is_checkpoint};
     ghost use Rattle.oberon_format.specs.TextFields.{checkpoint_of};
 
-    /// The fields of the checkpoint at a place of a text.
+    /// The fields of the checkpoint at a place of a text. In either version there are 144 bytes, if not all of these are looked at.
     pub(crate) fn of_text(text: &[u8], place: usize) -> CheckpointFields
-        requires { place + TABLE_AT ≤ length text.now }
+        requires { place + CHANGES_AT ≤ length text.now }
         ensures { result ≡ checkpoint_of text.now place }
     {
         let mut keys = [0; MAX_KEYS];
@@ -72,7 +77,6 @@ impl CheckpointFields {
             pc: u32_at(text, place + COUNTER_AT),
             flags: u32_at(text, place + FLAGS_AT),
             stop: u32_at(text, place + STOP_AT),
-            rate: 0,
             switches: u32_at(text, place + SWITCHES_AT),
             leds: u32_at(text, place + LEDS_AT),
             mouse: u32_at(text, place + MOUSE_AT),
@@ -80,12 +84,15 @@ impl CheckpointFields {
             waiting: u32_at(text, place + WAITING_AT),
             keys,
             output: u32_at(text, place + SENT_AT) as u64,
+            rate: later_word(text, place + RATE_AT),
+            phase: later_word(text, place + PHASE_AT),
+            changes: later_word(text, place + CHANGE_COUNT_AT),
         }
     }
 
-    /// The fields of a checkpoint that is known by its parts.
-    pub(crate) fn of_parts(checkpoint: &Checkpoint) -> CheckpointFields
-        ensures { result ≡ checkpoint_fields (checkpoint_parts checkpoint.now) }
+    /// The fields that a checkpoint has in the version that is written, after a table.
+    pub(crate) fn of_parts(before: &Table, checkpoint: &Checkpoint) -> CheckpointFields
+        ensures { result ≡ checkpoint_fields VERSION before.now (checkpoint_parts checkpoint.now) }
     {
         let devices = &checkpoint.devices;
         CheckpointFields {
@@ -93,7 +100,6 @@ impl CheckpointFields {
             pc: checkpoint.cpu.pc,
             flags: flags_number(checkpoint.cpu.flags),
             stop: checkpoint.cpu.stop as u32,
-            rate: devices.rate(),
             switches: devices.switches() as u32,
             leds: devices.leds() as u32,
             mouse: devices.mouse(),
@@ -101,6 +107,9 @@ impl CheckpointFields {
             waiting: devices.keys().len() as u32,
             keys: key_bytes(devices),
             output: checkpoint.sent.bytes().len() as u64,
+            rate: devices.rate(),
+            phase: devices.phase(),
+            changes: change_count(before, &checkpoint.table),
         }
     }
 
@@ -111,11 +120,12 @@ impl CheckpointFields {
         self.pc < COUNTER_END
             && self.flags < FLAGS_END
             && self.stop <= MAX_STOP
-            && self.rate == 0
+            && is_phase_at(self.rate, self.phase)
             && self.switches < SWITCHES_END
             && self.leds < LEDS_END
             && is_mouse_word(self.mouse)
             && self.serial < SERIAL_END
+            && self.changes <= PLACES as u32
     }
 
     /// Whether the keys are few enough, with zeros after them.
@@ -154,38 +164,22 @@ fn are_zeros(bytes: &[u8]) -> bool
     bytes.iter().all(|byte| *byte == 0)
 }
 
-/// The first fault of the page numbers of a table, whose checkpoint begins at a place.
-fn page_numbers_fault(pages: u32, place: usize, table: &Table) -> Option<Fault>
-    requires { place ≤ LONGEST_TEXT }
-    ensures { result ≡ first_broken (each PLACES (page_number_rules pages place (slice_index table.now))) }
-{
-    let numbers = table.numbers();
-    for j in 0..PLACES {
-        if numbers[j] > pages {
-            return Some(Fault::Page((place + TABLE_AT + 4 * j) as u64));
-        }
-    }
-    None
-}
-
-/// The first fault of checkpoint k, which begins at a place: that of its fields, and else that of its table.
-#[tactic(auto, unfolding(crate::specs::Rules::rules_at))]
-pub(crate) fn checkpoint_fault(
-    pages: u32,
+/// The first fault of the fields of checkpoint k, which begins at a place.
+pub(crate) fn fields_fault(
     place: usize,
     k: usize,
     before: u64,
     sent: u64,
     fields: &CheckpointFields,
-    table: &Table,
 ) -> Option<Fault>
-    requires place { place ≤ LONGEST_TEXT }
-    requires sent { sent ≤ MAX_OUTPUT }
-    ensures fault { result ≡ first_broken (rules_at pages place k before sent fields.now (slice_index table.now)) }
+    requires { sent ≤ MAX_OUTPUT }
+    ensures fault { result ≡ first_broken (field_rules place k before sent fields.now) }
     ensures small { IfNone result (sent + fields.now.output ≤ MAX_OUTPUT) }
+    ensures few { IfNone result (fields.now.changes ≤ PLACES) }
 {
-    if !fields.is_checkpoint(k, before, sent) {
-        return Some(Fault::Checkpoint(place as u64));
+    if fields.is_checkpoint(k, before, sent) {
+        None
+    } else {
+        Some(Fault::Checkpoint(place as u64))
     }
-    page_numbers_fault(pages, place, table)
 }

@@ -1,15 +1,30 @@
 //! Laws of the format, over its definitions alone.
 
-ghost use Rattle.oberon_format.specs.Laws.{HasOneRecording, HasOneText, HasTextOrFault, HasFaultOfParts, HasNamedFault, HasLongestText, HasFaultWithin, IsMadeOfParts};
+ghost use Rattle.oberon_format.specs.Laws.{HasOneRecording, HasOneText, HasOneTextAtMost, HasReadBack, HasWrittenBack, HasTextOrFault, HasFaultOfParts, HasNamedFault, HasLongestText, HasFaultWithin, IsMadeOfParts};
 
 /// A text is that of at most one recording.
 pub fn one_recording()
     ensures { HasOneRecording }
 {}
 
-/// A lawful recording has exactly one text.
+/// A lawful recording has a text of version 2.
 pub fn one_text()
     ensures { HasOneText }
+{}
+
+/// A recording has at most one text of each version.
+pub fn one_text_at_most()
+    ensures { HasOneTextAtMost }
+{}
+
+/// What is read of the text that is written of a recording is that recording: `read(write(r)) = r`.
+pub fn read_back()
+    ensures { HasReadBack }
+{}
+
+/// What is written of a recording that was read of a text of version 2 is that text: `write(read(t)) = t`.
+pub fn written_back()
+    ensures { HasWrittenBack }
 {}
 
 /// Each text has a recording or a first fault, and not both.
@@ -32,7 +47,7 @@ pub fn cut_text()
     ensures { HasFaultWithin }
 {}
 
-/// A text that is laid out of parts, lawful or not, has the first fault of these parts.
+/// A text of version 2 that is laid out of parts, lawful or not, has the first fault of these parts.
 pub fn fault_of_parts()
     ensures { HasFaultOfParts }
 {}

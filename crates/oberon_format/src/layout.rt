@@ -2,17 +2,20 @@
 //!
 //! Each place and each length has its one name here, which definitions, contracts and code cite. All count bytes.
 
-ghost use Rattle.std.specs.Prelude.{◌≡◌, ◌≤◌, length};
-ghost use Rattle.oberon_format.specs.Layout.{page_place, event_start, checkpoint_start, pages, events, checkpoints};
+ghost use Rattle.std.specs.Prelude.{◌≡◌, ◌≤◌, ◌+◌, ◌==◌, length};
+ghost use Rattle.oberon_format.specs.Layout.{page_place, event_start, checkpoint_size, version, pages, events, checkpoints, start, later_word};
 
 use crate::number::u32_at;
-use crate::ranges::{MAX_CHECKPOINTS, MAX_EVENTS, MAX_PAGES};
+use crate::ranges::{MAX_EVENTS, MAX_PAGES};
 
 /// `ORSR`, the four bytes that begin each text, as a number.
 pub(crate) const MAGIC: u32 = 0x5253_524F;
 
-/// The version of a text.
-pub(crate) const VERSION: u32 = 1;
+/// The version of the first texts, whose checkpoints have their whole tables. It is read, and no longer written.
+pub(crate) const FIRST_VERSION: u32 = 1;
+
+/// The version of the texts that are written: a checkpoint has the changes of the table before it.
+pub const VERSION: u32 = 2;
 
 /// The length of a header.
 pub(crate) const HEADER_LEN: usize = 24;
@@ -23,11 +26,15 @@ pub(crate) const PAGE_LEN: usize = 1024;
 /// The length of an event.
 pub(crate) const EVENT_LEN: usize = 16;
 
-/// The length of a checkpoint: its fields before the table, and the table.
+/// The length of a checkpoint of version 1: its front, and the table.
 pub(crate) const CHECKPOINT_LEN: usize = 4228;
 
-/// The length of the longest text that has no fault: that of a recording within all limits.
-pub const LONGEST_TEXT: usize = 101_479_580;
+/// The length of a change of version 2.
+pub(crate) const CHANGE_LEN: usize = 8;
+
+/// The length of the longest text that has no fault: that of version 2 of a recording within all limits, each table of which
+/// differs from the one before at all places.
+pub const LONGEST_TEXT: usize = 118_310_056;
 
 /// The number of places of a table, each of which has a page number of four bytes.
 pub(crate) const PLACES: usize = 1024;
@@ -60,7 +67,8 @@ pub(crate) const KIND_AT: usize = 8;
 /// The value of an event.
 pub(crate) const VALUE_AT: usize = 12;
 
-// Where the fields of a checkpoint stand, from its start. Its count begins it.
+// Where the fields of a checkpoint stand, from its start. Its count begins it. Up to the length of the output they are those of
+// either version, the front of the checkpoint.
 
 /// R0 to R15.
 pub(crate) const REGISTERS_AT: usize = 8;
@@ -101,8 +109,32 @@ pub(crate) const KEYS_AT: usize = 112;
 /// The length of the output.
 pub(crate) const SENT_AT: usize = 128;
 
+/// The end of the front.
+pub(crate) const FRONT_LEN: usize = 132;
+
+// In version 1 the table stands behind the front.
+
 /// The table.
 pub(crate) const TABLE_AT: usize = 132;
+
+// In version 2 these numbers and the changes do.
+
+/// The rate of the timer.
+pub(crate) const RATE_AT: usize = 132;
+
+/// The phase of the timer.
+pub(crate) const PHASE_AT: usize = 136;
+
+/// The number of changes.
+pub(crate) const CHANGE_COUNT_AT: usize = 140;
+
+/// The changes.
+pub(crate) const CHANGES_AT: usize = 144;
+
+// Where the fields of a change stand, from its start. Its place begins it.
+
+/// The page number of a change.
+pub(crate) const NUMBER_AT: usize = 4;
 
 /// Where page p begins.
 #[inline]
@@ -113,7 +145,7 @@ pub(crate) fn page_start(p: usize) -> usize
     HEADER_LEN + PAGE_LEN * p
 }
 
-/// Where event i begins, after so many pages.
+/// Where event i begins, after so many pages. Checkpoint 0 begins where an event after the last would.
 #[inline]
 pub(crate) fn event_start(pages: u32, i: usize) -> usize
     requires pages { pages ≤ MAX_PAGES }
@@ -123,15 +155,22 @@ pub(crate) fn event_start(pages: u32, i: usize) -> usize
     page_start(pages as usize) + EVENT_LEN * i
 }
 
-/// Where checkpoint k begins, after so many pages and events. The output begins where a checkpoint after the last would.
+/// The length of a checkpoint of the version that is written, with so many changes.
 #[inline]
-pub(crate) fn checkpoint_start(pages: u32, events: u32, k: usize) -> usize
-    requires pages { pages ≤ MAX_PAGES }
-    requires events { events ≤ MAX_EVENTS }
-    requires checkpoints { k ≤ MAX_CHECKPOINTS }
-    ensures { result ≡ checkpoint_start pages events k }
+pub(crate) fn changed_len(changes: u32) -> usize
+    requires { changes ≤ PLACES }
+    ensures { result ≡ checkpoint_size VERSION changes }
 {
-    event_start(pages, events as usize) + CHECKPOINT_LEN * k
+    CHANGES_AT + CHANGE_LEN * changes as usize
+}
+
+/// Whether a text is of the first version.
+#[inline]
+pub(crate) fn is_first_version(text: &[u8]) -> bool
+    requires { HEADER_LEN ≤ length text.now }
+    ensures { result ≡ (version text.now == FIRST_VERSION) }
+{
+    u32_at(text, VERSION_AT) == FIRST_VERSION
 }
 
 /// The number of pages that the header of a text names.
@@ -159,4 +198,43 @@ pub(crate) fn checkpoint_count(text: &[u8]) -> u32
     ensures { result ≡ checkpoints text.now }
 {
     u32_at(text, CHECKPOINTS_AT)
+}
+
+/// Where checkpoint 0 of a text begins.
+#[inline]
+pub(crate) fn first_checkpoint(text: &[u8]) -> usize
+    requires header { HEADER_LEN ≤ length text.now }
+    requires pages { pages text.now ≤ MAX_PAGES }
+    requires events { events text.now ≤ MAX_EVENTS }
+    ensures { result ≡ start text.now 0 }
+{
+    event_start(page_count(text), event_count(text) as usize)
+}
+
+/// The length of a checkpoint of a text, with so many changes.
+#[inline]
+pub(crate) fn checkpoint_len(text: &[u8], changes: u32) -> usize
+    requires header { HEADER_LEN ≤ length text.now }
+    requires changes { changes ≤ PLACES }
+    ensures { result ≡ checkpoint_size (version text.now) changes }
+{
+    if is_first_version(text) {
+        CHECKPOINT_LEN
+    } else {
+        changed_len(changes)
+    }
+}
+
+/// The word at a place behind the front of a checkpoint of version 2. A text of version 1 has no such word: it counts as 0.
+#[inline]
+pub(crate) fn later_word(text: &[u8], place: usize) -> u32
+    requires header { HEADER_LEN ≤ length text.now }
+    requires room { place + 4 ≤ length text.now }
+    ensures { result ≡ later_word text.now place }
+{
+    if is_first_version(text) {
+        0
+    } else {
+        u32_at(text, place)
+    }
 }

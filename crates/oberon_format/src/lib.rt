@@ -1,11 +1,12 @@
 //! Recordings of sessions of the RISC5 workstation, and their texts.
 //!
 //! A recording is a pool of pages, a list of inputs with their counts, and checkpoints that claim what the machine is at their
-//! counts. Each recording has exactly one text of version 1, the format of which is this project's own. Here a text is read or
-//! refused with its first fault, a recording is made of parts or refused with the first fault of their text, and a recording is
+//! counts. Each recording has exactly one text of version 2, and at most one of version 1; both formats are this project's own.
+//! Here a text of either version is read or refused with its first fault, a recording is made of parts or refused with the first fault of their text, and a recording is
 //! written. Whether a checkpoint's claim is true is not known here: `Defined` in `specs/` says what that means.
 #![tactic(auto)]
 
+mod change;
 mod checkpoint;
 mod fault;
 mod fields;
@@ -15,6 +16,7 @@ mod laws;
 mod layout;
 mod limits;
 mod line;
+mod migration;
 mod number;
 mod parts;
 mod ranges;
@@ -28,10 +30,11 @@ pub use checkpoint::Checkpoint;
 pub use fault::Fault;
 pub use laws::{
     cut_text, fault_of_parts, lawful_parts, longest_text, named_fault, one_recording, one_text,
-    text_or_fault,
+    one_text_at_most, read_back, text_or_fault, written_back,
 };
-pub use layout::LONGEST_TEXT;
+pub use layout::{LONGEST_TEXT, VERSION};
 pub use line::refusal;
+pub use migration::migrate;
 pub use ranges::{LAST_CHECKPOINT, MAX_CHECKPOINTS, MAX_COUNT, MAX_EVENTS, MAX_OUTPUT, MAX_PAGES};
 pub use reading::read;
 pub use recording::Recording;

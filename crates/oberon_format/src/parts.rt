@@ -2,24 +2,27 @@
 //!
 //! That inputs are in their ranges and in their order isn't tested again: their type says it. Nothing here takes memory.
 
-ghost use Rattle.std.specs.Prelude.{◌≡◌, ◌≤◌, length};
+ghost use Rattle.std.specs.Prelude.{◌≡◌, ◌≤◌, length, slice_index, slice_index_or};
 ghost use Rattle.std.specs.Option.{IfNone};
+ghost use Rattle.oberon_format.specs.Changes.{changes, no_change};
 ghost use Rattle.oberon_format.specs.FirstFault.{first_broken, each};
-ghost use Rattle.oberon_format.specs.PartFields.{fields_of_parts, fault_of_parts};
+ghost use Rattle.oberon_format.specs.PartFields.{fields_laid, fault_of_parts};
 ghost use Rattle.oberon_format.specs.Parts.{parts_of};
 ghost use Rattle.oberon_format.specs.Recording.{IsLawful};
-ghost use Rattle.oberon_format.specs.Rules.{header_rules, checkpoint_rules};
+ghost use Rattle.oberon_format.specs.Rules.{header_rules, change_rules, checkpoint_rules};
 
-use crate::checkpoint::Checkpoint;
+use crate::checkpoint::{Checkpoint, table_before};
 use crate::fault::Fault;
-use crate::fields::{CheckpointFields, checkpoint_fault};
+use crate::fields::{CheckpointFields, fields_fault};
 use crate::formed::all_formed;
-use crate::layout::checkpoint_start;
+use crate::layout::{
+    CHANGE_LEN, CHANGES_AT, LONGEST_TEXT, PLACES, VERSION, changed_len, event_start,
+};
 use crate::limits::limits_fault;
 use crate::ranges::{MAX_CHECKPOINTS, MAX_EVENTS, MAX_PAGES};
 use crate::recording::Recording;
 use risc_machine::Inputs;
-use risc_pages::Pool;
+use risc_pages::{Pool, Table};
 
 impl Recording {
     ghost use Rattle.std.specs.Prelude.{◌≡◌, ◌↔◌, IfErr, IsOk, MatchOption};
@@ -68,7 +71,7 @@ fn parts_fault(pool: &Pool, inputs: &Inputs, checkpoints: &[Checkpoint]) -> Opti
 
 /// The first fault of the numbers of parts.
 fn counts_fault(pool: &Pool, inputs: &Inputs, checkpoints: &[Checkpoint]) -> Option<Fault>
-    ensures fault { result ≡ first_broken (header_rules (fields_of_parts (parts_of pool.now inputs.now checkpoints.now))) }
+    ensures fault { result ≡ first_broken (header_rules (fields_laid VERSION (parts_of pool.now inputs.now checkpoints.now))) }
     ensures pages { IfNone result (length pool.now ≤ MAX_PAGES) }
     ensures events { IfNone result (length inputs.now ≤ MAX_EVENTS) }
     ensures few { IfNone result (length checkpoints.now ≤ MAX_CHECKPOINTS) }
@@ -80,27 +83,48 @@ fn counts_fault(pool: &Pool, inputs: &Inputs, checkpoints: &[Checkpoint]) -> Opt
     )
 }
 
+/// The first fault of the changes from one table to another, in a checkpoint that begins at a place.
+fn changes_fault(pages: u32, place: usize, before: &Table, table: &Table) -> Option<Fault>
+    requires { place ≤ LONGEST_TEXT }
+    ensures { result ≡ first_broken (each (length (changes before.now table.now)) (change_rules pages place (slice_index before.now) (λ i. slice_index_or (changes before.now table.now) i no_change))) }
+{
+    let mut change_place = place + CHANGES_AT;
+    for p in 0..PLACES as u16 {
+        if before.entry(p) != table.entry(p) {
+            if table.entry(p) > pages {
+                return Some(Fault::Page(change_place as u64));
+            }
+            change_place += CHANGE_LEN;
+        }
+    }
+    None
+}
+
 /// The first fault of the checkpoints.
 fn checkpoints_fault(pool: &Pool, inputs: &Inputs, checkpoints: &[Checkpoint]) -> Option<Fault>
     requires pages { length pool.now ≤ MAX_PAGES }
     requires events { length inputs.now ≤ MAX_EVENTS }
     requires few { length checkpoints.now ≤ MAX_CHECKPOINTS }
-    ensures { result ≡ first_broken (each (length checkpoints.now) (checkpoint_rules (fields_of_parts (parts_of pool.now inputs.now checkpoints.now)))) }
+    ensures { result ≡ first_broken (each (length checkpoints.now) (checkpoint_rules (fields_laid VERSION (parts_of pool.now inputs.now checkpoints.now)))) }
 {
     let pages = pool.len();
-    let events = inputs.events().len() as u32;
+    let zeros = Table::zeros();
+    let mut place = event_start(pages, inputs.events().len());
     let mut before = 0;
     let mut sent = 0;
     for k in 0..checkpoints.len() {
         let checkpoint = &checkpoints[k];
-        let fields = CheckpointFields::of_parts(checkpoint);
-        let table = &checkpoint.table;
-        let place = checkpoint_start(pages, events, k);
-        if let Some(fault) = checkpoint_fault(pages, place, k, before, sent, &fields, table) {
+        let table = table_before(checkpoints, k, &zeros);
+        let fields = CheckpointFields::of_parts(table, checkpoint);
+        if let Some(fault) = fields_fault(place, k, before, sent, &fields) {
+            return Some(fault);
+        }
+        if let Some(fault) = changes_fault(pages, place, table, &checkpoint.table) {
             return Some(fault);
         }
         before = fields.count;
         sent += fields.output;
+        place += changed_len(fields.changes);
     }
     None
 }

@@ -1,34 +1,38 @@
 //! The recording of a text without fault. Whether a text has one is tested before, in `rules`.
 
 ghost use Rattle.std.specs.Prelude.{◌≡◌, ◌≤◌, ◌<◌, ◌+◌, ◌*◌, ◌^◌, ℕ, All, true, length, IfOk, slice_index, slice_range, drop, map, MatchOption, MatchResult};
+ghost use Rattle.oberon_format.specs.Changes.{number_after};
 ghost use Rattle.oberon_format.specs.CheckpointParts.{checkpoint_parts};
-ghost use Rattle.oberon_format.specs.Layout.{word_at, pages, events, checkpoints, output_place};
+ghost use Rattle.oberon_format.specs.Layout.{word_at, version, pages, events, checkpoints, page_number_place, change_place, later_word, change_count, start, output_place};
 ghost use Rattle.oberon_format.specs.Parts.{parts_of};
 ghost use Rattle.oberon_format.specs.Ranges.{in_ranges, are_keys};
 ghost use Rattle.oberon_format.specs.Recording.{output_of};
-ghost use Rattle.oberon_format.specs.Tested.{IsCheckpointAt, IsSized, Meets};
-ghost use Rattle.oberon_format.specs.Text.{EachAt, AreWords, IsPageAt, IsEvent, IsEventAt, IsCpu, IsDevices, IsCheckpoint, Text};
-ghost use Rattle.oberon_format.specs.TextFields.{first_fault_of, checkpoint_of};
+ghost use Rattle.oberon_format.specs.Rules.{stood};
+ghost use Rattle.oberon_format.specs.Tested.{IsSized, Meets, HasNumbers, StandIn};
+ghost use Rattle.oberon_format.specs.Text.{EachAt, AreWords, IsPageAt, IsEvent, IsEventAt, IsCpu, IsDevices, IsFront, Text};
+ghost use Rattle.oberon_format.specs.TextFields.{first_fault_of, fields_of, checkpoint_of, change_of, page_number_of};
 ghost use Rattle.risc_devices.specs.InputKind.{IsInput};
 ghost use Rattle.risc_machine.specs.MachineState.{cpu_state};
 
+use crate::change::Change;
 use crate::checkpoint::Checkpoint;
 use crate::fault::Fault;
 use crate::flags::flags_of;
 use crate::formed::all_formed;
 use crate::layout::{
-    AUXILIARY_AT, CHECKPOINT_LEN, COUNTER_AT, EVENT_LEN, FLAGS_AT, KEYS_AT, KIND_AT, LEDS_AT,
-    MOUSE_AT, REGISTERS_AT, SENT_AT, SERIAL_AT, STOP_AT, SWITCHES_AT, TIMER_AT, VALUE_AT, VERSION,
-    WAITING_AT, checkpoint_count, checkpoint_start, event_count, event_start, page_count,
-    page_start,
+    AUXILIARY_AT, CHANGE_COUNT_AT, CHANGE_LEN, CHANGES_AT, CHECKPOINT_LEN, COUNTER_AT, EVENT_LEN,
+    FLAGS_AT, HEADER_LEN, KEYS_AT, KIND_AT, LEDS_AT, MOUSE_AT, PHASE_AT, PLACES, RATE_AT,
+    REGISTERS_AT, SENT_AT, SERIAL_AT, STOP_AT, SWITCHES_AT, TABLE_AT, TIMER_AT, VALUE_AT, VERSION,
+    WAITING_AT, checkpoint_count, checkpoint_len, event_count, event_start, first_checkpoint,
+    is_first_version, later_word, page_count, page_start,
 };
-use crate::number::{table_of, u32_at, u64_at};
+use crate::number::{u32_at, u64_at};
 use crate::recording::Recording;
-use crate::rules::first_fault;
+use crate::rules::tested;
 use crate::sent::Sent;
 use risc_devices::{Devices, Input};
 use risc_machine::{Cpu, Event, Inputs};
-use risc_pages::{Page, Pool};
+use risc_pages::{Page, Pool, Table};
 use std::alloc::{AllocError, Global};
 
 /// The recording of a text, or its first fault. `Memory` is answered only for a text without fault: the whole text is tested
@@ -39,23 +43,22 @@ pub fn read(alloc: Global, bytes: &[u8]) -> Result<Recording, Fault>
         (MatchResult result (λ r. Text bytes.now r) (λ f. f ≡ Fault.Memory))
         (λ f. result ≡ Err f) }
 {
-    if let Some(fault) = first_fault(bytes) {
-        return Err(fault);
-    }
-    match recording_of(alloc, bytes) {
+    let output = tested(bytes)?;
+    match recording_of(alloc, bytes, output) {
         Ok(recording) => Ok(recording),
         Err(_) => Err(Fault::Memory),
     }
 }
 
-/// The recording of a text without fault.
-fn recording_of(alloc: Global, text: &[u8]) -> Result<Recording, AllocError>
-    requires { Meets text.now }
+/// The recording of a text without fault, whose output begins at `output`.
+fn recording_of(alloc: Global, text: &[u8], output: usize) -> Result<Recording, AllocError>
+    requires meets { Meets text.now }
+    requires output { output ≡ output_place text.now }
     ensures { IfOk result (λ r. Text text.now r) }
 {
     let pool = pool_of(alloc, text)?;
     let inputs = inputs_of(alloc, text)?;
-    let checkpoints = checkpoints_of(alloc, text)?;
+    let checkpoints = checkpoints_of(alloc, text, output)?;
     all_formed(&checkpoints);
     let _pages = pool.len();
     let _events = inputs.events();
@@ -135,7 +138,7 @@ fn inputs_of(alloc: Global, text: &[u8]) -> Result<Inputs, AllocError>
 
 /// The processor of the checkpoint at a place.
 fn cpu_of(text: &[u8], place: usize) -> Cpu
-    requires room { place + CHECKPOINT_LEN ≤ length text.now }
+    requires room { place + CHANGES_AT ≤ length text.now }
     requires ranges { in_ranges (checkpoint_of text.now place) ≡ true }
     ensures { IsCpu text.now place (cpu_state result) }
 {
@@ -151,19 +154,19 @@ fn cpu_of(text: &[u8], place: usize) -> Cpu
 }
 
 /// The devices of the checkpoint at a place.
-#[tactic(auto, unfolding(risc_devices::specs::DeviceState::is_phase))]
 fn devices_of(text: &[u8], place: usize) -> Devices
-    requires room { place + CHECKPOINT_LEN ≤ length text.now }
+    requires room { place + CHANGES_AT ≤ length text.now }
     requires ranges { in_ranges (checkpoint_of text.now place) ≡ true }
     requires keys { are_keys (checkpoint_of text.now place) ≡ true }
-    ensures { IsDevices text.now place result }
+    ensures devices { IsDevices text.now place result }
+    ensures rate { result.rate ≡ later_word text.now (place + RATE_AT) }
+    ensures phase { result.phase ≡ later_word text.now (place + PHASE_AT) }
 {
     let waiting = u32_at(text, place + WAITING_AT) as usize;
     Devices::new(
         u32_at(text, place + TIMER_AT),
-        // version 1 is of timers that don't count by themselves: rate 0 and phase 0
-        0,
-        0,
+        later_word(text, place + RATE_AT),
+        later_word(text, place + PHASE_AT),
         u32_at(text, place + SWITCHES_AT) as u16,
         u32_at(text, place + LEDS_AT) as u8,
         u32_at(text, place + MOUSE_AT),
@@ -173,18 +176,66 @@ fn devices_of(text: &[u8], place: usize) -> Devices
     .unwrap()
 }
 
-/// The checkpoint at a place, whose output begins at `from`.
+/// Makes a table that of checkpoint k, which stands at a place. In version 2 it was the table before.
+fn advance_table(text: &[u8], k: usize, place: usize, table: &mut Table)
+    requires meets { Meets text.now }
+    requires below { k < checkpoints text.now }
+    requires place { place ≡ start text.now k }
+    requires table { HasNumbers table.old (stood (fields_of text.now) k) }
+    ensures { HasNumbers table.new (page_number_of text.now k) }
+{
+    if is_first_version(text) {
+        read_table(text, place, table);
+    } else {
+        change_table(text, place, table);
+    }
+}
+
+/// Makes a table that of the checkpoint of version 1 at a place.
+fn read_table(text: &[u8], place: usize, table: &mut Table)
+    requires { place + CHECKPOINT_LEN ≤ length text.now }
+    ensures { HasNumbers table.new (λ p. word_at text.now (page_number_place place p)) }
+{
+    // A table has its places.
+    let _numbers = table.numbers();
+    for p in 0..PLACES as u16 {
+        table.set(p, u32_at(text, place + TABLE_AT + 4 * p as usize));
+    }
+}
+
+/// Makes the changes of the checkpoint of version 2 at a place.
+fn change_table(text: &[u8], place: usize, table: &mut Table)
+    requires header { HEADER_LEN ≤ length text.now }
+    requires version { version text.now ≡ VERSION }
+    requires room { change_place place (change_count text.now place) ≤ length text.now }
+    requires places { (i : ℕ) → i < change_count text.now place → (change_of text.now place i).place < PLACES }
+    ensures { HasNumbers table.new (number_after (change_of text.now place) (slice_index table.old) (change_count text.now place)) }
+{
+    // A table has its places.
+    let _numbers = table.numbers();
+    let count = u32_at(text, place + CHANGE_COUNT_AT) as usize;
+    for i in 0..count {
+        let change = Change::of_text(text, place + CHANGES_AT + CHANGE_LEN * i);
+        table.set(change.place as u16, change.number);
+    }
+}
+
+/// The checkpoint at a place with its table. Its output begins at `from`.
 fn checkpoint_of(
     alloc: Global,
     text: &[u8],
     place: usize,
     from: usize,
+    table: &Table,
 ) -> Result<Checkpoint, AllocError>
-    requires room { place + CHECKPOINT_LEN ≤ length text.now }
+    requires room { place + CHANGES_AT ≤ length text.now }
     requires ranges { in_ranges (checkpoint_of text.now place) ≡ true }
     requires keys { are_keys (checkpoint_of text.now place) ≡ true }
     requires output { from + word_at text.now (place + SENT_AT) ≤ length text.now }
-    ensures stands { IfOk result (λ c. IsCheckpoint VERSION text.now place (checkpoint_parts c)) }
+    ensures front { IfOk result (λ c. IsFront text.now place (checkpoint_parts c)) }
+    ensures rate { IfOk result (λ c. c.devices.rate ≡ later_word text.now (place + RATE_AT)) }
+    ensures phase { IfOk result (λ c. c.devices.phase ≡ later_word text.now (place + PHASE_AT)) }
+    ensures table { IfOk result (λ c. c.table ≡ table.now) }
     ensures sent { IfOk result (λ c. c.sent ≡ slice_range text.now from (from + word_at text.now (place + SENT_AT))) }
 {
     let len = u32_at(text, place + SENT_AT) as usize;
@@ -194,26 +245,30 @@ fn checkpoint_of(
         cpu: cpu_of(text, place),
         devices: devices_of(text, place),
         sent: Sent::new(sent),
-        table: table_of(text, place),
+        table: table.copy(),
     })
 }
 
-/// The checkpoints of a text.
-fn checkpoints_of(alloc: Global, text: &[u8]) -> Result<Vec<Checkpoint>, AllocError>
-    requires { Meets text.now }
+/// The checkpoints of a text, whose output begins at `output`.
+fn checkpoints_of(alloc: Global, text: &[u8], output: usize) -> Result<Vec<Checkpoint>, AllocError>
+    requires meets { Meets text.now }
+    requires output { output ≡ output_place text.now }
     ensures count { IfOk result (λ list. length list.items ≡ checkpoints text.now) }
-    ensures stand { IfOk result (λ list. EachAt (IsCheckpointAt text.now) (map checkpoint_parts list.items)) }
+    ensures stand { IfOk result (λ list. StandIn text.now (map checkpoint_parts list.items)) }
     ensures output { IfOk result (λ list. drop (output_place text.now) text.now ≡ output_of (map checkpoint_parts list.items)) }
 {
-    let pages = page_count(text);
-    let events = event_count(text);
     let count = checkpoint_count(text) as usize;
-    let mut from = checkpoint_start(pages, events, count);
     let mut list = Vec::with_capacity(alloc, count)?;
+    let mut place = first_checkpoint(text);
+    let mut from = output;
+    let mut table = Table::zeros();
     for k in 0..count {
-        let place = checkpoint_start(pages, events, k);
-        list.push(checkpoint_of(alloc, text, place, from)?)?;
+        advance_table(text, k, place, &mut table);
+        // A table has its places.
+        let _numbers = table.numbers();
+        list.push(checkpoint_of(alloc, text, place, from, &table)?)?;
         from += u32_at(text, place + SENT_AT) as usize;
+        place += checkpoint_len(text, later_word(text, place + CHANGE_COUNT_AT));
     }
     Ok(list)
 }

@@ -1,7 +1,7 @@
 //! Recordings: pool, inputs and checkpoints that are lawful together. How they are read, made of parts and written stands in
 //! modules of its own.
 
-ghost use Rattle.std.specs.Prelude.{◌≡◌, ◌<◌, length};
+ghost use Rattle.std.specs.Prelude.{◌≡◌, ◌<◌, length, map};
 ghost use Rattle.oberon_format.specs.CheckpointParts.{checkpoint_parts};
 ghost use Rattle.oberon_format.specs.Recording.{IsLawful, IsFit, checkpoint_at};
 ghost use Rattle.oberon_format.specs.Parts.{parts_of};
@@ -19,7 +19,7 @@ use std::marker::Model;
 /// | inputs | at most 1,000,000, their counts not falling and at most 2^40 |
 /// | checkpoints | from 1 to 4,097: the first at count 0 with no output, their counts rising and at most 2^40 |
 /// | output in all | at most 1,048,576 bytes |
-/// | each checkpoint | a program counter below 2^22, a stop of at most 4, a timer of rate 0, page numbers of the pool |
+/// | each checkpoint | a program counter below 2^22, a stop of at most 4, a phase below the timer's rate or 0 at rate 0, page numbers of the pool |
 ///
 /// All limits are this project's own choice. In contracts a recording is the record of its parts.
 #[derive(Drop)]
@@ -75,6 +75,14 @@ impl Recording {
         ensures lawful { IsLawful self.now }
     {
         self.checkpoints.len() as u32
+    }
+
+    /// All checkpoints, in order.
+    pub(crate) fn checkpoints(&self) -> &[Checkpoint]
+        ensures checkpoints { map checkpoint_parts result.now ≡ self.now.checkpoints }
+        ensures lawful { IsLawful self.now }
+    {
+        &self.checkpoints
     }
 
     /// Checkpoint k, from 0 to K.

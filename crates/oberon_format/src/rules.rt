@@ -1,24 +1,45 @@
-//! The rules of version 1, tested over a text in their order. Nothing here takes memory.
+//! The rules of a text, tested in their order. Nothing here takes memory: the tables of version 2 are one table, changed in place.
 
-ghost use Rattle.std.specs.Prelude.{◌≡◌, ◌≤◌, ◌+◌, length, MatchResult, Some, None};
+ghost use Rattle.std.specs.Prelude.{ℕ, suc, ◌≡◌, ◌≤◌, ◌<◌, ◌+◌, true, false, ◌==◌, length, slice_index, MatchResult, OnOk, Some, None};
 ghost use Rattle.std.specs.Option.{IfNone};
+ghost use Rattle.oberon_format.specs.Changes.{number_after};
 ghost use Rattle.oberon_format.specs.FirstFault.{first_broken, each};
-ghost use Rattle.oberon_format.specs.Layout.{pages, events, checkpoints, event_place};
+ghost use Rattle.oberon_format.specs.Layout.{word_at, page_number_place, version, pages, events, checkpoints, event_place, change_place, start, output_place};
 ghost use Rattle.oberon_format.specs.Fields.{sent_below};
 ghost use Rattle.oberon_format.specs.Ranges.{is_event};
-ghost use Rattle.oberon_format.specs.Rules.{header_rules, event_floor, event_rules, checkpoint_rules, end_rules};
-ghost use Rattle.oberon_format.specs.Tested.{IsSized};
-ghost use Rattle.oberon_format.specs.TextFields.{first_fault_of, fields_of, event_of};
+ghost use Rattle.oberon_format.specs.Rules.{named_len, header_rules, event_floor, event_rules, page_number_rules, change_rules, count_before, checkpoint_rules, end_rules};
+ghost use Rattle.oberon_format.specs.Tested.{IsSized, HasNumbers};
+ghost use Rattle.oberon_format.specs.TextFields.{first_fault_of, fields_of, event_of, checkpoint_of, change_of, number_before};
 
+use crate::change::Change;
 use crate::fault::Fault;
-use crate::fields::{CheckpointFields, checkpoint_fault};
+use crate::fields::{CheckpointFields, fields_fault};
 use crate::layout::{
-    EVENT_LEN, HEADER_LEN, KIND_AT, LAST_AT, MAGIC, MAGIC_AT, VALUE_AT, VERSION, VERSION_AT,
-    checkpoint_count, checkpoint_start, event_count, event_start, page_count,
+    CHANGE_LEN, CHANGES_AT, CHECKPOINT_LEN, EVENT_LEN, FIRST_VERSION, HEADER_LEN, KIND_AT, LAST_AT,
+    MAGIC, MAGIC_AT, PLACES, TABLE_AT, VALUE_AT, VERSION, VERSION_AT, changed_len,
+    checkpoint_count, checkpoint_len, event_count, event_start, first_checkpoint, is_first_version,
+    page_count,
 };
 use crate::limits::limits_fault;
-use crate::number::{table_of, u32_at, u64_at};
-use crate::ranges::{MAX_COUNT, MAX_EVENTS, MAX_OUTPUT, MAX_PAGES, is_input};
+use crate::number::{u32_at, u64_at};
+use crate::ranges::{MAX_CHECKPOINTS, MAX_COUNT, MAX_EVENTS, MAX_OUTPUT, MAX_PAGES, is_input};
+use risc_pages::Table;
+
+/// How long a text is to be by its header: in version 1 up to the output, in version 2 up to checkpoint 0.
+fn named_len(text: &[u8]) -> usize
+    requires header { HEADER_LEN ≤ length text.now }
+    requires pages { pages text.now ≤ MAX_PAGES }
+    requires events { events text.now ≤ MAX_EVENTS }
+    requires checkpoints { checkpoints text.now ≤ MAX_CHECKPOINTS }
+    ensures { result ≡ named_len (fields_of text.now) }
+{
+    let first = first_checkpoint(text);
+    if is_first_version(text) {
+        first + CHECKPOINT_LEN * checkpoint_count(text) as usize
+    } else {
+        first
+    }
+}
 
 /// The first fault of the header, and of the length that it asks for.
 fn header_fault(text: &[u8]) -> Option<Fault>
@@ -32,20 +53,20 @@ fn header_fault(text: &[u8]) -> Option<Fault>
     if u32_at(text, MAGIC_AT) != MAGIC {
         return Some(Fault::Magic(MAGIC_AT as u64));
     }
-    if u32_at(text, VERSION_AT) != VERSION {
+    let version = u32_at(text, VERSION_AT);
+    if version != FIRST_VERSION && version != VERSION {
         return Some(Fault::Version(VERSION_AT as u64));
     }
-    let pages = page_count(text);
-    let events = event_count(text);
+    let pages = page_count(text) as usize;
+    let events = event_count(text) as usize;
     let checkpoints = checkpoint_count(text) as usize;
-    if let Some(fault) = limits_fault(pages as usize, events as usize, checkpoints) {
+    if let Some(fault) = limits_fault(pages, events, checkpoints) {
         return Some(fault);
     }
     if u32_at(text, LAST_AT) != 0 {
         return Some(Fault::Limit(LAST_AT as u64));
     }
-    let output = checkpoint_start(pages, events, checkpoints) as u64;
-    if len < output {
+    if text.len() < named_len(text) {
         return Some(Fault::Short(len));
     }
     None
@@ -95,65 +116,199 @@ fn events_fault(text: &[u8]) -> Option<Fault>
     None
 }
 
-/// The first fault of the checkpoints, or the length of all their output.
-fn checkpoints_fault(text: &[u8]) -> Result<u64, Fault>
+/// The first fault of the page numbers of a checkpoint of version 1.
+fn page_numbers_fault(text: &[u8], place: usize, pages: u32) -> Option<Fault>
+    requires { place + CHECKPOINT_LEN ≤ length text.now }
+    ensures { result ≡ first_broken (each PLACES (page_number_rules pages place (λ j. word_at text.now (page_number_place place j)))) }
+{
+    for j in 0..PLACES {
+        let number_place = place + TABLE_AT + 4 * j;
+        if u32_at(text, number_place) > pages {
+            return Some(Fault::Page(number_place as u64));
+        }
+    }
+    None
+}
+
+/// The first fault of the changes of a checkpoint of version 2. Without one, the table before it becomes its own.
+fn changes_fault(
+    text: &[u8],
+    place: usize,
+    count: u32,
+    pages: u32,
+    table: &mut Table,
+) -> Option<Fault>
+    requires room { change_place place count ≤ length text.now }
+    requires count { count ≤ PLACES }
+    ensures fault { result ≡ first_broken (each count (change_rules pages place (slice_index table.old) (change_of text.now place))) }
+    ensures table { IfNone result (HasNumbers table.new (number_after (change_of text.now place) (slice_index table.old) count)) }
+{
+    // A table has its places.
+    let _numbers = table.numbers();
+    let mut floor = 0;
+    for i in 0..count {
+        let change_place = place + CHANGES_AT + CHANGE_LEN * i as usize;
+        let change = Change::of_text(text, change_place);
+        if !change.is_lawful(pages, floor, table) {
+            return Some(Fault::Page(change_place as u64));
+        }
+        table.set(change.place as u16, change.number);
+        floor = change.place + 1;
+    }
+    None
+}
+
+/// The fields of checkpoint k of a text of version 1, or its first fault.
+fn whole_checkpoint(
+    text: &[u8],
+    k: usize,
+    place: usize,
+    before: u64,
+    sent: u64,
+) -> Result<CheckpointFields, Fault>
+    requires version { version text.now ≡ FIRST_VERSION }
+    requires place { place ≡ start text.now k }
+    requires room { place + CHECKPOINT_LEN ≤ length text.now }
+    requires before { before ≡ count_before (fields_of text.now) k }
+    requires sent { sent ≡ sent_below (fields_of text.now) k }
+    requires small { sent ≤ MAX_OUTPUT }
+    ensures { MatchResult result
+        (λ fields. (fields ≡ checkpoint_of text.now place)
+        × (sent + fields.output ≤ MAX_OUTPUT)
+        × (first_broken (checkpoint_rules (fields_of text.now) k) ≡ None))
+        (λ f. first_broken (checkpoint_rules (fields_of text.now) k) ≡ Some f) }
+{
+    let fields = CheckpointFields::of_text(text, place);
+    if let Some(fault) = fields_fault(place, k, before, sent, &fields) {
+        return Err(fault);
+    }
+    match page_numbers_fault(text, place, page_count(text)) {
+        Some(fault) => Err(fault),
+        None => Ok(fields),
+    }
+}
+
+/// The fields of checkpoint k of a text of version 2, or its first fault. The table before it becomes its own.
+fn changed_checkpoint(
+    text: &[u8],
+    k: usize,
+    place: usize,
+    before: u64,
+    sent: u64,
+    table: &mut Table,
+) -> Result<CheckpointFields, Fault>
+    requires version { version text.now ≡ VERSION }
+    requires place { place ≡ start text.now k }
+    requires room { place ≤ length text.now }
+    requires header { HEADER_LEN ≤ length text.now }
+    requires before { before ≡ count_before (fields_of text.now) k }
+    requires sent { sent ≡ sent_below (fields_of text.now) k }
+    requires small { sent ≤ MAX_OUTPUT }
+    requires table { HasNumbers table.old (number_before text.now k) }
+    ensures { MatchResult result
+        (λ fields. (fields ≡ checkpoint_of text.now place)
+        × (sent + fields.output ≤ MAX_OUTPUT)
+        × (start text.now (suc k) ≤ length text.now)
+        × (fields.changes ≤ PLACES)
+        × HasNumbers table.new (number_before text.now (suc k))
+        × (first_broken (checkpoint_rules (fields_of text.now) k) ≡ None))
+        (λ f. first_broken (checkpoint_rules (fields_of text.now) k) ≡ Some f) }
+{
+    let room = text.len() - place;
+    if room < CHANGES_AT {
+        return Err(Fault::Short(text.len() as u64));
+    }
+    let fields = CheckpointFields::of_text(text, place);
+    if let Some(fault) = fields_fault(place, k, before, sent, &fields) {
+        return Err(fault);
+    }
+    if room < changed_len(fields.changes) {
+        return Err(Fault::Short(text.len() as u64));
+    }
+    match changes_fault(text, place, fields.changes, page_count(text), table) {
+        Some(fault) => Err(fault),
+        None => Ok(fields),
+    }
+}
+
+/// The end of a text's checkpoints: where it is, and how long the output behind it is to be.
+#[derive(Drop)]
+struct End {
+    output: usize,
+    sent: u64,
+}
+
+/// The end of the checkpoints, or their first fault.
+fn checkpoints_end(text: &[u8]) -> Result<End, Fault>
     requires { IsSized text.now }
     ensures { MatchResult result
-        (λ sent. (sent ≡ sent_below (fields_of text.now) (checkpoints text.now))
-        × (sent ≤ MAX_OUTPUT)
+        (λ end. (end.output ≡ output_place text.now)
+        × (end.output ≤ length text.now)
+        × (end.sent ≡ sent_below (fields_of text.now) (checkpoints text.now))
+        × (end.sent ≤ MAX_OUTPUT)
         × (first_broken (each (checkpoints text.now) (checkpoint_rules (fields_of text.now))) ≡ None))
         (λ f. first_broken (each (checkpoints text.now) (checkpoint_rules (fields_of text.now))) ≡ Some f) }
 {
-    let pages = page_count(text);
-    let events = event_count(text);
+    let is_first = is_first_version(text);
+    let mut place = first_checkpoint(text);
     let mut before: u64 = 0;
     let mut sent: u64 = 0;
+    let mut table = Table::zeros();
     for k in 0..checkpoint_count(text) as usize {
-        let place = checkpoint_start(pages, events, k);
-        let fields = CheckpointFields::of_text(text, place);
-        let table = table_of(text, place);
-        if let Some(fault) = checkpoint_fault(pages, place, k, before, sent, &fields, &table) {
-            return Err(fault);
+        let tested = if is_first {
+            whole_checkpoint(text, k, place, before, sent)
+        } else {
+            changed_checkpoint(text, k, place, before, sent, &mut table)
+        };
+        match tested {
+            Err(fault) => return Err(fault),
+            Ok(fields) => {
+                before = fields.count;
+                sent += fields.output;
+                place += checkpoint_len(text, fields.changes);
+            }
         }
-        before = fields.count;
-        sent += fields.output;
     }
-    Ok(sent)
+    Ok(End {
+        output: place,
+        sent,
+    })
 }
 
-/// The first fault of the length, where all output is so long.
-fn end_fault(text: &[u8], sent: u64) -> Option<Fault>
-    requires sized { IsSized text.now }
-    requires sent { sent ≡ sent_below (fields_of text.now) (checkpoints text.now) }
-    requires small { sent ≤ MAX_OUTPUT }
+/// The first fault of the length, where the checkpoints end so.
+fn end_fault(text: &[u8], end: &End) -> Option<Fault>
+    requires output { end.now.output ≡ output_place text.now }
+    requires room { end.now.output ≤ length text.now }
+    requires sent { end.now.sent ≡ sent_below (fields_of text.now) (checkpoints text.now) }
     ensures { result ≡ first_broken (end_rules (fields_of text.now)) }
 {
-    let checkpoints = checkpoint_count(text) as usize;
-    let output = checkpoint_start(page_count(text), event_count(text), checkpoints) as u64;
-    let whole = output + sent;
     let len = text.len() as u64;
-    if len < whole {
+    let rest = (text.len() - end.output) as u64;
+    if rest < end.sent {
         Some(Fault::Short(len))
-    } else if len > whole {
-        Some(Fault::Trailing(whole))
+    } else if rest > end.sent {
+        Some(Fault::Trailing(end.output as u64 + end.sent))
     } else {
         None
     }
 }
 
-/// The first fault of a text, if it has one.
+/// Where the output of a text without fault begins, or the first fault of a text.
 #[tactic(auto, using(crate::proofs::RuleLemmas::in_header, crate::proofs::RuleLemmas::in_events, crate::proofs::RuleLemmas::in_checkpoints, crate::proofs::RuleLemmas::in_end))]
-pub(crate) fn first_fault(text: &[u8]) -> Option<Fault>
-    ensures { result ≡ first_fault_of text.now }
+pub(crate) fn tested(text: &[u8]) -> Result<usize, Fault>
+    ensures { MatchResult result
+        (λ output. (first_fault_of text.now ≡ None) × (output ≡ output_place text.now))
+        (λ f. first_fault_of text.now ≡ Some f) }
 {
     if let Some(fault) = header_fault(text) {
-        return Some(fault);
+        return Err(fault);
     }
     if let Some(fault) = events_fault(text) {
-        return Some(fault);
+        return Err(fault);
     }
-    match checkpoints_fault(text) {
-        Err(fault) => Some(fault),
-        Ok(sent) => end_fault(text, sent),
+    let end = checkpoints_end(text)?;
+    match end_fault(text, &end) {
+        Some(fault) => Err(fault),
+        None => Ok(end.output),
     }
 }

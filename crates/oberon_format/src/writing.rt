@@ -1,29 +1,32 @@
 //! The text of a recording, written front to back.
 
-ghost use Rattle.std.specs.Prelude.{◌≡◌, ◌++◌, ◌+◌, ◌≤◌, length, IfOk, OnOk};
+ghost use Rattle.std.specs.Prelude.{◌≡◌, ◌++◌, ◌+◌, ◌≤◌, length, map, IfOk, OnOk};
 ghost use Rattle.std.specs.List.{flat_map};
-ghost use Rattle.oberon_format.specs.CheckpointParts.{checkpoint_parts};
-ghost use Rattle.oberon_format.specs.Layout.{checkpoint_start};
-ghost use Rattle.oberon_format.specs.Recording.{IsLawful, output_of};
-ghost use Rattle.oberon_format.specs.Spelling.{word_bytes, long_bytes, words_bytes, event_bytes, cpu_bytes, device_bytes, checkpoint_bytes, header_bytes, spelling};
-ghost use Rattle.oberon_format.specs.Text.{Text};
 ghost use Rattle.risc_machine.specs.MachineState.{cpu_state};
+ghost use Rattle.risc_pages.specs.Tables.{zero_numbers};
+ghost use Rattle.oberon_format.specs.Changes.{changes};
+ghost use Rattle.oberon_format.specs.CheckpointParts.{checkpoint_parts};
+ghost use Rattle.oberon_format.specs.PartFields.{start_laid};
+ghost use Rattle.oberon_format.specs.Recording.{IsLawful, output_of};
+ghost use Rattle.oberon_format.specs.Spelling.{word_bytes, long_bytes, words_bytes, event_bytes, cpu_bytes, device_bytes, front_bytes, change_bytes, changes_bytes, checkpoint_bytes, checkpoints_bytes, header_bytes, spelling};
+ghost use Rattle.oberon_format.specs.Text.{TextIn};
 
-use crate::checkpoint::Checkpoint;
+use crate::change::change_count;
+use crate::checkpoint::{Checkpoint, table_before};
 use crate::fields::key_bytes;
 use crate::flags::flags_number;
-use crate::layout::{MAGIC, VERSION, checkpoint_start};
+use crate::layout::{MAGIC, PLACES, VERSION, changed_len, event_start};
 use crate::ranges::MAX_OUTPUT;
 use crate::recording::Recording;
 use byteorder::{ByteOrder, LittleEndian};
 use risc_devices::Devices;
 use risc_machine::{Cpu, Event};
-use risc_pages::Pool;
+use risc_pages::{Pool, Table};
 use std::alloc::{AllocError, Global};
 
-/// The one text of a recording. Its room is taken at once.
+/// The one text of a recording in version 2. Its room is taken at once.
 pub fn write(alloc: Global, r: &Recording) -> Result<Vec<u8>, AllocError>
-    ensures { IfOk result (λ text. Text text.items r.now) }
+    ensures { IfOk result (λ text. TextIn VERSION text.items r.now) }
 {
     let text = spell(alloc, r)?;
     Ok(text)
@@ -32,24 +35,30 @@ pub fn write(alloc: Global, r: &Recording) -> Result<Vec<u8>, AllocError>
 /// The bytes of a recording, one part after the other.
 #[tactic(auto, unfolding(crate::specs::Spelling::spelling))]
 fn spell(alloc: Global, r: &Recording) -> Result<Vec<u8>, AllocError>
-    ensures bytes { IfOk result (λ text. text.items ≡ spelling r.now) }
+    ensures bytes { IfOk result (λ text. text.items ≡ spelling VERSION r.now) }
     ensures lawful { IfOk result (λ _. IsLawful r.now) }
 {
     let mut out = Vec::with_capacity(alloc, text_len(r))?;
     push_header(&mut out, r)?;
     push_pool(&mut out, r.pool())?;
     push_events(&mut out, r.inputs().events())?;
-    push_checkpoints(&mut out, r)?;
+    push_checkpoints(&mut out, r.checkpoints())?;
     push_output(&mut out, r)?;
     Ok(out)
 }
 
 /// The length of the text of a recording.
 fn text_len(r: &Recording) -> usize
-    ensures { result ≡ checkpoint_start (length r.now.pool) (length r.now.inputs) (length r.now.checkpoints) + length (output_of r.now.checkpoints) }
+    ensures { result ≡ start_laid VERSION r.now (length r.now.checkpoints) + length (output_of r.now.checkpoints) }
 {
-    let events = r.inputs().events().len() as u32;
-    checkpoint_start(r.pool().len(), events, r.count() as usize) + output_len(r)
+    let zeros = Table::zeros();
+    let checkpoints = r.checkpoints();
+    let mut len = event_start(r.pool().len(), r.inputs().events().len());
+    for k in 0..checkpoints.len() {
+        let before = table_before(checkpoints, k, &zeros);
+        len += changed_len(change_count(before, &checkpoints[k].table));
+    }
+    len + output_len(r)
 }
 
 /// The length of all output.
@@ -96,7 +105,7 @@ fn push_words(out: &mut Vec<u8>, numbers: &[u32]) -> Result<(), AllocError>
 /// Adds the header.
 #[tactic(auto, unfolding(crate::specs::Spelling::header_bytes))]
 fn push_header(out: &mut Vec<u8>, r: &Recording) -> Result<(), AllocError>
-    ensures { OnOk result (out.new.items ≡ out.old.items ++ header_bytes r.now) }
+    ensures { OnOk result (out.new.items ≡ out.old.items ++ header_bytes VERSION r.now) }
 {
     push_word(out, MAGIC)?;
     push_word(out, VERSION)?;
@@ -162,25 +171,65 @@ fn push_devices(out: &mut Vec<u8>, devices: &Devices) -> Result<(), AllocError>
     out.extend_from_slice(&key_bytes(devices))
 }
 
-/// Adds a checkpoint, but for its output.
-#[tactic(auto, unfolding(crate::specs::Spelling::checkpoint_bytes))]
-fn push_checkpoint(out: &mut Vec<u8>, checkpoint: &Checkpoint) -> Result<(), AllocError>
+/// Adds what a checkpoint begins with.
+#[tactic(auto, unfolding(crate::specs::Spelling::front_bytes))]
+fn push_front(out: &mut Vec<u8>, checkpoint: &Checkpoint) -> Result<(), AllocError>
     requires { length checkpoint.now.sent ≤ MAX_OUTPUT }
-    ensures { OnOk result (out.new.items ≡ out.old.items ++ checkpoint_bytes (checkpoint_parts checkpoint.now)) }
+    ensures { OnOk result (out.new.items ≡ out.old.items ++ front_bytes (checkpoint_parts checkpoint.now)) }
 {
     push_long(out, checkpoint.count)?;
     push_cpu(out, &checkpoint.cpu)?;
     push_devices(out, &checkpoint.devices)?;
-    push_word(out, checkpoint.sent.bytes().len() as u32)?;
-    push_words(out, checkpoint.table.numbers())
+    push_word(out, checkpoint.sent.bytes().len() as u32)
+}
+
+/// Adds the number of changes from one table to another, and each of them.
+#[tactic(auto, unfolding(crate::specs::Spelling::changes_bytes))]
+fn push_changes(out: &mut Vec<u8>, before: &Table, table: &Table) -> Result<(), AllocError>
+    ensures { OnOk result (out.new.items ≡ out.old.items ++ changes_bytes (changes before.now table.now)) }
+{
+    push_word(out, change_count(before, table))?;
+    for p in 0..PLACES as u16 {
+        if before.entry(p) != table.entry(p) {
+            push_change(out, p as u32, table.entry(p))?;
+        }
+    }
+    Ok(())
+}
+
+/// Adds a change.
+#[tactic(auto, unfolding(crate::specs::Spelling::change_bytes))]
+fn push_change(out: &mut Vec<u8>, place: u32, number: u32) -> Result<(), AllocError>
+    ensures { OnOk result (out.new.items ≡ out.old.items ++ change_bytes (record { place = place; number = number })) }
+{
+    push_word(out, place)?;
+    push_word(out, number)
+}
+
+/// Adds a checkpoint after a table, but for its output.
+#[tactic(auto, unfolding(crate::specs::Spelling::checkpoint_bytes, crate::specs::Spelling::tail_bytes, crate::specs::Spelling::changed_bytes))]
+fn push_checkpoint(
+    out: &mut Vec<u8>,
+    before: &Table,
+    checkpoint: &Checkpoint,
+) -> Result<(), AllocError>
+    requires { length checkpoint.now.sent ≤ MAX_OUTPUT }
+    ensures { OnOk result (out.new.items ≡ out.old.items ++ checkpoint_bytes VERSION before.now (checkpoint_parts checkpoint.now)) }
+{
+    push_front(out, checkpoint)?;
+    push_word(out, checkpoint.devices.rate())?;
+    push_word(out, checkpoint.devices.phase())?;
+    push_changes(out, before, &checkpoint.table)
 }
 
 /// Adds the checkpoints.
-fn push_checkpoints(out: &mut Vec<u8>, r: &Recording) -> Result<(), AllocError>
-    ensures { OnOk result (out.new.items ≡ out.old.items ++ flat_map checkpoint_bytes r.now.checkpoints) }
+fn push_checkpoints(out: &mut Vec<u8>, checkpoints: &[Checkpoint]) -> Result<(), AllocError>
+    requires { length (output_of (map checkpoint_parts checkpoints.now)) ≤ MAX_OUTPUT }
+    ensures { OnOk result (out.new.items ≡ out.old.items ++ checkpoints_bytes VERSION zero_numbers (map checkpoint_parts checkpoints.now)) }
 {
-    for k in 0..r.count() {
-        push_checkpoint(out, r.checkpoint(k))?;
+    let zeros = Table::zeros();
+    for k in 0..checkpoints.len() {
+        push_checkpoint(out, table_before(checkpoints, k, &zeros), &checkpoints[k])?;
     }
     Ok(())
 }

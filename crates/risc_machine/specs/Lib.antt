@@ -3,6 +3,7 @@ pub mod MachineState
 pub mod Lane
 pub mod Exec
 pub mod Replay
+pub mod OneRun
 pub mod Refusal
 pub mod Due
 pub mod Boards

@@ -1,54 +1,116 @@
-use Rattle.std.proofs.Common.{◌≡◌, ◌∙◌, ◌+◌, ◌*◌, ◌<◌, ℕ, List, length, refl, sym, ap, arith}
+use Rattle.std.proofs.Common.{◌≡◌, ◌<◌, ◌+◌, ◌∙◌, ℕ, List, length, refl, sym, ap, arith}
 use Rattle.std.specs.Prelude.{slice_index}
 use Rattle.std.proofs.lemmas.List.{length-map}
-use Rattle.oberon_format.specs.CheckpointParts.{checkpoint_parts}
+use Rattle.risc_machine.specs.declared.event.Event.{Event}
 use Rattle.oberon_format.specs.declared.fields.CheckpointFields.{CheckpointFields}
+use Rattle.oberon_format.specs.declared.layout.TheConstants.{VERSION}
+use Rattle.oberon_format.specs.Changes.{changes}
+use Rattle.oberon_format.specs.CheckpointParts.{checkpoint_parts}
 use Rattle.oberon_format.specs.Fields.{sent_below}
-use Rattle.oberon_format.specs.FirstFault.{first_broken}
-use Rattle.oberon_format.specs.PartFields.{fields_of_parts, checkpoint_fields}
+use Rattle.oberon_format.specs.FirstFault.{each}
+use Rattle.oberon_format.specs.Layout.{event_start}
+use Rattle.oberon_format.specs.PartFields.{fields_laid}
 use Rattle.oberon_format.specs.Parts.{parts_of}
-use Rattle.oberon_format.specs.Recording.{checkpoint_at}
-use Rattle.oberon_format.specs.Rules.{checkpoint_rules, rules_at}
-use Rattle.oberon_format.proofs.CheckpointLemmas.{checkpoint_at-is}
-use Rattle.oberon_format.proofs.PartLemmas.{checkpoint_here, rules_with, before_more, sent_none, sent_more}
-use Rattle.oberon_format.proofs.RuleLemmas.{each_none, each_more, each_broken}
+use Rattle.oberon_format.specs.Rules.{field_rules, change_rules, checkpoint_rules}
+use Rattle.oberon_format.proofs.ChangeLemmas.{change_in}
+use Rattle.oberon_format.proofs.PartLemmas.{before_more, laid_first, sent_none, sent_more}
+use Rattle.oberon_format.proofs.PartRules.{stands_at, rules_here, next_place, place_small}
+use Rattle.oberon_format.proofs.RuleLemmas.{met-append, broken-append, each_none, each_more, each_broken}
 use Rattle.oberon_format.proofs.parts.checkpoints_fault.Goals as goal
 
 pub loop-k-init : goal.loop-k-init
 loop-k-init c =
-    let f = fields_of_parts (parts_of c.args.pool.now c.args.inputs.now c.args.checkpoints.now) in
-    record { met = each_none (checkpoint_rules f); before_is = refl; sent_is = sym (sent_none f); small = omega arith }
-
-pub loop-k-preserved : goal.loop-k-preserved
-loop-k-preserved c =
     let r = parts_of c.args.pool.now c.args.inputs.now c.args.checkpoints.now in
-    let f = fields_of_parts r in
-    let k = c.loop-k.k in
-    let x = c.index-checkpoints-k.result in
-    let here : checkpoint_at r k ≡ checkpoint_parts x = checkpoint_at-is c.args.checkpoints.now k x c.loop-k-test.true c.index-checkpoints-k.is in
-    let lt : k < length r.checkpoints = omega (arith, length-map c.args.checkpoints.now checkpoint_parts) in
-    let inputs : length c.events.result.now ≡ length r.inputs = ap (λ l. length l) c.events.ensures.events in
-    let place : c.checkpoint_start-place.result ≡ 24 + 1024 * length r.pool + 16 * length r.inputs + 4228 * k = omega arith in
-    let rules = rules_with r k c.len-pages.result _ c.loop-k.before c.loop-k.sent (checkpoint_parts x) lt here c.len-pages.ensures.count place c.loop-k.invariant.before_is c.loop-k.invariant.sent_is in
-    let made = ap (λ (y : CheckpointFields). rules_at c.len-pages.result c.checkpoint_start-place.result k c.loop-k.before c.loop-k.sent y (slice_index x.table)) (sym c.of_parts-fields.ensures) in
-    let fields : c.of_parts-fields.result ≡ f.checkpoint k = c.of_parts-fields.ensures ∙ sym (checkpoint_here r k lt ∙ ap checkpoint_fields here) in
+    let f = fields_laid VERSION r in
+    let inputs = ap (λ (es : List Event). length es) c.events.ensures.events in
     record {
-      met = each_more (checkpoint_rules f) k c.loop-k.invariant.met (ap first_broken (rules ∙ made) ∙ sym c.checkpoint_fault.ensures.fault ∙ c.in_default.is);
-      before_is = ap (λ (y : CheckpointFields). y.count) fields ∙ sym (before_more f k);
-      sent_is = ap (λ (n : ℕ). n + c.of_parts-fields.result.output) c.loop-k.invariant.sent_is ∙ ap (λ (y : CheckpointFields). sent_below f k + y.output) fields ∙ sym (sent_more f k);
-      small = c.in_default.ensures.small;
+      met = each_none (checkpoint_rules f);
+      place_is = c.event_start-place.ensures
+          ∙ ap (λ (n : ℕ). event_start n (length c.events.result.now)) c.len-pages.ensures.count
+          ∙ ap (λ (n : ℕ). event_start (length c.args.pool.now) n) inputs
+          ∙ sym (laid_first VERSION r);
+      before_is = refl;
+      sent_is = sym (sent_none f);
+      small = omega arith;
     }
+
+pub changes_fault-requires : goal.changes_fault-requires
+changes_fault-requires c =
+    let r = parts_of c.args.pool.now c.args.inputs.now c.args.checkpoints.now in
+    let few = c.requires.few in
+    let inside = c.loop-k-test.true in
+    let small = place_small r c.loop-k.k c.requires.pages c.requires.events (omega arith) in
+    let place = c.loop-k.invariant.place_is in
+    omega arith
 
 pub returns-in-Some : goal.returns-in-Some
 returns-in-Some c =
-    let r = parts_of c.args.pool.now c.args.inputs.now c.args.checkpoints.now in
-    let f = fields_of_parts r in
+    let checkpoints = c.args.checkpoints.now in
+    let r = parts_of c.args.pool.now c.args.inputs.now checkpoints in
+    let f = fields_laid VERSION r in
     let k = c.loop-k.k in
     let x = c.index-checkpoints-k.result in
-    let here : checkpoint_at r k ≡ checkpoint_parts x = checkpoint_at-is c.args.checkpoints.now k x c.loop-k-test.true c.index-checkpoints-k.is in
-    let lt : k < length r.checkpoints = omega (arith, length-map c.args.checkpoints.now checkpoint_parts) in
-    let inputs : length c.events.result.now ≡ length r.inputs = ap (λ l. length l) c.events.ensures.events in
-    let place : c.checkpoint_start-place.result ≡ 24 + 1024 * length r.pool + 16 * length r.inputs + 4228 * k = omega arith in
-    let rules = rules_with r k c.len-pages.result _ c.loop-k.before c.loop-k.sent (checkpoint_parts x) lt here c.len-pages.ensures.count place c.loop-k.invariant.before_is c.loop-k.invariant.sent_is in
-    let made = ap (λ (y : CheckpointFields). rules_at c.len-pages.result c.checkpoint_start-place.result k c.loop-k.before c.loop-k.sent y (slice_index x.table)) (sym c.of_parts-fields.ensures) in
-    sym (each_broken (checkpoint_rules f) k _ c.in-Some.fault c.loop-k-test.true c.loop-k.invariant.met (ap first_broken (rules ∙ made) ∙ sym c.checkpoint_fault.ensures.fault ∙ c.in-Some.is))
+    let old = c.table_before-table.result.now in
+    let so_far = c.loop-k.invariant in
+    let lt : k < length r.checkpoints = omega (arith, length-map checkpoints checkpoint_parts) in
+    let stands = stands_at c.args.pool.now c.args.inputs.now checkpoints k x c.len-pages.result c.loop-k.place c.loop-k.before c.loop-k.sent c.of_parts-fields.result old
+    c.loop-k-test.true c.index-checkpoints-k.is c.len-pages.ensures.count so_far.place_is so_far.before_is so_far.sent_is c.table_before-table.ensures c.of_parts-fields.ensures in
+    let rules = rules_here r k c.len-pages.result c.loop-k.place c.loop-k.before c.loop-k.sent c.of_parts-fields.result old x.table lt stands in
+    let broken = broken-append (field_rules c.loop-k.place k c.loop-k.before c.loop-k.sent c.of_parts-fields.result)
+    (each (length (changes old x.table)) (change_rules c.len-pages.result c.loop-k.place (slice_index old) (change_in old x.table)))
+    c.in-Some.fault (sym c.fields_fault.ensures.fault ∙ c.in-Some.is) in
+    sym (each_broken (checkpoint_rules f) k (length checkpoints) c.in-Some.fault c.loop-k-test.true so_far.met (rules ∙ broken))
+
+pub returns-in-Some-changes_fault : goal.returns-in-Some-changes_fault
+returns-in-Some-changes_fault c =
+    let checkpoints = c.args.checkpoints.now in
+    let r = parts_of c.args.pool.now c.args.inputs.now checkpoints in
+    let f = fields_laid VERSION r in
+    let k = c.loop-k.k in
+    let x = c.index-checkpoints-k.result in
+    let old = c.table_before-table.result.now in
+    let so_far = c.loop-k.invariant in
+    let lt : k < length r.checkpoints = omega (arith, length-map checkpoints checkpoint_parts) in
+    let stands = stands_at c.args.pool.now c.args.inputs.now checkpoints k x c.len-pages.result c.loop-k.place c.loop-k.before c.loop-k.sent c.of_parts-fields.result old
+    c.loop-k-test.true c.index-checkpoints-k.is c.len-pages.ensures.count so_far.place_is so_far.before_is so_far.sent_is c.table_before-table.ensures c.of_parts-fields.ensures in
+    let rules = rules_here r k c.len-pages.result c.loop-k.place c.loop-k.before c.loop-k.sent c.of_parts-fields.result old x.table lt stands in
+    let broken = met-append (field_rules c.loop-k.place k c.loop-k.before c.loop-k.sent c.of_parts-fields.result)
+    (each (length (changes old x.table)) (change_rules c.len-pages.result c.loop-k.place (slice_index old) (change_in old x.table)))
+    (sym c.fields_fault.ensures.fault ∙ c.in_default.is) ∙ sym c.changes_fault.ensures ∙ c.in-Some-changes_fault.is in
+    sym (each_broken (checkpoint_rules f) k (length checkpoints) c.in-Some-changes_fault.fault c.loop-k-test.true so_far.met (rules ∙ broken))
+
+pub overflow_add-place : goal.overflow_add-place
+overflow_add-place c =
+    let r = parts_of c.args.pool.now c.args.inputs.now c.args.checkpoints.now in
+    let few = c.requires.few in
+    let inside = c.loop-k-test.true in
+    let small = place_small r c.loop-k.k c.requires.pages c.requires.events (omega arith) in
+    let place = c.loop-k.invariant.place_is in
+    let changes = c.in_default.ensures.few in
+    let size = c.changed_len-place.ensures in
+    omega arith
+
+pub loop-k-preserved : goal.loop-k-preserved
+loop-k-preserved c =
+    let checkpoints = c.args.checkpoints.now in
+    let r = parts_of c.args.pool.now c.args.inputs.now checkpoints in
+    let f = fields_laid VERSION r in
+    let k = c.loop-k.k in
+    let x = c.index-checkpoints-k.result in
+    let old = c.table_before-table.result.now in
+    let so_far = c.loop-k.invariant in
+    let lt : k < length r.checkpoints = omega (arith, length-map checkpoints checkpoint_parts) in
+    let stands = stands_at c.args.pool.now c.args.inputs.now checkpoints k x c.len-pages.result c.loop-k.place c.loop-k.before c.loop-k.sent c.of_parts-fields.result old
+    c.loop-k-test.true c.index-checkpoints-k.is c.len-pages.ensures.count so_far.place_is so_far.before_is so_far.sent_is c.table_before-table.ensures c.of_parts-fields.ensures in
+    let rules = rules_here r k c.len-pages.result c.loop-k.place c.loop-k.before c.loop-k.sent c.of_parts-fields.result old x.table lt stands in
+    let met = met-append (field_rules c.loop-k.place k c.loop-k.before c.loop-k.sent c.of_parts-fields.result)
+    (each (length (changes old x.table)) (change_rules c.len-pages.result c.loop-k.place (slice_index old) (change_in old x.table)))
+    (sym c.fields_fault.ensures.fault ∙ c.in_default.is) ∙ sym c.changes_fault.ensures ∙ c.in_default-changes_fault.is in
+    let fields : c.of_parts-fields.result ≡ f.checkpoint k = stands.fields_are in
+    record {
+      met = each_more (checkpoint_rules f) k so_far.met (rules ∙ met);
+      place_is = next_place r k c.loop-k.place c.changed_len-place.result c.of_parts-fields.result so_far.place_is fields c.changed_len-place.ensures;
+      before_is = ap (λ (y : CheckpointFields). y.count) fields ∙ sym (before_more f k);
+      sent_is = ap (λ (n : ℕ). n + c.of_parts-fields.result.output) so_far.sent_is ∙ ap (λ (y : CheckpointFields). sent_below f k + y.output) fields ∙ sym (sent_more f k);
+      small = c.in_default.ensures.small;
+    }

@@ -1,17 +1,20 @@
 use Rattle.std.proofs.Common.{◌≡◌, ◌+◌, length, map}
 use Rattle.std.specs.Prelude.{slice_range}
-use Rattle.oberon_format.specs.Tested.{IsCheckpointAt}
 use Rattle.oberon_format.specs.CheckpointParts.{checkpoint_parts}
-use Rattle.oberon_format.specs.Layout.{output_place}
+use Rattle.oberon_format.specs.Layout.{output_place, start}
 use Rattle.oberon_format.specs.Recording.{output_of}
-use Rattle.oberon_format.specs.Text.{EachAt}
+use Rattle.oberon_format.specs.Rules.{stood}
+use Rattle.oberon_format.specs.Tested.{HasNumbers, StandIn}
+use Rattle.oberon_format.specs.TextFields.{fields_of}
 use Rattle.oberon_format.proofs.RuleLemmas.{output_below}
 use Rattle.oberon_format.proofs.reading.checkpoints_of.Given as goal
 
 abbrev pub invariant-loop-k : goal.invariant-loop-k
 invariant-loop-k l = record {
   len : length l.list.items ≡ l.k;
-  each : EachAt (IsCheckpointAt l.text) (map checkpoint_parts l.list.items);
+  place_is : l.place ≡ start l.text l.k;
+  table_is : HasNumbers l.table (stood (fields_of l.text) l.k);
+  stand : StandIn l.text (map checkpoint_parts l.list.items);
   from_is : l.from ≡ output_place l.text + output_below l.text l.k;
   output : slice_range l.text (output_place l.text) l.from ≡ output_of (map checkpoint_parts l.list.items);
 }

@@ -1,6 +1,7 @@
-use Rattle.std.proofs.Common.{◌≡◌, ◌∙◌, ◌+◌, ◌≤◌, ◌<◌, ◌/◌, ◌%◌, ◌^◌, ℕ, length, refl, sym, subst, arith}
+use Rattle.std.proofs.Common.{◌≡◌, ◌∙◌, ◌+◌, ◌≤◌, ◌<◌, ◌/◌, ◌%◌, ◌^◌, ℕ, length, sym, ap, subst, arith}
 use Rattle.std.specs.Prelude.{slice_range, ◌==◌, if◌then◌else◌}
 use Rattle.std.proofs.lemmas.Bool.Decides.{nat_tests}
+use Rattle.risc_devices.specs.DeviceState.{DeviceState}
 use Rattle.oberon_format.specs.declared.layout.TheConstants.{KEYS_AT}
 use Rattle.oberon_format.specs.Text.{IsDevices}
 use Rattle.oberon_format.proofs.Keys.{keys-stand, length-range}
@@ -18,14 +19,16 @@ returns c =
     let few : c.u32_at-waiting.result ≤ 16 = grind (arith, nat_tests) in
     let line : c.u32_at-5.result < 512 = grind (arith, nat_tests) in
     let len : length (slice_range text (place + KEYS_AT) (place + KEYS_AT + c.u32_at-waiting.result)) ≡ c.u32_at-waiting.result = omega (arith, length-range text (place + KEYS_AT) (place + KEYS_AT + c.u32_at-waiting.result) (omega arith) (omega arith)) in
-    subst (IsDevices text place) (sym is) (record {
-      timer = sym c.u32_at.ensures;
-      rate = refl;
-      phase = refl;
-      switches = sym c.u32_at-2.ensures;
-      leds = sym c.u32_at-3.ensures;
-      mouse = sym c.u32_at-4.ensures;
-      serial = sym c.u32_at-5.ensures ∙ sym (serial_whole c.u32_at-5.result line);
-      waiting = sym c.u32_at-waiting.ensures ∙ sym len;
-      keys = rw (len, c.u32_at-waiting.ensures) (keys-stand text place c.requires.room c.requires.keys);
-    })
+    record {
+      devices = subst (IsDevices text place) (sym is) (record {
+        timer = sym c.u32_at.ensures;
+        switches = sym c.u32_at-2.ensures;
+        leds = sym c.u32_at-3.ensures;
+        mouse = sym c.u32_at-4.ensures;
+        serial = sym c.u32_at-5.ensures ∙ sym (serial_whole c.u32_at-5.result line);
+        waiting = sym c.u32_at-waiting.ensures ∙ sym len;
+        keys = rw (len, c.u32_at-waiting.ensures) (keys-stand text place c.requires.room c.requires.keys);
+      });
+      rate = ap (λ (d : DeviceState). d.rate) is ∙ c.later_word.ensures;
+      phase = ap (λ (d : DeviceState). d.phase) is ∙ c.later_word-2.ensures;
+    }

@@ -1,7 +1,7 @@
 use Rattle.std.proofs.Common.{◌∙◌, map, sym, subst}
 use Rattle.std.proofs.lemmas.List.{length-map}
-use Rattle.oberon_format.specs.declared.layout.TheConstants.{VERSION}
 use Rattle.oberon_format.specs.CheckpointParts.{checkpoint_parts}
+use Rattle.oberon_format.specs.Layout.{version}
 use Rattle.oberon_format.specs.Text.{Text}
 use Rattle.oberon_format.proofs.ReadLemmas.{text_read, read_lawful}
 use Rattle.oberon_format.proofs.reading.recording_of.Goals as goal
@@ -13,10 +13,10 @@ from_lawful-requires c =
     let inputs = c.in_ok-inputs.inputs in
     let items = c.in_ok-checkpoints.checkpoints.items in
     let formed = rw c.deref.ensures.value at c.all_formed.ensures in
-    let laid = text_read text pool inputs (map checkpoint_parts items) c.requires
+    let laid = text_read text pool inputs (map checkpoint_parts items) c.requires.meets
     c.in_ok-pool.ensures.0 c.in_ok-pool.ensures.1 c.in_ok-inputs.ensures.0 c.in_ok-inputs.ensures.1
     (length-map items checkpoint_parts ∙ c.in_ok-checkpoints.ensures.count) c.in_ok-checkpoints.ensures.stand c.in_ok-checkpoints.ensures.output in
-    read_lawful text _ c.requires c.len-pages.ensures.pages c.events-events.ensures.ordered formed laid
+    read_lawful text _ c.requires.meets c.len-pages.ensures.pages c.events-events.ensures.ordered formed laid
 
 pub returns : goal.returns
 returns c =
@@ -25,8 +25,8 @@ returns c =
     let inputs = c.in_ok-inputs.inputs in
     let items = c.in_ok-checkpoints.checkpoints.items in
     let formed = rw c.deref.ensures.value at c.all_formed.ensures in
-    let laid = text_read text pool inputs (map checkpoint_parts items) c.requires
+    let laid = text_read text pool inputs (map checkpoint_parts items) c.requires.meets
     c.in_ok-pool.ensures.0 c.in_ok-pool.ensures.1 c.in_ok-inputs.ensures.0 c.in_ok-inputs.ensures.1
     (length-map items checkpoint_parts ∙ c.in_ok-checkpoints.ensures.count) c.in_ok-checkpoints.ensures.stand c.in_ok-checkpoints.ensures.output in
-    let lawful = read_lawful text _ c.requires c.len-pages.ensures.pages c.events-events.ensures.ordered formed laid in
-    subst (Text text) (sym c.from_lawful.ensures) (record { version = VERSION; is = record { lawful = lawful; laid = laid } })
+    let lawful = read_lawful text _ c.requires.meets c.len-pages.ensures.pages c.events-events.ensures.ordered formed laid in
+    subst (Text text) (sym c.from_lawful.ensures) (record { version = version text; is = record { lawful = lawful; laid = laid } })

@@ -1,11 +1,18 @@
-use Rattle.std.proofs.Common.{◌≡◌, ◌<◌, true, false}
+use Rattle.std.proofs.Common.{◌≡◌, ◌<◌, true, false, arith}
 use Rattle.oberon_format.specs.declared.fault.Fault.TheVariants as fault
 use Rattle.oberon_format.proofs.RuleLemmas.{each_none, each_met, each_unmet}
+use Rattle.oberon_format.proofs.Room.{events_there}
 use Rattle.oberon_format.proofs.rules.events_fault.Goals as goal
 use Rattle.oberon_format.specs.Layout.{event_place}
 use Rattle.oberon_format.specs.Ranges.{is_event}
 use Rattle.oberon_format.specs.Rules.{event_floor, event_rules}
 use Rattle.oberon_format.specs.TextFields.{event_of, fields_of}
+
+pub event_floor-floor-requires-clause-room : goal.event_floor-floor-requires-clause-room
+event_floor-floor-requires-clause-room c = let there = events_there c.args.text.now c.requires in omega arith
+
+pub is_event-requires : goal.is_event-requires
+is_event-requires c = let there = events_there c.args.text.now c.requires in omega arith
 
 pub loop-i-init : goal.loop-i-init
 loop-i-init c = each_none (event_rules (fields_of c.args.text.now))

@@ -1,7 +1,9 @@
-use Rattle.std.proofs.Common.{◌≡◌, ◌++◌, take}
-use Rattle.std.specs.List.{flat_map}
-use Rattle.oberon_format.specs.Spelling.{checkpoint_bytes}
+use Rattle.std.proofs.Common.{◌≡◌, ◌++◌, map, take}
+use Rattle.risc_pages.specs.Tables.{zero_numbers}
+use Rattle.oberon_format.specs.declared.layout.TheConstants.{VERSION}
+use Rattle.oberon_format.specs.CheckpointParts.{checkpoint_parts}
+use Rattle.oberon_format.specs.Spelling.{checkpoints_bytes}
 use Rattle.oberon_format.proofs.writing.push_checkpoints.Given as goal
 
 abbrev pub invariant-loop-k : goal.invariant-loop-k
-invariant-loop-k l = l.out.items ≡ l.fn.out.items ++ flat_map checkpoint_bytes (take l.k l.r.checkpoints)
+invariant-loop-k l = l.out.items ≡ l.fn.out.items ++ checkpoints_bytes VERSION zero_numbers (take l.k (map checkpoint_parts l.checkpoints))

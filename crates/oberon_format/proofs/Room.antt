@@ -1,0 +1,125 @@
+-- How far the parts of a text reach.
+use Rattle.std.proofs.Common.{◌≡◌, ◌<◌, ◌≤◌, ◌+◌, ◌*◌, ◌∙◌, ℕ, zero, suc, List, length, refl, ap, inl, inr, arith, add-one}
+use Rattle.std.proofs.lemmas.Bool.{cases_lt}
+use Rattle.std.proofs.lemmas.Bool.Decides.{nat_tests}
+use Rattle.oberon_format.specs.declared.layout.TheConstants.{FIRST_VERSION, VERSION, CHECKPOINT_LEN, CHANGE_LEN, CHANGES_AT}
+use Rattle.oberon_format.specs.Layout.{version, events, checkpoints, event_place, change_place, checkpoint_size, change_count, start, output_place}
+use Rattle.oberon_format.specs.Rules.{named_len}
+use Rattle.oberon_format.specs.Tested.{IsSized, Meets}
+use Rattle.oberon_format.specs.TextFields.{fields_of}
+use Rattle.oberon_format.proofs.RuleLemmas.{version_cases, is_first, is_later}
+
+-- a checkpoint of either version has a front, and three more numbers at least
+pub size_least : (v n : ℕ) → CHANGES_AT ≤ checkpoint_size v n
+size_least v n = grind (arith, nat_tests)
+
+-- by the version
+pub size_first : (v n : ℕ) → v ≡ FIRST_VERSION → checkpoint_size v n ≡ CHECKPOINT_LEN
+size_first v n is = rw (is_first v is) refl
+
+size_later : (v n : ℕ) → v ≡ VERSION → checkpoint_size v n ≡ CHANGES_AT + CHANGE_LEN * n
+size_later v n is = rw (is_later v is) refl
+
+pub start_none : (text : List ℕ) → start text 0 ≡ event_place text (events text)
+unfolding start
+start_none text = refl
+
+pub start_next : (text : List ℕ) (k : ℕ) → start text (suc k) ≡ start text k + checkpoint_size (version text) (change_count text (start text k))
+unfolding start
+start_next text k = refl
+
+start_more : (text : List ℕ) (k : ℕ) → start text (k + 1) ≡ start text k + checkpoint_size (version text) (change_count text (start text k))
+start_more text k = ap (start text) (add-one k) ∙ start_next text k
+
+-- checkpoints stand one behind the other
+pub start_le : (text : List ℕ) (i n : ℕ) → i ≤ n → start text i ≤ start text n
+start_le text i zero le = let e : i ≡ 0 = omega arith in rw e (omega arith)
+start_le text i (suc n) le =
+    elim (cases_lt i (suc n)) [
+      | inl less ↦ let ih = start_le text i n (omega arith) in let next = start_next text n in omega arith
+      | inr more ↦ let e : i ≡ suc n = omega arith in rw e (omega arith)
+    ]
+
+-- all those of version 1 have one length
+start_first : (text : List ℕ) (k : ℕ) → version text ≡ FIRST_VERSION → start text k ≡ start text 0 + CHECKPOINT_LEN * k
+start_first text zero is = omega arith
+start_first text (suc k) is =
+    let so_far = start_first text k is in
+    let next = start_next text k in
+    let size = size_first (version text) (change_count text (start text k)) is in
+    omega arith
+
+-- where the next one begins, by the length of this one
+pub place_next : (text : List ℕ) (k place n size : ℕ) → place ≡ start text k → n ≡ change_count text place → size ≡ checkpoint_size (version text) n → place + size ≡ start text (k + 1)
+place_next text k place n size at many is =
+    let more = start_more text k in
+    let same : size ≡ checkpoint_size (version text) (change_count text (start text k)) = is ∙ ap (checkpoint_size (version text)) (many ∙ ap (change_count text) at) in
+    omega arith
+
+-- in version 2, by the number of changes
+pub start_later : (text : List ℕ) (k place n : ℕ) → version text ≡ VERSION → place ≡ start text k → n ≡ change_count text place → start text (suc k) ≡ change_place place n
+start_later text k place n is at many =
+    let next = start_next text k in
+    let size = size_later (version text) (change_count text (start text k)) is in
+    let same : n ≡ change_count text (start text k) = many ∙ ap (change_count text) at in
+    omega arith
+
+-- the length that the header asks for, by the version
+pub named_first : (text : List ℕ) → version text ≡ FIRST_VERSION → named_len (fields_of text) ≡ start text 0 + CHECKPOINT_LEN * checkpoints text
+named_first text is = let test = is_first (version text) is in rw test (start_first text (checkpoints text) is)
+
+named_later : (text : List ℕ) → version text ≡ VERSION → named_len (fields_of text) ≡ start text 0
+named_later text is = let test = is_later (version text) is in rw test refl
+
+-- the events are there
+pub events_there : (text : List ℕ) → IsSized text → event_place text (events text) ≤ length text
+events_there text sized =
+    let none = start_none text in
+    let long = sized.long in
+    elim (version_cases (version text) sized.known) [
+      | inl first ↦ let named = named_first text first in omega arith
+      | inr later ↦ let named = named_later text later in omega arith
+    ]
+
+-- and in version 1 each checkpoint
+pub whole_room : (text : List ℕ) (k : ℕ) → IsSized text → k < checkpoints text → version text ≡ FIRST_VERSION → start text k + CHECKPOINT_LEN ≤ length text
+whole_room text k sized lt is =
+    let le = start_le text (suc k) (checkpoints text) (omega arith) in
+    let next = start_first text (suc k) is in
+    let here = start_first text k is in
+    let last = start_first text (checkpoints text) is in
+    let long = sized.long in
+    let named = named_first text is in
+    omega arith
+
+-- the output is there too, of a text that breaks no rule
+pub output_there : (text : List ℕ) → Meets text → output_place text ≤ length text
+output_there text meets = let whole_is = meets.whole_is in omega arith
+
+-- and each checkpoint of either version
+checkpoint_there : (text : List ℕ) (k : ℕ) → Meets text → k < checkpoints text → start text k + checkpoint_size (version text) (change_count text (start text k)) ≤ length text
+checkpoint_there text k meets lt =
+    let le = start_le text (suc k) (checkpoints text) (omega arith) in
+    let next = start_next text k in
+    let all = output_there text meets in
+    omega arith
+
+pub front_there : (text : List ℕ) (k : ℕ) → Meets text → k < checkpoints text → start text k + CHANGES_AT ≤ length text
+front_there text k meets lt =
+    let all = checkpoint_there text k meets lt in
+    let least = size_least (version text) (change_count text (start text k)) in
+    omega arith
+
+-- the whole of a checkpoint of version 1
+pub whole_there : (text : List ℕ) (k : ℕ) → Meets text → k < checkpoints text → version text ≡ FIRST_VERSION → start text k + CHECKPOINT_LEN ≤ length text
+whole_there text k meets lt is =
+    let all = checkpoint_there text k meets lt in
+    let size = size_first (version text) (change_count text (start text k)) is in
+    omega arith
+
+-- the changes of one of version 2
+pub changes_there : (text : List ℕ) (k : ℕ) → Meets text → k < checkpoints text → version text ≡ VERSION → change_place (start text k) (change_count text (start text k)) ≤ length text
+changes_there text k meets lt is =
+    let all = checkpoint_there text k meets lt in
+    let size = size_later (version text) (change_count text (start text k)) is in
+    omega arith

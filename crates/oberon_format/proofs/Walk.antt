@@ -1,0 +1,102 @@
+-- The changes between two tables, found place by place.
+use Rattle.std.proofs.Common.{◌≡◌, ◌≢◌, ◌<◌, ◌≤◌, ◌+◌, ◌∙◌, ℕ, zero, suc, Bool, true, false, ◌&&◌, List, [], ◌∷◌, ◌++◌, length, refl, sym, ap, subst, ⊎_elim, arith, add-one, length-append}
+use Rattle.std.specs.Prelude.{slice_index, nat_le, not, ◌==◌}
+use Rattle.std.proofs.lemmas.Bool.{cases_eq, cases_lt, le-leb, lt-ltb, ne_eqb}
+use Rattle.std.proofs.lemmas.List.{get_or_append_left, get_or_push}
+use Rattle.oberon_format.specs.declared.change.Change.{Change}
+use Rattle.oberon_format.specs.declared.fault.Fault.TheVariants as fault
+use Rattle.oberon_format.specs.declared.layout.TheConstants.{PLACES}
+use Rattle.oberon_format.specs.Changes.{changes, changes_below, no_change}
+use Rattle.oberon_format.specs.FirstFault.{first_broken}
+use Rattle.oberon_format.specs.Layout.{change_place}
+use Rattle.oberon_format.specs.Ranges.{is_change}
+use Rattle.oberon_format.specs.Rules.{place_floor, change_rules}
+use Rattle.oberon_format.proofs.ChangeLemmas.{member_of, change_in, change_to, are_below, below_same, below_more, changes-lawful}
+
+-- the changes of places below a number of the code
+pub below_none : (before table : List ℕ) → changes_below 0 before table ≡ []
+unfolding changes_below
+below_none before table = refl
+
+pub below_stays : (p : ℕ) (before table : List ℕ) → slice_index before p ≡ slice_index table p
+    → changes_below (p + 1) before table ≡ changes_below p before table
+below_stays p before table e = ap (λ (n : ℕ). changes_below n before table) (add-one p) ∙ below_same p before table e
+
+pub below_grows : (p : ℕ) (before table : List ℕ) → slice_index before p ≢ slice_index table p
+    → changes_below (p + 1) before table ≡ changes_below p before table ++ change_to table p ∷ []
+below_grows p before table ne = ap (λ (n : ℕ). changes_below n before table) (add-one p) ∙ below_more p before table ne
+
+pub below_few : (p : ℕ) (before table : List ℕ) → length (changes_below p before table) ≤ p
+below_few p before table = (are_below before table p).few
+
+-- the changes of fewer places are the first of those of more
+pub record AreFirstOf (cs ds : List Change) : Type 0 where
+  pub fewer : length cs ≤ length ds
+  pub same : (i : ℕ) → i < length cs → member_of ds i ≡ member_of cs i
+
+first_pushed : (cs ds : List Change) (c : Change) → AreFirstOf cs ds → AreFirstOf cs (ds ++ c ∷ [])
+first_pushed cs ds c first =
+    let fewer = first.fewer in
+    record {
+      fewer = omega (arith, length-append ds (c ∷ []));
+      same = λ i lt. get_or_append_left ds (c ∷ []) no_change i (omega arith) ∙ first.same i lt;
+    }
+
+pub below_first : (p n : ℕ) (before table : List ℕ) → p ≤ n → AreFirstOf (changes_below p before table) (changes_below n before table)
+below_first p zero before table le =
+    let e : p ≡ 0 = omega arith in
+    subst (λ (q : ℕ). AreFirstOf (changes_below q before table) (changes_below 0 before table)) (sym e) (record { fewer = omega arith; same = λ i lt. refl })
+below_first p (suc n) before table le =
+    let small = changes_below p before table in
+    ⊎_elim (λ (less : p < suc n).
+    let first = below_first p n before table (omega arith) in
+    ⊎_elim (λ (e : slice_index before n ≡ slice_index table n). subst (AreFirstOf small) (sym (below_same n before table e)) first)
+    (λ (ne : slice_index before n ≢ slice_index table n).
+    subst (AreFirstOf small) (sym (below_more n before table ne)) (first_pushed small (changes_below n before table) (change_to table n) first))
+    (cases_eq (slice_index before n) (slice_index table n)))
+    (λ (more : suc n ≤ p).
+    let e : p ≡ suc n = omega arith in
+    subst (λ (q : ℕ). AreFirstOf (changes_below q before table) (changes_below (suc n) before table)) (sym e) (record { fewer = omega arith; same = λ i lt. refl }))
+    (cases_lt p (suc n))
+
+-- the change of a place in which the tables differ stands behind those of the places before
+pub record IsNext (p : ℕ) (before table : List ℕ) : Type 0 where
+  pub inside : length (changes_below p before table) < length (changes before table)
+  pub is : change_in before table (length (changes_below p before table)) ≡ change_to table p
+
+pub next_change : (p : ℕ) (before table : List ℕ) → p < PLACES → slice_index before p ≢ slice_index table p → IsNext p before table
+next_change p before table lt ne =
+    let cs = changes_below p before table in
+    let c = change_to table p in
+    let first = below_first (suc p) PLACES before table (omega arith) in
+    let grown = below_more p before table ne in
+    let long : length (changes_below (suc p) before table) ≡ length cs + 1 = ap (λ (ds : List Change). length ds) grown ∙ omega (arith, length-append cs (c ∷ [])) in
+    let fewer = first.fewer in
+    record {
+      inside = omega arith;
+      is = first.same (length cs) (omega arith) ∙ ap (λ (ds : List Change). member_of ds (length cs)) grown ∙ get_or_push cs c no_change (length cs) refl;
+    }
+
+-- of the rule of a change only the number is left, since the changes between two tables are lawful
+third_left : (a b c d : Bool) → a ≡ true → b ≡ true → d ≡ true → (a && b && c && d) ≡ c
+third_left a b true d ha hb hd = rw (ha, hb, hd) refl
+third_left a b false d ha hb hd = rw (ha, hb) refl
+
+pub change_tested : (pages i : ℕ) (before table : List ℕ) → i < length (changes before table)
+    → is_change pages (place_floor (change_in before table) i) (slice_index before) (change_in before table i) ≡ nat_le (change_in before table i).number pages
+change_tested pages i before table lt =
+    let c = change_in before table i in
+    let are = changes-lawful before table in
+    let differs : (c.number == slice_index before c.place) ≡ false = ne_eqb _ _ (are.differs i lt) in
+    third_left _ _ (nat_le c.number pages) _ (le-leb _ _ (are.rises i lt)) (lt-ltb _ _ (are.inside i lt)) (ap not differs)
+
+-- the rule of the change of a place in which the tables differ
+pub next_rule : (pages place p : ℕ) (before table : List ℕ) → p < PLACES → slice_index before p ≢ slice_index table p
+    → (length (changes_below p before table) < length (changes before table))
+    × (first_broken (change_rules pages place (slice_index before) (change_in before table) (length (changes_below p before table)))
+    ≡ first_broken ((nat_le (slice_index table p) pages, fault.Page (change_place place (length (changes_below p before table)))) ∷ []))
+next_rule pages place p before table lt ne =
+    let m = length (changes_below p before table) in
+    let next = next_change p before table lt ne in
+    let test = change_tested pages m before table next.inside ∙ ap (λ (c : Change). nat_le c.number pages) next.is in
+    (next.inside, ap (λ (holds : Bool). first_broken ((holds, fault.Page (change_place place m)) ∷ [])) test)

@@ -1,0 +1,98 @@
+use Rattle.std.proofs.Common.{◌≡◌, ◌<◌, ◌≤◌, ◌+◌, ◌∙◌, ℕ, suc, true, List, length, Some, None, refl, sym, ap, subst, arith, add-one}
+use Rattle.std.specs.Prelude.{◌==◌}
+use Rattle.std.proofs.lemmas.Bool.{eqb-true}
+use Rattle.oberon_format.specs.declared.fields.CheckpointFields.{CheckpointFields}
+use Rattle.oberon_format.specs.declared.layout.TheConstants.{FIRST_VERSION, VERSION, SENT_AT}
+use Rattle.oberon_format.specs.declared.ranges.TheConstants.{MAX_OUTPUT}
+use Rattle.oberon_format.specs.FirstFault.{first_broken}
+use Rattle.oberon_format.specs.Layout.{long_at, word_at, version, checkpoints, change_count, start}
+use Rattle.oberon_format.specs.Rules.{checkpoint_rules}
+use Rattle.oberon_format.specs.Tested.{HasNumbers}
+use Rattle.oberon_format.specs.TextFields.{checkpoint_of, fields_of, number_before}
+use Rattle.oberon_format.proofs.Room.{start_none, start_next, size_first, events_there, whole_room, place_next}
+use Rattle.oberon_format.proofs.RuleLemmas.{each_none, each_more, each_broken, output_below, output_below_none, output_below_more, count_before_more}
+use Rattle.oberon_format.proofs.TextLemmas.{numbers_none}
+use Rattle.oberon_format.proofs.rules.checkpoints_end.Goals as goal
+use Rattle.oberon_format.proofs.rules.checkpoints_end.Goals.{then-is_first, else-is_first}
+
+pub loop-k-init : goal.loop-k-init
+loop-k-init c =
+    let text = c.args.text.now in
+    let none = start_none text in
+    let there = events_there text c.requires in
+    let place = c.first_checkpoint-place.ensures in
+    record {
+      met = each_none (checkpoint_rules (fields_of text));
+      place_is = place;
+      room = omega arith;
+      before_is = refl;
+      sent_is = sym (output_below_none text);
+      small = omega arith;
+      table = λ is. subst (λ (t : List ℕ). HasNumbers t (number_before text 0)) (sym c.zeros-table.ensures) (numbers_none text);
+    }
+
+pub whole_checkpoint-tested-requires-clause-room : goal.whole_checkpoint-tested-requires-clause-room
+whole_checkpoint-tested-requires-clause-room c =
+    let text = c.args.text.now in
+    let test : (version text == FIRST_VERSION) ≡ true = sym c.is_first_version-is_first.ensures ∙ c.if-is_first.true in
+    let room = whole_room text c.loop-k.k c.requires (omega arith) (eqb-true _ _ test) in
+    let place = c.loop-k.invariant.place_is in
+    omega arith
+
+pub returns-in-Err : goal.returns-in-Err
+returns-in-Err c =
+    let text = c.args.text.now in
+    let k = c.loop-k.k in
+    let rules = checkpoint_rules (fields_of text) in
+    let one : first_broken (rules k) ≡ Some c.in-Err.fault = elim c.if-is_first.branch [
+      | then-is_first w ↦ rw (← w.tested-is, c.in-Err.is) at w.whole_checkpoint-tested.ensures
+      | else-is_first w ↦ rw (← w.tested-is, c.in-Err.is) at w.changed_checkpoint-tested.ensures
+    ] in
+    each_broken rules k (checkpoints text) c.in-Err.fault (omega arith) c.loop-k.invariant.met one
+
+-- what either test tells of a checkpoint
+record AreTested (text : List ℕ) (k place sent : ℕ) (fields : CheckpointFields) (table : List ℕ) : Type 0 where
+  read : fields ≡ checkpoint_of text place
+  small : sent + fields.output ≤ MAX_OUTPUT
+  there : start text (suc k) ≤ length text
+  numbers : version text ≡ VERSION → HasNumbers table (number_before text (suc k))
+  met : first_broken (checkpoint_rules (fields_of text) k) ≡ None
+
+pub loop-k-preserved : goal.loop-k-preserved
+loop-k-preserved c =
+    let text = c.args.text.now in
+    let k = c.loop-k.k in
+    let place = c.loop-k.place in
+    let at = c.loop-k.invariant.place_is in
+    let fields = c.in-Ok.fields in
+    let lt : k < checkpoints text = omega arith in
+    let tested : AreTested text k place c.loop-k.sent fields c.if-is_first.table = elim c.if-is_first.branch [
+      | then-is_first w ↦
+          let told = rw (← w.tested-is, c.in-Ok.is) at w.whole_checkpoint-tested.ensures in
+          let test : (version text == FIRST_VERSION) ≡ true = sym c.is_first_version-is_first.ensures ∙ w.if-is_first.true in
+          let is = eqb-true _ _ test in
+          let room = whole_room text k c.requires lt is in
+          let next = start_next text k in
+          let size = size_first (version text) (change_count text (start text k)) is in
+          record { read = told.0; small = told.1; there = omega arith; numbers = λ later. absurd (omega arith); met = told.2 }
+      | else-is_first w ↦
+          let told = rw (← w.tested-is, c.in-Ok.is) at w.changed_checkpoint-tested.ensures in
+          record { read = told.0; small = told.1; there = told.2; numbers = λ is. rw w.table-is told.4; met = told.5 }
+    ] in
+    let many : fields.changes ≡ change_count text place = ap (λ (x : CheckpointFields). x.changes) tested.read in
+    let next = place_next text k place fields.changes c.checkpoint_len-place.result at many c.checkpoint_len-place.ensures in
+    let there = tested.there in
+    let one = ap (start text) (add-one k) in
+    record {
+      met = each_more (checkpoint_rules (fields_of text)) k c.loop-k.invariant.met tested.met;
+      place_is = next;
+      room = omega arith;
+      before_is = ap (λ (x : CheckpointFields). x.count) tested.read ∙ ap (long_at text) at ∙ sym (count_before_more text k);
+      sent_is =
+          ap (λ (n : ℕ). n + fields.output) c.loop-k.invariant.sent_is
+          ∙ ap (λ (x : CheckpointFields). output_below text k + x.output) tested.read
+          ∙ ap (λ (p : ℕ). output_below text k + word_at text (p + SENT_AT)) at
+          ∙ sym (output_below_more text k);
+      small = tested.small;
+      table = λ is. subst (λ (n : ℕ). HasNumbers c.if-is_first.table (number_before text n)) (sym (add-one k)) (tested.numbers is);
+    }

@@ -1,0 +1,24 @@
+-- The changes from one table of page numbers to another (this project's own choice).
+use Rattle.std.specs.Prelude.{ℕ, zero, suc, ◌==◌, if◌then◌else◌, List, [], ◌∷◌, ◌++◌, slice_index}
+use Rattle.oberon_format.specs.declared.change.Change.{Change}
+use Rattle.oberon_format.specs.declared.layout.TheConstants.{PLACES}
+
+-- the places below n at which two tables differ, rising, each with its number in the second
+unfoldable pub changes_below : ℕ → List ℕ → List ℕ → List Change
+changes_below zero before table = []
+changes_below (suc p) before table =
+    changes_below p before table
+    ++ (if slice_index before p == slice_index table p then [] else record { place = p; number = slice_index table p } ∷ [])
+
+-- the changes from one table to another
+abbrev pub changes : List ℕ → List ℕ → List Change
+changes before table = changes_below PLACES before table
+
+-- what stands where there is no change
+abbrev pub no_change : Change
+no_change = record { place = 0; number = 0 }
+
+-- the number at place p after the first n changes of a table, whose numbers were `before`
+unfoldable pub number_after : (ℕ → Change) → (ℕ → ℕ) → ℕ → ℕ → ℕ
+number_after change before zero p = before p
+number_after change before (suc n) p = if (change n).place == p then (change n).number else number_after change before n p

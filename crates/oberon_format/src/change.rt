@@ -1,0 +1,59 @@
+//! Changes of tables of page numbers: what a checkpoint of version 2 has in the place of its table.
+//!
+//! Nothing here takes memory.
+
+ghost use Rattle.std.specs.Prelude.{◌≡◌, length};
+ghost use Rattle.oberon_format.specs.Changes.{changes};
+
+use crate::layout::{CHANGE_LEN, NUMBER_AT, PLACES};
+use crate::number::u32_at;
+use risc_pages::Table;
+
+/// A place of a table and its new page number. Each may be out of its range.
+#[derive(Clone, Copy)]
+pub(crate) struct Change {
+    /// The place, below 1,024 in a lawful change.
+    pub(crate) place: u32,
+    /// The page number that stands there from then on.
+    pub(crate) number: u32,
+}
+
+impl Change {
+    ghost use Rattle.std.specs.Prelude.{◌≡◌, ◌≤◌, ◌+◌, length, slice_index};
+    ghost use Rattle.oberon_format.specs.Ranges.{is_change};
+    ghost use Rattle.oberon_format.specs.TextFields.{change_at};
+
+    /// The change at a place of a text.
+    pub(crate) fn of_text(text: &[u8], place: usize) -> Change
+        requires { place + CHANGE_LEN ≤ length text.now }
+        ensures { result ≡ change_at text.now place }
+    {
+        Change {
+            place: u32_at(text, place),
+            number: u32_at(text, place + NUMBER_AT),
+        }
+    }
+
+    /// Whether the change is lawful after a table, where places are to be `floor` or above and there are so many pages.
+    pub(crate) fn is_lawful(self, pages: u32, floor: u32, before: &Table) -> bool
+        ensures { result ≡ is_change pages floor (slice_index before.now) self }
+    {
+        floor <= self.place
+            && self.place < PLACES as u32
+            && self.number <= pages
+            && self.number != before.entry(self.place as u16)
+    }
+}
+
+/// The number of changes from one table to another.
+pub(crate) fn change_count(before: &Table, table: &Table) -> u32
+    ensures { result ≡ length (changes before.now table.now) }
+{
+    let mut count = 0;
+    for p in 0..PLACES as u16 {
+        if before.entry(p) != table.entry(p) {
+            count += 1;
+        }
+    }
+    count
+}

@@ -1,0 +1,408 @@
+//! Texts of version 1: each rule broken once, and what they are written as.
+
+use crate::tests::texts::{JUMP, MAGIC, put_byte, put_word, text_of};
+use crate::*;
+use std::alloc::{AllocError, Global};
+use std::test::Fail;
+
+/// One page with one instruction, and checkpoints at 0 and 100.
+pub(crate) fn stored_run(alloc: Global) -> Result<Vec<u8>, AllocError> {
+    text_of(
+        alloc,
+        9504,
+        &[
+            (0, MAGIC),
+            (4, 1),
+            (8, 1),
+            (16, 2),
+            (24, 0x4000_0005),
+            (1180, 1),
+            (5276, 100),
+            (5284, 5),
+            (5352, 100),
+            (5408, 1),
+        ],
+    )
+}
+
+/// One page, two events from byte 1048 on, and checkpoint 0.
+fn two_events(alloc: Global, words: &[(u16, u32)]) -> Result<Vec<u8>, AllocError> {
+    let mut text = text_of(
+        alloc,
+        5308,
+        &[
+            (0, MAGIC),
+            (4, 1),
+            (8, 1),
+            (12, 2),
+            (16, 1),
+            (1056, 1),
+            (1072, 1),
+        ],
+    )?;
+    for (place, word) in words {
+        put_word(&mut text, *place, *word);
+    }
+    Ok(text)
+}
+
+#[test]
+fn gives_the_same_recording_in_the_second_version(rt: HostRuntime) -> Result<(), Fail> {
+    let alloc = rt.alloc();
+    let empty_recording = text_of(alloc, 4252, &[(0, MAGIC), (4, 1), (16, 1)])?;
+    let equal_pages = text_of(
+        alloc,
+        10_528,
+        &[
+            (0, MAGIC),
+            (4, 1),
+            (8, 2),
+            (16, 2),
+            (24, JUMP),
+            (1048, JUMP),
+            (2204, 1),
+            (6300, 10),
+            (6432, 2),
+        ],
+    )?;
+    let mut one_byte_sent = text_of(
+        alloc,
+        13_733,
+        &[
+            (0, MAGIC),
+            (4, 1),
+            (8, 1),
+            (16, 3),
+            (24, 0x5100_FFC8),
+            (28, 0x4000_0041),
+            (32, 0xA010_0000),
+            (36, JUMP),
+            (1180, 1),
+            (5276, 2),
+            (5284, 0x41),
+            (5288, 0xFFFF_FFC8),
+            (5352, 2),
+            (5408, 1),
+            (9504, 4),
+            (9512, 0x41),
+            (9516, 0xFFFF_FFC8),
+            (9580, 3),
+            (9632, 1),
+            (9636, 1),
+        ],
+    )?;
+    put_byte(&mut one_byte_sent, 13_732, 0x41);
+    let full = two_events(
+        alloc,
+        &[
+            (1048, 3),
+            (1060, 7),
+            (1064, 3),
+            (1072, 3),
+            (1076, 0x073F_F3FF),
+            (1088, 0x1234_5678),
+            (1160, 15),
+            (1164, 4),
+            (1168, 9),
+            (1172, 4095),
+            (1176, 255),
+            (1180, 0x0100_0001),
+            (1184, 0x1FF),
+            (1188, 2),
+            (1192, 0x4241),
+            (1212, 1),
+        ],
+    )?;
+    for text in [
+        stored_run(alloc)?,
+        empty_recording,
+        equal_pages,
+        one_byte_sent,
+        full,
+    ] {
+        let recording = read(alloc, &text)?;
+        let second = write(alloc, &recording)?;
+        assert_eq!(rt; second.as_slice()[4], 2);
+        assert!(rt; second.len() < text.len());
+        let again = read(alloc, &second)?;
+        assert_eq!(rt; again.pool().len(), recording.pool().len());
+        assert_eq!(rt; again.inputs().events(), recording.inputs().events());
+        assert_eq!(rt; again.count(), recording.count());
+        for k in 0..recording.count() {
+            let one = recording.checkpoint(k);
+            let other = again.checkpoint(k);
+            assert_eq!(rt; other.count, one.count);
+            assert_eq!(rt; other.cpu.r, one.cpu.r);
+            assert_eq!(rt; other.devices.keys(), one.devices.keys());
+            assert_eq!(rt; other.devices.rate(), 0);
+            assert_eq!(rt; other.sent.bytes(), one.sent.bytes());
+            assert_eq!(rt; other.table.numbers(), one.table.numbers());
+        }
+    }
+    Ok(())
+}
+
+#[test]
+fn reads_the_parts_of_a_text(rt: HostRuntime) -> Result<(), Fail> {
+    let recording = read(rt.alloc(), &stored_run(rt.alloc())?)?;
+    assert_eq!(rt; recording.pool().len(), 1);
+    assert_eq!(rt; recording.pool().page(1).words[0], 0x4000_0005);
+    assert_eq!(rt; recording.inputs().events().len(), 0);
+    assert_eq!(rt; recording.count(), 2);
+    let last = recording.checkpoint(1);
+    assert_eq!(rt; last.count, 100);
+    assert_eq!(rt; last.cpu.r[0], 5);
+    assert_eq!(rt; last.cpu.pc, 100);
+    assert_eq!(rt; last.devices.timer(), 0);
+    assert_eq!(rt; last.sent.bytes().len(), 0);
+    assert_eq!(rt; last.table.entry(0), 1);
+    Ok(())
+}
+
+/// A word of the text of `stored_run` that breaks a rule, and the line of the fault.
+const BROKEN: [(u16, u32, Fault, &str); 28] = [
+    (0, 0, Fault::Magic(0), "refused 2 magic at byte 0\n"),
+    (4, 9, Fault::Version(4), "refused 3 version at byte 4\n"),
+    // version 2 has the second checkpoint right behind the 144 bytes of the first
+    (
+        4,
+        2,
+        Fault::Checkpoint(1192),
+        "refused 6 checkpoint at byte 1192\n",
+    ),
+    (8, 65_537, Fault::Limit(8), "refused 4 limit at byte 8\n"),
+    (8, 2, Fault::Short(9504), "refused 1 short at byte 9504\n"),
+    (
+        12,
+        1_000_001,
+        Fault::Limit(12),
+        "refused 4 limit at byte 12\n",
+    ),
+    (12, 1, Fault::Short(9504), "refused 1 short at byte 9504\n"),
+    (16, 0, Fault::Limit(16), "refused 4 limit at byte 16\n"),
+    (16, 4098, Fault::Limit(16), "refused 4 limit at byte 16\n"),
+    (20, 1, Fault::Limit(20), "refused 4 limit at byte 20\n"),
+    (
+        1048,
+        1,
+        Fault::Checkpoint(1048),
+        "refused 6 checkpoint at byte 1048\n",
+    ),
+    (
+        1176,
+        1,
+        Fault::Checkpoint(1048),
+        "refused 6 checkpoint at byte 1048\n",
+    ),
+    (1180, 2, Fault::Page(1180), "refused 7 page at byte 1180\n"),
+    (5272, 2, Fault::Page(5272), "refused 7 page at byte 5272\n"),
+    (
+        5276,
+        0,
+        Fault::Checkpoint(5276),
+        "refused 6 checkpoint at byte 5276\n",
+    ),
+    (
+        5280,
+        0x101,
+        Fault::Checkpoint(5276),
+        "refused 6 checkpoint at byte 5276\n",
+    ),
+    (
+        5352,
+        4_194_304,
+        Fault::Checkpoint(5276),
+        "refused 6 checkpoint at byte 5276\n",
+    ),
+    (
+        5356,
+        16,
+        Fault::Checkpoint(5276),
+        "refused 6 checkpoint at byte 5276\n",
+    ),
+    (
+        5360,
+        5,
+        Fault::Checkpoint(5276),
+        "refused 6 checkpoint at byte 5276\n",
+    ),
+    (
+        5368,
+        4096,
+        Fault::Checkpoint(5276),
+        "refused 6 checkpoint at byte 5276\n",
+    ),
+    (
+        5372,
+        256,
+        Fault::Checkpoint(5276),
+        "refused 6 checkpoint at byte 5276\n",
+    ),
+    (
+        5376,
+        0x0000_0400,
+        Fault::Checkpoint(5276),
+        "refused 6 checkpoint at byte 5276\n",
+    ),
+    (
+        5380,
+        512,
+        Fault::Checkpoint(5276),
+        "refused 6 checkpoint at byte 5276\n",
+    ),
+    (
+        5384,
+        17,
+        Fault::Checkpoint(5276),
+        "refused 6 checkpoint at byte 5276\n",
+    ),
+    (
+        5388,
+        1,
+        Fault::Checkpoint(5276),
+        "refused 6 checkpoint at byte 5276\n",
+    ),
+    (
+        5404,
+        1,
+        Fault::Short(9504),
+        "refused 1 short at byte 9504\n",
+    ),
+    (
+        5404,
+        1_048_577,
+        Fault::Checkpoint(5276),
+        "refused 6 checkpoint at byte 5276\n",
+    ),
+    (5408, 2, Fault::Page(5408), "refused 7 page at byte 5408\n"),
+];
+
+#[test]
+fn refuses_each_broken_rule(rt: HostRuntime) -> Result<(), Fail> {
+    for (place, word, fault, line) in BROKEN {
+        let mut text = stored_run(rt.alloc())?;
+        put_word(&mut text, place, word);
+        let found = read(rt.alloc(), &text).err();
+        assert_eq!(rt; found, Some(fault), "at {place}");
+        let written = match fault {
+            Fault::Memory => Vec::new(rt.alloc()),
+            _ => refusal(rt.alloc(), &fault)?,
+        };
+        assert_eq!(rt; written.as_slice(), line.as_bytes());
+    }
+    Ok(())
+}
+
+#[test]
+fn refuses_events_out_of_range(rt: HostRuntime) -> Result<(), Fail> {
+    let rows = [
+        // kind 6
+        ([(1056, 6), (1072, 1)], 1048),
+        ([(1056, 1), (1072, 6)], 1064),
+        // values above those of their kinds
+        ([(1056, 2), (1060, 4096)], 1048),
+        ([(1056, 3), (1060, 0x0800_0000)], 1048),
+        ([(1056, 4), (1060, 256)], 1048),
+        ([(1072, 5), (1076, 256)], 1064),
+        // counts above 2^40, and falling
+        ([(1048, 0), (1052, 0x101)], 1048),
+        ([(1064, 1), (1068, 0x100)], 1064),
+        ([(1048, 5), (1064, 4)], 1064),
+    ];
+    for (words, place) in rows {
+        let text = two_events(rt.alloc(), &words)?;
+        assert_eq!(rt; read(rt.alloc(), &text).err(), Some(Fault::Event(place)));
+    }
+    Ok(())
+}
+
+#[test]
+fn refuses_a_text_cut_or_with_bytes_after_it(rt: HostRuntime) -> Result<(), Fail> {
+    let alloc = rt.alloc();
+    let mut text = stored_run(alloc)?;
+    text.push(0)?;
+    assert_eq!(rt; read(alloc, &text).err(), Some(Fault::Trailing(9504)));
+    let line = refusal(alloc, &Fault::Trailing(9504))?;
+    assert_eq!(rt;
+        line.as_slice(),
+        "refused 8 trailing at byte 9504\n".as_bytes()
+    );
+    for len in [9503, 23, 0] {
+        text.truncate(len);
+        assert_eq!(rt; read(alloc, &text).err(), Some(Fault::Short(len as u64)));
+    }
+    let kind_six = text_of(
+        alloc,
+        5292,
+        &[(0, MAGIC), (4, 1), (8, 1), (12, 1), (16, 1), (1056, 6)],
+    )?;
+    assert_eq!(rt; read(alloc, &kind_six).err(), Some(Fault::Event(1048)));
+    Ok(())
+}
+
+#[test]
+fn gives_the_first_of_two_faults(rt: HostRuntime) -> Result<(), Fail> {
+    let rows = [
+        // a page number of checkpoint 0, and a field of checkpoint 1
+        ([(1180, 2), (5276, 0)], Fault::Page(1180)),
+        // a field of checkpoint 0, and a page number of checkpoint 1
+        ([(1048, 1), (5408, 2)], Fault::Checkpoint(1048)),
+        // a page number and a field of one checkpoint
+        ([(5408, 2), (5356, 16)], Fault::Checkpoint(5276)),
+        // two page numbers
+        ([(5272, 2), (1184, 2)], Fault::Page(1184)),
+        // a field of the last checkpoint, and output that isn't there
+        ([(5404, 1), (5360, 5)], Fault::Checkpoint(5276)),
+        // the header's last number, and too many pages; and events that aren't there
+        ([(20, 1), (8, 65_537)], Fault::Limit(8)),
+        ([(20, 1), (12, 1_000)], Fault::Limit(20)),
+        // the version, and the first four bytes
+        ([(4, 3), (0, 0)], Fault::Magic(0)),
+    ];
+    for (words, fault) in rows {
+        let mut text = stored_run(rt.alloc())?;
+        for (place, word) in words {
+            put_word(&mut text, place, word);
+        }
+        assert_eq!(rt; read(rt.alloc(), &text).err(), Some(fault));
+    }
+    let mut text = two_events(rt.alloc(), &[(1056, 6), (1064, 1), (1068, 0x101)])?;
+    put_word(&mut text, 1080, 1);
+    assert_eq!(rt; read(rt.alloc(), &text).err(), Some(Fault::Event(1048)));
+    Ok(())
+}
+
+#[test]
+fn reads_as_many_pages_and_events_as_there_can_be(rt: HostRuntime) -> Result<(), Fail> {
+    let alloc = rt.alloc();
+    let mut text = vec![in alloc; 0; 83_113_116]?;
+    for (place, word) in [
+        (0, MAGIC),
+        (4, 1),
+        (8, 65_536),
+        (12, 1_000_000),
+        (16, 1),
+        (24, JUMP),
+    ] {
+        put_word(&mut text, place, word);
+    }
+    // The last word of the last page, the kind and the value of each event, and the last number of the table.
+    put_byte(&mut text, 67_108_884, 7);
+    for i in 0..1_000_000usize {
+        put_byte(&mut text, 67_108_896 + 16 * i, 1);
+        put_byte(&mut text, 67_108_900 + 16 * i, 9);
+    }
+    put_byte(&mut text, 83_113_114, 1);
+    let recording = read(alloc, &text)?;
+    assert_eq!(rt; recording.pool().len(), 65_536);
+    assert_eq!(rt; recording.pool().page(1).words[0], JUMP);
+    assert_eq!(rt; recording.pool().page(65_536).words[255], 7);
+    assert_eq!(rt; recording.inputs().events().len(), 1_000_000);
+    assert_eq!(rt; recording.inputs().events()[999_999].input.value(), 9);
+    assert_eq!(rt; recording.count(), 1);
+    assert_eq!(rt; recording.checkpoint(0).table.entry(1023), 65_536);
+    let second = write(alloc, &recording)?;
+    // 24 bytes, the pages, the events, and a checkpoint with a change
+    assert_eq!(rt; second.len(), 83_109_040);
+    Ok(())
+}

@@ -1,0 +1,196 @@
+//! Recordings made of parts: each rule that parts can break, broken once.
+
+use crate::*;
+use risc_devices::{Devices, Input};
+use risc_machine::{Cpu, Event, Flags, Inputs};
+use risc_pages::{Page, Pool, Table};
+use std::alloc::{AllocError, Global};
+use std::process::Abort;
+use std::test::Fail;
+
+/// Count, program counter, stop, bytes sent, a place and its page number, of a checkpoint that is otherwise zeros.
+type Row = (u64, u32, u8, usize, u16, u32);
+
+/// The checkpoint of a row.
+fn checkpoint(rt: &impl Abort, alloc: Global, row: Row) -> Result<Checkpoint, AllocError> {
+    let (count, pc, stop, sent, place, page_no) = row;
+    let flags = Flags {
+        n: false,
+        z: false,
+        c: false,
+        v: false,
+    };
+    let mut table = Table::zeros();
+    assert!(rt; place < 1024);
+    table.set(place, page_no);
+    Ok(Checkpoint {
+        count,
+        cpu: Cpu {
+            r: [0; 16],
+            h: 0,
+            pc,
+            flags,
+            stop,
+        },
+        devices: Devices::new(0, 0, 0, 0, 0, 0, 0, &[]).expect(rt, "the parts are in range"),
+        sent: Sent::new(vec![in alloc; 0; sent]?),
+        table,
+    })
+}
+
+/// What is wrong with two checkpoints over no pages.
+fn fault_of(
+    rt: &impl Abort,
+    alloc: Global,
+    first: Row,
+    last: Row,
+) -> Result<Option<Fault>, AllocError> {
+    let mut checkpoints = Vec::new(alloc);
+    checkpoints.push(checkpoint(rt, alloc, first)?)?;
+    checkpoints.push(checkpoint(rt, alloc, last)?)?;
+    Ok(fault_of_checkpoints(alloc, checkpoints))
+}
+
+/// What is wrong with checkpoints over no pages.
+fn fault_of_checkpoints(alloc: Global, checkpoints: Vec<Checkpoint>) -> Option<Fault> {
+    match Inputs::new(Vec::new(alloc)) {
+        Ok(inputs) => Recording::from_parts(Pool::new(alloc), inputs, checkpoints).err(),
+        Err(_) => Some(Fault::Memory),
+    }
+}
+
+/// The first fault of two checkpoints, the last with a timer of this rate and phase, which are in their range.
+fn fault_of_timer(
+    rt: &impl Abort,
+    alloc: Global,
+    rate: u32,
+    phase: u32,
+) -> Result<Option<Fault>, AllocError> {
+    let devices = Devices::new(7, rate, phase, 0, 0, 0, 0, &[]).expect(rt, "the phase is in range");
+    let mut checkpoints = Vec::new(alloc);
+    checkpoints.push(checkpoint(rt, alloc, (0, 0, 0, 0, 0, 0))?)?;
+    let last = checkpoint(rt, alloc, (10, 0, 0, 0, 0, 0))?;
+    checkpoints.push(Checkpoint { devices, ..last })?;
+    Ok(fault_of_checkpoints(alloc, checkpoints))
+}
+
+#[test]
+fn takes_parts_whose_timer_counts_by_itself(rt: HostRuntime) -> Result<(), Fail> {
+    for (rate, phase) in [
+        (0, 0),
+        (1, 0),
+        (25_000, 24_999),
+        (4_294_967_295, 4_294_967_294),
+    ] {
+        assert_eq!(rt; fault_of_timer(&rt, rt.alloc(), rate, phase)?, None);
+    }
+    Ok(())
+}
+
+#[test]
+fn refuses_parts_by_the_first_fault_of_their_text(rt: HostRuntime) -> Result<(), Fail> {
+    let zero = (0, 0, 0, 0, 0, 0);
+    let ten = (10, 0, 0, 0, 0, 0);
+    // checkpoint 1 begins at byte 168, or at 176 behind a change
+    let rows = [
+        (zero, ten, None),
+        (zero, (10, 4_194_303, 4, 1_048_576, 0, 0), None),
+        ((1, 0, 0, 0, 0, 0), ten, Some(Fault::Checkpoint(24))),
+        ((0, 4_194_304, 0, 0, 0, 0), ten, Some(Fault::Checkpoint(24))),
+        ((0, 0, 5, 0, 0, 0), ten, Some(Fault::Checkpoint(24))),
+        ((0, 0, 0, 1, 0, 0), ten, Some(Fault::Checkpoint(24))),
+        ((0, 0, 0, 0, 0, 1), ten, Some(Fault::Page(168))),
+        (zero, zero, Some(Fault::Checkpoint(168))),
+        (
+            zero,
+            (1_099_511_627_777, 0, 0, 0, 0, 0),
+            Some(Fault::Checkpoint(168)),
+        ),
+        (
+            zero,
+            (10, 4_194_304, 0, 0, 0, 0),
+            Some(Fault::Checkpoint(168)),
+        ),
+        (zero, (10, 0, 5, 0, 0, 0), Some(Fault::Checkpoint(168))),
+        (
+            zero,
+            (10, 0, 0, 1_048_577, 0, 0),
+            Some(Fault::Checkpoint(168)),
+        ),
+        (zero, (10, 0, 0, 0, 1023, 1), Some(Fault::Page(312))),
+        // two faults: a page number first, a field first, and both in one checkpoint
+        ((0, 0, 0, 0, 0, 1), zero, Some(Fault::Page(168))),
+        (
+            (0, 0, 5, 0, 0, 0),
+            (10, 0, 0, 0, 0, 1),
+            Some(Fault::Checkpoint(24)),
+        ),
+        (zero, (10, 0, 5, 0, 0, 1), Some(Fault::Checkpoint(168))),
+    ];
+    for (first, last, fault) in rows {
+        assert_eq!(rt; fault_of(&rt, rt.alloc(), first, last)?, fault);
+    }
+    Ok(())
+}
+
+#[test]
+fn counts_the_changes_before_a_fault(rt: HostRuntime) -> Result<(), Fail> {
+    let alloc = rt.alloc();
+    let mut pool = Pool::new(alloc);
+    pool.push(Page { words: [0; 256] })?;
+    let mut first = checkpoint(&rt, alloc, (0, 0, 0, 0, 3, 1))?;
+    first.table.set(900, 1);
+    // the same numbers stay, so that only the numbers of places 4 and 5 are changes
+    let mut last = checkpoint(&rt, alloc, (10, 0, 0, 0, 3, 1))?;
+    last.table.set(900, 1);
+    last.table.set(4, 1);
+    last.table.set(5, 2);
+    let mut checkpoints = Vec::new(alloc);
+    checkpoints.push(first)?;
+    checkpoints.push(last)?;
+    let none = Inputs::new(Vec::new(alloc))
+        .ok()
+        .ok_or("no inputs are in order")?;
+    // 24 and 1,024 bytes, checkpoint 0 with two changes, and checkpoint 1 with a lawful change before the other
+    let fault = Recording::from_parts(pool, none, checkpoints).err();
+    assert_eq!(rt; fault, Some(Fault::Page(1048 + 160 + 144 + 8)));
+    Ok(())
+}
+
+#[test]
+fn refuses_parts_beyond_the_limits(rt: HostRuntime) -> Result<(), Fail> {
+    let alloc = rt.alloc();
+    let none = Inputs::new(Vec::new(alloc))
+        .ok()
+        .ok_or("no inputs are in order")?;
+    let nothing = Recording::from_parts(Pool::new(alloc), none, Vec::new(alloc));
+    assert_eq!(rt; nothing.err(), Some(Fault::Limit(16)));
+    let mut pool = Pool::with_capacity(alloc, 65_537)?;
+    for _ in 0..65_537 {
+        assert!(rt; pool.len() < 100_000);
+        pool.push(Page { words: [0; 256] })?;
+    }
+    let none = Inputs::new(Vec::new(alloc))
+        .ok()
+        .ok_or("no inputs are in order")?;
+    let many_pages = Recording::from_parts(pool, none, Vec::new(alloc));
+    assert_eq!(rt; many_pages.err(), Some(Fault::Limit(8)));
+    let input = Input::new(1, 0).expect(&rt, "the input is in range");
+    let mut events = Vec::with_capacity(alloc, 1_000_001)?;
+    for count in 0..1_000_001 {
+        events.push(Event { count, input })?;
+    }
+    let many = Inputs::new(events).ok().ok_or("the counts rise")?;
+    let many_events = Recording::from_parts(Pool::new(alloc), many, Vec::new(alloc));
+    assert_eq!(rt; many_events.err(), Some(Fault::Limit(12)));
+    let mut checkpoints = Vec::with_capacity(alloc, 4098)?;
+    for count in 0..4098 {
+        checkpoints.push(checkpoint(&rt, alloc, (count, 0, 0, 0, 0, 0))?)?;
+    }
+    let none = Inputs::new(Vec::new(alloc))
+        .ok()
+        .ok_or("no inputs are in order")?;
+    let many_checkpoints = Recording::from_parts(Pool::new(alloc), none, checkpoints);
+    assert_eq!(rt; many_checkpoints.err(), Some(Fault::Limit(16)));
+    Ok(())
+}

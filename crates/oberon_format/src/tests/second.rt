@@ -1,0 +1,240 @@
+//! Texts of version 2: what is read is written, and each rule is broken once.
+
+use crate::tests::texts::{JUMP, MAGIC, put_byte, put_word, text_of};
+use crate::*;
+use std::alloc::{AllocError, Global};
+use std::test::Fail;
+
+/// One page with one instruction, and checkpoints at 0 and 100: the first has one change, from byte 1192 on, and the second, from
+/// byte 1200 on, has none.
+pub(crate) fn stored_run(alloc: Global) -> Result<Vec<u8>, AllocError> {
+    text_of(
+        alloc,
+        1344,
+        &[
+            (0, MAGIC),
+            (4, 2),
+            (8, 1),
+            (16, 2),
+            (24, 0x4000_0005),
+            (1188, 1),
+            (1196, 1),
+            (1200, 100),
+            (1208, 5),
+            (1276, 100),
+        ],
+    )
+}
+
+/// Two pages; checkpoint 0, from byte 2072 on, with changes of the places 0, 7 and 1023 from byte 2216 on; checkpoint 1, from byte
+/// 2240 on, with changes of the places 7 and 8 from byte 2384 on, a timer, and two bytes sent.
+fn five_changes(alloc: Global) -> Result<Vec<u8>, AllocError> {
+    let mut text = text_of(
+        alloc,
+        2402,
+        &[
+            (0, MAGIC),
+            (4, 2),
+            (8, 2),
+            (16, 2),
+            (24, JUMP),
+            (2204, 25_000),
+            (2208, 24_999),
+            (2212, 3),
+            (2220, 1),
+            (2224, 7),
+            (2228, 2),
+            (2232, 1023),
+            (2236, 1),
+            (2240, 10),
+            (2328, 9),
+            (2368, 2),
+            (2372, 25_000),
+            (2376, 9),
+            (2380, 2),
+            (2384, 7),
+            (2392, 8),
+            (2396, 2),
+        ],
+    )?;
+    put_byte(&mut text, 2400, 0x41);
+    put_byte(&mut text, 2401, 0x42);
+    Ok(text)
+}
+
+#[test]
+fn writes_what_it_reads(rt: HostRuntime) -> Result<(), Fail> {
+    let alloc = rt.alloc();
+    let empty_recording = text_of(alloc, 168, &[(0, MAGIC), (4, 2), (16, 1)])?;
+    for text in [stored_run(alloc)?, five_changes(alloc)?, empty_recording] {
+        let recording = read(alloc, &text)?;
+        let again = write(alloc, &recording)?;
+        assert_eq!(rt; again.as_slice(), text.as_slice());
+    }
+    Ok(())
+}
+
+#[test]
+fn reads_tables_by_their_changes(rt: HostRuntime) -> Result<(), Fail> {
+    let recording = read(rt.alloc(), &five_changes(rt.alloc())?)?;
+    assert_eq!(rt; recording.count(), 2);
+    let first = recording.checkpoint(0);
+    let last = recording.checkpoint(1);
+    for (place, before, after) in [(0, 1, 1), (7, 2, 0), (8, 0, 2), (1023, 1, 1), (9, 0, 0)] {
+        assert_eq!(rt; first.table.entry(place), before);
+        assert_eq!(rt; last.table.entry(place), after);
+    }
+    assert_eq!(rt; first.devices.rate(), 25_000);
+    assert_eq!(rt; first.devices.phase(), 24_999);
+    assert_eq!(rt; last.devices.timer(), 9);
+    assert_eq!(rt; last.devices.phase(), 9);
+    assert_eq!(rt; last.sent.bytes(), [0x41, 0x42].as_slice());
+    Ok(())
+}
+
+/// A word of the text of `five_changes` that breaks a rule, and the fault.
+const BROKEN: [(u16, u32, Fault); 33] = [
+    (0, 0, Fault::Magic(0)),
+    (4, 3, Fault::Version(4)),
+    (4, 0, Fault::Version(4)),
+    (8, 65_537, Fault::Limit(8)),
+    (8, 3, Fault::Short(2402)),
+    (12, 1_000_001, Fault::Limit(12)),
+    (12, 1_000, Fault::Short(2402)),
+    (16, 0, Fault::Limit(16)),
+    (16, 4098, Fault::Limit(16)),
+    (16, 3, Fault::Short(2402)),
+    (20, 1, Fault::Limit(20)),
+    (2072, 1, Fault::Checkpoint(2072)),
+    (2200, 1, Fault::Checkpoint(2072)),
+    // the phase at the rate, and a phase of a timer that doesn't count by itself
+    (2208, 25_000, Fault::Checkpoint(2072)),
+    (2372, 0, Fault::Checkpoint(2240)),
+    // more changes than places, and more than there are bytes for
+    (2212, 1025, Fault::Checkpoint(2072)),
+    (2212, 1024, Fault::Short(2402)),
+    (2380, 3, Fault::Short(2402)),
+    // a page number above the pages
+    (2220, 3, Fault::Page(2216)),
+    (2396, 3, Fault::Page(2392)),
+    // the number that stood there: zero in checkpoint 0, and in checkpoint 1 what checkpoint 0 left
+    (2220, 0, Fault::Page(2216)),
+    (2388, 2, Fault::Page(2384)),
+    (2396, 0, Fault::Page(2392)),
+    // places that stay or fall, and a place that isn't in the table
+    (2224, 0, Fault::Page(2224)),
+    (2392, 7, Fault::Page(2392)),
+    (2392, 6, Fault::Page(2392)),
+    (2232, 1024, Fault::Page(2232)),
+    (2216, 1024, Fault::Page(2216)),
+    (2240, 0, Fault::Checkpoint(2240)),
+    (2316, 4_194_304, Fault::Checkpoint(2240)),
+    (2368, 1_048_577, Fault::Checkpoint(2240)),
+    // output that isn't there, and bytes behind it
+    (2368, 3, Fault::Short(2402)),
+    (2368, 1, Fault::Trailing(2401)),
+];
+
+#[test]
+fn refuses_each_broken_rule(rt: HostRuntime) -> Result<(), Fail> {
+    for (place, word, fault) in BROKEN {
+        let mut text = five_changes(rt.alloc())?;
+        put_word(&mut text, place, word);
+        let found = read(rt.alloc(), &text).err();
+        assert_eq!(rt; found, Some(fault), "at {place}");
+    }
+    Ok(())
+}
+
+#[test]
+fn refuses_a_change_that_changes_nothing(rt: HostRuntime) -> Result<(), Fail> {
+    let alloc = rt.alloc();
+    let mut text = stored_run(alloc)?;
+    put_word(&mut text, 1196, 0);
+    let fault = Fault::Page(1192);
+    assert_eq!(rt; read(alloc, &text).err(), Some(fault));
+    let line = refusal(alloc, &fault)?;
+    assert_eq!(rt; line.as_slice(), "refused 7 page at byte 1192\n".as_bytes());
+    Ok(())
+}
+
+#[test]
+fn gives_the_first_of_two_faults(rt: HostRuntime) -> Result<(), Fail> {
+    let rows = [
+        // a change of checkpoint 0, and a field of checkpoint 1
+        ([(2220, 3), (2240, 0)], Fault::Page(2216)),
+        // a field of checkpoint 0, and its change
+        ([(2156, 5), (2220, 3)], Fault::Checkpoint(2072)),
+        // the phase, and changes that aren't there
+        ([(2208, 25_000), (2212, 1024)], Fault::Checkpoint(2072)),
+        // changes that aren't there, and the first of them
+        ([(2212, 1024), (2220, 3)], Fault::Short(2402)),
+        // two changes
+        ([(2236, 3), (2228, 3)], Fault::Page(2224)),
+        // a change of the last checkpoint, and output that isn't there
+        ([(2368, 3), (2396, 3)], Fault::Page(2392)),
+        // the header's last number, and events that aren't there
+        ([(20, 1), (12, 1_000)], Fault::Limit(20)),
+        // an event that is there in bytes of the pages, and checkpoints that aren't
+        ([(8, 1), (12, 65)], Fault::Event(1048)),
+    ];
+    for (words, fault) in rows {
+        let mut text = five_changes(rt.alloc())?;
+        for (place, word) in words {
+            put_word(&mut text, place, word);
+        }
+        assert_eq!(rt; read(rt.alloc(), &text).err(), Some(fault));
+    }
+    Ok(())
+}
+
+/// The first fault of a text of `five_changes` whose checkpoint 0 has stop 5, cut to a length: short up to the end of the 144
+/// bytes of this checkpoint, and then its field.
+fn fault_of_field_cut_at(len: usize) -> Fault {
+    if len < 2216 {
+        Fault::Short(len as u64)
+    } else {
+        Fault::Checkpoint(2072)
+    }
+}
+
+/// The same where its second change has a number that is too large: short up to the end of its three changes.
+fn fault_of_change_cut_at(len: usize) -> Fault {
+    if len < 2240 {
+        Fault::Short(len as u64)
+    } else {
+        Fault::Page(2224)
+    }
+}
+
+#[test]
+fn refuses_a_text_cut_at_each_byte(rt: HostRuntime) -> Result<(), Fail> {
+    let alloc = rt.alloc();
+    let mut lawful = five_changes(alloc)?;
+    let mut field = five_changes(alloc)?;
+    put_word(&mut field, 2156, 5);
+    let mut change = five_changes(alloc)?;
+    put_word(&mut change, 2228, 3);
+    for cut in 1..2403usize {
+        let len = 2402 - cut;
+        lawful.truncate(len);
+        assert_eq!(rt; read(alloc, &lawful).err(), Some(Fault::Short(len as u64)));
+        field.truncate(len);
+        assert_eq!(rt; read(alloc, &field).err(), Some(fault_of_field_cut_at(len)));
+        change.truncate(len);
+        assert_eq!(rt;
+            read(alloc, &change).err(),
+            Some(fault_of_change_cut_at(len))
+        );
+    }
+    Ok(())
+}
+
+#[test]
+fn refuses_bytes_after_the_end(rt: HostRuntime) -> Result<(), Fail> {
+    let alloc = rt.alloc();
+    let mut text = stored_run(alloc)?;
+    text.push(0)?;
+    assert_eq!(rt; read(alloc, &text).err(), Some(Fault::Trailing(1344)));
+    Ok(())
+}
