@@ -1,11 +1,12 @@
 -- Checkpoint 0 of a session is recorded.
-use Rattle.std.proofs.Common.{◌≡◌, ℕ, zero, suc, ◌≤◌, List, [], ◌∷◌, ap, arith, get_or, length, length-set, refl, subst, sym, ◌∙◌}
+use Rattle.std.proofs.Common.{◌≡◌, ◌<◌, ◌^◌, ℕ, true, zero, suc, ◌≤◌, List, [], ◌∷◌, ap, arith, get_or, length, length-set, refl, subst, sym, ◌∙◌}
 use Rattle.std.proofs.lemmas.List.{length-map, length-replicate}
 use Rattle.std.proofs.lemmas.List.Elements.{All-map, All-replicate, All-set}
 use Rattle.std.specs.List.{All}
-use Rattle.std.specs.Prelude.{slice_index}
+use Rattle.std.proofs.lemmas.Bool.{and_parts, ltb-true}
+use Rattle.std.specs.Prelude.{nat_lt, slice_index}
 use Rattle.risc_machine.specs.MachineState.{CpuState, State}
-use Rattle.risc_devices.specs.DeviceState.{DeviceState, IsDeviceState, is_phase}
+use Rattle.risc_devices.specs.DeviceState.{DeviceState, IsDeviceState, IsPhase, is_phase}
 use Rattle.risc_devices.specs.InputKind.{is_mouse}
 use Rattle.risc_pages.specs.Content.{table_words}
 use Rattle.risc_pages.specs.Pages.{ArePages, IsPage}
@@ -17,7 +18,8 @@ use Rattle.oberon_session.proofs.Steps.{between-none, count_of-zero, first_fault
 use Rattle.oberon_session.specs.Digits.{PlacedWords}
 use Rattle.oberon_session.specs.Laid.{Laid}
 use Rattle.oberon_session.specs.Laws.{IsTableOf}
-use Rattle.oberon_session.specs.Recorded.{checkpoint_of, count_of, first_laid, first_state, laid_of, no_devices, numbered, output_between, output_up_to, state_at, state_of}
+use Rattle.oberon_session.specs.Ranges.{timer_fits}
+use Rattle.oberon_session.specs.Recorded.{checkpoint_of, count_of, first_devices, first_laid, first_state, laid_of, numbered, output_between, output_up_to, state_at, state_of}
 use Rattle.oberon_session.specs.SessionParts.{SessionParts, places_in, IsLawful as IsLawfulSession}
 use Rattle.oberon_session.specs.Progress.{IsContentOf, IsRecorded, checkpoints_to}
 
@@ -56,12 +58,20 @@ none-of (x ∷ xs) none = absurd (omega arith)
 
 -- ---- checkpoint 0
 
-zero-devices : IsDeviceState no_devices
-unfolding is_mouse is_phase
-zero-devices = record {
+module _ (rate phase : ℕ) (fits : timer_fits rate phase ≡ true) where
+  timer-rate : rate < 2 ^ 32
+  timer-rate = ltb-true rate (2 ^ 32) (and_parts _ (nat_lt phase (2 ^ 32)) (and_parts _ (is_phase rate phase) fits).0).0
+
+  pub timer-phase : IsPhase rate phase
+  timer-phase = (and_parts _ (is_phase rate phase) fits).1
+
+-- a rate and a phase that fit are those of devices
+fitting-devices : (rate phase : ℕ) → timer_fits rate phase ≡ true → IsDeviceState (first_devices rate phase)
+unfolding is_mouse
+fitting-devices rate phase fits = record {
   timer = omega arith;
-  rate = omega arith;
-  phase = refl;
+  rate = timer-rate rate phase fits;
+  phase = timer-phase rate phase fits;
   switches = omega arith;
   leds = omega arith;
   mouse = refl;
@@ -73,7 +83,7 @@ zero-devices = record {
 module _ (s : SessionParts) where
   -- what the checkpoint says
   abbrev pub first-checkpoint : CheckpointParts
-  first-checkpoint = record { count = 0; cpu = s.cpu; devices = no_devices; sent = []; table = (first_laid s.pages).table }
+  first-checkpoint = record { count = 0; cpu = s.cpu; devices = first_devices s.rate s.phase; sent = []; table = (first_laid s.pages).table }
 
   pub state-first : state_of s 0 ≡ first_state s
   state-first = ap (λ (n : ℕ). state_at s n) (count_of-zero s) ∙ state_at-zero s
@@ -82,7 +92,7 @@ module _ (s : SessionParts) where
   unfolding first_state
   first-cpu = refl
 
-  first-devices : (first_state s).devices ≡ no_devices
+  first-devices : (first_state s).devices ≡ first_devices s.rate s.phase
   unfolding first_state
   first-devices = refl
 
@@ -124,8 +134,7 @@ module _ (s : SessionParts) where
               subst (λ (j : ℕ). IsFit (first_laid s.pages).pool (get_or (first-checkpoint ∷ []) j no_checkpoint)) this (record {
                 bounded = omega arith;
                 cpu = lawful.cpu;
-                devices = zero-devices;
-                rate = refl;
+                devices = fitting-devices s.rate s.phase lawful.timer;
                 table = record { count = table.count; fit = λ j d within. omega (arith, table.named j d within, few, lawful.few) };
                 named = table.named;
                 bytes = λ j d within. absurd (omega arith);
@@ -155,7 +164,7 @@ module _ (s : SessionParts) where
         so-recorded s laid cs 0 0 (laid-so ∙ sym (laid_of-zero s)) (cs-so ∙ sym checkpoints-first)
         (sym (ap (λ (n : ℕ). length (output_up_to s n)) (count_of-zero s) ∙ output_up_to-zero s)) recorded-first
 
-  pub one-checkpoint : (cpu : CpuState) (devices : DeviceState) (sent table : List ℕ) → cpu ≡ s.cpu → devices ≡ no_devices → sent ≡ []
+  pub one-checkpoint : (cpu : CpuState) (devices : DeviceState) (sent table : List ℕ) → cpu ≡ s.cpu → devices ≡ first_devices s.rate s.phase → sent ≡ []
       → table ≡ (first_laid s.pages).table → record { count = 0; cpu = cpu; devices = devices; sent = sent; table = table } ∷ [] ≡ first-checkpoint ∷ []
   one-checkpoint cpu devices sent table cpus states sents tables =
       λ i. record { count = 0; cpu = cpus i; devices = states i; sent = sents i; table = tables i } ∷ []

@@ -1,89 +1,85 @@
--- Each range and each order holds or does not.
-use Rattle.std.proofs.Common.{◌≡◌, ◌⊎◌, ◌<◌, ◌≤◌, ◌+◌, ◌-◌, ◌^◌, ℕ, zero, suc, Bool, true, false, List, [], ◌∷◌, arith, inl, inr, length, refl, subst, sym, ⊎_elim}
-use Rattle.std.proofs.lemmas.Bool.{false≢true}
-use Rattle.std.proofs.lemmas.Bool.Decides.{eqb_tells, leb_tells}
-use Rattle.std.proofs.lemmas.List.Elements.{All-cons, All-head, All-nil, All-tail}
-use Rattle.std.specs.List.{All}
-use Rattle.std.specs.Prelude.{slice_index}
-use Rattle.risc_devices.specs.InputKind.{is_input}
+-- The tests of ranges and order hold exactly where the ranges and the order do.
+use Rattle.std.proofs.Common.{◌≡◌, ◌<◌, ◌≤◌, ◌+◌, ◌^◌, ◌&&◌, ℕ, zero, suc, Bool, List, [], ◌∷◌, arith, length, refl, subst}
+use Rattle.std.proofs.lemmas.Bool.{le-leb, leb-true}
+use Rattle.std.proofs.lemmas.Bool.Decides.{Decides-and, Decides-by_and, Decides-like, Decides-ltb}
+use Rattle.std.specs.Bool.{Decides}
+use Rattle.std.specs.List.{All, list_all}
+use Rattle.std.specs.Prelude.{nat_le, nat_lt, slice_index}
 use Rattle.oberon_session.specs.Draft.{Draft, InputNumbers, PageText, Start}
-use Rattle.oberon_session.specs.Ranges.{CountFits, CountsFit, InOrder, InRange, InputFits, InputsFit, PageFits, PagesFit, StartFits, input_counts, places_of}
+use Rattle.oberon_session.specs.Ranges.{count_fits, in_order, in_range, input_counts, input_fits, of_neighbours, page_fits, places_of, start_fits, timer_fits}
+use Rattle.oberon_session.specs.SessionParts.{CountFits}
+use Rattle.oberon_session.specs.Tested.{InOrder, InRange, InputFits, PageFits, StartFits}
 use Rattle.oberon_format.specs.declared.ranges.TheConstants.{LAST_CHECKPOINT, MAX_COUNT, MAX_EVENTS}
 
--- it holds, or it does not
-abbrev pub Decided : Type 0 → Type 0
-Decided P = P ⊎ (P → ⊥)
+decides-le : (a b : ℕ) → Decides (nat_le a b) (a ≤ b)
+decides-le a b = (leb-true a b, le-leb a b)
 
-decided-both : {P Q : Type 0} → Decided P → Decided Q → Decided (P × Q)
-decided-both (inl p) (inl q) = inl (p, q)
-decided-both (inl p) (inr out) = inr (λ h. out h.1)
-decided-both (inr out) q = inr (λ h. out h.0)
+decides-all : {X : Type 0} (test : X → Bool) (P : X → Type 0) → ((x : X) → Decides (test x) (P x)) → (xs : List X) → Decides (list_all test xs) (All P xs)
+decides-all test P each = Decides-by_and test P (list_all test) each refl (λ _ _. refl)
 
-decided-like : {P Q : Type 0} → (P → Q) → (Q → P) → Decided P → Decided Q
-decided-like f g (inl p) = inl (f p)
-decided-like f g (inr out) = inr (λ q. out (g q))
+-- what is in range, and not too many
+decides-few : {X : Type 0} (most : ℕ) (test : X → Bool) (P : X → Type 0) → ((x : X) → Decides (test x) (P x)) → (xs : List X)
+    → Decides (nat_le (length xs) most && list_all test xs) ((length xs ≤ most) × All P xs)
+decides-few most test P each xs = Decides-and (nat_le (length xs) most) (list_all test xs) (decides-le (length xs) most) (decides-all test P each xs)
 
-pub decided-le : (a b : ℕ) → Decided (a ≤ b)
-decided-le a b = ⊎_elim (λ h. inl h.1) (λ h. inr (λ le. let above = h.1 in omega arith)) (leb_tells a b)
+-- ---- ranges
 
-decided-lt : (a b : ℕ) → Decided (a < b)
-decided-lt a b = decided-like (λ h. omega arith) (λ h. omega arith) (decided-le (a + 1) b)
+decides-start : (start : Start) → Decides (start_fits start) (StartFits start)
+decides-start start =
+    let registers = decides-all (λ register. nat_lt register (2 ^ 32)) (λ register. register < 2 ^ 32) (λ register. Decides-ltb register (2 ^ 32)) start.registers in
+    let words = Decides-and _ _ (Decides-and _ _ registers (Decides-ltb start.h (2 ^ 32))) (Decides-ltb start.pc (2 ^ 22)) in
+    Decides-like (start_fits start) (λ h. (h.0.0.0.0, h.0.0.0.1, h.0.0.1, h.0.1, h.1)) (λ h. ((((h.0, h.1), h.2), h.3), h.4))
+    (Decides-and _ (timer_fits start.rate start.phase) (Decides-and _ _ words (Decides-ltb start.flags 16)) (λ h. h, λ h. h))
 
-decided-test : (b : Bool) → Decided (b ≡ true)
-decided-test true = inl refl
-decided-test false = inr false≢true
+decides-page : (page : PageText) → Decides (page_fits page) (PageFits page)
+decides-page page = Decides-and _ _ (Decides-ltb page.at 1024) (decides-le (length page.hex) 2048)
 
-module _ {X : Type 0} (P : X → Type 0) (each : (x : X) → Decided (P x)) where
-  decided-all : (xs : List X) → Decided (All P xs)
-  decided-all [] = inl (All-nil P)
-  decided-all (x ∷ xs) =
-      decided-like (λ h. All-cons P x xs h.0 h.1) (λ h. (All-head P x xs h, All-tail P x xs h)) (decided-both (each x) (decided-all xs))
+decides-input : (input : InputNumbers) → Decides (input_fits input) (InputFits input)
+decides-input input = Decides-and _ _ (decides-le input.count MAX_COUNT) (λ h. h, λ h. h)
 
-module _ (P : ℕ → Type 0) (each : (k : ℕ) → Decided (P k)) where
-  below-more : (n : ℕ) → P n × ((k : ℕ) → k < n → P k) → (k : ℕ) → k < suc n → P k
-  below-more n h k lt = ⊎_elim (λ e. subst P (sym e.1) h.0) (λ apart. let other = apart.1 in h.1 k (omega arith)) (eqb_tells k n)
+decides-count : (count : ℕ) → Decides (count_fits count) (CountFits count)
+decides-count count = Decides-and _ _ (decides-le 1 count) (decides-le count MAX_COUNT)
 
-  decided-below : (n : ℕ) → Decided ((k : ℕ) → k < n → P k)
-  decided-below zero = inl (λ k lt. absurd (omega arith))
-  decided-below (suc n) =
-      decided-like (below-more n) (λ h. (h n (omega arith), λ k lt. h k (omega arith))) (decided-both (each n) (decided-below n))
+pub decides-range : (draft : Draft) → Decides (in_range draft) (InRange draft)
+unfolding in_range
+decides-range draft =
+    Decides-like (in_range draft) (λ h. record { start = h.0.0.0; pages = h.0.0.1; inputs = h.0.1; checkpoints = h.1 })
+    (λ h. (((h.start, h.pages), h.inputs), h.checkpoints))
+    (Decides-and _ _
+    (Decides-and _ _ (Decides-and _ _ (decides-start draft.start) (decides-few 1024 page_fits PageFits decides-page draft.pages))
+    (decides-few MAX_EVENTS input_fits InputFits decides-input draft.inputs))
+    (decides-few LAST_CHECKPOINT count_fits CountFits decides-count draft.checkpoints))
+
+-- ---- order
 
 -- a relation of each number to the next
-module _ (R : ℕ → ℕ → Type 0) (each : (a b : ℕ) → Decided (R a b)) where
-  decided-next : (xs : List ℕ) → Decided ((k : ℕ) → k + 1 < length xs → R (slice_index xs k) (slice_index xs (k + 1)))
-  decided-next xs =
-      decided-like (λ h k lt. h k (omega arith)) (λ h k lt. h k (omega arith))
-      (decided-below (λ k. R (slice_index xs k) (slice_index xs (k + 1))) (λ k. each (slice_index xs k) (slice_index xs (k + 1))) (length xs - 1))
+module _ (test : ℕ → ℕ → Bool) (R : ℕ → ℕ → Type 0) (each : (a b : ℕ) → Decides (test a b) (R a b)) where
+  abbrev OfNeighbours : List ℕ → Type 0
+  OfNeighbours xs = (k : ℕ) → k + 1 < length xs → R (slice_index xs k) (slice_index xs (k + 1))
 
-decided-start : (start : Start) → Decided (StartFits start)
-decided-start start =
-    decided-like (λ h. (h.0, h.1.0, h.1.1.0, h.1.1.1)) (λ h. (h.0, (h.1, (h.2, h.3))))
-    (decided-both (decided-all (λ register. register < 2 ^ 32) (λ register. decided-lt register (2 ^ 32)) start.registers)
-    (decided-both (decided-lt start.h (2 ^ 32)) (decided-both (decided-lt start.pc (2 ^ 22)) (decided-lt start.flags 16))))
+  in-front : (x y : ℕ) (ys : List ℕ) → R x y × OfNeighbours (y ∷ ys) → OfNeighbours (x ∷ y ∷ ys)
+  in-front x y ys h zero inside = h.0
+  in-front x y ys h (suc k) inside =
+      let next : suc k + 1 ≡ suc (k + 1) = omega arith in
+      rw next (h.1 k (omega arith))
 
-decided-pages : (pages : List PageText) → Decided (PagesFit pages)
-decided-pages pages =
-    decided-both (decided-le (length pages) 1024)
-    (decided-all PageFits (λ page. decided-both (decided-lt page.at 1024) (decided-le (length page.hex) 2048)) pages)
+  behind : (x y : ℕ) (ys : List ℕ) → OfNeighbours (x ∷ y ∷ ys) → OfNeighbours (y ∷ ys)
+  behind x y ys h k inside =
+      let next : suc k + 1 ≡ suc (k + 1) = omega arith in
+      subst (λ (n : ℕ). R (slice_index (y ∷ ys) k) (slice_index (x ∷ y ∷ ys) n)) next (h (suc k) (omega arith))
 
-decided-inputs : (inputs : List InputNumbers) → Decided (InputsFit inputs)
-decided-inputs inputs =
-    decided-both (decided-le (length inputs) MAX_EVENTS)
-    (decided-all InputFits (λ input. decided-both (decided-le input.count MAX_COUNT) (decided-test (is_input input.kind input.value))) inputs)
+  decides-neighbours : (xs : List ℕ) → Decides (of_neighbours test xs) (OfNeighbours xs)
+  decides-neighbours [] = (λ _ k inside. absurd (omega arith), λ _. refl)
+  decides-neighbours (x ∷ []) = (λ _ k inside. absurd (omega arith), λ _. refl)
+  decides-neighbours (x ∷ y ∷ ys) =
+      Decides-like (of_neighbours test (x ∷ y ∷ ys)) (in-front x y ys) (λ h. (h 0 (omega arith), behind x y ys h))
+      (Decides-and (test x y) (of_neighbours test (y ∷ ys)) (each x y) (decides-neighbours (y ∷ ys)))
 
-decided-counts : (counts : List ℕ) → Decided (CountsFit counts)
-decided-counts counts =
-    decided-both (decided-le (length counts) LAST_CHECKPOINT)
-    (decided-all CountFits (λ count. decided-both (decided-le 1 count) (decided-le count MAX_COUNT)) counts)
-
-pub decided-range : (draft : Draft) → Decided (InRange draft)
-decided-range draft =
-    decided-like (λ h. record { start = h.0; pages = h.1.0; inputs = h.1.1.0; checkpoints = h.1.1.1 })
-    (λ h. (h.start, (h.pages, (h.inputs, h.checkpoints))))
-    (decided-both (decided-start draft.start) (decided-both (decided-pages draft.pages) (decided-both (decided-inputs draft.inputs) (decided-counts draft.checkpoints))))
-
-pub decided-order : (draft : Draft) → Decided (InOrder draft)
-decided-order draft =
-    decided-like (λ h. record { pages = h.0; inputs = h.1.0; checkpoints = h.1.1 }) (λ h. (h.pages, (h.inputs, h.checkpoints)))
-    (decided-both (decided-next (λ a b. a < b) decided-lt (places_of draft.pages))
-    (decided-both (decided-next (λ a b. a ≤ b) decided-le (input_counts draft.inputs)) (decided-next (λ a b. a < b) decided-lt draft.checkpoints)))
+pub decides-order : (draft : Draft) → Decides (in_order draft) (InOrder draft)
+unfolding in_order
+decides-order draft =
+    Decides-like (in_order draft) (λ h. record { pages = h.0.0; inputs = h.0.1; checkpoints = h.1 }) (λ h. ((h.pages, h.inputs), h.checkpoints))
+    (Decides-and _ _
+    (Decides-and _ _ (decides-neighbours nat_lt (λ a b. a < b) Decides-ltb (places_of draft.pages))
+    (decides-neighbours nat_le (λ a b. a ≤ b) decides-le (input_counts draft.inputs)))
+    (decides-neighbours nat_lt (λ a b. a < b) Decides-ltb draft.checkpoints))

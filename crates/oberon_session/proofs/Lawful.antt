@@ -13,10 +13,11 @@ use Rattle.risc_machine.specs.MachineState.{CpuState, cpu_state}
 use Rattle.oberon_session.proofs.Mapped.{unmapped}
 use Rattle.oberon_session.specs.Digits.{PlacedWords, all_placed_of, placed_of, placed_view, words_of_bytes}
 use Rattle.oberon_session.specs.Draft.{Draft, PageText}
-use Rattle.oberon_session.specs.Ranges.{InOrder, InRange, places_of}
+use Rattle.oberon_session.specs.Ranges.{places_of}
 use Rattle.oberon_session.specs.Session.{cpu_of}
 use Rattle.oberon_session.specs.SessionParts.{IsLawful, places_in, session_of_parts}
 use Rattle.oberon_session.specs.Shape.{each}
+use Rattle.oberon_session.specs.Tested.{InOrder, InRange}
 use Rattle.oberon_session.specs.declared.placed.PlacedPage.{PlacedPage}
 
 module _ {A X B : Type 0} (read : A → Option X) (from : A → B) (to : X → B) (along : (x : A) (y : X) → read x ≡ Some y → to y ≡ from x) where
@@ -59,10 +60,10 @@ whole-pages : (pages : List PlacedPage) → All (λ (p : PlacedWords). IsPage p.
 whole-pages pages = All-map (λ (p : PlacedWords). IsPage p.words) placed_view pages
     (λ k d lt. record { whole = (get_or pages k d).page.whole; fit = (get_or pages k d).page.fit })
 
-module _ (draft : Draft) (cpu : Cpu) (pages : List PlacedPage) (inputs : List Event) (counts : List ℕ) where
-  pub is-lawful : InRange draft → InOrder draft → AreOrdered inputs → length inputs ≡ length draft.inputs → cpu_state cpu ≡ cpu_of draft.start
-      → all_placed_of draft.pages ≡ Some (map placed_view pages) → counts ≡ draft.checkpoints → IsLawful (session_of_parts cpu pages inputs counts)
-  is-lawful range order ordered many cpu-is pages-are counts-are =
+module _ (draft : Draft) (cpu : Cpu) (rate phase : ℕ) (pages : List PlacedPage) (inputs : List Event) (counts : List ℕ) where
+  pub is-lawful : InRange draft → InOrder draft → AreOrdered inputs → length inputs ≡ length draft.inputs → cpu_state cpu ≡ cpu_of draft.start → rate ≡ draft.start.rate → phase ≡ draft.start.phase
+      → all_placed_of draft.pages ≡ Some (map placed_view pages) → counts ≡ draft.checkpoints → IsLawful (session_of_parts cpu rate phase pages inputs counts)
+  is-lawful range order ordered many cpu-is rate-is phase-is pages-are counts-are =
       let places = placed-places draft.pages (map placed_view pages) pages-are in
       let all-low : All (λ p. p < 1024) (places_of draft.pages) = All-map (λ p. p < 1024) (λ (page : PageText). page.at) draft.pages (λ k d lt. (range.pages.1 k d lt).0) in
       let low : All (λ p. p < 1024) (places_in (map placed_view pages)) = rw places all-low in
@@ -76,6 +77,7 @@ module _ (draft : Draft) (cpu : Cpu) (pages : List PlacedPage) (inputs : List Ev
           counter = subst (λ (s : CpuState). s.pc < 2 ^ 22) (sym cpu-is) range.start.2;
           stops = subst (λ (s : CpuState). s.stop ≤ 4) (sym cpu-is) (omega arith);
         };
+        timer = rw (rate-is, phase-is) range.start.4;
         running = ap (λ (s : CpuState). s.stop) cpu-is;
         few = omega (arith, range.pages.0, as-many);
         places = unmapped (λ (p : PlacedWords). p.at) (λ p. p < 1024) (map placed_view pages) low;

@@ -15,7 +15,6 @@ fit-grown pool extra c fit = record {
   bounded = fit.bounded;
   cpu = fit.cpu;
   devices = fit.devices;
-  rate = fit.rate;
   table = fit.table;
   named = λ k d lt. omega (arith, fit.named k d lt, length-append pool extra);
   bytes = fit.bytes;

@@ -4,7 +4,6 @@ mod Orders
 mod Lawful
 mod RuleLemmas
 mod Runs
-mod Rates
 mod Layouts
 mod Contents
 mod Steps
@@ -15,5 +14,6 @@ mod Begun
 mod Whole
 mod LaidLaws
 mod FirstTables
-pub mod Deciding
+mod Deciding
+pub mod Table
 pub mod OneAnswers

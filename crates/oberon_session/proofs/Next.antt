@@ -13,7 +13,6 @@ use Rattle.oberon_format.specs.CheckpointParts.{CheckpointParts, no_checkpoint}
 use Rattle.oberon_format.specs.Recording.{IsFit, IsLawful, RecordingParts, count_at, output_of}
 use Rattle.oberon_session.proofs.Contents.{Leads, memory-laid, table_words-grown}
 use Rattle.oberon_session.proofs.LawfulMore.{lawful-more}
-use Rattle.oberon_session.proofs.Rates.{state-rate}
 use Rattle.oberon_session.proofs.Steps.{count-fits, count-rises, laid_of-next, nothing-too-much, output-on}
 use Rattle.oberon_session.specs.Laid.{Laid}
 use Rattle.oberon_session.specs.Laws.{IsTableOf}
@@ -102,7 +101,6 @@ module _ (s : SessionParts) where
       bounded = count-fits s lawful k inside;
       cpu = good.cpu;
       devices = good.devices;
-      rate = state-rate s (count_of s (k + 1));
       table = record { count = lays.0.table.count; fit = λ j d lt. omega (arith, lays.0.table.named j d lt, good.pages) };
       named = lays.0.table.named;
       bytes =

@@ -15,7 +15,7 @@ use Rattle.oberon_format.specs.CheckpointParts.{CheckpointParts, checkpoint_part
 use Rattle.oberon_format.specs.Defined.{claim_of}
 use Rattle.oberon_format.specs.Recording.{IsFit}
 use Rattle.oberon_session.proofs.Next.{IsGoodNext, Recorded, checkpoint-there, checkpoints-more, count-of, fit-there, length-checkpoints, recorded-next, recorded-so, so-recorded}
-use Rattle.oberon_session.proofs.Steps.{between-is, laid_of-next, output-on, state-on, too-many-pages, too-much-output}
+use Rattle.oberon_session.proofs.Steps.{laid_of-next, output-on, state-on, too-many-pages, too-much-output}
 use Rattle.oberon_session.specs.Laid.{Laid, changed_pages, lay, lay_pages}
 use Rattle.oberon_session.specs.Recorded.{checkpoint_of, count_of, laid_of, output_between, output_up_to, record_fault_of, state_of}
 use Rattle.oberon_session.specs.SessionParts.{SessionParts, IsLawful}
@@ -90,7 +90,7 @@ module _ (s : SessionParts) (k : ℕ) (laid : Laid) (checkpoints : List Checkpoi
       state-reached = from-to run_of ∙ state-on s (count_of s k) (count_of s (k + 1)) on
 
       output-reached : sends ≡ output_between s (count_of s k) (count_of s (k + 1))
-      output-reached = from-to sent_of ∙ between-is s (count_of s k) (count_of s (k + 1))
+      output-reached = from-to sent_of
 
       whole-output : length (output_up_to s (count_of s (k + 1))) ≡ sent + length sends
       whole-output =

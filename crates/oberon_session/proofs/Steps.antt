@@ -1,14 +1,14 @@
 -- The one run of a session, from checkpoint to checkpoint.
-use Rattle.std.proofs.Common.{◌≡◌, ℕ, zero, suc, ◌+◌, ◌-◌, ◌^◌, ◌<◌, ◌≤◌, List, ◌++◌, Option, Some, None, true, false, ap, arith, length, length-append, refl, subst, sym, ◌∙◌}
+use Rattle.std.proofs.Common.{◌≡◌, ℕ, zero, suc, ◌+◌, ◌-◌, ◌<◌, ◌≤◌, List, ◌++◌, Option, Some, None, true, false, ap, arith, length, length-append, refl, subst, sym, ◌∙◌}
 use Rattle.std.proofs.lemmas.Bool.{le-ltb, lt-ltb}
 use Rattle.std.specs.Option.{option_or}
 use Rattle.std.specs.Prelude.{nat_lt, slice_index}
+use Rattle.risc_machine.specs.MachineState.{State}
 use Rattle.risc_machine.specs.Replay.{run_of, sent_of}
 use Rattle.oberon_session.proofs.Runs.{run-on, sent-on}
 use Rattle.oberon_session.specs.Laid.{lay}
 use Rattle.oberon_session.specs.Recorded.{count_of, fault_at, first_fault, first_laid, first_state, laid_of, output_between, output_up_to, record_fault_of, state_at, state_of}
-use Rattle.oberon_session.specs.Ranges.{CountFits}
-use Rattle.oberon_session.specs.SessionParts.{SessionParts, IsLawful}
+use Rattle.oberon_session.specs.SessionParts.{CountFits, SessionParts, IsLawful}
 use Rattle.oberon_session.specs.declared.record_fault.RecordFault.{RecordFault}
 use Rattle.oberon_session.specs.declared.record_fault.RecordFault.TheVariants as fault
 use Rattle.oberon_format.specs.declared.ranges.TheConstants.{MAX_COUNT, MAX_OUTPUT, MAX_PAGES}
@@ -17,20 +17,14 @@ module _ (s : SessionParts) where
   -- ---- the run
 
   pub state_at-zero : state_at s 0 ≡ first_state s
-  unfolding state_at run_of
+  unfolding run_of
   state_at-zero = refl
 
   state-is : (n : ℕ) → state_at s n ≡ run_of s.inputs 0 (n - 0) (first_state s)
-  unfolding state_at
   state-is n = ap (λ (k : ℕ). run_of s.inputs 0 k (first_state s)) (omega arith)
 
   up_to-is : (n : ℕ) → output_up_to s n ≡ sent_of s.inputs 0 (n - 0) (first_state s)
-  unfolding output_up_to
-  up_to-is n = ap (λ (k : ℕ). sent_of s.inputs 0 k (first_state s)) (omega arith)
-
-  pub between-is : (n m : ℕ) → sent_of s.inputs n (m - n) (state_at s n) ≡ output_between s n m
-  unfolding output_between
-  between-is n m = refl
+  up_to-is n = ap (λ (t : State). sent_of s.inputs 0 (n - 0) t) state_at-zero
 
   pub state-on : (n m : ℕ) → n ≤ m → run_of s.inputs n (m - n) (state_at s n) ≡ state_at s m
   state-on n m on = run-on s.inputs 0 n m (first_state s) (omega arith) on (state_at s n) (state-is n) ∙ sym (state-is m)
@@ -39,10 +33,9 @@ module _ (s : SessionParts) where
   output-on n m on =
       up_to-is m ∙ sym (sent-on s.inputs 0 n m (first_state s) (omega arith) on (state_at s n) (state-is n))
       ∙ ap (λ (l : List ℕ). l ++ sent_of s.inputs n (m - n) (state_at s n)) (sym (up_to-is n))
-      ∙ ap (λ (l : List ℕ). output_up_to s n ++ l) (between-is n m)
 
   pub output_up_to-zero : length (output_up_to s 0) ≡ 0
-  unfolding output_up_to sent_of
+  unfolding sent_of
   output_up_to-zero = refl
 
   pub between-none : (n : ℕ) → length (output_between s n n) ≡ 0

@@ -2,14 +2,13 @@
 use Rattle.std.proofs.Common.{◌≡◌, ℕ, ◌-◌, ◌<◌, ◌≤◌, List, None, ap, arith, length, refl, subst, sym, ◌∙◌}
 use Rattle.risc_machine.specs.declared.event.Event.{Event}
 use Rattle.risc_machine.specs.MachineState.{State}
-use Rattle.risc_machine.specs.Replay.{run_of, sent_of}
+use Rattle.risc_machine.specs.OneRun.{sent_between, state_from}
 use Rattle.oberon_format.specs.CheckpointParts.{CheckpointParts}
 use Rattle.oberon_format.specs.Defined.{IsTrueAt, claim_of, claimed, output_between as format_output, state_at as format_state}
 use Rattle.oberon_format.specs.Recording.{RecordingParts, checkpoint_at, count_at}
 use Rattle.oberon_session.proofs.Begun.{state-first}
 use Rattle.oberon_session.proofs.Next.{Recorded, recorded-so, checkpoint-there, count-of, length-checkpoints, recorded_to}
 use Rattle.oberon_session.proofs.Reaching.{claimed-is}
-use Rattle.oberon_session.proofs.Steps.{between-is}
 use Rattle.oberon_session.specs.Recorded.{checkpoint_of, count_of, first_state, last_of, output_between, record_fault_of, recording_of, state_at, state_of}
 use Rattle.oberon_session.specs.SessionParts.{SessionParts}
 use Rattle.oberon_session.specs.Laid.{Laid}
@@ -29,10 +28,6 @@ module _ (s : SessionParts) where
   unfolding checkpoint_of
   sent-is k = refl
 
-  run-is : (n : ℕ) → run_of s.inputs 0 n (first_state s) ≡ state_at s n
-  unfolding state_at
-  run-is n = refl
-
   module _ (K : ℕ) (so : Recorded s K) where
     there : (k : ℕ) → k ≤ K → checkpoint_at (recorded_to s K) k ≡ checkpoint_of s k
     there k low = checkpoint-there s K k low
@@ -45,12 +40,14 @@ module _ (s : SessionParts) where
         ap (λ (c : CheckpointParts). (claim_of (recorded_to s K).pool c).state) (there k low)
         ∙ claimed-is s k (recorded_to s K).pool (so.content k low)
 
+    first-there : (claimed (recorded_to s K) 0).state ≡ first_state s
+    first-there = claimed-there 0 (omega arith) ∙ state-first s
+
     state-there : (n : ℕ) → format_state (recorded_to s K) n ≡ state_at s n
-    state-there n =
-        ap (λ (t : State). run_of s.inputs 0 n t) (claimed-there 0 (omega arith) ∙ state-first s) ∙ run-is n
+    state-there n = ap (λ (t : State). state_from s.inputs t n) first-there
 
     output-there : (from to : ℕ) → format_output (recorded_to s K) from to ≡ output_between s from to
-    output-there from to = ap (λ (t : State). sent_of s.inputs from (to - from) t) (state-there from) ∙ between-is s from to
+    output-there from to = ap (λ (t : State). sent_between s.inputs t from to) first-there
 
     -- each checkpoint is true
     pub truth-there : (k : ℕ) → k < length (recorded_to s K).checkpoints → IsTrueAt (recorded_to s K) k

@@ -1,5 +1,5 @@
--- What a JSON value says, where it has the shape of a session of version 1. The format is this project's own.
-use Rattle.std.specs.Prelude.{◌==◌, ℕ, List, [], ◌∷◌, length, map, Option, Some, None, if◌then◌else◌, codes}
+-- What a JSON value says, where it has the shape of a session of version 1 or 2. The format is this project's own.
+use Rattle.std.specs.Prelude.{◌==◌, ◌||◌, ℕ, List, [], ◌∷◌, length, map, Option, Some, None, if◌then◌else◌, codes}
 use Rattle.std.specs.Str.{bytes_eq}
 use Rattle.serde_json.specs.Data.{Data}
 use Rattle.serde_json.specs.Find.{get}
@@ -15,6 +15,8 @@ pub record Start : Type 0 where
   pub h : ℕ
   pub pc : ℕ
   pub flags : ℕ
+  pub rate : ℕ
+  pub phase : ℕ
 
 -- a page: its place, and the text of its digits
 pub record PageText : Type 0 where
@@ -35,16 +37,32 @@ pub record Draft : Type 0 where
 
 -- ---- the shape
 
--- an object of exactly R, an array of sixteen numbers, and the numbers H, PC and flags
-abbrev pub start_of : Data → Option Start
-start_of json = do
-  start ← exactly 4 json
+-- the version, where there is one of this number
+abbrev pub version_of : Data → Option ℕ
+version_of json = do
+  version ← number_of json
+  only_if (version == 1 || version == 2) version
+
+-- a number that version 2 has by this name, and that is 0 in version 1
+abbrev pub since_2 : ℕ → List ℕ → Data → Option ℕ
+since_2 version name json = if version == 1 then Some 0 else get name json >>= number_of
+
+-- how many members the first state has
+abbrev pub start_members : ℕ → ℕ
+start_members version = if version == 1 then 4 else 6
+
+-- an object of exactly R, an array of sixteen numbers, the numbers H, PC and flags, and in version 2 the numbers rate and phase
+abbrev pub start_of : ℕ → Data → Option Start
+start_of version json = do
+  start ← exactly (start_members version) json
   registers ← get (codes "R") start >>= numbers_of
   sixteen ← only_if (length registers == 16) registers
   h ← get (codes "H") start >>= number_of
   pc ← get (codes "PC") start >>= number_of
   flags ← get (codes "flags") start >>= number_of
-  Some (record { registers = sixteen; h = h; pc = pc; flags = flags })
+  rate ← since_2 version (codes "rate") start
+  phase ← since_2 version (codes "phase") start
+  Some (record { registers = sixteen; h = h; pc = pc; flags = flags; rate = rate; phase = phase })
 
 -- an object of exactly a number, at, and a text, hex
 abbrev pub page_of : Data → Option PageText
@@ -89,9 +107,8 @@ draft_of json = do
   session ← exactly 6 json
   format ← get (codes "format") session >>= text_of
   named ← only_if (bytes_eq format (codes "oberon-session")) format
-  version ← get (codes "version") session >>= number_of
-  first ← only_if (version == 1) version
-  start ← get (codes "start") session >>= start_of
+  version ← get (codes "version") session >>= version_of
+  start ← get (codes "start") session >>= start_of version
   pages ← get (codes "pages") session >>= pages_of
   inputs ← get (codes "inputs") session >>= inputs_of
   checkpoints ← get (codes "checkpoints") session >>= numbers_of
@@ -100,7 +117,7 @@ draft_of json = do
 -- ---- what the program's values say
 
 abbrev pub start_view : StartDraft → Start
-start_view s = record { registers = s.registers.items; h = s.h; pc = s.pc; flags = s.flags }
+start_view s = record { registers = s.registers.items; h = s.h; pc = s.pc; flags = s.flags; rate = s.rate; phase = s.phase }
 
 abbrev pub page_view : PageDraft → PageText
 page_view p = record { at = p.at; hex = p.hex.now }

@@ -1,5 +1,5 @@
 -- Laws of the definitions: what laying comes to, in the words of pages and places, and that a text has one answer.
-use Rattle.std.specs.Prelude.{ℕ, ◌≡◌, ◌≢◌, ◌+◌, ◌<◌, true, false, List, ◌++◌, All, Result, Ok, Err, filter, length, map, not, slice_index}
+use Rattle.std.specs.Prelude.{ℕ, ◌≡◌, ◌≢◌, ◌+◌, ◌<◌, true, false, List, ◌++◌, All, Some, Result, Ok, Err, filter, length, map, not, slice_index}
 use Rattle.std.specs.List.Sorted.{IsStrictlyIncreasing}
 use Rattle.risc_pages.specs.Content.{IsNamed, table_words}
 use Rattle.risc_pages.specs.Delta.{changed_below}
@@ -7,10 +7,10 @@ use Rattle.risc_pages.specs.Pages.{ArePages, page_at}
 use Rattle.oberon_session.specs.Digits.{PlacedWords}
 use Rattle.oberon_session.specs.Laid.{Laid, is_blank, lay}
 use Rattle.oberon_session.specs.Recorded.{numbered}
-use Rattle.oberon_session.specs.Session.{Breaks, IsSession}
+use Rattle.oberon_session.specs.Rules.{first_fault_of}
+use Rattle.oberon_session.specs.Session.{IsSession}
 use Rattle.oberon_session.specs.SessionParts.{SessionParts, places_in}
 use Rattle.oberon_session.specs.declared.fault.SessionFault.{SessionFault}
-use Rattle.oberon_session.specs.declared.fault.SessionFault.TheVariants.{Memory}
 
 -- a table of pages of the pool
 pub record IsTableOf (laid : Laid) : Type 0 where
@@ -50,10 +50,10 @@ FirstTableLaw =
     (pages : List PlacedWords) → IsStrictlyIncreasing (places_in pages) → All (λ place. place < 1024) (places_in pages)
     → IsFirstTable pages (numbered pages (length pages))
 
--- what a text says, where memory suffices: its session, or the first rule that it breaks
+-- what a text says, where memory suffices: its session, or the fault of the first rule that it breaks
 abbrev pub IsAnswer : List ℕ → Result SessionParts SessionFault → Type 0
 IsAnswer bytes (Ok session) = IsSession bytes session
-IsAnswer bytes (Err fault) = (fault ≢ Memory) × Breaks bytes fault
+IsAnswer bytes (Err fault) = first_fault_of bytes ≡ Some fault
 
 -- each text has an answer, and no other one
 abbrev pub OneAnswer : Type 0

@@ -2,6 +2,7 @@ pub mod Shape
 pub mod Draft
 pub mod Digits
 pub mod Ranges
+pub mod Rules
 pub mod SessionParts
 pub mod Session
 pub mod Tested

@@ -1,48 +1,60 @@
--- The ranges and the order of a session's numbers. All limits are this project's own choice; those of its recording are
--- named in `oberon_format`.
-use Rattle.std.specs.Prelude.{ℕ, ◌+◌, ◌^◌, ◌<◌, ◌≤◌, List, length, map, slice_index}
-use Rattle.std.specs.List.{All}
-use Rattle.std.specs.List.Sorted.{IsStrictlyIncreasing}
-use Rattle.risc_devices.specs.InputKind.{IsInput}
+-- The ranges and the order of a session's numbers, each as a test. All limits are this project's own choice; those of its recording
+-- are named in `oberon_format`.
+use Rattle.std.specs.Prelude.{ℕ, ◌^◌, ◌&&◌, nat_le, nat_lt, Bool, true, List, [], ◌∷◌, length, map}
+use Rattle.std.specs.List.{list_all}
+use Rattle.risc_devices.specs.DeviceState.{is_phase}
+use Rattle.risc_devices.specs.InputKind.{is_input}
 use Rattle.oberon_session.specs.Draft.{Draft, InputNumbers, PageText, Start}
 use Rattle.oberon_format.specs.declared.ranges.TheConstants.{LAST_CHECKPOINT, MAX_COUNT, MAX_EVENTS}
 
--- words, a program counter of 22 bits, and four flags
-abbrev pub StartFits : Start → Type 0
-StartFits start = All (λ register. register < 2 ^ 32) start.registers × (start.h < 2 ^ 32)
-    × (start.pc < 2 ^ 22) × (start.flags < 16)
+-- ---- ranges
+
+-- a timer's rate and phase: two words, of which the phase is below the rate, or 0 where the rate is 0
+abbrev pub timer_fits : ℕ → ℕ → Bool
+timer_fits rate phase = nat_lt rate (2 ^ 32) && nat_lt phase (2 ^ 32) && is_phase rate phase
+
+-- words, a program counter of 22 bits, four flags, and the timer's rate and phase
+abbrev pub start_fits : Start → Bool
+start_fits start =
+    list_all (λ register. nat_lt register (2 ^ 32)) start.registers
+    && nat_lt start.h (2 ^ 32)
+    && nat_lt start.pc (2 ^ 22)
+    && nat_lt start.flags 16
+    && timer_fits start.rate start.phase
 
 -- one of the 1,024 places, and digits of at most 1,024 bytes
-abbrev pub PageFits : PageText → Type 0
-PageFits page = (page.at < 1024) × (length page.hex ≤ 2048)
+abbrev pub page_fits : PageText → Bool
+page_fits page = nat_lt page.at 1024 && nat_le (length page.hex) 2048
 
 -- a count that a recording may have, and a value that the kind takes
-abbrev pub InputFits : InputNumbers → Type 0
-InputFits input = (input.count ≤ MAX_COUNT) × IsInput input.kind input.value
+abbrev pub input_fits : InputNumbers → Bool
+input_fits input = nat_le input.count MAX_COUNT && is_input input.kind input.value
 
 -- a count that a recording may have after checkpoint 0
-abbrev pub CountFits : ℕ → Type 0
-CountFits count = (1 ≤ count) × (count ≤ MAX_COUNT)
-
-abbrev pub PagesFit : List PageText → Type 0
-PagesFit pages = (length pages ≤ 1024) × All PageFits pages
-
-abbrev pub InputsFit : List InputNumbers → Type 0
-InputsFit inputs = (length inputs ≤ MAX_EVENTS) × All InputFits inputs
-
-abbrev pub CountsFit : List ℕ → Type 0
-CountsFit counts = (length counts ≤ LAST_CHECKPOINT) × All CountFits counts
+abbrev pub count_fits : ℕ → Bool
+count_fits count = nat_le 1 count && nat_le count MAX_COUNT
 
 -- each number is in its range, and there are few enough of them
-pub record InRange (draft : Draft) : Type 0 where
-  pub start : StartFits draft.start
-  pub pages : PagesFit draft.pages
-  pub inputs : InputsFit draft.inputs
-  pub checkpoints : CountsFit draft.checkpoints
+unfoldable pub in_range : Draft → Bool
+in_range draft =
+    start_fits draft.start
+    && (nat_le (length draft.pages) 1024 && list_all page_fits draft.pages)
+    && (nat_le (length draft.inputs) MAX_EVENTS && list_all input_fits draft.inputs)
+    && (nat_le (length draft.checkpoints) LAST_CHECKPOINT && list_all count_fits draft.checkpoints)
 
--- no number is below the one before it
-abbrev pub NeverFalls : List ℕ → Type 0
-NeverFalls xs = (k : ℕ) → k + 1 < length xs → slice_index xs k ≤ slice_index xs (k + 1)
+-- ---- order
+
+-- the test holds of each number and the next one
+abbrev pub of_neighbours : (ℕ → ℕ → Bool) → List ℕ → Bool
+of_neighbours test [] = true
+of_neighbours test (x ∷ []) = true
+of_neighbours test (x ∷ y ∷ ys) = test x y && of_neighbours test (y ∷ ys)
+
+abbrev pub rises : List ℕ → Bool
+rises = of_neighbours nat_lt
+
+abbrev pub never_falls : List ℕ → Bool
+never_falls = of_neighbours nat_le
 
 abbrev pub places_of : List PageText → List ℕ
 places_of pages = map (λ page. page.at) pages
@@ -51,7 +63,5 @@ abbrev pub input_counts : List InputNumbers → List ℕ
 input_counts inputs = map (λ input. input.count) inputs
 
 -- the places of pages rise, the counts of inputs never fall, and the counts of checkpoints rise
-pub record InOrder (draft : Draft) : Type 0 where
-  pub pages : IsStrictlyIncreasing (places_of draft.pages)
-  pub inputs : NeverFalls (input_counts draft.inputs)
-  pub checkpoints : IsStrictlyIncreasing draft.checkpoints
+unfoldable pub in_order : Draft → Bool
+in_order draft = rises (places_of draft.pages) && never_falls (input_counts draft.inputs) && rises draft.checkpoints

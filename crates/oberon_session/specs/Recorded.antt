@@ -6,7 +6,7 @@ use Rattle.risc_pages.specs.Content.{table_words}
 use Rattle.risc_pages.specs.Tables.{zero_numbers}
 use Rattle.risc_devices.specs.DeviceState.{DeviceState}
 use Rattle.risc_machine.specs.MachineState.{State}
-use Rattle.risc_machine.specs.Replay.{run_of, sent_of}
+use Rattle.risc_machine.specs.OneRun.{sent_between, state_from}
 use Rattle.oberon_format.specs.declared.ranges.TheConstants.{MAX_OUTPUT, MAX_PAGES}
 use Rattle.oberon_format.specs.CheckpointParts.{CheckpointParts}
 use Rattle.oberon_format.specs.Recording.{RecordingParts}
@@ -27,28 +27,29 @@ numbered pages (suc n) = slice_set (numbered pages n) (slice_index (places_in pa
 unfoldable pub first_laid : List PlacedWords → Laid
 first_laid pages = record { pool = map (λ page. page.words) pages; table = numbered pages (length pages) }
 
--- devices that are all zeros, with no keys; the timer doesn't count by itself
-abbrev pub no_devices : DeviceState
-no_devices = record { timer = 0; rate = 0; phase = 0; switches = 0; leds = 0; mouse = 0; serial = 0; received = false; keys = [] }
+-- devices that are all zeros, with no keys, save the timer's rate and phase
+abbrev pub first_devices : ℕ → ℕ → DeviceState
+first_devices rate phase =
+    record { timer = 0; rate = rate; phase = phase; switches = 0; leds = 0; mouse = 0; serial = 0; received = false; keys = [] }
 
 -- the state in which the session begins
 unfoldable pub first_state : SessionParts → State
 first_state s =
-    record { cpu = s.cpu; devices = no_devices; words = table_words (first_laid s.pages).pool (first_laid s.pages).table }
+    record { cpu = s.cpu; devices = first_devices s.rate s.phase; words = table_words (first_laid s.pages).pool (first_laid s.pages).table }
 
 -- ---- the one run from the first state
 
 -- the state at a count
-unfoldable pub state_at : SessionParts → ℕ → State
-state_at s n = run_of s.inputs 0 n (first_state s)
+abbrev pub state_at : SessionParts → ℕ → State
+state_at s n = state_from s.inputs (first_state s) n
 
 -- the bytes that are sent from one count up to another
-unfoldable pub output_between : SessionParts → ℕ → ℕ → List ℕ
-output_between s from to = sent_of s.inputs from (to - from) (state_at s from)
+abbrev pub output_between : SessionParts → ℕ → ℕ → List ℕ
+output_between s from to = sent_between s.inputs (first_state s) from to
 
 -- the bytes that are sent up to a count
-unfoldable pub output_up_to : SessionParts → ℕ → List ℕ
-output_up_to s n = sent_of s.inputs 0 n (first_state s)
+abbrev pub output_up_to : SessionParts → ℕ → List ℕ
+output_up_to s n = output_between s 0 n
 
 -- ---- the checkpoints
 

@@ -1,5 +1,5 @@
 -- What a session is, and which sessions are lawful. All limits are this project's own choice.
-use Rattle.std.specs.Prelude.{ℕ, ◌≡◌, ◌<◌, ◌≤◌, List, length, map}
+use Rattle.std.specs.Prelude.{ℕ, ◌≡◌, ◌<◌, ◌≤◌, IsTrue, List, length, map}
 use Rattle.std.specs.List.{All}
 use Rattle.std.specs.List.Sorted.{IsStrictlyIncreasing}
 use Rattle.risc_pages.specs.Pages.{IsPage}
@@ -8,14 +8,16 @@ use Rattle.risc_machine.specs.declared.event.Event.{Event}
 use Rattle.risc_machine.specs.InputOrder.{AreOrdered}
 use Rattle.risc_machine.specs.MachineState.{CpuState, IsCpuState, cpu_state}
 use Rattle.oberon_session.specs.Digits.{PlacedWords, placed_view}
-use Rattle.oberon_session.specs.Ranges.{CountsFit}
+use Rattle.oberon_session.specs.Ranges.{timer_fits}
 use Rattle.oberon_session.specs.declared.placed.PlacedPage.{PlacedPage}
-use Rattle.oberon_format.specs.declared.ranges.TheConstants.{MAX_EVENTS}
+use Rattle.oberon_format.specs.declared.ranges.TheConstants.{LAST_CHECKPOINT, MAX_COUNT, MAX_EVENTS}
 
--- the processor of the first state, the pages of its memory, whose other places are zeros, the inputs with their counts, and the
--- counts of checkpoints 1 to K. The devices of the first state are all zeros
+-- the processor of the first state, its timer's rate and phase, the pages of its memory, whose other places are zeros, the inputs
+-- with their counts, and the counts of checkpoints 1 to K. All else in the devices of the first state is zeros
 pub record SessionParts : Type 0 where
   pub cpu : CpuState
+  pub rate : ℕ
+  pub phase : ℕ
   pub pages : List PlacedWords
   pub inputs : List Event
   pub counts : List ℕ
@@ -24,11 +26,19 @@ pub record SessionParts : Type 0 where
 abbrev pub places_in : List PlacedWords → List ℕ
 places_in pages = map (λ page. page.at) pages
 
--- few enough pages, whose places rise; few enough inputs, in order; few enough checkpoints, whose counts rise from 1 on; and a
--- processor that runs
+-- a count that a recording may have after checkpoint 0
+abbrev pub CountFits : ℕ → Type 0
+CountFits count = (1 ≤ count) × (count ≤ MAX_COUNT)
+
+abbrev pub CountsFit : List ℕ → Type 0
+CountsFit counts = (length counts ≤ LAST_CHECKPOINT) × All CountFits counts
+
+-- few enough pages, whose places rise; few enough inputs, in order; few enough checkpoints, whose counts rise from 1 on; a
+-- processor that runs; and a rate and a phase that a timer can have
 pub record IsLawful (s : SessionParts) : Type 0 where
   pub cpu : IsCpuState s.cpu
   pub running : s.cpu.stop ≡ 0
+  pub timer : IsTrue (timer_fits s.rate s.phase)
   pub few : length s.pages ≤ 1024
   pub places : All (λ page. page.at < 1024) s.pages
   pub rising : IsStrictlyIncreasing (places_in s.pages)
@@ -39,6 +49,6 @@ pub record IsLawful (s : SessionParts) : Type 0 where
   pub rises : IsStrictlyIncreasing s.counts
 
 -- the session of these parts, as Rust has them
-abbrev pub session_of_parts : Cpu → List PlacedPage → List Event → List ℕ → SessionParts
-session_of_parts cpu pages inputs counts =
-    record { cpu = cpu_state cpu; pages = map placed_view pages; inputs = inputs; counts = counts }
+abbrev pub session_of_parts : Cpu → ℕ → ℕ → List PlacedPage → List Event → List ℕ → SessionParts
+session_of_parts cpu rate phase pages inputs counts =
+    record { cpu = cpu_state cpu; rate = rate; phase = phase; pages = map placed_view pages; inputs = inputs; counts = counts }

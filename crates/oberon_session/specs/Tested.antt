@@ -1,17 +1,59 @@
--- What single tests of a draft say. No public contract cites these.
-use Rattle.std.specs.Prelude.{◌≡◌, ◌+◌, ◌<◌, ◌≤◌, ℕ, List, length, map, slice_index_or, None, ⊤}
+-- What single tests of a draft say, in the words of their proofs. No public contract cites these; that the tests of the table are
+-- right about them stands in `proofs/Deciding.antt`.
+use Rattle.std.specs.Prelude.{◌≡◌, ◌+◌, ◌<◌, ◌≤◌, ◌^◌, ℕ, List, length, map, slice_index, slice_index_or, Some, None, IsTrue, IsUtf8, ⊤}
 use Rattle.std.specs.List.{All}
 use Rattle.std.specs.List.Sorted.{IsStrictlyIncreasing}
+use Rattle.serde_json.specs.Data.{Data}
+use Rattle.serde_json.specs.Read.{read}
+use Rattle.risc_devices.specs.InputKind.{IsInput}
 use Rattle.risc_machine.specs.declared.event.Event.{Event}
 use Rattle.risc_machine.specs.InputOrder.{AreOrdered}
 use Rattle.oberon_session.specs.Digits.{all_placed_of}
-use Rattle.oberon_session.specs.Draft.{Draft, InputNumbers, page_view, start_view}
-use Rattle.oberon_session.specs.Ranges.{CountsFit, InOrder, InRange, InputsFit, NeverFalls, PageFits, StartFits, input_counts}
-use Rattle.oberon_session.specs.Session.{numbers_of_event}
+use Rattle.oberon_session.specs.Draft.{Draft, InputNumbers, PageText, Start, draft_of, page_view, start_view}
+use Rattle.oberon_session.specs.Ranges.{input_counts, places_of, timer_fits}
+use Rattle.oberon_session.specs.Session.{Says, numbers_of_event}
+use Rattle.oberon_session.specs.SessionParts.{CountsFit, SessionParts}
 use Rattle.oberon_session.specs.declared.draft.Draft.{Draft as DraftValue}
 use Rattle.oberon_session.specs.declared.draft.PageDraft.{PageDraft}
 use Rattle.oberon_session.specs.declared.fault.SessionFault.{SessionFault}
 use Rattle.oberon_session.specs.declared.fault.SessionFault.TheVariants as fault
+use Rattle.oberon_format.specs.declared.ranges.TheConstants.{MAX_COUNT, MAX_EVENTS}
+
+-- ---- ranges and order
+
+abbrev pub StartFits : Start → Type 0
+StartFits start =
+    All (λ register. register < 2 ^ 32) start.registers × (start.h < 2 ^ 32) × (start.pc < 2 ^ 22) × (start.flags < 16)
+    × IsTrue (timer_fits start.rate start.phase)
+
+abbrev pub PageFits : PageText → Type 0
+PageFits page = (page.at < 1024) × (length page.hex ≤ 2048)
+
+abbrev pub InputFits : InputNumbers → Type 0
+InputFits input = (input.count ≤ MAX_COUNT) × IsInput input.kind input.value
+
+abbrev pub PagesFit : List PageText → Type 0
+PagesFit pages = (length pages ≤ 1024) × All PageFits pages
+
+abbrev pub InputsFit : List InputNumbers → Type 0
+InputsFit inputs = (length inputs ≤ MAX_EVENTS) × All InputFits inputs
+
+pub record InRange (draft : Draft) : Type 0 where
+  pub start : StartFits draft.start
+  pub pages : PagesFit draft.pages
+  pub inputs : InputsFit draft.inputs
+  pub checkpoints : CountsFit draft.checkpoints
+
+-- no number is below the one before it
+abbrev pub NeverFalls : List ℕ → Type 0
+NeverFalls xs = (k : ℕ) → k + 1 < length xs → slice_index xs k ≤ slice_index xs (k + 1)
+
+pub record InOrder (draft : Draft) : Type 0 where
+  pub pages : IsStrictlyIncreasing (places_of draft.pages)
+  pub inputs : NeverFalls (input_counts draft.inputs)
+  pub checkpoints : IsStrictlyIncreasing draft.checkpoints
+
+-- ---- a draft, as Rust has it
 
 -- each number is below the next
 abbrev pub RisesBy : {X : Type 0} → (X → ℕ) → List X → Type 0
@@ -53,3 +95,23 @@ pub record IsTested (draft : Draft) (inputs : List Event) : Type 0 where
   pub order : InOrder draft
   pub ordered : AreOrdered inputs
   pub numbers : map numbers_of_event inputs ≡ draft.inputs
+
+-- ---- a JSON value
+
+-- `serde_json` reads the text as this value
+abbrev pub IsJson : List ℕ → Data → Type 0
+IsJson bytes json = IsUtf8 bytes × (read bytes ≡ Some json)
+
+-- the value breaks no rule, and is that of this session
+abbrev pub IsSessionIn : Data → SessionParts → Type 0
+IsSessionIn json session = (draft : Draft) × (draft_of json ≡ Some draft) × InRange draft × InOrder draft × Says draft session
+
+-- this is the first rule that the value breaks
+abbrev pub BreaksIn : Data → SessionFault → Type 0
+BreaksIn json fault.Json = ⊥
+BreaksIn json fault.Shape = draft_of json ≡ None
+BreaksIn json fault.Range = (draft : Draft) × (draft_of json ≡ Some draft) × (InRange draft → ⊥)
+BreaksIn json fault.Order = (draft : Draft) × (draft_of json ≡ Some draft) × InRange draft × (InOrder draft → ⊥)
+BreaksIn json fault.Hex =
+    (draft : Draft) × (draft_of json ≡ Some draft) × InRange draft × InOrder draft × (all_placed_of draft.pages ≡ None)
+BreaksIn json fault.Memory = ⊤

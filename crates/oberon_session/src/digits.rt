@@ -4,7 +4,7 @@ ghost use Rattle.std.specs.Prelude.{◌≡◌, ◌≢◌, ◌↔◌, ◌<◌, �
 ghost use Rattle.std.specs.List.{All};
 ghost use Rattle.oberon_session.specs.Shape.{GivesOr};
 ghost use Rattle.oberon_session.specs.Draft.{page_view};
-ghost use Rattle.oberon_session.specs.Ranges.{PageFits};
+ghost use Rattle.oberon_session.specs.Tested.{PageFits};
 ghost use Rattle.oberon_session.specs.Digits.{all_placed_of, placed_of, placed_view, word_of_bytes, words_of_bytes};
 
 use crate::SessionFault;

@@ -24,6 +24,8 @@ pub struct StartDraft {
     pub h: u64,
     pub pc: u64,
     pub flags: u64,
+    pub rate: u64,
+    pub phase: u64,
     pub ghost sixteen: { length registers.items ≡ 16 },
 }
 

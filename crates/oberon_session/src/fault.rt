@@ -1,4 +1,4 @@
-//! Why a text is no session. What each rule is, and in which order they are tested, stands in `specs/`.
+//! Why a text is no session. The rules stand in the order in which they are tested in `specs/Rules.antt`.
 
 ghost use Rattle.std.specs.Prelude.{◌≡◌};
 ghost use Rattle.oberon_session.specs.FaultNames.{session_fault_name, session_fault_number};

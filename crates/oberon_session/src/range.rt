@@ -1,15 +1,17 @@
 //! The ranges of a session's numbers, and the order of its pages and checkpoints. Inputs are tested where they are made, in
 //! `events`.
 
-ghost use Rattle.std.specs.Prelude.{◌<◌, ◌^◌, ◌↔◌, IsTrue};
+ghost use Rattle.std.specs.Prelude.{◌≡◌, ◌<◌, ◌^◌, ◌↔◌, IsTrue};
 ghost use Rattle.std.specs.List.{All};
 ghost use Rattle.std.specs.List.Sorted.{IsStrictlyIncreasing};
 ghost use Rattle.oberon_session.specs.Draft.{start_view};
-ghost use Rattle.oberon_session.specs.Tested.{DraftPagesFit, NumbersFit, NumbersRise, RisesBy};
-ghost use Rattle.oberon_session.specs.Ranges.{CountsFit, StartFits};
+ghost use Rattle.oberon_session.specs.Tested.{DraftPagesFit, NumbersFit, NumbersRise, RisesBy, StartFits};
+ghost use Rattle.oberon_session.specs.Ranges.{timer_fits};
+ghost use Rattle.oberon_session.specs.SessionParts.{CountsFit};
 
 use crate::draft::{Draft, PageDraft, StartDraft};
 use oberon_format::{LAST_CHECKPOINT, MAX_COUNT};
+use risc_devices::is_phase_at;
 
 /// Whether the numbers of the first state, of pages and of checkpoints are in their ranges.
 pub fn is_in_range(draft: &Draft<'_>) -> bool
@@ -25,11 +27,22 @@ pub fn is_rising(draft: &Draft<'_>) -> bool
     places_rise(&draft.pages) && rises(&draft.checkpoints)
 }
 
-/// Whether registers, H, program counter and flags are in their ranges.
+/// Whether registers, H, program counter, flags, and the timer's rate and phase are in their ranges.
 fn start_fits(start: &StartDraft) -> bool
     ensures { IsTrue result ↔ StartFits (start_view start.now) }
 {
-    registers_fit(&start.registers) && start.h < 1 << 32 && start.pc < 1 << 22 && start.flags < 16
+    registers_fit(&start.registers)
+        && start.h < 1 << 32
+        && start.pc < 1 << 22
+        && start.flags < 16
+        && timer_fits(start.rate, start.phase)
+}
+
+/// Whether a timer can have this rate and this phase.
+fn timer_fits(rate: u64, phase: u64) -> bool
+    ensures { result ≡ timer_fits rate phase }
+{
+    rate < 1 << 32 && phase < 1 << 32 && is_phase_at(rate as u32, phase as u32)
 }
 
 fn registers_fit(registers: &[u64]) -> bool

@@ -5,9 +5,8 @@ ghost use Rattle.serde_json.specs.Errors.{IsMemory};
 ghost use Rattle.serde_json.specs.View.{view};
 ghost use Rattle.risc_machine.specs.MachineState.{cpu_state};
 ghost use Rattle.oberon_session.specs.Draft.{draft_view, start_view};
-ghost use Rattle.oberon_session.specs.Ranges.{InOrder, InRange, StartFits};
-ghost use Rattle.oberon_session.specs.Session.{Breaks, BreaksIn, IsSession, IsSessionIn, Says, cpu_of, flags_of};
-ghost use Rattle.oberon_session.specs.Tested.{BreaksDraft, IsTested};
+ghost use Rattle.oberon_session.specs.Session.{Breaks, IsSession, Says, cpu_of, flags_of};
+ghost use Rattle.oberon_session.specs.Tested.{BreaksDraft, BreaksIn, InOrder, InRange, IsSessionIn, IsTested, StartFits};
 
 use crate::SessionFault;
 use crate::digits::placed_pages;
@@ -74,6 +73,8 @@ fn session_of(alloc: Global, draft: Draft<'_>) -> Result<Session, SessionFault>
     let pages = placed_pages(alloc, &draft.pages)?;
     Ok(Session {
         cpu: cpu_of(&draft.start),
+        rate: draft.start.rate as u32,
+        phase: draft.start.phase as u32,
         pages,
         inputs,
         counts: draft.checkpoints,

@@ -1,12 +1,13 @@
 //! The recorder: the recording of a session.
 
 ghost use Rattle.std.specs.Prelude.{◌≡◌, ◌≢◌, ◌+◌, ◌<◌, ℕ, length, map, None, Some, IfOk, IfErr, OnOk};
+ghost use Rattle.risc_devices.specs.DeviceState.{IsPhase};
 ghost use Rattle.risc_machine.specs.InputOrder.{AreOrdered};
 ghost use Rattle.oberon_format.specs.CheckpointParts.{checkpoint_parts};
 ghost use Rattle.oberon_format.specs.Defined.{IsTrueAt};
 ghost use Rattle.oberon_format.specs.Parts.{parts_of};
 ghost use Rattle.oberon_format.specs.Recording.{IsLawful};
-ghost use Rattle.oberon_session.specs.Recorded.{no_devices, record_fault_of, recording_of};
+ghost use Rattle.oberon_session.specs.Recorded.{first_devices, record_fault_of, recording_of};
 ghost use Rattle.oberon_session.specs.Progress.{IsRecorded, laid_view};
 
 use crate::layout::{Layout, first_layout, lay_pages};
@@ -57,7 +58,7 @@ fn begin(alloc: Global, session: &Session) -> Result<Recorder, RecordFault>
     let first = Checkpoint {
         count: 0,
         cpu: session.cpu(),
-        devices: zero_devices(),
+        devices: first_devices(session.rate(), session.phase()),
         sent: Sent::new(Vec::new(alloc)),
         table: layout.table.copy(),
     };
@@ -70,11 +71,12 @@ fn begin(alloc: Global, session: &Session) -> Result<Recorder, RecordFault>
     })
 }
 
-/// Devices that are all zeros.
-fn zero_devices() -> Devices
-    ensures { result ≡ no_devices }
+/// Devices that are all zeros, save the timer's rate and phase.
+fn first_devices(rate: u32, phase: u32) -> Devices
+    requires { IsPhase rate phase }
+    ensures { result ≡ first_devices rate phase }
 {
-    match Devices::new(0, 0, 0, 0, 0, 0, 0, &[]) {
+    match Devices::new(0, rate, phase, 0, 0, 0, 0, &[]) {
         Ok(devices) => devices,
         Err(_) => unreachable!(),
     }

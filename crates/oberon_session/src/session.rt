@@ -11,15 +11,18 @@ use std::marker::Model;
 /// | what | limit |
 /// |---|---|
 /// | program counter of the first state | below 2^22 |
+/// | the timer's rate and phase in it | below 2^32, the phase below the rate, or 0 where the rate is 0 |
 /// | pages of the first state's memory | at most 1,024, their places below 1,024 and rising |
 /// | inputs | at most 1,000,000, their counts not falling and at most 2^40 |
 /// | checkpoints | at most 4,096, their counts from 1 to 2^40 and rising |
 ///
-/// The first state is not stopped, its devices are all zeros, and so is its memory where no page stands. All limits are this
+/// The first state is not stopped, all else in its devices is zeros, and so is its memory where no page stands. All limits are this
 /// project's own choice. In contracts a session is the record of its parts.
 #[derive(Drop)]
 pub struct Session {
     pub(crate) cpu: Cpu,
+    pub(crate) rate: u32,
+    pub(crate) phase: u32,
     pub(crate) pages: Vec<PlacedPage>,
     pub(crate) inputs: Inputs,
     pub(crate) counts: Vec<u64>,
@@ -30,9 +33,9 @@ impl Model for Session {
 
     ghost Value = { SessionParts };
 
-    ghost view = { λ s. session_of_parts s.cpu s.pages.items s.inputs s.counts.items };
+    ghost view = { λ s. session_of_parts s.cpu s.rate s.phase s.pages.items s.inputs s.counts.items };
 
-    ghost invariant = { λ s. IsLawful (session_of_parts s.cpu s.pages.items s.inputs s.counts.items) };
+    ghost invariant = { λ s. IsLawful (session_of_parts s.cpu s.rate s.phase s.pages.items s.inputs s.counts.items) };
 }
 
 impl Session {
@@ -47,6 +50,22 @@ impl Session {
         ensures lawful { IsLawful self.now }
     {
         self.cpu
+    }
+
+    /// The rate of the first state's timer.
+    pub(crate) fn rate(&self) -> u32
+        ensures rate { result ≡ self.now.rate }
+        ensures lawful { IsLawful self.now }
+    {
+        self.rate
+    }
+
+    /// The phase of the first state's timer.
+    pub(crate) fn phase(&self) -> u32
+        ensures phase { result ≡ self.now.phase }
+        ensures lawful { IsLawful self.now }
+    {
+        self.phase
     }
 
     /// The pages of the first state's memory, each with its place.

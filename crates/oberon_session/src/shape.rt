@@ -3,7 +3,7 @@
 ghost use Rattle.std.specs.Prelude.{◌≡◌, map};
 ghost use Rattle.serde_json.specs.View.{view};
 ghost use Rattle.oberon_session.specs.Shape.{Gives};
-ghost use Rattle.oberon_session.specs.Draft.{draft_of, draft_view, input_of, input_view, inputs_of, kind_of, page_of, page_view, pages_of, start_of, start_view};
+ghost use Rattle.oberon_session.specs.Draft.{draft_of, draft_view, input_of, input_view, inputs_of, kind_of, page_of, page_view, pages_of, since_2, start_members, start_of, start_view, version_of};
 
 use crate::SessionFault;
 use crate::draft::{Draft, InputDraft, PageDraft, StartDraft};
@@ -16,23 +16,34 @@ pub fn read_draft<'a>(alloc: Global, value: &'a Value) -> Result<Draft<'a>, Sess
     ensures { Gives draft_view (draft_of (view value.now)) result }
 {
     let session = exactly(value, 6)?;
-    if text(member(session, "format")?)? != "oberon-session"
-        || number(member(session, "version")?)? != 1
-    {
+    if text(member(session, "format")?)? != "oberon-session" {
         return Err(SessionFault::Shape);
     }
+    let version = version(member(session, "version")?)?;
     Ok(Draft {
-        start: start(alloc, member(session, "start")?)?,
+        start: start(alloc, member(session, "start")?, version)?,
         pages: pages(alloc, member(session, "pages")?)?,
         inputs: inputs(alloc, member(session, "inputs")?)?,
         checkpoints: numbers(alloc, member(session, "checkpoints")?)?,
     })
 }
 
-fn start(alloc: Global, value: &Value) -> Result<StartDraft, SessionFault>
-    ensures { Gives start_view (start_of (view value.now)) result }
+/// The version, 1 or 2.
+fn version(value: &Value) -> Result<u64, SessionFault>
+    ensures { Gives (λ n. n) (version_of (view value.now)) result }
 {
-    let start = exactly(value, 4)?;
+    let version = number(value)?;
+    if version == 1 || version == 2 {
+        Ok(version)
+    } else {
+        Err(SessionFault::Shape)
+    }
+}
+
+fn start(alloc: Global, value: &Value, version: u64) -> Result<StartDraft, SessionFault>
+    ensures { Gives start_view (start_of version (view value.now)) result }
+{
+    let start = exactly(value, start_members(version))?;
     let registers = numbers(alloc, member(start, "R")?)?;
     if registers.len() != 16 {
         return Err(SessionFault::Shape);
@@ -42,7 +53,26 @@ fn start(alloc: Global, value: &Value) -> Result<StartDraft, SessionFault>
         h: number(member(start, "H")?)?,
         pc: number(member(start, "PC")?)?,
         flags: number(member(start, "flags")?)?,
+        rate: since_2(version, "rate", start)?,
+        phase: since_2(version, "phase", start)?,
     })
+}
+
+/// How many members the first state has.
+fn start_members(version: u64) -> usize
+    ensures { result ≡ start_members version }
+{
+    if version == 1 { 4 } else { 6 }
+}
+
+/// A number that version 2 has by this name, and that is 0 in version 1.
+fn since_2(version: u64, name: &str, value: &Value) -> Result<u64, SessionFault>
+    ensures { Gives (λ n. n) (since_2 version name.now (view value.now)) result }
+{
+    if version == 1 {
+        return Ok(0);
+    }
+    number(member(value, name)?)
 }
 
 fn pages<'a>(alloc: Global, value: &'a Value) -> Result<Vec<PageDraft<'a>>, SessionFault>

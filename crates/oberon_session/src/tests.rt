@@ -130,7 +130,7 @@ const FAULTS_AFTER_START: [(&str, SessionFault); 29] = [
 ];
 
 /// Whole texts that break a rule at their start.
-const FAULTS_AT_START: [(&str, SessionFault); 11] = [
+const FAULTS_AT_START: [(&str, SessionFault); 13] = [
     ("", SessionFault::Json),
     ("[]", SessionFault::Shape),
     (
@@ -158,6 +158,14 @@ const FAULTS_AT_START: [(&str, SessionFault); 11] = [
         SessionFault::Shape,
     ),
     (
+        "{\"format\":\"oberon-session\",\"version\":0,\"start\":{\"R\":[0,0,0,0,0,0,0,0,0,0,0,0,0,0,0,0],\"H\":0,\"PC\":0,\"flags\":0},\"pages\":[],\"inputs\":[],\"checkpoints\":[]}",
+        SessionFault::Shape,
+    ),
+    (
+        "{\"format\":\"oberon-session\",\"version\":1,\"start\":{\"R\":[0,0,0,0,0,0,0,0,0,0,0,0,0,0,0,0],\"H\":0,\"PC\":0,\"flags\":0,\"rate\":0,\"phase\":0},\"pages\":[],\"inputs\":[],\"checkpoints\":[]}",
+        SessionFault::Shape,
+    ),
+    (
         "{\"format\":\"oberon-session\",\"version\":1,\"start\":{\"R\":[0,0,0,0,0,0,0,0,0,0,0,0,0,0,0],\"H\":0,\"PC\":0,\"flags\":0},\"pages\":[],\"inputs\":[],\"checkpoints\":[]}",
         SessionFault::Shape,
     ),
@@ -168,6 +176,35 @@ const FAULTS_AT_START: [(&str, SessionFault); 11] = [
     (
         "{\"format\":\"oberon-session\",\"version\":1,\"start\":{\"R\":[0,0,0,0,0,0,0,0,0,0,0,0,0,0,0,4294967296],\"H\":0,\"PC\":0,\"flags\":0},\"pages\":[],\"inputs\":[],\"checkpoints\":[]}",
         SessionFault::Range,
+    ),
+];
+
+/// How a text of version 2 begins, up to the rate and the phase.
+const START_2: &str =
+    "{\"format\":\"oberon-session\",\"version\":2,\"start\":{\"R\":[0,0,0,0,0,0,0,0,0,0,0,0,0,0,0,0],\"H\":0,\"PC\":0,\"flags\":0";
+
+/// What its first state has besides, and the first fault of the whole.
+const RATES: [(&str, Option<SessionFault>); 12] = [
+    (",\"rate\":0,\"phase\":0", None),
+    (",\"rate\":10,\"phase\":9", None),
+    (",\"phase\":4294967294,\"rate\":4294967295", None),
+    ("", Some(SessionFault::Shape)),
+    (",\"rate\":10", Some(SessionFault::Shape)),
+    (",\"rate\":10,\"phases\":9", Some(SessionFault::Shape)),
+    (",\"rate\":\"10\",\"phase\":9", Some(SessionFault::Shape)),
+    (
+        ",\"rate\":10,\"phase\":9,\"timer\":0",
+        Some(SessionFault::Shape),
+    ),
+    (",\"rate\":10,\"phase\":10", Some(SessionFault::Range)),
+    (",\"rate\":0,\"phase\":1", Some(SessionFault::Range)),
+    (
+        ",\"rate\":4294967296,\"phase\":0",
+        Some(SessionFault::Range),
+    ),
+    (
+        ",\"rate\":0,\"phase\":4294967296",
+        Some(SessionFault::Range),
     ),
 ];
 
@@ -230,6 +267,27 @@ fn gives_the_first_fault(rt: HostRuntime) -> Result<(), Fail> {
         assert!(rt; fault_of(alloc, text.as_bytes()) == Some(*fault));
     }
     assert!(rt; fault_of(alloc, &[123, 255, 125]) == Some(SessionFault::Json));
+    Ok(())
+}
+
+#[test]
+fn reads_rate_and_phase(rt: HostRuntime) -> Result<(), Fail> {
+    let alloc = rt.alloc();
+    for (rest, fault) in RATES {
+        let text = format!(in alloc;
+            "{START_2}{rest}}},\"pages\":[],\"inputs\":[],\"checkpoints\":[]}}"
+        )?;
+        assert!(rt; fault_of(alloc, text.as_bytes()) == fault);
+    }
+    let text = format!(in alloc;
+        "{START_2},\"rate\":10,\"phase\":9}},\"pages\":[],\"inputs\":[],\"checkpoints\":[]}}"
+    )?;
+    let session = read_session(alloc, text.as_bytes()).map_err(|_| "a session")?;
+    assert!(rt; session.rate == 10 && session.phase == 9);
+    // in version 1 they are 0
+    let text = format!(in alloc; "{START}\"pages\":[],\"inputs\":[],\"checkpoints\":[]}}")?;
+    let session = read_session(alloc, text.as_bytes()).map_err(|_| "a session")?;
+    assert!(rt; session.rate == 0 && session.phase == 0);
     Ok(())
 }
 

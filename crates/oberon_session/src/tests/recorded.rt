@@ -1,6 +1,6 @@
 //! Sessions that are recorded or refused: worked examples.
 
-use super::START;
+use super::{START, START_2};
 use crate::{RecordFault, make_recording, read_session};
 use oberon_format::{Recording, write};
 use std::alloc::Global;
@@ -30,14 +30,14 @@ const FILLS: &str =
 /// Where the bytes of the stored run stand that are not 0.
 const STORED_RUN: [(usize, [u8; 4]); 9] = [
     (0, [0x4F, 0x52, 0x53, 0x52]),
-    (4, [1, 0, 0, 0]),
+    (4, [2, 0, 0, 0]),
     (8, [1, 0, 0, 0]),
     (16, [2, 0, 0, 0]),
     (24, [5, 0, 0, 0x40]),
-    (1_180, [1, 0, 0, 0]),
-    (5_276, [100, 0, 0, 0]),
-    (5_284, [5, 0, 0, 0]),
-    (5_352, [100, 0, 0, 0]),
+    (1_188, [1, 0, 0, 0]),
+    (1_196, [1, 0, 0, 0]),
+    (1_200, [100, 0, 0, 0]),
+    (1_208, [5, 0, 0, 0]),
 ];
 
 /// What comes of a session whose first page begins with these digits, with checkpoints at these counts.
@@ -73,13 +73,13 @@ fn number_at(rt: &impl Abort, recording: &Recording, k: u32) -> u32 {
 fn records_the_stored_run(rt: HostRuntime) -> Result<(), Fail> {
     let alloc = rt.alloc();
     let recording = recorded(alloc, "05000040", "100")?.map_err(|_| "a recording")?;
-    let mut want = [0; 9_504];
+    let mut want = [0; 1_344];
     for (place, bytes) in STORED_RUN {
         for i in 0..4 {
             want[place + i] = bytes[i];
         }
     }
-    want[5_408] = 1;
+    want[1_276] = 100;
     let text = write(alloc, &recording)?;
     assert!(rt; text.as_slice() == want.as_slice());
     Ok(())
@@ -93,7 +93,24 @@ fn lays_a_page_that_changed(rt: HostRuntime) -> Result<(), Fail> {
     for (k, number) in [(0, 0), (1, 2), (2, 0), (3, 0)] {
         assert!(rt; number_at(&rt, &recording, k) == number);
     }
-    assert!(rt; write(alloc, &recording)?.len() == 18_984);
+    assert!(rt; write(alloc, &recording)?.len() == 2_672);
+    Ok(())
+}
+
+#[test]
+fn records_a_timer_that_counts(rt: HostRuntime) -> Result<(), Fail> {
+    let alloc = rt.alloc();
+    let text = format!(in alloc;
+        "{START_2},\"rate\":10,\"phase\":9}},\"pages\":[],\"inputs\":[[25,\"timer\",100]],\"checkpoints\":[25,30]}}"
+    )?;
+    let session = read_session(alloc, text.as_bytes()).map_err(|_| "a session")?;
+    let recording = make_recording(alloc, &session).map_err(|_| "a recording")?;
+    for (k, timer, phase) in [(0, 0, 9), (1, 3, 4), (2, 100, 9)] {
+        assert!(rt; k < recording.count());
+        let devices = &recording.checkpoint(k).devices;
+        assert!(rt; devices.rate() == 10);
+        assert!(rt; devices.timer() == timer && devices.phase() == phase);
+    }
     Ok(())
 }
 

@@ -9,5 +9,5 @@ pub invariant_of-result : goal.invariant_of-result
 invariant_of-result c =
     let tested = c.in_ok-inputs.ensures.ok in
     let many = sym (length-map c.in_ok-inputs.inputs numbers_of_event) ∙ ap (λ (l : List InputNumbers). length l) tested.numbers in
-    is-lawful (draft_view c.args.draft) c.cpu_of.result c.in_ok-pages.pages.items c.in_ok-inputs.inputs c.args.draft.checkpoints.items
-    tested.range tested.order tested.ordered many c.cpu_of.ensures (rw c.deref.ensures.value at c.in_ok-pages.ensures) refl
+    is-lawful (draft_view c.args.draft) c.cpu_of.result _ _ c.in_ok-pages.pages.items c.in_ok-inputs.inputs c.args.draft.checkpoints.items
+    tested.range tested.order tested.ordered many c.cpu_of.ensures refl refl (rw c.deref.ensures.value at c.in_ok-pages.ensures) refl

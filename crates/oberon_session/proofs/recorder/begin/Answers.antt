@@ -1,11 +1,11 @@
-use Rattle.std.proofs.Common.{◌<◌, ◌∙◌, ap, map}
+use Rattle.std.proofs.Common.{◌<◌, ◌∙◌, ap, ap₂, map}
 use Rattle.risc_machine.specs.MachineState.{cpu_state}
 use Rattle.oberon_format.specs.CheckpointParts.{checkpoint_parts}
-use Rattle.oberon_session.proofs.Begun.{one-checkpoint, so-first}
+use Rattle.oberon_session.proofs.Begun.{one-checkpoint, so-first, timer-phase}
 use Rattle.oberon_session.proofs.Mapped.{unmapped}
 use Rattle.oberon_session.specs.Digits.{PlacedWords, placed_view}
 use Rattle.oberon_session.specs.Laid.{Laid}
-use Rattle.oberon_session.specs.Recorded.{first_laid}
+use Rattle.oberon_session.specs.Recorded.{first_devices, first_laid}
 use Rattle.oberon_session.specs.Progress.{laid_view}
 use Rattle.oberon_session.proofs.recorder.begin.Goals as goal
 
@@ -13,13 +13,18 @@ pub first_layout-requires-clause-places : goal.first_layout-requires-clause-plac
 first_layout-requires-clause-places c =
     unmapped placed_view (λ (page : PlacedWords). page.at < 1024) c.pages.result.now (rw c.pages.ensures.pages c.pages.ensures.lawful.places)
 
+pub first_devices-requires : goal.first_devices-requires
+first_devices-requires c =
+    rw (c.rate.ensures.rate, c.phase.ensures.phase) (timer-phase c.args.session.now.rate c.args.session.now.phase c.rate.ensures.lawful.timer)
+
 pub returns-clause-recorded : goal.returns-clause-recorded
 returns-clause-recorded c =
     let s = c.args.session.now in
     let laid-so = c.in_ok-layout.ensures ∙ ap first_laid c.pages.ensures.pages in
     let table = c.copy.ensures ∙ ap (λ (l : Laid). l.table) laid-so in
     let sent = c.new-2.ensures ∙ c.new.ensures.items in
+    let devices = c.first_devices.ensures ∙ ap₂ first_devices c.rate.ensures.rate c.phase.ensures.phase in
     let pushed = rw c.in_ok-checkpoints.ensures.items at c.in_ok-push.ensures.items in
     so-first s c.pages.ensures.lawful (laid_view c.in_ok-layout.layout) laid-so (map checkpoint_parts c.push.new.self.items)
     (ap (map checkpoint_parts) pushed
-    ∙ one-checkpoint s (cpu_state c.cpu.result) c.zero_devices.result c.new-2.result c.copy.result c.cpu.ensures.cpu c.zero_devices.ensures sent table)
+    ∙ one-checkpoint s (cpu_state c.cpu.result) c.first_devices.result c.new-2.result c.copy.result c.cpu.ensures.cpu devices sent table)

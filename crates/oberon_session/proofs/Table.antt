@@ -1,0 +1,175 @@
+-- What the table of rules comes to for a text of which this is known.
+use Rattle.std.proofs.Common.{◌≡◌, ◌↔◌, ◌<◌, ◌≤◌, ◌∙◌, ℕ, Bool, true, false, List, [], ◌∷◌, Option, Some, None, arith, ap, cond, length, refl, sym, take}
+use Rattle.std.proofs.lemmas.Bool.{cond-true, false_from_ne_true, le-leb, lt-leb}
+use Rattle.std.proofs.lemmas.List.{length-take}
+use Rattle.std.proofs.lemmas.List.Elements.{All-cons, All-nil}
+use Rattle.std.proofs.lemmas.Str.{is_utf8-from_IsUtf8, IsUtf8-from_is_utf8}
+use Rattle.std.specs.List.{All}
+use Rattle.std.specs.Option.{is_some}
+use Rattle.std.specs.Prelude.{IsUtf8, nat_le}
+use Rattle.std.specs.Str.{is_utf8}
+use Rattle.serde_json.specs.Data.{Data}
+use Rattle.serde_json.specs.Read.{read}
+use Rattle.oberon_session.proofs.Deciding.{decides-order, decides-range}
+use Rattle.oberon_session.specs.Digits.{PlacedWords, all_placed_of}
+use Rattle.oberon_session.specs.Draft.{Draft, draft_of}
+use Rattle.oberon_session.specs.Ranges.{in_order, in_range}
+use Rattle.oberon_session.specs.Rules.{Rule, draft_in, first_broken, first_fault_of, in_digits, json_of, rules, says}
+use Rattle.oberon_session.specs.Session.{Breaks, Fits, IsSession}
+use Rattle.oberon_session.specs.SessionParts.{SessionParts}
+use Rattle.oberon_session.specs.Shape.{◌>>=◌}
+use Rattle.oberon_session.specs.Tested.{BreaksIn, InOrder, InRange, IsJson, IsSessionIn}
+use Rattle.oberon_session.specs.declared.fault.SessionFault.{SessionFault}
+use Rattle.oberon_session.specs.declared.fault.SessionFault.TheVariants.{Json, Shape, Range, Order, Hex, Memory}
+
+-- the table of a text: whether it is short enough, its value, and what it says
+abbrev table : Bool → Option Data → Option Draft → Option SessionFault
+table fits json draft =
+    first_broken ((fits, Range) ∷ (is_some json, Json) ∷ (is_some draft, Shape) ∷ (says in_range draft, Range) ∷ (says in_order draft, Order) ∷ (says in_digits draft, Hex) ∷ [])
+
+-- the part of it that is about a draft
+abbrev table-on : Draft → Option SessionFault
+table-on draft = first_broken ((in_range draft, Range) ∷ (in_order draft, Order) ∷ (in_digits draft, Hex) ∷ [])
+
+module _ (bytes : List ℕ) where
+  by-table : first_fault_of bytes ≡ table (nat_le (length bytes) 67108864) (json_of bytes) (draft_in bytes)
+  unfolding first_fault_of
+  by-table = refl
+
+  -- a text that is too long
+  pub fault-long : 67108864 < length bytes → first_fault_of bytes ≡ Some Range
+  fault-long long = by-table ∙ ap (λ (fits : Bool). table fits (json_of bytes) (draft_in bytes)) (lt-leb (length bytes) 67108864 long)
+
+  module _ (fits : Fits bytes) where
+    by-json : (json : Option Data) → json_of bytes ≡ json → first_fault_of bytes ≡ table true json (json >>= draft_of)
+    by-json json is =
+        by-table ∙ ap (λ (b : Bool). table b (json_of bytes) (draft_in bytes)) (le-leb (length bytes) 67108864 fits)
+        ∙ ap (λ (j : Option Data). table true j (j >>= draft_of)) is
+
+    -- one without a value
+    pub fault-json : (IsUtf8 bytes → read bytes ≡ None) → first_fault_of bytes ≡ Some Json
+    fault-json none = by-json None (go (is_utf8 bytes) refl)
+      where
+        go : (b : Bool) → is_utf8 bytes ≡ b → cond b (read bytes) None ≡ None
+        go true is = none (IsUtf8-from_is_utf8 bytes is)
+        go false is = refl
+
+    -- one of a value
+    module _ (json : Data) (is : IsJson bytes json) where
+      value-is : json_of bytes ≡ Some json
+      value-is = cond-true (is_utf8 bytes) (read bytes) None (is_utf8-from_IsUtf8 bytes is.0) ∙ is.1
+
+      by-draft : (draft : Option Draft) → draft_of json ≡ draft → first_fault_of bytes ≡ table true (Some json) draft
+      by-draft draft shape = by-json (Some json) value-is ∙ ap (λ (d : Option Draft). table true (Some json) d) shape
+
+      draft-is : (draft : Draft) → draft_of json ≡ Some draft → draft_in bytes ≡ Some draft
+      draft-is draft shape = ap (λ (j : Option Data). j >>= draft_of) value-is ∙ shape
+
+-- ---- a draft
+
+module _ (draft : Draft) where
+  range-held : InRange draft → in_range draft ≡ true
+  range-held range = (decides-range draft).1 range
+
+  order-held : InOrder draft → in_order draft ≡ true
+  order-held order = (decides-order draft).1 order
+
+  on-range : (InRange draft → ⊥) → table-on draft ≡ Some Range
+  on-range out =
+      let test : in_range draft ≡ false = false_from_ne_true _ (λ h. out ((decides-range draft).0 h)) in
+      rw test refl
+
+  on-order : InRange draft → (InOrder draft → ⊥) → table-on draft ≡ Some Order
+  on-order range out =
+      let test : in_order draft ≡ false = false_from_ne_true _ (λ h. out ((decides-order draft).0 h)) in
+      rw (range-held range, test) refl
+
+  on-digits : InRange draft → InOrder draft → (pages : Option (List PlacedWords)) → all_placed_of draft.pages ≡ pages
+      → table-on draft ≡ first_broken ((is_some pages, Hex) ∷ [])
+  on-digits range order pages is =
+      ap (λ (b : Bool). first_broken ((b, Range) ∷ (in_order draft, Order) ∷ (in_digits draft, Hex) ∷ [])) (range-held range)
+      ∙ ap (λ (b : Bool). first_broken ((b, Order) ∷ (in_digits draft, Hex) ∷ [])) (order-held order)
+      ∙ ap (λ (p : Option (List PlacedWords)). first_broken ((is_some p, Hex) ∷ [])) is
+
+-- ---- what the tests of a value say of its text
+
+module _ (bytes : List ℕ) (fits : Fits bytes) (json : Data) (is : IsJson bytes json) where
+  on-draft : (draft : Draft) → draft_of json ≡ Some draft → first_fault_of bytes ≡ table-on draft
+  on-draft draft shape = by-draft bytes fits json is (Some draft) shape
+
+  pub breaks-text : (fault : SessionFault) → BreaksIn json fault → Breaks bytes fault
+  breaks-text Json h = absurd h
+  breaks-text Shape h = by-draft bytes fits json is None h
+  breaks-text Range h = on-draft h.0 h.1 ∙ on-range h.0 h.2
+  breaks-text Order h = on-draft h.0 h.1 ∙ on-order h.0 h.2 h.3
+  breaks-text Hex h = on-draft h.0 h.1 ∙ on-digits h.0 h.2 h.3 None h.4
+  breaks-text Memory h = fits
+
+  pub session-text : (session : SessionParts) → IsSessionIn json session → IsSession bytes session
+  session-text session h =
+      (on-draft h.0 h.1 ∙ on-digits h.0 h.2 h.3 (Some session.pages) h.4.pages, h.0, draft-is bytes fits json is h.0 h.1, h.4)
+
+module _ (bytes : List ℕ) (fits : Fits bytes) where
+  -- the fault of a text that `serde_json` refuses
+  pub refused-text : (lacks : Type 0) (fault : SessionFault) → (fault ≡ Memory) ↔ lacks → (fault ≡ Json) ↔ (lacks → ⊥)
+      → ((lacks → ⊥) → IsUtf8 bytes → read bytes ≡ None) → Breaks bytes fault
+  refused-text lacks fault memory json none = go fault memory json
+    where
+      other : (own : SessionFault) → (own ≡ Memory → ⊥) → (own ≡ Json → ⊥) → (own ≡ Memory) ↔ lacks → (own ≡ Json) ↔ (lacks → ⊥) → ⊥
+      other own not-memory not-json memory json = not-json (json.1 (λ l. not-memory (memory.1 l)))
+
+      go : (own : SessionFault) → (own ≡ Memory) ↔ lacks → (own ≡ Json) ↔ (lacks → ⊥) → Breaks bytes own
+      go Json memory json = fault-json bytes fits (none (json.0 refl))
+      go Shape memory json = absurd (other Shape (λ e. cc) (λ e. cc) memory json)
+      go Range memory json = absurd (other Range (λ e. cc) (λ e. cc) memory json)
+      go Order memory json = absurd (other Order (λ e. cc) (λ e. cc) memory json)
+      go Hex memory json = absurd (other Hex (λ e. cc) (λ e. cc) memory json)
+      go Memory memory json = fits
+
+-- ---- a text that breaks no rule
+
+all-hold : (rs : List Rule) → first_broken rs ≡ None → All (λ rule. rule.0 ≡ true) rs
+all-hold [] none = All-nil (λ rule. rule.0 ≡ true)
+all-hold ((true, fault) ∷ rs) none = All-cons (λ rule. rule.0 ≡ true) (true, fault) rs refl (all-hold rs none)
+all-hold ((false, fault) ∷ rs) none = absurd cc
+
+some-of : {X : Type 0} (o : Option X) → is_some o ≡ true → (x : X) × (o ≡ Some x)
+some-of (Some x) h = (x, refl)
+some-of None h = absurd cc
+
+-- what it says
+pub record IsFaultless (bytes : List ℕ) : Type 0 where
+  pub draft : Draft
+  pub shape : draft_in bytes ≡ Some draft
+  pub range : InRange draft
+  pub order : InOrder draft
+  pub pages : List PlacedWords
+  pub placed : all_placed_of draft.pages ≡ Some pages
+
+pub faultless : (bytes : List ℕ) → first_fault_of bytes ≡ None → IsFaultless bytes
+unfolding first_fault_of
+faultless bytes none =
+    let hold = all-hold (rules bytes) none in
+    let rule : Rule = (true, Json) in
+    let shaped : is_some (draft_in bytes) ≡ true = hold 2 rule (omega arith) in
+    let ranged : says in_range (draft_in bytes) ≡ true = hold 3 rule (omega arith) in
+    let ordered : says in_order (draft_in bytes) ≡ true = hold 4 rule (omega arith) in
+    let written : says in_digits (draft_in bytes) ≡ true = hold 5 rule (omega arith) in
+    let found = some-of (draft_in bytes) shaped in
+    let placed = some-of (all_placed_of found.0.pages) (sym (ap (says in_digits) found.1) ∙ written) in
+    record {
+      draft = found.0;
+      shape = found.1;
+      range = (decides-range found.0).0 (sym (ap (says in_range) found.1) ∙ ranged);
+      order = (decides-order found.0).0 (sym (ap (says in_order) found.1) ∙ ordered);
+      pages = placed.0;
+      placed = placed.1;
+    }
+
+-- ---- a text that is cut off
+
+-- one that is cut off behind more bytes than a session may have has the fault of the whole
+pub fault-cut : (n : ℕ) (bytes : List ℕ) → 67108864 < n → n ≤ length bytes → first_fault_of (take n bytes) ≡ first_fault_of bytes
+fault-cut n bytes over within =
+    let long : 67108864 < length (take n bytes) = simp length-take (omega arith) in
+    fault-long (take n bytes) long ∙ sym (fault-long bytes (omega arith))

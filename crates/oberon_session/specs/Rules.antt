@@ -1,0 +1,53 @@
+-- The rules of a session's text, in the order in which they are tested, each with the fault of a text that breaks it.
+use Rattle.std.specs.Prelude.{ℕ, nat_le, Bool, true, List, [], ◌∷◌, length, Option, Some, None, if◌then◌else◌}
+use Rattle.std.specs.Option.{is_some}
+use Rattle.std.specs.Str.{is_utf8}
+use Rattle.serde_json.specs.Data.{Data}
+use Rattle.serde_json.specs.Read.{read}
+use Rattle.oberon_session.specs.Digits.{all_placed_of}
+use Rattle.oberon_session.specs.Draft.{Draft, draft_of}
+use Rattle.oberon_session.specs.Ranges.{in_order, in_range}
+use Rattle.oberon_session.specs.Shape.{◌>>=◌}
+use Rattle.oberon_session.specs.declared.fault.SessionFault.{SessionFault}
+use Rattle.oberon_session.specs.declared.fault.SessionFault.TheVariants as fault
+
+-- a rule: whether it holds, and the fault where it doesn't
+abbrev pub Rule : Type 0
+Rule = Bool × SessionFault
+
+-- the fault of the first rule that is broken
+abbrev pub first_broken : List Rule → Option SessionFault
+first_broken [] = None
+first_broken ((holds, fault) ∷ rules) = if holds then first_broken rules else Some fault
+
+-- the JSON value of a text in UTF-8, as `serde_json` reads it
+abbrev pub json_of : List ℕ → Option Data
+json_of bytes = if is_utf8 bytes then read bytes else None
+
+-- what the text says, where its value has the shape of a session
+abbrev pub draft_in : List ℕ → Option Draft
+draft_in bytes = json_of bytes >>= draft_of
+
+-- a rule on what the text says. Where it says nothing, a rule before this one is broken
+abbrev pub says : (Draft → Bool) → Option Draft → Bool
+says test None = true
+says test (Some draft) = test draft
+
+-- all pages are written in pairs of hexadecimal digits
+abbrev pub in_digits : Draft → Bool
+in_digits draft = is_some (all_placed_of draft.pages)
+
+-- all rules
+abbrev pub rules : List ℕ → List Rule
+rules bytes =
+    (nat_le (length bytes) 67108864, fault.Range)
+    ∷ (is_some (json_of bytes), fault.Json)
+    ∷ (is_some (draft_in bytes), fault.Shape)
+    ∷ (says in_range (draft_in bytes), fault.Range)
+    ∷ (says in_order (draft_in bytes), fault.Order)
+    ∷ (says in_digits (draft_in bytes), fault.Hex)
+    ∷ []
+
+-- the fault of the first rule that the text breaks
+unfoldable pub first_fault_of : List ℕ → Option SessionFault
+first_fault_of bytes = first_broken (rules bytes)
