@@ -11,5 +11,6 @@ pub mod Gathered
 pub mod Parts
 pub mod Answered
 pub mod Lines
+pub mod Migrations
 pub mod Examples
 pub mod Sent

@@ -1,5 +1,6 @@
 -- Laws of the definitions.
-use Rattle.std.specs.Prelude.{◌≡◌, ℕ, List}
+use Rattle.std.specs.Prelude.{◌≡◌, ◌↔◌, ℕ, List}
+use Rattle.oberon_format.specs.Migration.{IsMigrated}
 use Rattle.oberon_format.specs.Recording.{RecordingParts, IsLawful}
 use Rattle.oberon_format.specs.Text.{AreBytes}
 use Rattle.oberon_check.specs.declared.verdict.Verdict.{Verdict}
@@ -18,3 +19,9 @@ OneLine =
     (text : List ℕ) → AreBytes text
     → (line : List ℕ) × (status : ℕ) × IsLineOf text line status
     × ((other : List ℕ) (number : ℕ) → IsLineOf text other number → (other ≡ line) × (number ≡ status))
+
+-- Migration leaves the line: the line and the status of a migrated text are those of the text.
+abbrev pub SameLine : Type 0
+SameLine =
+    (text migrated : List ℕ) → AreBytes text → AreBytes migrated → IsMigrated text migrated
+    → (line : List ℕ) (status : ℕ) → IsLineOf text line status ↔ IsLineOf migrated line status

@@ -1,5 +1,5 @@
 //! The laws of this crate's definitions, each the contract of a function that does nothing.
-ghost use Rattle.oberon_check.specs.Laws.{OneLine, OneVerdict};
+ghost use Rattle.oberon_check.specs.Laws.{OneLine, OneVerdict, SameLine};
 
 use oberon_format::{one_recording, text_or_fault};
 
@@ -11,6 +11,14 @@ pub const fn verdict_law()
 /// A byte text has exactly one line with one status.
 pub fn line_law()
     ensures { OneLine }
+{
+    one_recording();
+    text_or_fault();
+}
+
+/// The line and the status of a migrated text are those of the text.
+pub fn migration_law()
+    ensures { SameLine }
 {
     one_recording();
     text_or_fault();
