@@ -9,18 +9,19 @@ use Rattle.clap.proofs.OnLiterals.{clap_on_literals}
 use Rattle.clap.specs.Walk.{Text}
 use Rattle.clap.specs.declared.error.kind.ErrorKind.TheVariants.{DisplayHelp}
 use Rattle.oberon_check.specs.Headline.{IsLineOf, IsLineOfFault}
-use Rattle.oberon_session.specs.Session.{Breaks, Fits}
+use Rattle.oberon_session.proofs.Table.{fault-cut, fault-long}
+use Rattle.oberon_session.specs.Session.{Breaks}
 use Rattle.oberon_session.specs.declared.fault.SessionFault.{SessionFault}
 use Rattle.oberon_session.specs.declared.fault.SessionFault.TheVariants as fault
 use Rattle.oberon_replay.specs.Answer.{IsAnswer, limit_of}
 use Rattle.oberon_replay.specs.Asked.{IsHelp, asked, faults}
 use Rattle.oberon_replay.specs.Reply.{AnswersAll, IsReplyTo, IsSent, Outcome, answer, failure, help}
+use Rattle.oberon_replay.specs.Migrate.{IsMigration}
 use Rattle.oberon_replay.specs.Record.{IsRecord}
 use Rattle.oberon_replay.specs.Screen.{IsScreen}
 use Rattle.oberon_replay.specs.Known.{Known}
-use Rattle.oberon_replay.specs.Transfer.{Fails, GainsFront, GainsWhole, Goes}
 use Rattle.oberon_replay.specs.declared.words.Request.{Request}
-use Rattle.oberon_replay.specs.declared.words.Request.TheVariants.{Check, Record, Screen}
+use Rattle.oberon_replay.specs.declared.words.Request.TheVariants.{Check, Migrate, Record, Screen}
 use Rattle.oberon_replay.specs.declared.failure.Failure.TheVariants.{Memory, Read, Words}
 use Rattle.oberon_format.specs.declared.layout.TheConstants.{LONGEST_TEXT}
 use Rattle.oberon_format.proofs.Cut.{cut_is_no_text, first_fault_of-take}
@@ -58,23 +59,26 @@ cut_screen : (n at : ℕ) (bytes text : List ℕ) (status : ℕ) → LONGEST_TEX
 cut_screen n at bytes text status over within (inl is) = absurd (cut_is_no_text n bytes is.recording over within is.read)
 cut_screen n at bytes text status over within (inr is) = inr (cut_fault n bytes text status over within is)
 
--- a text that is cut off behind more bytes than a session may have is too long
-not_cut : (n : ℕ) (bytes : List ℕ) → 67108865 ≤ n → n ≤ length bytes → Fits (take n bytes) → ⊥
-not_cut n bytes over within fits = omega (arith, simp length-take at fits)
+-- and that of `migrate`
+cut_migration : (n : ℕ) (bytes text : List ℕ) (status : ℕ) → LONGEST_TEXT < n → n ≤ length bytes → IsMigration (take n bytes) text status → IsMigration bytes text status
+cut_migration n bytes text status over within (inl is) = absurd (cut_is_no_text n bytes is.migrated.recording over within is.migrated.read)
+cut_migration n bytes text status over within (inr is) = inr (cut_fault n bytes text status over within is)
 
--- and the first rule that it breaks, its length, is that of the whole
+-- the fault of a session's text that is cut off behind more bytes than a session may have is that of the whole
 cut_breaks : (n : ℕ) (bytes : List ℕ) (f : SessionFault) → 67108865 ≤ n → n ≤ length bytes → Breaks (take n bytes) f → Breaks bytes f
-cut_breaks n bytes fault.Json over within is = absurd (not_cut n bytes over within is.0)
-cut_breaks n bytes fault.Shape over within is = absurd (not_cut n bytes over within is.0)
-cut_breaks n bytes fault.Range over within (inl long) = inl (omega arith)
-cut_breaks n bytes fault.Range over within (inr is) = absurd (not_cut n bytes over within is.1.0)
-cut_breaks n bytes fault.Order over within is = absurd (not_cut n bytes over within is.1.0)
-cut_breaks n bytes fault.Hex over within is = absurd (not_cut n bytes over within is.1.0)
-cut_breaks n bytes fault.Memory over within is = absurd (not_cut n bytes over within is)
+cut_breaks n bytes fault.Json over within is = sym (fault-cut n bytes (omega arith) within) ∙ is
+cut_breaks n bytes fault.Shape over within is = sym (fault-cut n bytes (omega arith) within) ∙ is
+cut_breaks n bytes fault.Range over within is = sym (fault-cut n bytes (omega arith) within) ∙ is
+cut_breaks n bytes fault.Order over within is = sym (fault-cut n bytes (omega arith) within) ∙ is
+cut_breaks n bytes fault.Hex over within is = sym (fault-cut n bytes (omega arith) within) ∙ is
+cut_breaks n bytes fault.Memory over within is = absurd (omega (arith, simp length-take at is))
 
 -- so the answer of `record` is that to the whole
 cut_record : (n : ℕ) (bytes text : List ℕ) (status : ℕ) → 67108865 ≤ n → n ≤ length bytes → IsRecord (take n bytes) text status → IsRecord bytes text status
-cut_record n bytes text status over within (inl is) = absurd (not_cut n bytes over within is.read.1.0)
+cut_record n bytes text status over within (inl is) =
+    let long = fault-long (take n bytes) (simp length-take (omega arith)) in
+    let bad : None ≡ Some fault.Range = sym is.read.0 ∙ long in
+    absurd cc
 cut_record n bytes text status over within (inr is) = inr (record { fault = is.fault; first = cut_breaks n bytes is.fault over within is.first; refusal = is.refusal })
 
 -- a fact of the first n bytes that holds of all of them, where there are more
@@ -95,6 +99,8 @@ whole_answer Record bytes text status =
     whole (λ input. IsRecord input text status) 67108865 bytes (λ within. cut_record 67108865 bytes text status (omega arith) within)
 whole_answer (Screen at) bytes text status =
     whole (λ input. IsScreen at input text status) (LONGEST_TEXT + 1) bytes (λ within. cut_screen (LONGEST_TEXT + 1) at bytes text status (omega arith) within)
+whole_answer Migrate bytes text status =
+    whole (λ input. IsMigration input text status) (LONGEST_TEXT + 1) bytes (λ within. cut_migration (LONGEST_TEXT + 1) bytes text status (omega arith) within)
 
 -- no words ask for no help
 no_help : IsHelp [] → ⊥

@@ -2,7 +2,7 @@
 use Rattle.std.proofs.Common.{◌≡◌, [], ◌∷◌, Some, None, refl, codes, inl}
 use Rattle.clap.proofs.OnLiterals.{clap_on_literals}
 use Rattle.oberon_replay.specs.Asked.{IsHelp, asked, faults, found}
-use Rattle.oberon_replay.specs.declared.words.Request.TheVariants.{Check, Record, Screen}
+use Rattle.oberon_replay.specs.declared.words.Request.TheVariants.{Check, Migrate, Record, Screen}
 
 pub check : asked (codes "check" ∷ []) ≡ Some (Check 2 1)
 unfolding clap_on_literals faults found
@@ -27,6 +27,14 @@ record_surplus = refl
 pub screen : asked (codes "screen" ∷ codes "--at" ∷ codes "0" ∷ []) ≡ Some (Screen 0)
 unfolding clap_on_literals faults found
 screen = refl
+
+pub migrate : asked (codes "migrate" ∷ []) ≡ Some Migrate
+unfolding clap_on_literals faults found
+migrate = refl
+
+pub migrate_at : asked (codes "migrate" ∷ codes "--at" ∷ codes "1" ∷ []) ≡ None
+unfolding clap_on_literals faults found
+migrate_at = refl
 
 pub too_many_workers : asked (codes "check" ∷ codes "--workers" ∷ codes "65" ∷ []) ≡ None
 unfolding clap_on_literals faults found

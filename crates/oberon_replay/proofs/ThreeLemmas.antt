@@ -9,12 +9,13 @@ use Rattle.oberon_check.specs.declared.verdict.Verdict.{Verdict}
 use Rattle.oberon_check.specs.declared.verdict.Verdict.TheVariants.{Accepted, FalseAt}
 use Rattle.oberon_replay.specs.Answer.{IsAnswer}
 use Rattle.oberon_replay.specs.Known.{Known}
+use Rattle.oberon_replay.specs.Migrate.{IsMigration}
 use Rattle.oberon_replay.specs.Record.{IsRecord, IsRecordOf}
 use Rattle.oberon_replay.specs.Reply.{IsReplyTo, IsSent, IsThreeForFaults, Outcome, answer, failure, failure_line, help}
 use Rattle.oberon_replay.specs.Screen.{IsScreen, IsScreenOf}
 use Rattle.oberon_replay.specs.Transfer.{Fails, GainsWhole, Goes}
 use Rattle.oberon_replay.specs.declared.words.Request.{Request}
-use Rattle.oberon_replay.specs.declared.words.Request.TheVariants.{Check, Record, Screen}
+use Rattle.oberon_replay.specs.declared.words.Request.TheVariants.{Check, Migrate, Record, Screen}
 use Rattle.oberon_replay.specs.declared.failure.Failure.TheVariants.{Memory, Read, Words}
 
 verdict_status : (verdict : Verdict) → status_of verdict < 3
@@ -41,11 +42,16 @@ screen_status : (at : ℕ) (input text : List ℕ) (status : ℕ) → IsScreen a
 screen_status at input text status (inl is) = shown_status is.recording at text status is.screen
 screen_status at input text status (inr is) = omega (arith, is.status_is)
 
+migration_status : (input text : List ℕ) (status : ℕ) → IsMigration input text status → status < 3
+migration_status input text status (inl is) = omega (arith, is.status_is)
+migration_status input text status (inr is) = omega (arith, is.status_is)
+
 -- a command's own answer has another status
 answer_status : (request : Request) (input text : List ℕ) (status : ℕ) → IsAnswer request input text status → status < 3
 answer_status (Check workers cut) input text status is = line_status input text status is
 answer_status Record input text status is = record_status input text status is
 answer_status (Screen at) input text status is = screen_status at input text status is
+answer_status Migrate input text status is = migration_status input text status is
 
 -- where no call failed, none has
 still : (old new : Known) → Goes old new → old.failed ≡ false → Fails new → ⊥

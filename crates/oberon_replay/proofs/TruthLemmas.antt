@@ -2,17 +2,18 @@
 use Rattle.std.proofs.Common.{◌<◌, ℕ, List, arith, inl, length, refl}
 use Rattle.oberon_format.specs.Defined.{IsTrueAt}
 use Rattle.oberon_format.specs.Recording.{RecordingParts, count_at, last_of}
-use Rattle.oberon_format.specs.Text.{Text}
+use Rattle.oberon_format.specs.Text.{TextIn}
+use Rattle.oberon_format.specs.declared.layout.TheConstants.{VERSION}
 use Rattle.oberon_check.specs.declared.verdict.Verdict.TheVariants.{Accepted}
 use Rattle.oberon_replay.specs.Record.{IsAccepted}
 
-pub accepted : (r : RecordingParts) (text : List ℕ) → Text text r → ((k : ℕ) → k < length r.checkpoints → IsTrueAt r k) → IsAccepted r text
+pub accepted : (r : RecordingParts) (text : List ℕ) → TextIn VERSION text r → ((k : ℕ) → k < length r.checkpoints → IsTrueAt r k) → IsAccepted r text
 accepted r text is_text truth = inl (record {
   recording = r;
-  is_text = is_text;
+  is_text = record { version = VERSION; is = is_text };
   verdict = Accepted (last_of r) (count_at r (last_of r));
   is_verdict = record {
-    true_at = λ k above within. truth k (omega (arith, is_text.is.lawful.some));
+    true_at = λ k above within. truth k (omega (arith, is_text.lawful.some));
     checkpoints_is = refl;
     steps_is = refl;
   };

@@ -1,10 +1,11 @@
 -- What each command answers to the bytes of an input.
 use Rattle.std.specs.Prelude.{ℕ, ◌+◌, List, Option, Some, None}
 use Rattle.oberon_check.specs.Headline.{IsLineOf}
+use Rattle.oberon_replay.specs.Migrate.{IsMigration}
 use Rattle.oberon_replay.specs.Record.{IsRecord}
 use Rattle.oberon_replay.specs.Screen.{IsScreen}
 use Rattle.oberon_replay.specs.declared.words.Request.{Request}
-use Rattle.oberon_replay.specs.declared.words.Request.TheVariants.{Check, Record, Screen}
+use Rattle.oberon_replay.specs.declared.words.Request.TheVariants.{Check, Migrate, Record, Screen}
 use Rattle.oberon_format.specs.declared.layout.TheConstants.{LONGEST_TEXT}
 
 -- the most bytes that the command reads: one more than the longest text of a recording has, or that of a session may have
@@ -12,6 +13,7 @@ abbrev pub limit_of : Request → ℕ
 limit_of (Check workers cut) = LONGEST_TEXT + 1
 limit_of Record = 67108865
 limit_of (Screen at) = LONGEST_TEXT + 1
+limit_of Migrate = LONGEST_TEXT + 1
 
 -- the most bytes that are read where the words ask for this: none where they ask for no command
 abbrev pub limit_for : Option Request → ℕ
@@ -23,3 +25,4 @@ abbrev pub IsAnswer : Request → List ℕ → List ℕ → ℕ → Type 0
 IsAnswer (Check workers cut) input text status = IsLineOf input text status
 IsAnswer Record input text status = IsRecord input text status
 IsAnswer (Screen at) input text status = IsScreen at input text status
+IsAnswer Migrate input text status = IsMigration input text status

@@ -12,7 +12,7 @@ use Rattle.clap.specs.declared.error.kind.ErrorKind.{ErrorKind}
 use Rattle.clap.specs.declared.error.kind.ErrorKind.TheVariants.{DisplayHelp, OutOfMemory}
 use Rattle.oberon_replay.specs.Program.{program_app}
 use Rattle.oberon_replay.specs.declared.words.Request.{Request}
-use Rattle.oberon_replay.specs.declared.words.Request.TheVariants.{Check, Record, Screen}
+use Rattle.oberon_replay.specs.declared.words.Request.TheVariants.{Check, Migrate, Record, Screen}
 use Rattle.oberon_replay.specs.declared.words.Refusal.{Refusal}
 use Rattle.oberon_replay.specs.declared.words.Refusal.TheVariants.{Help, Words, Memory}
 use Rattle.oberon_format.specs.declared.ranges.TheConstants.{LAST_CHECKPOINT}
@@ -35,6 +35,7 @@ abbrev pub IsWithinLimits : Request → Type 0
 IsWithinLimits (Check workers cut) = (1 ≤ workers) × (workers ≤ 64) × (1 ≤ cut) × (cut ≤ LAST_CHECKPOINT)
 IsWithinLimits Record = ⊤
 IsWithinLimits (Screen at) = at ≤ LAST_CHECKPOINT
+IsWithinLimits Migrate = ⊤
 
 -- what a subcommand with its arguments asks for
 abbrev pub request_of : Text → List Row → Option Request
@@ -42,6 +43,7 @@ request_of name rows =
     if bytes_eq name (codes "check") then check_of rows
     else if bytes_eq name (codes "record") then Some Record
     else if bytes_eq name (codes "screen") then option_map Screen (number_at 0 LAST_CHECKPOINT (codes "at") rows)
+    else if bytes_eq name (codes "migrate") then Some Migrate
     else None
 
 -- the kinds of fault that `clap` finds in the words

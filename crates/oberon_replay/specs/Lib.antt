@@ -2,6 +2,7 @@
 pub mod Answer
 pub mod Asked
 pub mod Known
+pub mod Migrate
 pub mod Program
 pub mod Record
 pub mod Reply

@@ -48,12 +48,16 @@ record_app = new_app (codes "record")
 abbrev pub screen_app : App
 screen_app = with_rule (new_app (codes "screen")) at_rule
 
--- one of three commands has to stand there, with no program's name before it
+-- `migrate`, with none
+abbrev pub migrate_app : App
+migrate_app = new_app (codes "migrate")
+
+-- one of four commands has to stand there, with no program's name before it
 abbrev pub program_shape : Shape
 program_shape =
     record (new_shape (codes "oberon_replay")) { no_binary_name = true; subcommand_required = true }
 
 abbrev pub program_app : App
 program_app =
-    with_subcommand (with_subcommand (with_subcommand (record { top = program_shape; subs = [] }) check_app.top) record_app.top)
-    screen_app.top
+    with_subcommand (with_subcommand (with_subcommand (with_subcommand (record { top = program_shape; subs = [] }) check_app.top)
+    record_app.top) screen_app.top) migrate_app.top

@@ -4,6 +4,7 @@ ghost use Rattle.oberon_check.specs.Headline.{IsLineOf};
 ghost use Rattle.oberon_replay.specs.Answer.{IsAnswer, limit_of};
 ghost use Rattle.oberon_replay.specs.Asked.{IsWithinLimits};
 
+use crate::migrate::migrate;
 use crate::record::record;
 use crate::reply::Reply;
 use crate::screen::screen;
@@ -27,7 +28,7 @@ impl Request {
         ensures { result ≡ limit_of self }
     {
         match self {
-            Request::Check { .. } | Request::Screen { .. } => RECORDING_LIMIT,
+            Request::Check { .. } | Request::Screen { .. } | Request::Migrate => RECORDING_LIMIT,
             Request::Record => SESSION_LIMIT,
         }
     }
@@ -47,6 +48,7 @@ pub fn answer<H: Threads + Wait + Sync>(
         Request::Check { workers, cut } => check(rt, alloc, bytes, workers, cut),
         Request::Record => record(alloc, bytes),
         Request::Screen { at } => screen(alloc, bytes, at),
+        Request::Migrate => migrate(alloc, bytes),
     }
 }
 

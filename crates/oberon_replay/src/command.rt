@@ -2,26 +2,27 @@
 //! What the words of a run ask for is in `words`.
 ghost use Rattle.std.specs.Prelude.{◌≡◌, IfOk, false};
 ghost use Rattle.clap.specs.Words.{app_of, rule_of};
-ghost use Rattle.oberon_replay.specs.Program.{at_rule, check_app, cut_rule, program_app, record_app, screen_app, workers_rule};
+ghost use Rattle.oberon_replay.specs.Program.{at_rule, check_app, cut_rule, migrate_app, program_app, record_app, screen_app, workers_rule};
 ghost use Rattle.clap.specs.declared.builder.command.Command.TheViews.{out-Command as fields_of};
 
 use clap::{Arg, ArgAction, Command, value_parser};
 use oberon_format::LAST_CHECKPOINT;
 use std::alloc::{AllocError, Global};
 
-/// The command line of the program: one of three commands, with no program's name before it.
+/// The command line of the program: one of four commands, with no program's name before it.
 pub fn program<'a>(alloc: Global) -> Result<Command<'a>, AllocError>
     ensures app { IfOk result (λ command. app_of command ≡ program_app) }
 {
     Command::new(alloc, "oberon_replay")
         .about(
-            "Records sessions of a Project Oberon workstation, checks recordings, and shows their screens",
+            "Records sessions of a Project Oberon workstation, checks and migrates recordings, and shows their screens",
         )
         .no_binary_name(true)
         .subcommand_required(true)
         .subcommand(check(alloc)?)?
         .subcommand(record(alloc))?
-        .subcommand(screen(alloc)?)
+        .subcommand(screen(alloc)?)?
+        .subcommand(migrate(alloc))
 }
 
 fn check<'a>(alloc: Global) -> Result<Command<'a>, AllocError>
@@ -54,6 +55,15 @@ fn screen<'a>(alloc: Global) -> Result<Command<'a>, AllocError>
             "Prints the screen that a checkpoint of the recording on standard input claims, as a PBM picture",
         )
         .arg(at(alloc))
+}
+
+fn migrate<'a>(alloc: Global) -> Command<'a>
+    ensures app { app_of result ≡ migrate_app }
+    ensures local { (fields_of result).has_globals ≡ false }
+{
+    Command::new(alloc, "migrate").about(
+        "Prints the recording on standard input as a text of the version that is written now",
+    )
 }
 
 fn workers<'a>(alloc: Global) -> Arg<'a>

@@ -1,4 +1,5 @@
-//! The program `oberon_replay`: records sessions of a Project Oberon workstation, checks recordings, and shows their screens.
+//! The program `oberon_replay`: records sessions of a Project Oberon workstation, checks and migrates recordings, and shows their
+//! screens.
 //!
 //! It reads standard input, writes standard output and nothing on standard error, and ends with the status of `serve`, which is the
 //! whole program as a function over any reader and writer. Here is only what binds it to the process.
@@ -11,8 +12,10 @@ ghost use Rattle.oberon_replay.specs.Reply.{AnswersAll, IsSentText, IsThreeForFa
 mod answer;
 mod command;
 mod failure;
+mod migrate;
 mod reading;
 mod record;
+mod refusal;
 mod reply;
 mod screen;
 mod serve;

@@ -1,11 +1,11 @@
 //! What the command `screen` answers: the screen that a checkpoint claims. The recording isn't replayed.
-ghost use Rattle.std.specs.Prelude.{◌≡◌, ◌≢◌, ◌<◌, length, IfOk, OnErr};
+ghost use Rattle.std.specs.Prelude.{◌≡◌, ◌<◌, length, IfOk};
 ghost use Rattle.risc_devices.specs.Picture.{IsPicture};
-ghost use Rattle.oberon_format.specs.Line.{fault_line};
 ghost use Rattle.oberon_replay.specs.Screen.{IsScreen, IsScreenOf, display_of, missing_line};
 
+use crate::refusal::{of_text, refused};
 use crate::reply::Reply;
-use oberon_format::{Fault, Recording, read, refusal};
+use oberon_format::{Recording, read};
 use risc_devices::picture;
 use risc_pages::Memory;
 use std::alloc::{AllocError, Global};
@@ -61,25 +61,4 @@ fn missing(alloc: Global, at: u32) -> Result<Reply, AllocError>
         text: line.into_bytes(),
         status: 2,
     })
-}
-
-/// The fault of a text. Want of memory is none.
-fn of_text(fault: Fault) -> Result<Fault, AllocError>
-    ensures ok { IfOk result (λ same. (same ≡ fault) × (fault ≢ Fault.Memory)) }
-    ensures err { OnErr result (fault ≡ Fault.Memory) }
-{
-    match fault {
-        Fault::Memory => Err(AllocError),
-        fault => Ok(fault),
-    }
-}
-
-/// The answer where the text has a fault.
-fn refused(alloc: Global, fault: Fault) -> Result<Reply, AllocError>
-    requires { fault ≢ Fault.Memory }
-    ensures text { IfOk result (λ reply. reply.text.items ≡ fault_line fault) }
-    ensures status { IfOk result (λ reply. reply.status ≡ 2) }
-{
-    let text = refusal(alloc, &fault)?;
-    Ok(Reply { text, status: 2 })
 }

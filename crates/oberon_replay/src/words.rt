@@ -18,6 +18,8 @@ pub enum Request {
     Record,
     /// Show the screen that checkpoint `at`, of 0 to 4,096, of the recording that is read claims.
     Screen { at: u32 },
+    /// Print the recording that is read as a text of the version that is written.
+    Migrate,
 }
 
 /// Why the words ask for none of these.
@@ -84,6 +86,7 @@ fn request_of(matches: &ArgMatches<'_>) -> Option<Request>
         "screen" => Some(Request::Screen {
             at: whole_number(inner, "at", 0, LAST_CHECKPOINT)?,
         }),
+        "migrate" => Some(Request::Migrate),
         _ => None,
     }
 }

@@ -29,7 +29,7 @@ fn front(text: &[u8], length: usize) -> &[u8] {
 }
 
 /// Reads a text without fault, and texts with each of the eight faults, and prints what came of each.
-pub fn texts<H: AllocGlobal + Print>(rt: &H) -> io::Result<()> {
+pub(crate) fn texts<H: AllocGlobal + Print>(rt: &H) -> io::Result<()> {
     let text = sound();
     match read(rt.alloc(), front(&text, LENGTH)) {
         Ok(_) => println!(rt; "sound: read")?,

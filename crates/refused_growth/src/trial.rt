@@ -16,14 +16,14 @@ const RATE: u32 = 3;
 
 /// A program from word 0 on, in a memory that is zero elsewhere.
 #[derive(Clone, Copy)]
-pub struct Trial {
+pub(crate) struct Trial {
     pub name: &'static str,
     pub program: [u32; 4],
 }
 
 impl Trial {
     /// Runs the program, prints what was refused and what then stood, goes on from there, and prints where it came to.
-    pub fn run<H: AllocGlobal + Print>(&self, rt: &H) -> io::Result<()> {
+    pub(crate) fn run<H: AllocGlobal + Print>(&self, rt: &H) -> io::Result<()> {
         let alloc = rt.alloc();
         let mut output = Vec::new(alloc);
         let Ok(pool) = self.pool(alloc) else {

@@ -448,8 +448,24 @@ fn check_each(
         assert_eq!(rt; written.as_slice(), line.as_bytes());
         assert_eq!(rt; ended, *status, "{line}");
         check_with_each(rt, &text, line, *status);
+        check_migrated(rt, &text, line, *status);
     }
     Ok(())
+}
+
+/// Checks the migrated text, which migrated again is itself.
+fn check_migrated(
+    rt: &(impl Abort + AllocGlobal + Threads + Wait + Sync),
+    text: &[u8],
+    line: &str,
+    status: u8,
+) {
+    let (migrated, ended) = served(rt, &["migrate"], text);
+    assert_eq!(rt; ended, 0);
+    let (again, ended) = served(rt, &["migrate"], &migrated);
+    assert!(rt; again.as_slice() == migrated.as_slice());
+    assert_eq!(rt; ended, 0);
+    check_with_each(rt, &migrated, line, status);
 }
 
 /// Checks the text with few workers and many, and with jobs of one segment and of more.

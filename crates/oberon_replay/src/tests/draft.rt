@@ -1,4 +1,4 @@
-//! Recordings laid out by hand: a header, zeros, and numbers put at their places.
+//! Recordings laid out by hand, as texts of either version: a header, zeros, and numbers put at their places.
 ghost use Rattle.std.specs.Prelude.{◌≤◌};
 
 use std::alloc::{AllocError, Global};
@@ -19,6 +19,11 @@ pub enum Spot {
     Pc(u8),
     Flags(u8),
     Stop(u8),
+    Timer(u8),
+    /// The timer's rate, for which only a text of version 2 has a place.
+    Rate(u8),
+    /// The timer's phase, for which only a text of version 2 has a place.
+    Phase(u8),
     Leds(u8),
     /// How many keys wait.
     Waiting(u8),
@@ -31,8 +36,8 @@ pub enum Spot {
 }
 
 use Spot::{
-    Count, EventCount, EventKind, EventValue, Flags, Keys, Leds, Pc, Place, Register, Sent, Stop,
-    Waiting, Word,
+    Count, EventCount, EventKind, EventValue, Flags, Keys, Leds, Pc, Phase, Place, Rate, Register,
+    Sent, Stop, Timer, Waiting, Word,
 };
 
 /// A recording to lay out: how many pages, events and checkpoints it has, its numbers that aren't 0, and its output.
@@ -46,15 +51,79 @@ pub struct Draft<'a> {
 }
 
 impl Draft<'_> {
-    /// The text with these changes.
+    /// The text of version 2. Its tables have no places from 64 on that aren't 0.
+    pub fn second_text(&self, alloc: Global) -> Result<Vec<u8>, AllocError> {
+        let mut text = vec![in alloc; 0u8; self.event(self.events)]?;
+        self.put_header(&mut text, 2);
+        for (spot, number) in self.numbers {
+            if let Word(..) | EventCount(..) | EventKind(..) | EventValue(..) = spot {
+                put(&mut text, self.offset(*spot), *number);
+            }
+        }
+        for k in 0..self.checkpoints {
+            self.push_checkpoint(&mut text, k)?;
+        }
+        text.extend_from_slice(self.output)?;
+        Ok(text)
+    }
+
+    /// Adds checkpoint k as version 2 has it.
+    fn push_checkpoint(&self, text: &mut Vec<u8>, k: u8) -> Result<(), AllocError> {
+        let start = text.len();
+        text.extend_from_slice(&[0; 144])?;
+        for (spot, number) in self.numbers {
+            if let Some(offset) = offset_in(*spot, k) {
+                put(text, start.saturating_add(offset), *number);
+            }
+        }
+        let mut changes = 0u32;
+        for place in 0..64 {
+            let number = self.page_number(k, place);
+            if number != self.page_number_before(k, place) {
+                changes = changes.saturating_add(1);
+                text.extend_from_slice(&u32::from(place).to_le_bytes())?;
+                text.extend_from_slice(&number.to_le_bytes())?;
+            }
+        }
+        put(text, start.saturating_add(140), changes);
+        Ok(())
+    }
+
+    /// The page number of checkpoint k at a place.
+    fn page_number(&self, k: u8, place: u16) -> u32 {
+        let mut found = 0;
+        for (spot, number) in self.numbers {
+            if let Place(of, at) = spot {
+                if *of == k && *at == place {
+                    found = *number;
+                }
+            }
+        }
+        found
+    }
+
+    /// The page number that stood at a place before checkpoint k.
+    fn page_number_before(&self, k: u8, place: u16) -> u32 {
+        if k == 0 {
+            0
+        } else {
+            self.page_number(k - 1, place)
+        }
+    }
+
+    fn put_header(&self, text: &mut [u8], version: u32) {
+        put(text, 0, 0x5253_524F);
+        put(text, 4, version);
+        put(text, 8, u32::from(self.pages));
+        put(text, 12, u32::from(self.events));
+        put(text, 16, u32::from(self.checkpoints));
+    }
+
+    /// The text of version 1 with these changes.
     pub fn text(&self, alloc: Global, changes: &[(Spot, u32)]) -> Result<Vec<u8>, AllocError> {
         let size = self.checkpoint(self.checkpoints, 0);
         let mut text = vec![in alloc; 0u8; size]?;
-        put(&mut text, 0, 0x5253_524F);
-        put(&mut text, 4, 1);
-        put(&mut text, 8, u32::from(self.pages));
-        put(&mut text, 12, u32::from(self.events));
-        put(&mut text, 16, u32::from(self.checkpoints));
+        self.put_header(&mut text, 1);
         self.put_all(&mut text, self.numbers);
         self.put_all(&mut text, changes);
         text.extend_from_slice(self.output)?;
@@ -78,6 +147,9 @@ impl Draft<'_> {
             Pc(k) => self.checkpoint(k, 76),
             Flags(k) => self.checkpoint(k, 80),
             Stop(k) => self.checkpoint(k, 84),
+            Timer(k) => self.checkpoint(k, 88),
+            // they have no place: the text is too short for it
+            Rate(_) | Phase(_) => usize::MAX,
             Leds(k) => self.checkpoint(k, 96),
             Waiting(k) => self.checkpoint(k, 108),
             Keys(k) => self.checkpoint(k, 112),
@@ -95,6 +167,26 @@ impl Draft<'_> {
     fn checkpoint(&self, k: u8, byte: u16) -> usize {
         self.event(self.events) + 4228 * usize::from(k) + usize::from(byte)
     }
+}
+
+/// Where the number of a spot stands in checkpoint k of a text of version 2, if it is one of its 144 bytes.
+fn offset_in(spot: Spot, k: u8) -> Option<usize> {
+    let (of, offset) = match spot {
+        Count(of) => (of, 0),
+        Register(of, number) => (of, 8 + 4 * usize::from(number)),
+        Pc(of) => (of, 76),
+        Flags(of) => (of, 80),
+        Stop(of) => (of, 84),
+        Timer(of) => (of, 88),
+        Leds(of) => (of, 96),
+        Waiting(of) => (of, 108),
+        Keys(of) => (of, 112),
+        Sent(of) => (of, 128),
+        Rate(of) => (of, 132),
+        Phase(of) => (of, 136),
+        Word(..) | EventCount(_) | EventKind(_) | EventValue(_) | Place(..) => return None,
+    };
+    if of == k { Some(offset) } else { None }
 }
 
 /// Puts a number of four bytes at a place, its lowest byte first.

@@ -1,6 +1,7 @@
 //! Readers and writers that fail, that never end, or that take one byte at a time.
 
 use super::draft::STORED_RUN;
+use super::served::served;
 use super::watched::Watched;
 use crate::serve::serve;
 use std::io::{self, Error, ErrorKind, Read, Write};
@@ -114,6 +115,7 @@ fn a_read_that_fails_leaves_its_line_alone(rt: HostRuntime) -> Result<(), Fail> 
         ["check", "--cut=1"].as_slice(),
         &["record"],
         &["screen", "--at=0"],
+        &["migrate"],
     ] {
         for why in [ErrorKind::Other, ErrorKind::Interrupted] {
             // The text takes ten calls, and its end is seen at the eleventh.
@@ -163,7 +165,8 @@ fn a_reader_of_one_byte_a_call_is_read_to_its_end(rt: HostRuntime) -> Result<(),
 #[test]
 fn a_reader_without_end_is_read_up_to_the_limit(rt: HostRuntime) {
     for (words, line, limit) in [
-        (["check"], "refused 2 magic at byte 0\n", 101_479_581),
+        (["check"], "refused 2 magic at byte 0\n", 118_310_057),
+        (["migrate"], "refused 2 magic at byte 0\n", 118_310_057),
         (["record"], "session refused 3 range\n", 67_108_865),
     ] {
         let mut input = Endless { given: 0 };
@@ -196,6 +199,35 @@ fn a_write_that_fails_leaves_a_front_of_the_text(rt: HostRuntime) -> Result<(), 
             );
             assert!(rt; output.has_failed());
             assert_eq!(rt; output.into_inner().taken.as_slice(), &LINE[..calls]);
+        }
+    }
+    Ok(())
+}
+
+#[test]
+fn a_write_that_fails_leaves_a_front_of_a_migrated_text(rt: HostRuntime) -> Result<(), Fail> {
+    let alloc = rt.alloc();
+    let text = STORED_RUN.text(alloc, &[])?;
+    let (migrated, _) = served(&rt, &["migrate"], &text);
+    for calls in [0, 1, 24, migrated.len().saturating_sub(1)] {
+        for refusal in [
+            Refusal::TakesNone,
+            Refusal::Fails(ErrorKind::Other),
+            Refusal::Fails(ErrorKind::Interrupted),
+        ] {
+            let mut output = Watched::new(Narrow {
+                taken: Vec::new(alloc),
+                calls,
+                refusal,
+                flush: Refusal::TakesNone,
+            });
+            assert_eq!(rt;
+                serve(&rt, alloc, &["migrate"], &mut text.as_slice(), &mut output),
+                3
+            );
+            assert!(rt; output.has_failed());
+            let front = migrated.get(..calls).ok_or("the text is shorter")?;
+            assert!(rt; output.into_inner().taken.as_slice() == front);
         }
     }
     Ok(())

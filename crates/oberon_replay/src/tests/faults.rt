@@ -48,9 +48,11 @@ fn put(text: &mut [u8], at: usize, byte: u8) {
 }
 
 fn refuse(rt: &(impl Abort + AllocGlobal + Threads + Wait + Sync), text: &[u8], line: &str) {
-    let (written, ended) = served(rt, &["check"], text);
-    assert_eq!(rt; written.as_slice(), line.as_bytes());
-    assert_eq!(rt; ended, 2);
+    for word in ["check", "migrate"] {
+        let (written, ended) = served(rt, &[word], text);
+        assert_eq!(rt; written.as_slice(), line.as_bytes());
+        assert_eq!(rt; ended, 2);
+    }
 }
 
 #[test]

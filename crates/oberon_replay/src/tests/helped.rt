@@ -6,7 +6,7 @@ use std::sync::Wait;
 use std::thread::Threads;
 
 /// Words that ask for nothing.
-const REFUSED: [&[&str]; 11] = [
+const REFUSED: [&[&str]; 13] = [
     &["screen"],
     &["screen", "--at", "4097"],
     &["check", "--workers", "65"],
@@ -17,16 +17,22 @@ const REFUSED: [&[&str]; 11] = [
     &["check", "again"],
     &["record", "again"],
     &["record", "--at", "0"],
-    &["migrate"],
+    &["migrate", "again"],
+    &["migrate", "--at", "1"],
+    &["upgrade"],
 ];
 
 /// Words that ask for help.
-const ASKING: [&[&str]; 4] = [
+const ASKING: [&[&str]; 5] = [
     &["--help"],
     &["check", "--help"],
     &["record", "-h"],
     &["help", "screen"],
+    &["migrate", "--help"],
 ];
+
+/// The commands, each of which the text of help lists.
+const COMMANDS: [&[u8]; 4] = [b"check", b"migrate", b"record", b"screen"];
 
 #[test]
 fn refuses_words(rt: HostRuntime) {
@@ -57,5 +63,14 @@ fn help_each<'a>(
         let (written, ended) = served(rt, words, b"the input isn't read");
         assert!(rt; written.len() > 100);
         assert_eq!(rt; ended, 0);
+    }
+}
+
+#[test]
+fn lists_the_commands(rt: HostRuntime) {
+    let (written, _) = served(&rt, &["--help"], &[]);
+    for command in COMMANDS {
+        let mut names = written.windows(command.len());
+        assert!(rt; names.any(|name| name == command));
     }
 }

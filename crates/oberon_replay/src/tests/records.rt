@@ -56,7 +56,8 @@ fn refuses(rt: &(impl Abort + AllocGlobal + Threads + Wait + Sync), session: &st
 #[test]
 fn records_the_stored_run(rt: HostRuntime) -> Result<(), Fail> {
     let text = session(rt.alloc(), "05000040", "100")?;
-    let recording = STORED_RUN.text(rt.alloc(), &[])?;
+    let recording = STORED_RUN.second_text(rt.alloc())?;
+    assert_eq!(rt; recording.len(), 1344);
     gives(&rt, &text, &recording, "accepted 1 checkpoints 100 steps\n");
     Ok(())
 }
@@ -135,9 +136,14 @@ const STORED: Draft<'static> = Draft {
 #[test]
 fn lays_only_pages_that_changed(rt: HostRuntime) -> Result<(), Fail> {
     let text = session(rt.alloc(), STORES, "2,4,5")?;
-    let recording = STORED.text(rt.alloc(), &[])?;
-    assert_eq!(rt; recording.len(), 18_984);
+    let recording = STORED.second_text(rt.alloc())?;
+    assert_eq!(rt; recording.len(), 2_672);
     gives(&rt, &text, &recording, "accepted 3 checkpoints 5 steps\n");
+    let first = STORED.text(rt.alloc(), &[])?;
+    assert_eq!(rt; first.len(), 18_984);
+    let (migrated, ended) = served(&rt, &["migrate"], &first);
+    assert_eq!(rt; ended, 0);
+    assert!(rt; migrated.as_slice() == recording.as_slice());
     Ok(())
 }
 
@@ -149,8 +155,8 @@ fn records_as_much_output_as_a_recording_may_have(rt: HostRuntime) -> Result<(),
     let text = session(rt.alloc(), SENDS, "2097152")?;
     let (written, ended) = record(&rt, text.as_bytes());
     assert_eq!(rt; ended, 0);
-    // A header, a page, two checkpoints, and 1,048,576 bytes of output.
-    assert_eq!(rt; written.len(), 24 + 1024 + 2 * 4228 + 1_048_576);
+    // A header, a page, two checkpoints of which one has a change, and 1,048,576 bytes of output.
+    assert_eq!(rt; written.len(), 24 + 1024 + 2 * 144 + 8 + 1_048_576);
     let (checked, ended) = served(&rt, &["check"], &written);
     assert_eq!(rt;
         checked.as_slice(),

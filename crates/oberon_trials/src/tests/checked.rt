@@ -8,13 +8,13 @@ use std::thread::Threads;
 
 /// Workers and segments in a job.
 #[derive(Clone, Copy, Debug, PartialEq, Eq)]
-pub struct Crew {
+pub(crate) struct Crew {
     pub workers: u32,
     pub cut: u32,
 }
 
 /// The line and the status of a text, or a failure where these workers can't be.
-pub fn checked<R: Threads + Wait + Sync, G: Gate + Sync>(
+pub(crate) fn checked<R: Threads + Wait + Sync, G: Gate + Sync>(
     rt: &R,
     alloc: Global,
     text: &[u8],

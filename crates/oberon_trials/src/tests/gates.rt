@@ -9,14 +9,14 @@ const TURNS: u32 = 1_000_000_000;
 
 /// A job that is held until all of these others began.
 #[derive(Clone, Copy)]
-pub struct Hold<'a> {
+pub(crate) struct Hold<'a> {
     pub job: u32,
     pub awaits: &'a [u32],
 }
 
 /// Marks each job that begins, holds some, and counts those that it let go on because the others began.
 #[derive(Drop)]
-pub struct HoldingGate<'a> {
+pub(crate) struct HoldingGate<'a> {
     pub holds: &'a [Hold<'a>],
     pub begun: &'a [AtomicU64],
     pub met: &'a AtomicU64,
@@ -54,7 +54,7 @@ impl Gate for HoldingGate<'_> {
 }
 
 /// So many counters, all 0.
-pub fn counters(alloc: Global, count: u32) -> Result<Vec<AtomicU64>, AllocError> {
+pub(crate) fn counters(alloc: Global, count: u32) -> Result<Vec<AtomicU64>, AllocError> {
     let mut begun = Vec::new(alloc);
     for _ in 0..count {
         begun.push(AtomicU64::new(0))?;

@@ -4,11 +4,11 @@ use std::alloc::{AllocError, Global};
 use std::test::Fail;
 
 /// The word of a jump to itself.
-pub const JUMP: u32 = 0xE7FF_FFFF;
+pub(crate) const JUMP: u32 = 0xE7FF_FFFF;
 
 /// What a checkpoint claims; all else is zero.
 #[derive(Clone, Copy)]
-pub struct Claim {
+pub(crate) struct Claim {
     pub count: u64,
     pub r0: u32,
     pub r1: u32,
@@ -21,7 +21,7 @@ pub struct Claim {
 
 impl Claim {
     /// All zeros at this count.
-    pub const fn at(count: u64) -> Claim {
+    pub(crate) const fn at(count: u64) -> Claim {
         Claim {
             count,
             r0: 0,
@@ -35,7 +35,7 @@ impl Claim {
     }
 
     /// All zeros but the LEDs.
-    pub const fn lit(count: u64, leds: u32) -> Claim {
+    pub(crate) const fn lit(count: u64, leds: u32) -> Claim {
         let mut claim = Claim::at(count);
         claim.leds = leds;
         claim
@@ -61,7 +61,7 @@ fn push_zeros(text: &mut Vec<u8>, words: u32) -> Result<(), AllocError> {
 }
 
 /// The header: the numbers of pages, of events and of checkpoints.
-pub fn header(
+pub(crate) fn header(
     alloc: Global,
     pages: u32,
     events: u32,
@@ -86,7 +86,7 @@ fn push_checkpoint(text: &mut Vec<u8>, claim: &Claim, page: u32) -> Result<(), F
 }
 
 /// The text of a recording whose first page begins with these words; no word, no page.
-pub fn text_of(alloc: Global, program: &[u32], claims: &[Claim]) -> Result<Vec<u8>, Fail> {
+pub(crate) fn text_of(alloc: Global, program: &[u32], claims: &[Claim]) -> Result<Vec<u8>, Fail> {
     let pages = if program.is_empty() { 0 } else { 1 };
     let mut text = header(alloc, pages, 0, u32::try_from(claims.len())?)?;
     push_words(&mut text, program)?;
@@ -106,7 +106,7 @@ pub fn text_of(alloc: Global, program: &[u32], claims: &[Claim]) -> Result<Vec<u
 }
 
 /// A jump to itself in segments of ten steps, where the checkpoints after the first have these LEDs.
-pub fn jump_text(alloc: Global, leds: &[u32]) -> Result<Vec<u8>, Fail> {
+pub(crate) fn jump_text(alloc: Global, leds: &[u32]) -> Result<Vec<u8>, Fail> {
     let mut claims = vec![in alloc; Claim::at(0)]?;
     let mut count = 0u64;
     for leds in leds {
@@ -117,7 +117,7 @@ pub fn jump_text(alloc: Global, leds: &[u32]) -> Result<Vec<u8>, Fail> {
 }
 
 /// `MOV R0, 5`, and then zeros, which are `MOV R0, R0`, with a checkpoint after 100 steps that claims this R0.
-pub fn stored_run(alloc: Global, r0: u32) -> Result<Vec<u8>, Fail> {
+pub(crate) fn stored_run(alloc: Global, r0: u32) -> Result<Vec<u8>, Fail> {
     let mut end = Claim::at(100);
     end.r0 = r0;
     end.pc = 100;

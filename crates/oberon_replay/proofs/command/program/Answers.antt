@@ -22,9 +22,11 @@ returns c =
     ∙ ap₂ with_subcommand start_is (ap (λ (a : App). a.top) c.in_ok-check.ensures.app) in
     let two = c.in_ok-subcommand-2.ensures.shape c.record.ensures.local
     ∙ ap₂ with_subcommand one (ap (λ (a : App). a.top) c.record.ensures.app) in
+    let three = c.in_ok-subcommand-3.ensures.shape c.in_ok-screen.ensures.local
+    ∙ ap₂ with_subcommand two (ap (λ (a : App). a.top) c.in_ok-screen.ensures.app) in
     record {
-      app = IfOk-weaker c.subcommand-3.result _ _
-          (λ r h. h.shape c.in_ok-screen.ensures.local
-          ∙ ap₂ with_subcommand two (ap (λ (a : App). a.top) c.in_ok-screen.ensures.app))
-          c.subcommand-3.ensures;
+      app = IfOk-weaker c.subcommand-4.result _ _
+          (λ r h. h.shape c.migrate.ensures.local
+          ∙ ap₂ with_subcommand three (ap (λ (a : App). a.top) c.migrate.ensures.app))
+          c.subcommand-4.ensures;
     }

@@ -1,0 +1,28 @@
+//! The answer where the text of a recording has a fault, whatever the command was to do with the recording.
+ghost use Rattle.std.specs.Prelude.{◌≡◌, ◌≢◌, IfOk, OnErr};
+ghost use Rattle.oberon_format.specs.Line.{fault_line};
+
+use crate::reply::Reply;
+use oberon_format::{Fault, refusal};
+use std::alloc::{AllocError, Global};
+
+/// The fault of a text. Want of memory is none.
+pub fn of_text(fault: Fault) -> Result<Fault, AllocError>
+    ensures ok { IfOk result (λ same. (same ≡ fault) × (fault ≢ Fault.Memory)) }
+    ensures err { OnErr result (fault ≡ Fault.Memory) }
+{
+    match fault {
+        Fault::Memory => Err(AllocError),
+        fault => Ok(fault),
+    }
+}
+
+/// The answer where the text has a fault.
+pub fn refused(alloc: Global, fault: Fault) -> Result<Reply, AllocError>
+    requires { fault ≢ Fault.Memory }
+    ensures text { IfOk result (λ reply. reply.text.items ≡ fault_line fault) }
+    ensures status { IfOk result (λ reply. reply.status ≡ 2) }
+{
+    let text = refusal(alloc, &fault)?;
+    Ok(Reply { text, status: 2 })
+}
