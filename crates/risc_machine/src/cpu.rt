@@ -1,4 +1,4 @@
-//! The processor's registers. What an instruction does to them is in `operate`.
+//! The processor's registers. What an instruction does to them is in `processor`.
 ghost use Rattle.std.specs.Prelude.{◌≡◌, ◌<◌, ◌^◌, length, ℕ, slice_index};
 
 use risc_core::Flags;

@@ -8,7 +8,6 @@
 mod act;
 mod action;
 mod board;
-mod bus;
 mod clocked;
 mod cpu;
 mod destination;
@@ -19,8 +18,9 @@ mod inputs;
 mod lane;
 mod laws;
 mod machine;
+mod motion;
 mod operand;
-mod operate;
+mod processor;
 mod ram;
 mod registers;
 mod replay;

@@ -1,6 +1,6 @@
 //! Where the bytes that a machine sends go: to the end of a vector, or into a comparison. When it sends is with its run.
 ghost use Rattle.std.specs.Prelude.{◌≡◌, ◌++◌, ◌∷◌, [], List, ℕ, Bool, true, false, IsTrue, OnOk, OnErr, ◌+◌, ◌<◌, ◌≤◌, length, ◌↔◌};
-ghost use Rattle.risc_machine.specs.Matched.{IsMatched};
+ghost use Rattle.risc_machine.specs.Matched.{HasMatched};
 
 use std::alloc::AllocError;
 
@@ -45,7 +45,7 @@ pub(crate) struct Matching<'a> {
 }
 
 impl<'a> Sink for Matching<'a> {
-    ghost has_sent = { λ m l. IsMatched m.expected.now m.place m.same l };
+    ghost has_sent = { λ m l. HasMatched m l };
 
     ghost can_fail = { false };
 
@@ -67,7 +67,7 @@ impl<'a> Sink for Matching<'a> {
 impl<'a> Matching<'a> {
     /// A comparison with these bytes, none of which was sent yet.
     pub(crate) fn new(expected: &'a [u8]) -> Self
-        ensures matched { IsMatched result.expected.now result.place result.same [] }
+        ensures matched { HasMatched result [] }
         ensures expected { result.expected.now ≡ expected.now }
     {
         Matching {
@@ -79,7 +79,7 @@ impl<'a> Matching<'a> {
 
     /// Whether the bytes that were sent are all those that were expected.
     pub(crate) fn is_whole(&self) -> bool
-        ensures { (l : List ℕ) → IsMatched self.now.expected.now self.now.place self.now.same l → (IsTrue result ↔ (l ≡ self.now.expected.now)) }
+        ensures { (l : List ℕ) → HasMatched self.now l → (IsTrue result ↔ (l ≡ self.now.expected.now)) }
     {
         self.same && self.place == self.expected.len()
     }
