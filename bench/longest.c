@@ -1,7 +1,8 @@
-/* The longest text of a recording of version 1, written from docs/formats.md: 65,536 pages, 1,000,000 events, 4,097 checkpoints
- * and 1,048,576 bytes of output. Its numbers are random within their ranges, so that it has no fault. It claims no real run.
+/* The longest text of a recording of a version, written from docs/formats.md: 65,536 pages, 1,000,000 events, 4,097 checkpoints
+ * and 1,048,576 bytes of output; in version 2 each checkpoint changes all places of its table. Its numbers are random within their
+ * ranges, so that it has no fault. It claims no real run.
  *
- *   longest FILE          lays the text in the file, and prints the time of one pass over it and of one copy of it
+ *   longest FILE 1|2      lays the text in the file, and prints the time of one pass over it and of one copy of it
  */
 #include <stdint.h>
 #include <stdio.h>
@@ -15,7 +16,7 @@ enum {
     CHECKPOINTS = 4097,
     OUTPUT = 1048576,
     SENT = OUTPUT / (CHECKPOINTS - 1), /* by each checkpoint but the first */
-    LENGTH = 24 + 1024 * PAGES + 16 * EVENTS + 4228 * CHECKPOINTS + OUTPUT,
+    REST = 24 + 1024 * PAGES + 16 * EVENTS + OUTPUT, /* all but the checkpoints */
     TURNS = 5
 };
 
@@ -41,7 +42,16 @@ static uint8_t *put_event(uint8_t *at, uint64_t count) {
     return put(at, any() & mask[kind], 4);
 }
 
-static uint8_t *put_checkpoint(uint8_t *at, int k) {
+static uint8_t *put_tables_number(uint8_t *at, int version, uint32_t place) {
+    static uint32_t table[1024];
+    uint32_t number = any() % (PAGES + 1);
+    if (version == 1) return put(at, number, 4);
+    while (number == table[place]) number = any() % (PAGES + 1);
+    table[place] = number;
+    return put(put(at, place, 4), number, 4);
+}
+
+static uint8_t *put_checkpoint(uint8_t *at, int version, int k) {
     uint32_t keys = any() % 17;
     at = put(at, 1000000 * (uint64_t)k, 8);
     for (int i = 0; i < 17; i++) at = put(at, any(), 4); /* R0 to R15 and H */
@@ -56,23 +66,24 @@ static uint8_t *put_checkpoint(uint8_t *at, int k) {
     at = put(at, keys, 4);
     for (uint32_t i = 0; i < 16; i++) at = put(at, i < keys ? any() : 0, 1);
     at = put(at, k == 0 ? 0 : SENT, 4);
-    for (int j = 0; j < 1024; j++) at = put(at, any() % (PAGES + 1), 4);
+    if (version == 2) at = put(put(put(at, 1000, 4), any() % 1000, 4), 1024, 4); /* rate, phase, changes */
+    for (uint32_t place = 0; place < 1024; place++) at = put_tables_number(at, version, place);
     return at;
 }
 
-static void lay(uint8_t *text) {
+static void lay(uint8_t *text, int version, size_t length) {
     uint8_t *at = text;
     memcpy(at, "ORSR", 4);
-    at = put(at + 4, 1, 4);
+    at = put(at + 4, (uint64_t)version, 4);
     at = put(at, PAGES, 4);
     at = put(at, EVENTS, 4);
     at = put(at, CHECKPOINTS, 4);
     at = put(at, 0, 4);
     for (int i = 0; i < 256 * PAGES; i++) at = put(at, any(), 4);
     for (int i = 0; i < EVENTS; i++) at = put_event(at, 4096 * (uint64_t)i);
-    for (int k = 0; k < CHECKPOINTS; k++) at = put_checkpoint(at, k);
+    for (int k = 0; k < CHECKPOINTS; k++) at = put_checkpoint(at, version, k);
     for (int i = 0; i < OUTPUT; i++) at = put(at, any(), 1);
-    if (at != text + LENGTH) abort();
+    if (at != text + length) abort();
 }
 
 static double now(void) {
@@ -82,10 +93,10 @@ static double now(void) {
 }
 
 /* The milliseconds of one pass: each four bytes are read once. */
-static double pass(const uint8_t *text) {
+static double pass(const uint8_t *text, size_t length) {
     uint32_t sum = 0, word;
     double from = now();
-    for (size_t i = 0; i < LENGTH; i += 4) {
+    for (size_t i = 0; i < length; i += 4) {
         memcpy(&word, text + i, 4);
         sum += word;
     }
@@ -95,34 +106,37 @@ static double pass(const uint8_t *text) {
 }
 
 /* The milliseconds of one copy into room that was just taken. */
-static double copy(const uint8_t *text) {
+static double copy(const uint8_t *text, size_t length) {
     double from = now();
-    uint8_t *to = malloc(LENGTH);
+    uint8_t *to = malloc(length);
     if (!to) abort();
-    memcpy(to, text, LENGTH);
+    memcpy(to, text, length);
     double took = now() - from;
-    if (memcmp(to, text, LENGTH)) abort();
+    if (memcmp(to, text, length)) abort();
     free(to);
     return took;
 }
 
-static double best(double (*measure)(const uint8_t *), const uint8_t *text) {
-    double least = measure(text);
+static double best(double (*measure)(const uint8_t *, size_t), const uint8_t *text, size_t length) {
+    double least = measure(text, length);
     for (int i = 1; i < TURNS; i++) {
-        double took = measure(text);
+        double took = measure(text, length);
         if (took < least) least = took;
     }
     return least;
 }
 
 int main(int argc, char **argv) {
-    uint8_t *text = malloc(LENGTH);
-    if (argc != 2 || !text) return 1;
-    lay(text);
+    if (argc != 3) return 1;
+    int version = atoi(argv[2]);
+    size_t length = REST + (size_t)CHECKPOINTS * (version == 1 ? 4228 : 144 + 8 * 1024);
+    uint8_t *text = malloc(length);
+    if (!text) return 1;
+    lay(text, version, length);
     FILE *file = fopen(argv[1], "wb");
-    if (!file || fwrite(text, 1, LENGTH, file) != LENGTH || fclose(file)) return 1;
-    printf("%-22s %11d bytes\n", "text", LENGTH);
-    printf("%-22s %11.1f ms\n", "a pass in C", best(pass, text));
-    printf("%-22s %11.1f ms\n", "a copy in C", best(copy, text));
+    if (!file || fwrite(text, 1, length, file) != length || fclose(file)) return 1;
+    printf("%-22s %11zu bytes\n", "text", length);
+    printf("%-22s %11.1f ms\n", "a pass in C", best(pass, text, length));
+    printf("%-22s %11.1f ms\n", "a copy in C", best(copy, text, length));
     return 0;
 }

@@ -1,6 +1,7 @@
 /* Makes recordings to measure with, of programs that never end. Their states are those of the plain machine in machine.h.
  *
- *   record PROGRAM STEPS CHECKPOINTS    writes a recording of so many steps, with so many checkpoints after the first
+ *   record PROGRAM STEPS CHECKPOINTS [RATE]    writes a recording of so many steps, with so many checkpoints after the first, and
+ *                                              with a timer that counts each RATE instructions; without it, or with 0, none
  *
  *   sort      fills an array with random numbers, makes one pass of a bubble sort through a procedure with a frame, and sieves
  *             primes in bytes
@@ -184,7 +185,7 @@ static const Program programs[] = {
 
 /* ---- their recordings ---- */
 
-typedef struct { uint64_t count; uint32_t fields[26], table[PAGES], sent; uint8_t keys[KEYS]; } Checkpoint;
+typedef struct { uint64_t count; uint32_t parts[FIELDS], table[PAGES], sent; uint8_t keys[KEYS]; } Checkpoint;
 typedef struct { uint32_t *words, *before, pages; } Pool;
 
 static void write_number(uint64_t n, int bytes) { while (bytes--) { putchar((int)(n & 255)); n >>= 8; } }
@@ -215,16 +216,22 @@ static Event *events_of(const Program *program, uint64_t steps, size_t *many) {
     return events;
 }
 
-static void write_checkpoint(const Checkpoint *c) {
+static void write_checkpoint(const Checkpoint *c, const uint32_t *before) {
+    uint32_t changes = 0;
+    for (uint32_t p = 0; p < PAGES; p++) changes += c->table[p] != before[p];
     write_number(c->count, 8);
-    for (int i = 0; i < 26; i++) write_number(c->fields[i], 4);
+    for (int i = 0; i < FIELDS; i++)
+        if (i != 21 && i != 22) write_number(c->parts[i], 4); /* rate and phase stand behind the rest */
     fwrite(c->keys, 1, KEYS, stdout);
     write_number(c->sent, 4);
-    for (uint32_t p = 0; p < PAGES; p++) write_number(c->table[p], 4);
+    write_number(c->parts[21], 4); write_number(c->parts[22], 4); write_number(changes, 4);
+    for (uint32_t p = 0; p < PAGES; p++)
+        if (c->table[p] != before[p]) { write_number(p, 4); write_number(c->table[p], 4); }
 }
 
-static int make(const Program *program, uint64_t steps, uint32_t segments) {
-    Machine m = {.memory = room_for(WORDS, 4)};
+static int make(const Program *program, uint64_t steps, uint32_t segments, uint32_t rate) {
+    static const uint32_t zeros[PAGES];
+    Machine m = {.memory = room_for(WORDS, 4), .rate = rate};
     Pool pool = {room_for((size_t)PAGE * 65536, 4), room_for(WORDS, 4), 0};
     Checkpoint *list = room_for(segments + 1, sizeof *list);
     size_t many, next = 0;
@@ -235,7 +242,7 @@ static int make(const Program *program, uint64_t steps, uint32_t segments) {
         list[k].count = steps / segments * k;
         run(&m, events, many, &next, at, list[k].count);
         at = list[k].count;
-        lay_out(&m, list[k].fields);
+        lay_out(&m, list[k].parts);
         memcpy(list[k].keys, m.keys, KEYS);
         list[k].sent = (uint32_t)(m.sent_length - sent);
         sent = m.sent_length;
@@ -244,19 +251,20 @@ static int make(const Program *program, uint64_t steps, uint32_t segments) {
     }
     if (m.stop || sent > 1048576) die("the program stopped, or sent too much");
     fwrite("ORSR", 1, 4, stdout);
-    write_number(1, 4); write_number(pool.pages, 4); write_number(many, 4); write_number(segments + 1, 4); write_number(0, 4);
+    write_number(2, 4); write_number(pool.pages, 4); write_number(many, 4); write_number(segments + 1, 4); write_number(0, 4);
     for (size_t i = 0; i < (size_t)PAGE * pool.pages; i++) write_number(pool.words[i], 4);
     for (size_t i = 0; i < many; i++) {
         write_number(events[i].count, 8); write_number(events[i].kind, 4); write_number(events[i].value, 4);
     }
-    for (uint32_t k = 0; k <= segments; k++) write_checkpoint(&list[k]);
+    for (uint32_t k = 0; k <= segments; k++) write_checkpoint(&list[k], k ? list[k - 1].table : zeros);
     fwrite(m.sent, 1, sent, stdout);
     return 0;
 }
 
 int main(int argc, char **argv) {
-    for (size_t i = 0; argc == 4 && i < sizeof programs / sizeof *programs; i++)
+    for (size_t i = 0; (argc == 4 || argc == 5) && i < sizeof programs / sizeof *programs; i++)
         if (!strcmp(argv[1], programs[i].name))
-            return make(&programs[i], strtoull(argv[2], NULL, 10), (uint32_t)strtoul(argv[3], NULL, 10));
-    die("usage: record sort|calls|poll|display|inputs|sends STEPS CHECKPOINTS");
+            return make(&programs[i], strtoull(argv[2], NULL, 10), (uint32_t)strtoul(argv[3], NULL, 10),
+                argc == 5 ? (uint32_t)strtoul(argv[4], NULL, 10) : 0);
+    die("usage: record sort|calls|poll|display|inputs|sends STEPS CHECKPOINTS [RATE]");
 }

@@ -1,4 +1,4 @@
-/* A plain replayer of version 1 recordings, to measure the proved one against.
+/* A plain replayer of recordings of version 2, to measure the proved one against.
  *
  *   replay FILE     replays the recording and prints the line that `oberon_replay check` prints
  *
@@ -17,55 +17,74 @@ static void load_words(uint32_t *words, const uint8_t *p, size_t many) {
 }
 
 static const char *names[] = {"R0", "R1", "R2", "R3", "R4", "R5", "R6", "R7", "R8", "R9", "R10", "R11", "R12", "R13", "R14",
-    "R15", "H", "PC", "flags", "stop", "timer", "switches", "LEDs", "mouse", "serial", "keys"};
+    "R15", "H", "PC", "flags", "stop", "timer", "rate", "phase", "switches", "LEDs", "mouse", "serial", "keys"};
 
 static const uint32_t *page_of(const uint32_t *pool, uint32_t page_number) {
     static const uint32_t zeros[PAGE];
     return page_number ? pool + (size_t)PAGE * (page_number - 1) : zeros;
 }
 
+/* The parts of the state that a checkpoint claims, in the order of lay_out. */
+static void load_parts(uint32_t *parts, const uint8_t *c) {
+    load_words(parts, c + 8, 21);        /* R0 to the timer */
+    load_words(parts + 21, c + 132, 2);  /* rate and phase */
+    load_words(parts + 23, c + 92, 5);   /* switches to the number of keys */
+}
+
+/* How long a checkpoint is, with its changes. */
+static size_t length_of(const uint8_t *c) { return 144 + 8 * (size_t)number(c + 140, 4); }
+
+/* Makes the table before a checkpoint its own. */
+static void change(uint32_t *table, const uint8_t *c) {
+    for (const uint8_t *at = c + 144; at < c + length_of(c); at += 8) table[number(at, 4)] = (uint32_t)number(at + 4, 4);
+}
+
 /* Prints the first part in which the machine differs from the checkpoint, and answers whether there is one. */
-static int differs(const Machine *m, const uint8_t *c, const uint8_t *output, const uint32_t *pool, uint32_t k) {
-    uint32_t mine[26], theirs[26];
+static int differs(const Machine *m, const uint8_t *c, const uint32_t *table, const uint8_t *output, const uint32_t *pool, uint32_t k) {
+    uint32_t mine[FIELDS], theirs[FIELDS];
     char part[16] = "";
     lay_out(m, mine);
-    load_words(theirs, c + 8, 26);
-    for (int i = 0; i < 26 && !*part; i++)
-        if (mine[i] != theirs[i] || (i == 25 && memcmp(m->keys, c + 112, KEYS))) strcpy(part, names[i]);
+    load_parts(theirs, c);
+    for (int i = 0; i < FIELDS && !*part; i++)
+        if (mine[i] != theirs[i] || (i == FIELDS - 1 && memcmp(m->keys, c + 112, KEYS))) strcpy(part, names[i]);
     uint64_t length = number(c + 128, 4);
     if (!*part && (m->sent_length != length || (length && memcmp(m->sent, output, length)))) strcpy(part, "out");
     for (uint32_t p = 0; p < PAGES && !*part; p++)
-        if (memcmp(m->memory + PAGE * p, page_of(pool, (uint32_t)number(c + 132 + 4 * p, 4)), 4 * PAGE)) sprintf(part, "page %u", p);
+        if (memcmp(m->memory + PAGE * p, page_of(pool, table[p]), 4 * PAGE)) sprintf(part, "page %u", p);
     if (*part) printf("false checkpoint %u at %" PRIu64 " part %s\n", k, number(c, 8), part);
     return *part != 0;
 }
 
 static int replay(const uint8_t *text) {
     uint64_t pages = number(text + 8, 4), many = number(text + 12, 4), checkpoints = number(text + 16, 4);
-    uint32_t *pool = malloc(1024 * pages + 1);
+    uint32_t *pool = malloc(1024 * pages + 1), table[PAGES] = {0};
     Event *events = malloc(sizeof(Event) * many + 1);
     Machine m = {.memory = calloc(WORDS, 4)};
     if (!pool || !events || !m.memory) die("no memory");
     load_words(pool, text + HEADER, PAGE * pages);
-    const uint8_t *event = text + HEADER + 1024 * pages, *first = event + 16 * many, *output = first + CHECKPOINT * checkpoints;
+    const uint8_t *event = text + HEADER + 1024 * pages, *first = event + 16 * many, *output = first;
+    for (uint64_t k = 0; k < checkpoints; k++) output += length_of(output);
     for (uint64_t i = 0; i < many; i++, event += 16)
         events[i] = (Event){number(event, 8), (uint32_t)number(event + 8, 4), (uint32_t)number(event + 12, 4)};
-    uint32_t f[26];
-    load_words(f, first + 8, 26);
+    uint32_t f[FIELDS];
+    load_parts(f, first);
     memcpy(m.r, f, sizeof m.r);
     m.h = f[16]; m.pc = f[17]; m.n = f[18] >> 3; m.z = f[18] >> 2 & 1; m.c = f[18] >> 1 & 1; m.v = f[18] & 1; m.stop = (uint8_t)f[19];
-    m.timer = f[20]; m.switches = f[21]; m.leds = f[22]; m.mouse = f[23]; m.serial = f[24]; m.waiting = f[25];
+    m.timer = f[20]; m.rate = f[21]; m.phase = f[22]; m.switches = f[23]; m.leds = f[24]; m.mouse = f[25]; m.serial = f[26];
+    m.waiting = f[27];
     memcpy(m.keys, first + 112, KEYS);
-    for (uint32_t p = 0; p < PAGES; p++)
-        memcpy(m.memory + PAGE * p, page_of(pool, (uint32_t)number(first + 132 + 4 * p, 4)), 4 * PAGE);
+    change(table, first);
+    for (uint32_t p = 0; p < PAGES; p++) memcpy(m.memory + PAGE * p, page_of(pool, table[p]), 4 * PAGE);
+    const uint8_t *c = first;
     uint64_t at = 0;
     size_t next = 0;
     for (uint32_t k = 1; k < checkpoints; k++) {
-        const uint8_t *c = first + (size_t)CHECKPOINT * k;
+        c += length_of(c);
+        change(table, c);
         m.sent_length = 0;
         run(&m, events, many, &next, at, number(c, 8));
         at = number(c, 8);
-        if (differs(&m, c, output, pool, k)) return 1;
+        if (differs(&m, c, table, output, pool, k)) return 1;
         output += number(c + 128, 4);
     }
     printf("accepted %" PRIu64 " checkpoints %" PRIu64 " steps\n", checkpoints - 1, at);
