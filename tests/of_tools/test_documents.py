@@ -88,7 +88,7 @@ class DocumentsTest(ToolTest):
         page = TOP / "docs/oberon_replay.1"
         ran = run(["mandoc", "-Tlint", page])
         self.assertEqual((ran.output + ran.errors.encode(), ran.status), (b"", 0))
-        for word in ("check", "record", "screen", "--workers", "--cut", "--at"):
+        for word in ("check", "record", "screen", "migrate", "--workers", "--cut", "--at"):
             self.assertIn(word.lstrip("-"), page.read_text())
 
     def test_each_tool_is_told_of(self) -> None:

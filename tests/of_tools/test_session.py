@@ -30,6 +30,17 @@ class SessionTest(ToolTest):
         self.assertEqual(recorded[-1:], b"A")
         self.assertEqual(run([PROGRAM], recorded).output, b"accepted 2 checkpoints 4 steps\n")
 
+    def test_a_timer_that_counts_is_said_by_version_2(self) -> None:
+        words = ["--memory", self.image(), "--set", "rate=1000", "--set", "phase=999", "--checkpoints", "1,2001"]
+        ran = tool("session", *words)
+        made = json.loads(ran.output)
+        self.assertEqual((made["version"], made["start"]["rate"], made["start"]["phase"]), (2, 1000, 999))
+        recorded = record(ran.output)
+        self.assertEqual(run([PROGRAM], recorded).output, b"accepted 2 checkpoints 2001 steps\n")
+        listed = tool("report", "--text", self.file("it.orsr", recorded)).output.decode()
+        self.assertIn("timer", listed)
+        self.assertEqual(json.loads(tool("session", "--of", self.file("it.orsr", recorded)).output)["start"], made["start"])
+
     def test_an_image_lies_where_it_is_told_to(self) -> None:
         image = self.file("memory.bin", struct.pack("<I", JUMP))
         for at, place, content in ((0, 0, "ffffffe7"), (1022, 0, "00" * 1022 + "ffff"), (0xFFFFC, 1023, "00" * 1020 + "ffffffe7")):
@@ -76,8 +87,11 @@ class SessionTest(ToolTest):
         self.assert_refused(tool("session", "--memory", image, "--checkpoints", "5,x"), "'x'")
         self.assert_refused(tool("session", "--memory", image, "--at", "0xFFFFF", *every), "go beyond the memory")
         self.assert_refused(tool("session", "--memory", self.folder / "none", *every), "No such file")
-        for assignment in ("R16=0", "R1", "R1=", "R1=0x100000000", "PC=0x400000", "flags=X", "flags=16", "R1=-1", "R1=1_0"):
+        for assignment in ("R16=0", "R1", "R1=", "R1=0x100000000", "PC=0x400000", "flags=X", "flags=16", "R1=-1", "R1=1_0", "rate=0x100000000"):
             self.assert_refused(tool("session", "--memory", image, *every, "--set", assignment), f"--set {assignment}")
+        for rate, phase in ((0, 1), (10, 10)):
+            words = ["--set", f"rate={rate}", "--set", f"phase={phase}"]
+            self.assert_refused(tool("session", "--memory", image, *every, *words), f"phase {phase} is not below")
         self.assert_refused(tool("session", "--of", self.file("short.orsr", STORED[:-1])), "refused 1 short at byte 9503")
         self.assert_refused(tool("session", "--of", self.file("it.orsr", STORED), "--set", "R1=1"), "--of takes all")
 

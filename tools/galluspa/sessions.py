@@ -96,20 +96,26 @@ def image_at(name: str, image: bytes, address: int) -> bytes:
 
 
 def set_register(session: Session, assignment: str) -> None:
-    """Sets what NAME=VALUE says: R0 to R15, H, PC (in words), or flags (letters of NZCV, or a number)."""
+    """Sets what NAME=VALUE says: R0 to R15, H, PC (in words), flags (letters of NZCV, or a number), rate or phase."""
     name, is_set, written = assignment.partition("=")
     if name == "flags" and written and set(written) <= set(FLAGS):
         session.flags = sum(8 >> FLAGS.index(letter) for letter in set(written))
         return
     value, most = number(written), {"PC": (1 << 22) - 1, "flags": 15}.get(name, 0xFFFFFFFF)
-    if not is_set or name not in (*REGISTERS, "H", "PC", "flags"):
-        raise Refused(f"--set {assignment}: want R0 to R15, H, PC or flags, an equals sign and a value")
+    if not is_set or name not in (*REGISTERS, "H", "PC", "flags", "rate", "phase"):
+        raise Refused(f"--set {assignment}: want R0 to R15, H, PC, flags, rate or phase, an equals sign and a value")
     if value is None or value > most:
         raise Refused(f"--set {assignment}: {written!r} is no whole number from 0 to {most:,}")
     if name in REGISTERS:
         session.registers[REGISTERS.index(name)] = value
     else:
         setattr(session, name.lower(), value)
+
+
+def check_phase(session: Session) -> None:
+    """Refuses a phase that isn't below the rate, or not 0 where the rate is 0."""
+    if session.phase >= max(session.rate, 1):
+        raise Refused(f"phase {session.phase:,} is not below the rate {session.rate:,}, or 0 where that is 0")
 
 
 def inputs_of(path: Path) -> list[Event]:
