@@ -5,10 +5,13 @@ ghost use Rattle.std.specs.Prelude.{◌<◌};
 use oberon_format::{Fault, read};
 use std::io;
 
-/// The length of a text with one page, one event and one checkpoint.
+/// The length of a text of version 1 with one page, one event and one checkpoint.
 const LENGTH: usize = 5_292;
 
-/// A text with a page of zeros, a timer's event at count 0 and a checkpoint that is all zeros, and one byte more.
+/// The length of such a text of version 2, whose checkpoint has one change.
+const CHANGED_LENGTH: usize = 1_216;
+
+/// A text of version 1 with a page of zeros, a timer's event at count 0 and a checkpoint that is all zeros, and one byte more.
 fn sound() -> [u8; LENGTH + 1] {
     let mut text = [0; LENGTH + 1];
     text[0] = b'O';
@@ -23,24 +26,45 @@ fn sound() -> [u8; LENGTH + 1] {
     text
 }
 
+/// A text of version 2 with that page, which its checkpoint has at place 0, and that event.
+fn changed() -> [u8; CHANGED_LENGTH] {
+    let mut text = [0; CHANGED_LENGTH];
+    text[0] = b'O';
+    text[1] = b'R';
+    text[2] = b'S';
+    text[3] = b'R';
+    text[4] = 2;
+    text[8] = 1;
+    text[12] = 1;
+    text[16] = 1;
+    text[1_056] = 1;
+    text[1_204] = 1;
+    text[1_212] = 1;
+    text
+}
+
 /// So many bytes from the front of a text, or all that it has.
 fn front(text: &[u8], length: usize) -> &[u8] {
     &text[..length.min(text.len())]
 }
 
-/// Reads a text without fault, and texts with each of the eight faults, and prints what came of each.
+/// Reads a text without fault of each version, and texts with each of the eight faults, and prints what came of each.
 pub(crate) fn texts<H: AllocGlobal + Print>(rt: &H) -> io::Result<()> {
     let text = sound();
     match read(rt.alloc(), front(&text, LENGTH)) {
         Ok(_) => println!(rt; "sound: read")?,
         Err(fault) => println!(rt; "sound: {fault}")?,
     }
+    match read(rt.alloc(), &changed()) {
+        Ok(_) => println!(rt; "changed: read")?,
+        Err(fault) => println!(rt; "changed: {fault}")?,
+    }
     show(rt, &[])?;
     show(rt, front(&text, 24))?;
     show(rt, front(&text, LENGTH - 1))?;
     // the magic, the version, and each number of the header
     broken(rt, 0, b'o')?;
-    broken(rt, 4, 2)?;
+    broken(rt, 4, 3)?;
     broken(rt, 11, 1)?;
     broken(rt, 15, 1)?;
     broken(rt, 16, 0)?;
@@ -50,16 +74,34 @@ pub(crate) fn texts<H: AllocGlobal + Print>(rt: &H) -> io::Result<()> {
     broken(rt, 1_064, 1)?;
     broken(rt, 1_196, 2)?;
     broken(rt, 5_288, 2)?;
-    show(rt, &text)
+    show(rt, &text)?;
+    // version 2: a text that ends inside its checkpoint and inside its change; the phase, which is 0 at rate 0, and the number of
+    // changes; a change past the last place, to a page that is not in the pool, and to the page that stood there
+    show(rt, front(&changed(), 1_207))?;
+    show(rt, front(&changed(), CHANGED_LENGTH - 1))?;
+    broken_change(rt, 1_200, 1)?;
+    broken_change(rt, 1_205, 5)?;
+    broken_change(rt, 1_209, 4)?;
+    broken_change(rt, 1_212, 2)?;
+    broken_change(rt, 1_212, 0)
 }
 
-/// Prints the fault of the text with another byte at a place.
+/// Prints the fault of the text of version 1 with another byte at a place.
 fn broken<H: AllocGlobal + Print>(rt: &H, place: usize, byte: u8) -> io::Result<()>
     requires { place < 5292 }
 {
     let mut text = sound();
     text[place] = byte;
     show(rt, front(&text, LENGTH))
+}
+
+/// Prints the fault of the text of version 2 with another byte at a place.
+fn broken_change<H: AllocGlobal + Print>(rt: &H, place: usize, byte: u8) -> io::Result<()>
+    requires { place < 1216 }
+{
+    let mut text = changed();
+    text[place] = byte;
+    show(rt, &text)
 }
 
 /// Prints the fault of a text.
