@@ -14,9 +14,11 @@ pub fn program<'a>(alloc: Global) -> Result<Command<'a>, AllocError>
     ensures app { IfOk result (λ command. app_of command ≡ program_app) }
 {
     Command::new(alloc, "oberon_replay")
+        .bin_name("oberon_replay")?
         .about(
             "Records sessions of a Project Oberon workstation, checks and migrates recordings, and shows their screens",
         )
+        .after_help("Example:\n  oberon_replay <face.orsr")
         .no_binary_name(true)
         .subcommand_required(true)
         .subcommand(check(alloc)?)?
@@ -33,6 +35,7 @@ fn check<'a>(alloc: Global) -> Result<Command<'a>, AllocError>
         .about(
             "Replays the recording on standard input and prints its verdict; done for no words at all, too",
         )
+        .after_help("Example:\n  oberon_replay check --workers 4 <face.orsr")
         .arg(workers(alloc))?
         .arg(cut(alloc))
 }
@@ -41,9 +44,11 @@ fn record<'a>(alloc: Global) -> Command<'a>
     ensures app { app_of result ≡ record_app }
     ensures local { (fields_of result).has_globals ≡ false }
 {
-    Command::new(alloc, "record").about(
-        "Runs the session on standard input, in JSON, and prints its recording, whose check is accepted",
-    )
+    Command::new(alloc, "record")
+        .about(
+            "Runs the session on standard input, in JSON, and prints its recording, whose check is accepted",
+        )
+        .after_help("Example:\n  oberon_replay record <face.json >face.orsr")
 }
 
 fn screen<'a>(alloc: Global) -> Result<Command<'a>, AllocError>
@@ -54,6 +59,7 @@ fn screen<'a>(alloc: Global) -> Result<Command<'a>, AllocError>
         .about(
             "Prints the screen that a checkpoint of the recording on standard input claims, as a PBM picture",
         )
+        .after_help("Example:\n  oberon_replay screen --at 1 <face.orsr >face.pbm")
         .arg(at(alloc))
 }
 
@@ -61,9 +67,11 @@ fn migrate<'a>(alloc: Global) -> Command<'a>
     ensures app { app_of result ≡ migrate_app }
     ensures local { (fields_of result).has_globals ≡ false }
 {
-    Command::new(alloc, "migrate").about(
-        "Prints the recording on standard input as a text of the version that is written now",
-    )
+    Command::new(alloc, "migrate")
+        .about(
+            "Prints the recording on standard input as a text of the version that is written now",
+        )
+        .after_help("Example:\n  oberon_replay migrate <old.orsr >new.orsr")
 }
 
 fn workers<'a>(alloc: Global) -> Arg<'a>

@@ -22,13 +22,41 @@ const REFUSED: [&[&str]; 13] = [
     &["upgrade"],
 ];
 
-/// Words that ask for help.
-const ASKING: [&[&str]; 5] = [
-    &["--help"],
-    &["check", "--help"],
-    &["record", "-h"],
-    &["help", "screen"],
-    &["migrate", "--help"],
+/// Help that words ask for.
+struct Help {
+    words: &'static [&'static str],
+    /// How the command is used, as its help says it.
+    usage: &'static [u8],
+    /// The example at the end of its help.
+    example: &'static [u8],
+}
+
+const HELP: [Help; 5] = [
+    Help {
+        words: &["--help"],
+        usage: b"Usage: oberon_replay <COMMAND>\n",
+        example: b"\nExample:\n  oberon_replay <face.orsr\n",
+    },
+    Help {
+        words: &["check", "--help"],
+        usage: b"Usage: oberon_replay check [OPTIONS]\n",
+        example: b"\nExample:\n  oberon_replay check --workers 4 <face.orsr\n",
+    },
+    Help {
+        words: &["record", "-h"],
+        usage: b"Usage: oberon_replay record\n",
+        example: b"\nExample:\n  oberon_replay record <face.json >face.orsr\n",
+    },
+    Help {
+        words: &["help", "screen"],
+        usage: b"Usage: oberon_replay screen --at <K>\n",
+        example: b"\nExample:\n  oberon_replay screen --at 1 <face.orsr >face.pbm\n",
+    },
+    Help {
+        words: &["migrate", "--help"],
+        usage: b"Usage: oberon_replay migrate\n",
+        example: b"\nExample:\n  oberon_replay migrate <old.orsr >new.orsr\n",
+    },
 ];
 
 /// The commands, each of which the text of help lists.
@@ -52,16 +80,14 @@ fn refuse_each<'a>(
 
 #[test]
 fn helps(rt: HostRuntime) {
-    help_each(&rt, &ASKING);
+    help_each(&rt, &HELP);
 }
 
-fn help_each<'a>(
-    rt: &(impl Abort + AllocGlobal + Threads + Wait + Sync),
-    words: &'a [&'a [&'a str]],
-) {
-    for words in words {
-        let (written, ended) = served(rt, words, b"the input isn't read");
-        assert!(rt; written.len() > 100);
+fn help_each(rt: &(impl Abort + AllocGlobal + Threads + Wait + Sync), all: &[Help]) {
+    for help in all {
+        let (written, ended) = served(rt, help.words, b"the input isn't read");
+        assert!(rt; has(&written, help.usage));
+        assert!(rt; written.ends_with(help.example));
         assert_eq!(rt; ended, 0);
     }
 }
@@ -70,7 +96,11 @@ fn help_each<'a>(
 fn lists_the_commands(rt: HostRuntime) {
     let (written, _) = served(&rt, &["--help"], &[]);
     for command in COMMANDS {
-        let mut names = written.windows(command.len());
-        assert!(rt; names.any(|name| name == command));
+        assert!(rt; has(&written, command));
     }
+}
+
+/// Whether these bytes stand somewhere in a text.
+fn has(text: &[u8], bytes: &[u8]) -> bool {
+    text.windows(bytes.len()).any(|window| window == bytes)
 }
