@@ -13,7 +13,7 @@ from PIL import Image
 from samples import EXAMPLES, PROGRAM, TOP, ToolTest, run, tool
 
 SHOWING = [*sorted((TOP / "docs/lessons").glob("*.md")), TOP / "docs/recording-your-system.md", TOP / "docs/suites.md"]
-LINKING = [TOP / "README.md", TOP / "examples/README.md", TOP / "tools/README.md", TOP / "docs/architecture.md", *SHOWING]
+LINKING = [TOP / "README.md", *sorted(TOP.glob("*/README.md")), *sorted(TOP.glob("docs/*.md")), *sorted(TOP.glob("docs/lessons/*.md"))]
 CONSOLE = re.compile(r"^```console\n(.*?)^```$", re.DOTALL | re.MULTILINE)
 TABLE = re.compile(r"^<!-- (tools/listing .*) -->\n((?:\|.*\n)+)", re.MULTILINE)
 LINK = re.compile(r"\]\(([^)#:]+)(?:#[^)]*)?\)")
@@ -54,6 +54,18 @@ class DocumentsTest(ToolTest):
                 told = ran.output.decode() + ran.errors
                 told += "\n" * bool(told and not told.endswith("\n"))
                 self.assertTrue(command.prints(told), f"{document.name}: $ {command.line}\n{told}")
+
+    def test_the_program_prints_what_the_readme_shows(self) -> None:
+        folder = self.folder / "crates/oberon_replay"
+        folder.mkdir(parents=True)
+        (folder / "stdin").symlink_to(TOP / "crates/oberon_replay/stdin")
+        (self.folder / "examples").symlink_to(EXAMPLES)
+        path = {"PATH": f"{PROGRAM.parent}:{os.environ['PATH']}"}
+        commands = list(commands_of((TOP / "README.md").read_text()))
+        self.assertGreaterEqual(len(commands), 8)
+        for command in commands:
+            ran = run(["bash", "-c", command.line], cwd=folder, env={**os.environ, **path})
+            self.assertTrue(command.prints(ran.output.decode()), f"$ {command.line}\n{ran.output.decode()}")
 
     def test_the_tools_run_as_the_readme_shows_them(self) -> None:
         for part in PARTS:

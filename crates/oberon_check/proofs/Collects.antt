@@ -11,7 +11,7 @@ use Rattle.oberon_check.specs.Difference.{IsFirstDifference}
 use Rattle.oberon_check.specs.Verdict.{IsAccepted, IsFirstFalse}
 use Rattle.oberon_check.specs.Segment.{replayed, IsSegmentPart, Finding, IsTrueFinding}
 use Rattle.oberon_check.specs.Collecting.{segment_at, part_at, StandsBelow, IsFirstDouble, IsCollectFault}
-use Rattle.oberon_check.specs.Tally.{IsTally, IsLeastFailed, IsMarked, end_of}
+use Rattle.oberon_check.specs.inner.Tally.{IsTally, IsLeastFailed, IsMarked, end_of}
 use Rattle.oberon_check.proofs.Replays.{HoldBelow, replayed-defined}
 use Rattle.oberon_check.proofs.Tallying.{segment_here, part_here, not_some}
 

@@ -1,7 +1,7 @@
 -- Outcomes that differ in their output, or first in a page.
 use Rattle.std.proofs.Common.{◌≡◌, ℕ, ◌<◌, ap, sym, arith, slice_index}
 use Rattle.risc_pages.specs.Pages.{page_at}
-use Rattle.risc_pages.specs.Difference as pages
+use Rattle.risc_pages.specs.Delta.{IsFirstDifferentPage}
 use Rattle.risc_devices.specs.DeviceState.{DeviceState}
 use Rattle.risc_machine.specs.MachineState.{CpuState}
 use Rattle.oberon_format.specs.Defined.{Outcome}
@@ -55,7 +55,7 @@ before_page x y p cpu devices sent pages Keys h = before_sent x y cpu devices Ke
 
 -- the first page in which the second outcome's memory differs from the first one's
 pub page_first : (x y : Outcome) (p : ℕ) → x.state.cpu ≡ y.state.cpu → x.state.devices ≡ y.state.devices → x.sent ≡ y.sent
-    → pages.IsFirstDifference y.state.words x.state.words p → IsFirstDifference x y (Page p)
+    → IsFirstDifferentPage y.state.words x.state.words p → IsFirstDifference x y (Page p)
 page_first x y p cpu devices sent first = record {
   is_part = first.inside;
   before = λ q is lt. before_page x y p cpu devices sent first.before q lt;

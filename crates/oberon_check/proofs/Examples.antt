@@ -10,7 +10,7 @@ use Rattle.oberon_check.specs.declared.verdict.Verdict.TheVariants.{Accepted, Fa
 use Rattle.oberon_check.specs.Difference.{rank}
 use Rattle.oberon_check.specs.Line.{part_name, line_of, status_of}
 use Rattle.oberon_check.specs.Segment.{Finding}
-use Rattle.oberon_check.specs.Tally.{lesser_of, end_of}
+use Rattle.oberon_check.specs.inner.Tally.{lesser_of, end_of}
 use Rattle.oberon_check.specs.Work.{IsBehind, IsJob, failed_of}
 
 -- registers first, then the processor's other parts, the devices, the output, and the pages last

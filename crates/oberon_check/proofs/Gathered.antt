@@ -16,9 +16,8 @@ use Rattle.oberon_format.specs.Recording.{RecordingParts, last_of}
 use Rattle.oberon_check.specs.declared.part.Part.{Part}
 use Rattle.oberon_check.specs.declared.collector.CollectFault.{CollectFault}
 use Rattle.oberon_check.specs.declared.collector.CollectFault.TheVariants.{Double, Missing}
-use Rattle.oberon_check.specs.Segment.{Finding}
+use Rattle.oberon_check.specs.Segment.{Finding, IsRun}
 use Rattle.oberon_check.specs.Collecting.{segment_at, part_at, StandsBelow, IsCollectFault}
-use Rattle.oberon_check.specs.Run.{IsRun}
 use Rattle.oberon_check.specs.Work.{IsJob, IsBehind, InPieces, one_failed, failed_of, HasDone}
 use Rattle.oberon_check.proofs.Runs.{failed_append}
 

@@ -5,9 +5,9 @@ use Rattle.std.proofs.lemmas.List.Elements.{All-append, Contains-append_left, Co
 use Rattle.oberon_claims.specs.Pass.{PassRecord, BookId, fresh_pass, pass_with_job, pass_with_end, pass_with_told, pass_with_shown}
 use Rattle.oberon_format.specs.Recording.{RecordingParts, last_of}
 use Rattle.oberon_check.specs.declared.part.Part.{Part}
-use Rattle.oberon_check.specs.Segment.{Finding}
-use Rattle.oberon_check.specs.Run.{IsRun}
-use Rattle.oberon_check.specs.Work.{IsJob, InPieces, one_failed, failed_of, HasDone, AddsJob, AddsRun}
+use Rattle.oberon_check.specs.Segment.{Finding, IsRun}
+use Rattle.oberon_check.specs.Work.{IsJob, InPieces, one_failed, failed_of, HasDone}
+use Rattle.oberon_check.specs.inner.Progress.{AddsJob, AddsRun}
 use Rattle.oberon_check.proofs.Tops.{all_snoc}
 
 -- the verdicts of the segments from first on, up to end, all of which held

@@ -3,7 +3,7 @@ use Rattle.std.proofs.Common.{◌≡◌, ℕ, zero, suc, ◌+◌, ◌*◌, Bool,
 use Rattle.std.proofs.lemmas.List.{length-set}
 use Rattle.risc_devices.specs.Ticks.{ticked}
 use Rattle.risc_pages.specs.Pages.{ArePages, page_of}
-use Rattle.risc_pages.specs.Content.{IsNamed, table_words}
+use Rattle.risc_pages.specs.Tables.{IsNamed, table_words}
 use Rattle.risc_pages.proofs.PoolLemmas.{IsPage-page_of}
 use Rattle.risc_machine.specs.declared.event.Event.{Event}
 use Rattle.risc_machine.specs.MachineState.{CpuState, State}

@@ -9,7 +9,7 @@ use native.Mathlib.Decide.{dec_le, ℕ_discrete}
 use Rattle.oberon_check.specs.declared.part.Part.{Part}
 use Rattle.oberon_check.specs.Segment.{Finding, IsTrueFinding}
 use Rattle.oberon_check.specs.Collecting.{segment_at, part_at, StandsBelow}
-use Rattle.oberon_check.specs.Tally.{IsTally, IsLeastFailed, IsMarked, lesser_of}
+use Rattle.oberon_check.specs.inner.Tally.{IsTally, IsLeastFailed, IsMarked, lesser_of}
 
 pub segment_here : (vs : List Finding) (k : ℕ) (v : Finding) → k < length vs → v ≡ get_or vs k v → segment_at vs k ≡ v.segment
 segment_here vs k v inside is = get_or-map (λ (t : Finding). t.segment) vs k v 0 inside ∙ ap (λ (t : Finding). t.segment) (sym is)

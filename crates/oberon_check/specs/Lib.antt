@@ -1,3 +1,4 @@
+-- The check of a recording. Read it in this order: the line of a text, then what segments and workers come to.
 pub mod Difference
 pub mod Verdict
 pub mod Line
@@ -5,7 +6,6 @@ pub mod Headline
 pub mod Laws
 pub mod Segment
 pub mod Collecting
-pub mod Tally
-pub mod Run
 pub mod Work
 pub mod Gathering
+pub mod inner

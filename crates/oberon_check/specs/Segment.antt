@@ -1,5 +1,5 @@
 -- What the replay of one segment finds.
-use Rattle.std.specs.Prelude.{ℕ, ◌+◌, ◌-◌, ◌<◌, Option}
+use Rattle.std.specs.Prelude.{ℕ, ◌+◌, ◌-◌, ◌<◌, Option, ◌≡◌, List, [], ◌∷◌, MatchOption}
 use Rattle.risc_machine.specs.Replay.{run_of, sent_of}
 use Rattle.oberon_format.specs.Recording.{RecordingParts, IsLawful, count_at, last_of}
 use Rattle.oberon_format.specs.Defined.{Outcome, claimed}
@@ -27,3 +27,8 @@ pub record IsTrueFinding (f : Finding) : Type 0 where
   pub lawful : IsLawful f.recording
   pub inside : f.segment < last_of f.recording
   pub replay : IsSegmentPart f.recording f.segment f.part
+
+-- The verdicts of the segments from `first` on, in order, up to `end` or to the first that failed.
+abbrev pub IsRun : ℕ → ℕ → List Finding → Type 0
+IsRun first end [] = first ≡ end
+IsRun first end (v ∷ vs) = (first < end) × (v.segment ≡ first) × MatchOption v.part (IsRun (first + 1) end vs) (λ _. vs ≡ [])

@@ -4,8 +4,7 @@ use Rattle.std.specs.Int.{div_ceil}
 use Rattle.oberon_claims.specs.Pass.{PassRecord, BookId}
 use Rattle.oberon_format.specs.Recording.{RecordingParts, last_of}
 use Rattle.oberon_check.specs.declared.part.Part.{Part}
-use Rattle.oberon_check.specs.Segment.{Finding}
-use Rattle.oberon_check.specs.Run.{IsRun}
+use Rattle.oberon_check.specs.Segment.{Finding, IsRun}
 
 -- A segment that was shown lies before this one.
 abbrev pub IsBehind : List ℕ → ℕ → Type 0
@@ -52,36 +51,8 @@ pub record IsDone (d : DoneRecord) : Type 0 where
   pub recordings : All (λ v. v.recording ≡ d.recording) d.verdicts
   pub done : HasDone (last_of d.recording) d.cut d.pass d.verdicts
 
--- The part of this recording, cut, pass and verdicts.
-abbrev pub done_record : RecordingParts → ℕ → PassRecord → List Finding → DoneRecord
-done_record r cut p vs = record { recording = r; cut = cut; pass = p; verdicts = vs }
-
 -- The part is of this recording, cut and book.
 pub record IsPartOf (r : RecordingParts) (cut : ℕ) (book : BookId) (d : DoneRecord) : Type 0 where
   pub recording_is : d.recording ≡ r
   pub cut_is : d.cut ≡ cut
   pub book_is : d.pass.book ≡ book
-
--- What a pass and a list of verdicts become with the verdicts of one job more.
-pub record AddsJob (r : RecordingParts) (cut job : ℕ) (p q : PassRecord) (vs ws : List Finding) : Type 0 where
-  pub book : q.book ≡ p.book
-  pub taken : q.taken ≡ p.taken
-  pub ended : q.ended ≡ p.ended
-  pub shown : (x : ℕ) → Contains p.shown x → Contains q.shown x
-  pub piece : List Finding
-  pub verdicts : ws ≡ vs ++ piece
-  pub told : q.told ≡ p.told ++ failed_of piece
-  pub recordings : All (λ v. v.recording ≡ r) piece
-  pub is_job : IsJob (last_of r) cut q.shown job piece
-
--- What they become with a run of verdicts more.
-pub record AddsRun (r : RecordingParts) (first end : ℕ) (p q : PassRecord) (vs ws : List Finding) : Type 0 where
-  pub book : q.book ≡ p.book
-  pub taken : q.taken ≡ p.taken
-  pub ended : q.ended ≡ p.ended
-  pub shown : q.shown ≡ p.shown
-  pub piece : List Finding
-  pub verdicts : ws ≡ vs ++ piece
-  pub told : q.told ≡ p.told ++ failed_of piece
-  pub recordings : All (λ v. v.recording ≡ r) piece
-  pub is_run : IsRun first end piece

@@ -7,7 +7,7 @@ ghost use Rattle.oberon_format.specs.Recording.{IsLawful};
 ghost use Rattle.oberon_check.specs.Verdict.{IsVerdict};
 ghost use Rattle.oberon_check.specs.Segment.{Finding, IsTrueFinding};
 ghost use Rattle.oberon_check.specs.Collecting.{IsFirstDouble, IsCollectFault};
-ghost use Rattle.oberon_check.specs.Tally.{IsTally, end_of, IsMarked, lesser_of};
+ghost use Rattle.oberon_check.specs.inner.Tally.{IsTally, end_of, IsMarked, lesser_of};
 
 use crate::part::Part;
 use crate::segment::SegmentVerdict;

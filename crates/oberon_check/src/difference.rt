@@ -3,7 +3,7 @@
 //! Here live the comparisons of the processor, of the devices and of the whole. Pages are compared by `risc_pages`, and
 //! the bytes sent while the machine runs.
 ghost use Rattle.std.specs.Prelude.{◌≡◌, ◌≢◌, ◌<◌, ◌↔◌, ℕ, List, slice_index, IsTrue, MatchOption};
-ghost use Rattle.risc_pages.specs.Content.{IsNamed};
+ghost use Rattle.risc_pages.specs.Tables.{IsNamed};
 ghost use Rattle.risc_machine.specs.MachineState.{cpu_state};
 ghost use Rattle.oberon_format.specs.CheckpointParts.{checkpoint_parts};
 ghost use Rattle.oberon_format.specs.Defined.{Outcome, claim_of};

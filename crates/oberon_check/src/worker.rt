@@ -6,7 +6,7 @@ ghost use Rattle.std.specs.Prelude.{◌≡◌, ◌<◌, ◌≤◌, ◌*◌, IfOk
 ghost use Rattle.std.specs.Int.{div_ceil};
 ghost use Rattle.oberon_claims.specs.Pass.{fresh_pass};
 ghost use Rattle.oberon_format.specs.Recording.{last_of};
-ghost use Rattle.oberon_check.specs.Work.{AddsJob, AddsRun};
+ghost use Rattle.oberon_check.specs.inner.Progress.{AddsJob, AddsRun};
 
 use crate::gate::Gate;
 use crate::segment::{SegmentVerdict, replay_segment};
@@ -41,7 +41,8 @@ impl Model for Done {
 }
 
 impl Done {
-    ghost use Rattle.oberon_check.specs.Work.{IsDone, done_record};
+    ghost use Rattle.oberon_check.specs.Work.{IsDone};
+    ghost use Rattle.oberon_check.specs.inner.Progress.{done_record};
 
     /// The pass and the verdicts.
     pub(crate) fn into_parts(self) -> (Pass, Vec<SegmentVerdict>)

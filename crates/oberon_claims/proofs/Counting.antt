@@ -3,7 +3,7 @@ use Rattle.std.proofs.Common.{◌≡◌, ℕ, zero, suc, ◌+◌, ◌<◌, ◌�
 use Rattle.std.proofs.lemmas.Bool.Decides.{nat_tests}
 use Rattle.oberon_claims.specs.declared.book.View.{View}
 use Rattle.oberon_claims.specs.Counts.{one_if, times, once_below}
-use Rattle.oberon_claims.specs.Book.{times_taken, number_taken}
+use Rattle.oberon_claims.specs.inner.Book.{times_taken, number_taken}
 
 -- what f is at each number below n, added up
 abbrev tally : ℕ → (ℕ → ℕ) → ℕ

@@ -5,7 +5,7 @@ use mathlib.Core.Option.{some, some-injective, some-ne-none}
 use lib.ListN.{get_elem?}
 use Rattle.oberon_claims.specs.declared.book.View.{View}
 use Rattle.oberon_claims.specs.Counts.{times, once_below}
-use Rattle.oberon_claims.specs.Book.{IsSeat, IsLegal}
+use Rattle.oberon_claims.specs.inner.Book.{IsSeat, IsLegal}
 
 -- the book's own seat, and those of A and B
 abbrev pub own : View

@@ -5,8 +5,8 @@ use Rattle.oberon_claims.specs.declared.book.View.{View}
 use Rattle.oberon_claims.specs.Counts.{one_if, times, once_below}
 use Rattle.oberon_claims.specs.Pass.{BookId, PassRecord}
 use Rattle.oberon_claims.specs.Ledger.{all_taken, all_told, all_shown, SomeEnded, IsLeastOf, IsNotBelow}
-use Rattle.oberon_claims.specs.Book.{nothing, times_told, IsLegal}
-use Rattle.oberon_claims.specs.Steps.{joined_view}
+use Rattle.oberon_claims.specs.inner.Book.{nothing, times_told, IsLegal}
+use Rattle.oberon_claims.specs.inner.Steps.{joined_view}
 use Rattle.oberon_claims.proofs.Counting.{number_of_each_once}
 use Rattle.oberon_claims.proofs.Sums.{times_here, one_is, empty_if}
 

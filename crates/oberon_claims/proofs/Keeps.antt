@@ -7,8 +7,8 @@ use mathlib.Core.Option.{some}
 use lib.ListN.{get_elem?}
 use Rattle.oberon_claims.specs.declared.book.View.{View}
 use Rattle.oberon_claims.specs.Counts.{one_if, times, once_below}
-use Rattle.oberon_claims.specs.Book.{total, nothing, times_told, times_shown, number_taken, IsSeat, IsLegal}
-use Rattle.oberon_claims.specs.Steps.{view_with_job, view_with_end, view_with_told, view_with_shown}
+use Rattle.oberon_claims.specs.inner.Book.{total, nothing, times_told, times_shown, number_taken, IsSeat, IsLegal}
+use Rattle.oberon_claims.specs.inner.Steps.{view_with_job, view_with_end, view_with_told, view_with_shown}
 use Rattle.oberon_claims.proofs.Counting.{number_of_each_once}
 use Rattle.oberon_claims.proofs.Sums.{each_set, total_set, total_has, total_le, times_append, times_here, once_more, once_is, one_is, one_same, empty_if}
 

@@ -8,8 +8,8 @@ use Rattle.atomic_table.proofs.Lists.{at_set}
 use Rattle.oberon_claims.specs.declared.book.View.{View}
 use Rattle.oberon_claims.specs.declared.book.Plan.{Plan}
 use Rattle.oberon_claims.specs.Counts.{times, once_below}
-use Rattle.oberon_claims.specs.Book.{total, nothing, times_told, IsSeat, IsLegal, Kept, own_seat, own_view}
-use Rattle.oberon_claims.specs.Steps.{view_with_one_less, fresh_view, joined_view, spent_view}
+use Rattle.oberon_claims.specs.inner.Book.{total, nothing, times_told, IsSeat, IsLegal, Kept, own_seat, own_view}
+use Rattle.oberon_claims.specs.inner.Steps.{view_with_one_less, fresh_view, joined_view, spent_view}
 use Rattle.oberon_claims.proofs.Sums.{Each, each_set, each_snoc, total_set, total_snoc, total_only, times_append, none_below}
 
 -- the six sums of a book

@@ -8,8 +8,8 @@ use Rattle.atomic_table.specs.Table.{Me, Allows, keeps, step}
 use Rattle.atomic_table.proofs.Lists.{set_again}
 use Rattle.oberon_claims.specs.declared.book.View.{View}
 use Rattle.oberon_claims.specs.declared.book.Plan.{Plan}
-use Rattle.oberon_claims.specs.Book.{nothing, IsLegal, Kept}
-use Rattle.oberon_claims.specs.Steps.{view_with_job, view_with_end, view_with_told, view_with_shown, Takes, Looks, Tells}
+use Rattle.oberon_claims.specs.inner.Book.{nothing, IsLegal, Kept}
+use Rattle.oberon_claims.specs.inner.Steps.{view_with_job, view_with_end, view_with_told, view_with_shown, Takes, Looks, Tells}
 use Rattle.oberon_claims.proofs.Keeps.{set_next, set_least, next_small, taken_below, take_job, take_end, told_least, shown_least, told_none, shown_none, see, say}
 
 kept : (plan : Plan) (words : List ℕ) (homes : List (Option ℕ)) (views : List View) (next least : ℕ) → length words ≡ 2 → slice_index words 0 ≡ next → slice_index words 1 ≡ least

@@ -1,6 +1,5 @@
-pub mod Book
+-- What passes of a claim book come to. Read it in this order:
+pub mod Pass
 pub mod Counts
 pub mod Ledger
-pub mod Own
-pub mod Pass
-pub mod Steps
+pub mod inner

@@ -1,7 +1,7 @@
 //! The two shared words, the rule that is kept between any two atomic steps, and the five kinds of step.
 //!
-//! Here live the names that the rule and the steps have in the code; what they say lives in `specs/Book.antt` and
-//! `specs/Steps.antt`. The calls that make the steps live in `claims`.
+//! Here live the names that the rule and the steps have in the code; what they say lives in `specs/inner/Book.antt`
+//! and `specs/inner/Steps.antt`. The calls that make the steps live in `claims`.
 
 use atomic_table::{Join, Play, Split, TableRule};
 use std::collections::LinkedList;
@@ -46,7 +46,7 @@ pub struct Plan {
 pub struct Legal;
 
 impl TableRule<u8, View, Plan> for Legal {
-    ghost use Rattle.oberon_claims.specs.Book.{Kept, own_seat};
+    ghost use Rattle.oberon_claims.specs.inner.Book.{Kept, own_seat};
 
     ghost holds = { Kept };
 
@@ -57,7 +57,7 @@ impl TableRule<u8, View, Plan> for Legal {
 pub struct Take;
 
 impl Play<u8, View> for Take {
-    ghost use Rattle.oberon_claims.specs.Steps.{Takes};
+    ghost use Rattle.oberon_claims.specs.inner.Steps.{Takes};
 
     ghost then = { Takes };
 }
@@ -66,7 +66,7 @@ impl Play<u8, View> for Take {
 pub struct Look;
 
 impl Play<u8, View> for Look {
-    ghost use Rattle.oberon_claims.specs.Steps.{Looks};
+    ghost use Rattle.oberon_claims.specs.inner.Steps.{Looks};
 
     ghost then = { Looks };
 }
@@ -75,7 +75,7 @@ impl Play<u8, View> for Look {
 pub struct Tell;
 
 impl Play<u8, View> for Tell {
-    ghost use Rattle.oberon_claims.specs.Steps.{Tells};
+    ghost use Rattle.oberon_claims.specs.inner.Steps.{Tells};
 
     ghost then = { Tells };
 }
@@ -84,7 +84,7 @@ impl Play<u8, View> for Tell {
 pub struct HandOut;
 
 impl Split<View> for HandOut {
-    ghost use Rattle.oberon_claims.specs.Steps.{view_with_one_less, fresh_view};
+    ghost use Rattle.oberon_claims.specs.inner.Steps.{view_with_one_less, fresh_view};
 
     ghost left = { view_with_one_less };
 
@@ -95,7 +95,7 @@ impl Split<View> for HandOut {
 pub struct TakeIn;
 
 impl Join<View> for TakeIn {
-    ghost use Rattle.oberon_claims.specs.Steps.{joined_view, spent_view};
+    ghost use Rattle.oberon_claims.specs.inner.Steps.{joined_view, spent_view};
 
     ghost both = { joined_view };
 

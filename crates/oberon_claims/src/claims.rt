@@ -27,7 +27,7 @@ pub struct Claims {
 
 impl Model for Claims {
     ghost use Rattle.std.specs.Prelude.{◌≡◌, ◌≤◌, ◌∷◌, []};
-    ghost use Rattle.oberon_claims.specs.Book.{own_view};
+    ghost use Rattle.oberon_claims.specs.inner.Book.{own_view};
     ghost use Rattle.oberon_claims.specs.Pass.{BookId};
 
     ghost Value = { BookId };

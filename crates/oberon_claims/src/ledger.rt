@@ -3,7 +3,7 @@
 //! Here live the ledger and how it is read off the two words of a closed book. That the words mean this is proved where
 //! the book is closed, in `claims`.
 ghost use Rattle.std.specs.Prelude.{◌≡◌, ◌<◌, ◌≤◌, MatchOption, min};
-ghost use Rattle.oberon_claims.specs.Book.{nothing};
+ghost use Rattle.oberon_claims.specs.inner.Book.{nothing};
 
 use crate::book::NOTHING;
 

@@ -16,7 +16,7 @@ use std::snapshot::Snapshot;
 pub struct AtHome;
 
 impl TableRule<Badge<View>, u8, Snapshot<Badge<View>>> for AtHome {
-    ghost use Rattle.oberon_claims.specs.Own.{IsAtHome, no_view};
+    ghost use Rattle.oberon_claims.specs.inner.Own.{IsAtHome, no_view};
 
     ghost holds = { IsAtHome };
 
@@ -33,7 +33,7 @@ pub struct OwnSeat {
 
 impl Model for OwnSeat {
     ghost use Rattle.std.specs.Prelude.{◌≡◌};
-    ghost use Rattle.oberon_claims.specs.Own.{OwnRecord};
+    ghost use Rattle.oberon_claims.specs.inner.Own.{OwnRecord};
 
     ghost Value = { OwnRecord };
 

@@ -23,7 +23,7 @@ use Rattle.oberon_format.specs.Layout.{word_at, long_at, event_place, checkpoint
 use Rattle.oberon_format.specs.PartFields.{changes_laid, start_laid}
 use Rattle.oberon_format.specs.Ranges.{is_version}
 use Rattle.oberon_format.specs.Recording.{RecordingParts, IsLawful, IsFit, checkpoint_at, table_before, output_of}
-use Rattle.oberon_format.specs.Spelling.{word_bytes, long_bytes, words_bytes, event_bytes, cpu_bytes, device_bytes, front_bytes, change_bytes, changes_bytes, changed_bytes, tail_bytes, checkpoint_bytes, checkpoints_bytes, header_bytes, spelling}
+use Rattle.oberon_format.specs.inner.Spelling.{word_bytes, long_bytes, words_bytes, event_bytes, cpu_bytes, device_bytes, front_bytes, change_bytes, changes_bytes, changed_bytes, tail_bytes, checkpoint_bytes, checkpoints_bytes, header_bytes, spelling}
 use Rattle.oberon_format.specs.Text.{EachAt, AreWords, AreBytes, IsEvent, IsCpu, IsDevices, IsFront, IsChange, IsChanged, IsCheckpoint, IsLaidOut, TextIn}
 use Rattle.oberon_format.proofs.Numbers.{little_from-drop}
 use Rattle.oberon_format.proofs.Keys.{range-split}

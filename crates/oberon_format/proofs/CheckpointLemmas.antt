@@ -4,8 +4,7 @@ use Rattle.std.proofs.lemmas.List.{get_or-map, length-map}
 use Rattle.risc_machine.specs.declared.event.Event.{Event}
 use Rattle.oberon_format.specs.declared.checkpoint.Checkpoint.{Checkpoint}
 use Rattle.oberon_format.specs.CheckpointParts.{checkpoint_parts, no_checkpoint}
-use Rattle.oberon_format.specs.Parts.{parts_of}
-use Rattle.oberon_format.specs.Recording.{RecordingParts, IsLawful, IsFit}
+use Rattle.oberon_format.specs.Recording.{parts_of, RecordingParts, IsLawful, IsFit}
 
 -- checkpoint k of the parts is that of the list
 pub checkpoint_at-is : (cs : List Checkpoint) (k : ℕ) (c : Checkpoint) → k < length cs → c ≡ get_or cs k c → get_or (map checkpoint_parts cs) k no_checkpoint ≡ checkpoint_parts c

@@ -22,7 +22,7 @@ use Rattle.oberon_format.specs.Layout.{word_at, long_at, version, pages, events,
 use Rattle.oberon_format.specs.Ranges.{in_ranges, are_keys}
 use Rattle.oberon_format.specs.Recording.{RecordingParts, output_of}
 use Rattle.oberon_format.specs.Formed.{IsFormed, AreFormed}
-use Rattle.oberon_format.specs.Tested.{HasNumbers, Meets, StandIn}
+use Rattle.oberon_format.specs.inner.Tested.{HasNumbers, Meets, StandIn}
 use Rattle.oberon_format.specs.Text.{EachAt, AreWords, AreBytes, IsPageAt, IsEventAt, IsCpu, IsDevices, IsFront, IsLaidOut, Text}
 use Rattle.oberon_format.specs.TextFields.{change_of, checkpoint_of, first_fault_of, number_before, page_number_of}
 use Rattle.oberon_format.proofs.Agree.{text_agrees}

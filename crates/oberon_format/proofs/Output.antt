@@ -12,7 +12,7 @@ use Rattle.oberon_format.specs.Fields.{total}
 use Rattle.oberon_format.specs.Layout.{change_count, checkpoints, output_place, start, word_at}
 use Rattle.oberon_format.specs.Ranges.{are_keys, in_ranges}
 use Rattle.oberon_format.specs.Recording.{output_of}
-use Rattle.oberon_format.specs.Tested.{Meets}
+use Rattle.oberon_format.specs.inner.Tested.{Meets}
 use Rattle.oberon_format.specs.TextFields.{checkpoint_of}
 
 pub output_below_le : (text : List ℕ) (i n : ℕ) → i ≤ n → output_below text i ≤ output_below text n

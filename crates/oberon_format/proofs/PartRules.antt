@@ -14,8 +14,7 @@ use Rattle.oberon_format.specs.Fields.{sent_below}
 use Rattle.oberon_format.specs.FirstFault.{Rule, first_broken, each}
 use Rattle.oberon_format.specs.Layout.{checkpoint_size}
 use Rattle.oberon_format.specs.PartFields.{fields_laid, start_laid, checkpoint_fields}
-use Rattle.oberon_format.specs.Parts.{parts_of}
-use Rattle.oberon_format.specs.Recording.{RecordingParts, checkpoint_at, table_before}
+use Rattle.oberon_format.specs.Recording.{parts_of, RecordingParts, checkpoint_at, table_before}
 use Rattle.oberon_format.specs.Rules.{field_rules, change_rules, stood, count_before, checkpoint_rules}
 use Rattle.oberon_format.proofs.ChangeLemmas.{change_in}
 use Rattle.oberon_format.proofs.CheckpointLemmas.{checkpoint_at-is}

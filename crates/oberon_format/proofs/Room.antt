@@ -5,7 +5,7 @@ use Rattle.std.proofs.lemmas.Bool.Decides.{nat_tests}
 use Rattle.oberon_format.specs.declared.layout.TheConstants.{FIRST_VERSION, VERSION, CHECKPOINT_LEN, CHANGE_LEN, CHANGES_AT}
 use Rattle.oberon_format.specs.Layout.{version, events, checkpoints, event_place, change_place, checkpoint_size, change_count, start, output_place}
 use Rattle.oberon_format.specs.Rules.{named_len}
-use Rattle.oberon_format.specs.Tested.{IsSized, Meets}
+use Rattle.oberon_format.specs.inner.Tested.{IsSized, Meets}
 use Rattle.oberon_format.specs.TextFields.{fields_of}
 use Rattle.oberon_format.proofs.RuleLemmas.{version_cases, is_first, is_later}
 

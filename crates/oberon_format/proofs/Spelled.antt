@@ -20,7 +20,7 @@ use Rattle.oberon_format.specs.FlagsNumber.{flags_number}
 use Rattle.oberon_format.specs.Layout.{word_at, page_place, event_place, checkpoint_size, start, output_place}
 use Rattle.oberon_format.specs.PartFields.{changes_laid, start_laid}
 use Rattle.oberon_format.specs.Recording.{RecordingParts, IsLawful, IsFit, checkpoint_at, table_before, output_of}
-use Rattle.oberon_format.specs.Spelling.{word_bytes, long_bytes, words_bytes, event_bytes, cpu_bytes, device_bytes, front_bytes, change_bytes, changes_bytes, changed_bytes, tail_bytes, checkpoint_bytes, checkpoints_bytes, header_bytes, spelling}
+use Rattle.oberon_format.specs.inner.Spelling.{word_bytes, long_bytes, words_bytes, event_bytes, cpu_bytes, device_bytes, front_bytes, change_bytes, changes_bytes, changed_bytes, tail_bytes, checkpoint_bytes, checkpoints_bytes, header_bytes, spelling}
 use Rattle.oberon_format.specs.Text.{IsEvent, IsCpu, IsDevices, IsFront, IsChange, IsChanged, IsCheckpoint, IsLaidOut, TextIn}
 use Rattle.oberon_format.proofs.ChangeLemmas.{change_in, changes-few, changes-lawful, changes-new}
 use Rattle.oberon_format.proofs.LawfulLemmas.{flags_fit, serial_fits}

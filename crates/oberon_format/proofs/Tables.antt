@@ -7,7 +7,7 @@ use Rattle.oberon_format.specs.declared.layout.TheConstants.{PLACES}
 use Rattle.oberon_format.specs.Changes.{number_after}
 use Rattle.oberon_format.specs.Ranges.{is_change}
 use Rattle.oberon_format.specs.Rules.{place_floor}
-use Rattle.oberon_format.specs.Tested.{HasNumbers}
+use Rattle.oberon_format.specs.inner.Tested.{HasNumbers}
 use Rattle.oberon_format.proofs.ChangeLemmas.{after_here, after_other}
 use Rattle.oberon_format.proofs.RuleLemmas.{and_left, and_right}
 

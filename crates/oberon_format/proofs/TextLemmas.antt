@@ -14,7 +14,7 @@ use Rattle.oberon_format.specs.Fields.{Fields, sent_below}
 use Rattle.oberon_format.specs.FirstFault.{Rule, first_broken, each}
 use Rattle.oberon_format.specs.Layout.{word_at, pages, checkpoints, page_number_place, change_place, change_count, later_word, start, version}
 use Rattle.oberon_format.specs.Rules.{checkpoint_rules, field_rules, page_number_rules, change_rules, place_floor, count_before, stood}
-use Rattle.oberon_format.specs.Tested.{HasNumbers, Meets}
+use Rattle.oberon_format.specs.inner.Tested.{HasNumbers, Meets}
 use Rattle.oberon_format.specs.TextFields.{change_of, checkpoint_of, fields_of, number_before, page_number_of}
 use Rattle.oberon_format.proofs.ChangeLemmas.{after-same}
 use Rattle.oberon_format.proofs.RuleLemmas.{ChangedMet, met-append, broken-append, each_holds, rule_met, rule_unmet, rules_whole, rules_changed, changed_met, is_first, is_later}

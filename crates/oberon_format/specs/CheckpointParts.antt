@@ -1,8 +1,9 @@
 -- What a checkpoint is made of.
-use Rattle.std.specs.Prelude.{ℕ, false, List, []}
+use Rattle.std.specs.Prelude.{ℕ, false, List, [], ◌-◌, ◌++◌, length, replicate}
 use Rattle.risc_devices.specs.DeviceState.{DeviceState}
 use Rattle.risc_machine.specs.MachineState.{CpuState, cpu_state}
 use Rattle.oberon_format.specs.declared.checkpoint.Checkpoint.{Checkpoint}
+use Rattle.oberon_format.specs.declared.ranges.TheConstants.{MAX_KEYS}
 
 -- what is claimed of the state at a count: the processor, the devices, the bytes sent since the checkpoint before, and the memory
 -- as the page numbers of its 1,024 places
@@ -26,3 +27,7 @@ no_checkpoint = record {
   sent = [];
   table = [];
 }
+
+-- the keys that wait, oldest first, and zeros after them (this project's own choice)
+abbrev pub key_bytes : DeviceState → List ℕ
+key_bytes d = d.keys ++ replicate (MAX_KEYS - length d.keys) 0

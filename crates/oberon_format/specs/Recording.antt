@@ -1,15 +1,15 @@
 -- What a recording is, and which recordings are lawful. All limits are this project's own choice.
-use Rattle.std.specs.Prelude.{ℕ, ◌≡◌, ◌+◌, ◌-◌, ◌^◌, ◌<◌, ◌≤◌, ◌==◌, if◌then◌else◌, List, All, [], length, slice_index_or}
+use Rattle.std.specs.Prelude.{ℕ, ◌≡◌, ◌+◌, ◌-◌, ◌^◌, ◌<◌, ◌≤◌, ◌==◌, if◌then◌else◌, List, All, [], length, slice_index_or, map}
 use Rattle.std.specs.List.{flat_map}
 use Rattle.risc_pages.specs.Pages.{ArePages}
-use Rattle.risc_pages.specs.Content.{IsNamed}
-use Rattle.risc_pages.specs.Tables.{zero_numbers, IsTable}
+use Rattle.risc_pages.specs.Tables.{IsNamed, zero_numbers, IsTable}
 use Rattle.risc_devices.specs.DeviceState.{IsDeviceState}
 use Rattle.risc_machine.specs.declared.event.Event.{Event}
 use Rattle.risc_machine.specs.InputOrder.{AreOrdered}
 use Rattle.risc_machine.specs.MachineState.{IsCpuState}
 use Rattle.oberon_format.specs.declared.ranges.TheConstants.{MAX_COUNT, MAX_OUTPUT, MAX_PAGES, MAX_EVENTS, MAX_CHECKPOINTS}
-use Rattle.oberon_format.specs.CheckpointParts.{CheckpointParts, no_checkpoint}
+use Rattle.oberon_format.specs.CheckpointParts.{CheckpointParts, no_checkpoint, checkpoint_parts}
+use Rattle.oberon_format.specs.declared.checkpoint.Checkpoint.{Checkpoint}
 
 -- a pool of pages, each the list of its words; inputs with their counts; and checkpoints 0 to K
 pub record RecordingParts : Type 0 where
@@ -60,3 +60,7 @@ pub record IsLawful (r : RecordingParts) : Type 0 where
   pub silent : (checkpoint_at r 0).sent ≡ []
   pub output : length (output_of r.checkpoints) ≤ MAX_OUTPUT
   pub fit : (k : ℕ) → k < length r.checkpoints → IsFit r.pool (checkpoint_at r k)
+
+-- the parts of a recording, lawful or not
+abbrev pub parts_of : List (List ℕ) → List Event → List Checkpoint → RecordingParts
+parts_of pool inputs checkpoints = record { pool = pool; inputs = inputs; checkpoints = map checkpoint_parts checkpoints }

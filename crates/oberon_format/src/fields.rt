@@ -6,7 +6,7 @@ ghost use Rattle.std.specs.Prelude.{◌≡◌, ◌≤◌, ◌+◌, ◌==◌};
 ghost use Rattle.std.specs.List.{list_all};
 ghost use Rattle.std.specs.Option.{IfNone};
 ghost use Rattle.oberon_format.specs.FirstFault.{first_broken};
-ghost use Rattle.oberon_format.specs.KeyBytes.{key_bytes};
+ghost use Rattle.oberon_format.specs.CheckpointParts.{key_bytes};
 ghost use Rattle.oberon_format.specs.Rules.{field_rules};
 
 use crate::change::change_count;

@@ -7,8 +7,7 @@ ghost use Rattle.std.specs.Option.{IfNone};
 ghost use Rattle.oberon_format.specs.Changes.{changes, no_change};
 ghost use Rattle.oberon_format.specs.FirstFault.{first_broken, each};
 ghost use Rattle.oberon_format.specs.PartFields.{fields_laid, fault_of_parts};
-ghost use Rattle.oberon_format.specs.Parts.{parts_of};
-ghost use Rattle.oberon_format.specs.Recording.{IsLawful};
+ghost use Rattle.oberon_format.specs.Recording.{parts_of, IsLawful};
 ghost use Rattle.oberon_format.specs.Rules.{header_rules, change_rules, checkpoint_rules};
 
 use crate::checkpoint::{Checkpoint, table_before};
@@ -28,8 +27,7 @@ impl Recording {
     ghost use Rattle.std.specs.Prelude.{◌≡◌, ◌↔◌, IfErr, IsOk, MatchOption};
     ghost use Rattle.oberon_format.specs.Line.{IsNamedFault};
     ghost use Rattle.oberon_format.specs.PartFields.{fault_of_parts};
-    ghost use Rattle.oberon_format.specs.Parts.{parts_of};
-    ghost use Rattle.oberon_format.specs.Recording.{IsLawful};
+    ghost use Rattle.oberon_format.specs.Recording.{parts_of, IsLawful};
 
     /// The recording of these parts.
     ///

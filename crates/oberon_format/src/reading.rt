@@ -4,11 +4,10 @@ ghost use Rattle.std.specs.Prelude.{◌≡◌, ◌≤◌, ◌<◌, ◌+◌, ◌*
 ghost use Rattle.oberon_format.specs.Changes.{number_after};
 ghost use Rattle.oberon_format.specs.CheckpointParts.{checkpoint_parts};
 ghost use Rattle.oberon_format.specs.Layout.{word_at, version, pages, events, checkpoints, page_number_place, change_place, later_word, change_count, start, output_place};
-ghost use Rattle.oberon_format.specs.Parts.{parts_of};
+ghost use Rattle.oberon_format.specs.Recording.{parts_of, output_of};
 ghost use Rattle.oberon_format.specs.Ranges.{in_ranges, are_keys};
-ghost use Rattle.oberon_format.specs.Recording.{output_of};
 ghost use Rattle.oberon_format.specs.Rules.{stood};
-ghost use Rattle.oberon_format.specs.Tested.{IsSized, Meets, HasNumbers, StandIn};
+ghost use Rattle.oberon_format.specs.inner.Tested.{IsSized, Meets, HasNumbers, StandIn};
 ghost use Rattle.oberon_format.specs.Text.{EachAt, AreWords, IsPageAt, IsEvent, IsEventAt, IsCpu, IsDevices, IsFront, Text};
 ghost use Rattle.oberon_format.specs.TextFields.{first_fault_of, fields_of, checkpoint_of, change_of, page_number_of};
 ghost use Rattle.risc_devices.specs.InputKind.{IsInput};

@@ -3,8 +3,7 @@
 
 ghost use Rattle.std.specs.Prelude.{◌≡◌, ◌<◌, length, map};
 ghost use Rattle.oberon_format.specs.CheckpointParts.{checkpoint_parts};
-ghost use Rattle.oberon_format.specs.Recording.{IsLawful, IsFit, checkpoint_at};
-ghost use Rattle.oberon_format.specs.Parts.{parts_of};
+ghost use Rattle.oberon_format.specs.Recording.{IsLawful, IsFit, checkpoint_at, parts_of};
 
 use crate::checkpoint::Checkpoint;
 use risc_machine::Inputs;
@@ -30,8 +29,7 @@ pub struct Recording {
 }
 
 impl Model for Recording {
-    ghost use Rattle.oberon_format.specs.Recording.{RecordingParts, IsLawful};
-    ghost use Rattle.oberon_format.specs.Parts.{parts_of};
+    ghost use Rattle.oberon_format.specs.Recording.{RecordingParts, IsLawful, parts_of};
 
     ghost Value = { RecordingParts };
 

@@ -8,7 +8,7 @@ ghost use Rattle.oberon_format.specs.Layout.{word_at, page_number_place, version
 ghost use Rattle.oberon_format.specs.Fields.{sent_below};
 ghost use Rattle.oberon_format.specs.Ranges.{is_event};
 ghost use Rattle.oberon_format.specs.Rules.{named_len, header_rules, event_floor, event_rules, page_number_rules, change_rules, count_before, checkpoint_rules, end_rules};
-ghost use Rattle.oberon_format.specs.Tested.{IsSized, HasNumbers};
+ghost use Rattle.oberon_format.specs.inner.Tested.{IsSized, HasNumbers};
 ghost use Rattle.oberon_format.specs.TextFields.{first_fault_of, fields_of, event_of, checkpoint_of, change_of, number_before};
 
 use crate::change::Change;

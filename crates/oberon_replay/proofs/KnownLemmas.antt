@@ -19,7 +19,7 @@ use Rattle.oberon_replay.specs.Reply.{AnswersAll, IsReplyTo, IsSent, Outcome, an
 use Rattle.oberon_replay.specs.Migrate.{IsMigration}
 use Rattle.oberon_replay.specs.Record.{IsRecord}
 use Rattle.oberon_replay.specs.Screen.{IsScreen}
-use Rattle.oberon_replay.specs.Known.{Known}
+use Rattle.oberon_replay.specs.Transfer.{Known}
 use Rattle.oberon_replay.specs.declared.words.Request.{Request}
 use Rattle.oberon_replay.specs.declared.words.Request.TheVariants.{Check, Migrate, Record, Screen}
 use Rattle.oberon_replay.specs.declared.failure.Failure.TheVariants.{Memory, Read, Words}

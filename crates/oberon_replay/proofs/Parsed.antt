@@ -15,7 +15,8 @@ use Rattle.oberon_replay.specs.Program.{program_app}
 use Rattle.oberon_replay.specs.declared.words.Request.{Request}
 use Rattle.oberon_replay.specs.declared.words.Refusal.{Refusal}
 use Rattle.oberon_replay.specs.declared.words.Refusal.TheVariants.{Words}
-use Rattle.oberon_replay.specs.Asked.{IsRefused, IsWithinLimits, RefusedBy, asked, faults, found, refusal_by, request_of}
+use Rattle.oberon_replay.specs.Asked.{IsRefused, asked, faults, found, request_of}
+use Rattle.oberon_replay.specs.inner.Requests.{IsWithinLimits, RefusedBy, refusal_by}
 
 pub some_words : (n : ℕ) → false ≡ (n == 0) → 0 < n
 some_words zero is = cc

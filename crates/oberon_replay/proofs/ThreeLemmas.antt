@@ -8,12 +8,11 @@ use Rattle.oberon_check.specs.Line.{status_of}
 use Rattle.oberon_check.specs.declared.verdict.Verdict.{Verdict}
 use Rattle.oberon_check.specs.declared.verdict.Verdict.TheVariants.{Accepted, FalseAt}
 use Rattle.oberon_replay.specs.Answer.{IsAnswer}
-use Rattle.oberon_replay.specs.Known.{Known}
+use Rattle.oberon_replay.specs.Transfer.{Known, Fails, GainsWhole, Goes}
 use Rattle.oberon_replay.specs.Migrate.{IsMigration}
 use Rattle.oberon_replay.specs.Record.{IsRecord, IsRecordOf}
 use Rattle.oberon_replay.specs.Reply.{IsReplyTo, IsSent, IsThreeForFaults, Outcome, answer, failure, failure_line, help}
 use Rattle.oberon_replay.specs.Screen.{IsScreen, IsScreenOf}
-use Rattle.oberon_replay.specs.Transfer.{Fails, GainsWhole, Goes}
 use Rattle.oberon_replay.specs.declared.words.Request.{Request}
 use Rattle.oberon_replay.specs.declared.words.Request.TheVariants.{Check, Migrate, Record, Screen}
 use Rattle.oberon_replay.specs.declared.failure.Failure.TheVariants.{Memory, Read, Words}

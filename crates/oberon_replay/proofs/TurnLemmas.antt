@@ -3,8 +3,7 @@ use Rattle.std.proofs.Common.{◌≡◌, ◌<◌, ◌≤◌, ◌+◌, ◌-◌, �
 use Rattle.std.proofs.lemmas.List.{length-take}
 use Rattle.std.proofs.KnownBytes.{Consumes-trans}
 use Rattle.std.specs.Io.KnownBytes.{Consumes}
-use Rattle.oberon_replay.specs.Known.{Known}
-use Rattle.oberon_replay.specs.Transfer.{TakesAtMost}
+use Rattle.oberon_replay.specs.Transfer.{Known, TakesAtMost}
 
 -- a turn has no more room than the limit leaves
 pub fits_limit : (limit taken most room : ℕ) (chunk got : List ℕ) → taken ≤ limit → room ≡ min (limit - taken) most → length got ≤ length (take room chunk)

@@ -1,5 +1,5 @@
 -- What the words of the command line ask for.
-use Rattle.std.specs.Prelude.{◌≡◌, ◌≢◌, ◌≤◌, ℕ, List, [], ◌∷◌, Option, Some, None, option_map, option_and_then, if◌then◌else◌, codes, ⊤}
+use Rattle.std.specs.Prelude.{◌≡◌, ◌≢◌, ℕ, List, [], ◌∷◌, Option, Some, None, option_map, option_and_then, if◌then◌else◌, codes}
 use Rattle.std.specs.Str.{bytes_eq}
 use Rattle.std.specs.Str.Parse.{digits_value, without_leading_plus}
 use Rattle.clap.specs.ValueTests.{is_unsigned_in}
@@ -7,14 +7,10 @@ use Rattle.clap.specs.Walk.{Row, Text, is_empty, one_of}
 use Rattle.clap.specs.Simple.{subcommand_of}
 use Rattle.clap.specs.Kinds.{IsAmong, Kinds}
 use Rattle.clap.specs.Faults.{fault_of}
-use Rattle.clap.specs.declared.error.Error.{Error}
-use Rattle.clap.specs.declared.error.kind.ErrorKind.{ErrorKind}
-use Rattle.clap.specs.declared.error.kind.ErrorKind.TheVariants.{DisplayHelp, OutOfMemory}
+use Rattle.clap.specs.declared.error.kind.ErrorKind.TheVariants.{DisplayHelp}
 use Rattle.oberon_replay.specs.Program.{program_app}
 use Rattle.oberon_replay.specs.declared.words.Request.{Request}
 use Rattle.oberon_replay.specs.declared.words.Request.TheVariants.{Check, Migrate, Record, Screen}
-use Rattle.oberon_replay.specs.declared.words.Refusal.{Refusal}
-use Rattle.oberon_replay.specs.declared.words.Refusal.TheVariants.{Help, Words, Memory}
 use Rattle.oberon_format.specs.declared.ranges.TheConstants.{LAST_CHECKPOINT}
 
 -- the number that the text writes in decimal digits, perhaps after a plus, where it lies in the range
@@ -29,13 +25,6 @@ number_at low high id rows = option_and_then (whole_number low high) (one_of id 
 abbrev pub check_of : List Row → Option Request
 check_of rows = option_and_then (λ workers. option_map (λ cut. Check workers cut)
     (number_at 1 LAST_CHECKPOINT (codes "cut") rows)) (number_at 1 64 (codes "workers") rows)
-
--- the numbers of a request are in their ranges
-abbrev pub IsWithinLimits : Request → Type 0
-IsWithinLimits (Check workers cut) = (1 ≤ workers) × (workers ≤ 64) × (1 ≤ cut) × (cut ≤ LAST_CHECKPOINT)
-IsWithinLimits Record = ⊤
-IsWithinLimits (Screen at) = at ≤ LAST_CHECKPOINT
-IsWithinLimits Migrate = ⊤
 
 -- what a subcommand with its arguments asks for
 abbrev pub request_of : Text → List Row → Option Request
@@ -68,14 +57,3 @@ IsHelp words = IsAmong DisplayHelp (faults words)
 -- the words ask for nothing, and not for help alone
 abbrev pub IsRefused : List Text → Type 0
 IsRefused words = (asked words ≡ None) × (faults words ≢ DisplayHelp ∷ [])
-
--- the refusal that an error of `clap` stands for
-abbrev pub refusal_by : ErrorKind → Error → Refusal
-refusal_by DisplayHelp error = Help error
-refusal_by OutOfMemory error = Memory
-refusal_by _ error = Words
-
-abbrev pub RefusedBy : List Text → Refusal → Type 0
-RefusedBy words (Help error) = IsHelp words
-RefusedBy words Words = IsRefused words
-RefusedBy words Memory = ⊤

@@ -1,10 +1,10 @@
--- What the program reads and writes.
-pub mod Answer
-pub mod Asked
-pub mod Known
-pub mod Migrate
+-- What the program reads and writes. Read it in this order: what the words ask for, each answer, the whole.
 pub mod Program
+pub mod Asked
 pub mod Record
-pub mod Reply
 pub mod Screen
+pub mod Migrate
+pub mod Answer
 pub mod Transfer
+pub mod Reply
+pub mod inner

@@ -4,10 +4,7 @@ use Rattle.std.specs.Io.KnownBytes.{Appends}
 use Rattle.clap.specs.Walk.{Text}
 use Rattle.oberon_replay.specs.Answer.{IsAnswer, limit_of}
 use Rattle.oberon_replay.specs.Asked.{IsHelp, IsRefused, asked}
-use Rattle.oberon_replay.specs.Known.{Known}
-use Rattle.oberon_replay.specs.Transfer.{Fails, GainsFront, GainsWhole, Goes, IsReadUpTo}
-use Rattle.oberon_replay.specs.declared.reading.ReadFault.{ReadFault}
-use Rattle.oberon_replay.specs.declared.reading.ReadFault.TheVariants as fault
+use Rattle.oberon_replay.specs.Transfer.{Known, Fails, GainsFront, GainsWhole, Goes, IsReadUpTo}
 use Rattle.oberon_replay.specs.declared.words.Request.{Request}
 use Rattle.oberon_replay.specs.declared.failure.Failure.{Failure}
 use Rattle.oberon_replay.specs.declared.failure.Failure.TheVariants.{Words, Read, Memory}
@@ -17,11 +14,6 @@ pub data Outcome : Type 0 where
   answer : Request → List ℕ → List ℕ → ℕ → Outcome
   help : List ℕ → Outcome
   failure : Failure → Outcome
-
--- the failure that a fault of a reading loop stands for
-abbrev pub failure_by : ReadFault → Failure
-failure_by fault.Failed = Read
-failure_by fault.Memory = Memory
 
 -- the line of a failure
 abbrev pub failure_line : Failure → List ℕ

@@ -1,7 +1,7 @@
 -- What the command `screen` answers.
 use Rattle.std.specs.Prelude.{◌≡◌, ◌⊎◌, ◌<◌, ◌≤◌, ℕ, List, ◌++◌, length, slice_range, codes}
 use Rattle.std.specs.Fmt.{decimal}
-use Rattle.risc_pages.specs.Content.{table_words}
+use Rattle.risc_pages.specs.Tables.{table_words}
 use Rattle.risc_devices.specs.Picture.{IsPicture}
 use Rattle.oberon_format.specs.Recording.{RecordingParts, checkpoint_at}
 use Rattle.oberon_format.specs.Text.{Text}

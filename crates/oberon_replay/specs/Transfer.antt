@@ -1,9 +1,12 @@
 -- What a loop over a reader or a writer leaves of the bytes that are known to be in them.
-use Rattle.std.specs.Prelude.{◌≡◌, ◌<◌, ◌≤◌, IsTrue, ℕ, List, length, take}
+use Rattle.std.specs.Prelude.{◌≡◌, ◌<◌, ◌≤◌, IsTrue, ℕ, List, length, take, Bool, Option}
 use Rattle.std.specs.Io.KnownBytes.{Appends, Consumes, IsAtEnd}
-use Rattle.oberon_replay.specs.Known.{Known}
-use Rattle.oberon_replay.specs.declared.reading.ReadFault.{ReadFault}
-use Rattle.oberon_replay.specs.declared.reading.ReadFault.TheVariants.{Failed, Memory}
+
+-- the bytes that a reader has left, or that a writer was given, where they are known; and whether a call of it has failed, or may
+-- have
+pub record Known : Type 0 where
+  pub bytes : Option (List ℕ)
+  pub failed : Bool
 
 -- no call failed on the way from the one to the other
 abbrev pub Goes : Known → Known → Type 0
@@ -23,11 +26,6 @@ pub record IsReadUpTo (limit : ℕ) (old new : Known) (bytes : List ℕ) : Type 
 -- no more than `limit` bytes were taken from the reader
 abbrev pub TakesAtMost : ℕ → Known → Known → Type 0
 TakesAtMost limit old new = (bytes : List ℕ) × (length bytes ≤ limit) × Consumes old.bytes new.bytes bytes
-
--- a read failed where the fault says so, and nowhere else
-abbrev pub IsReadFault : Known → Known → ReadFault → Type 0
-IsReadFault old new Failed = Fails new
-IsReadFault old new Memory = Goes old new
 
 -- the writer gained all of the text, and no write failed
 abbrev pub GainsWhole : List ℕ → Known → Known → Type 0

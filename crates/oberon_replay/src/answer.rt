@@ -2,7 +2,7 @@
 ghost use Rattle.std.specs.Prelude.{◌≡◌, ◌≤◌, IfOk};
 ghost use Rattle.oberon_check.specs.Headline.{IsLineOf};
 ghost use Rattle.oberon_replay.specs.Answer.{IsAnswer, limit_of};
-ghost use Rattle.oberon_replay.specs.Asked.{IsWithinLimits};
+ghost use Rattle.oberon_replay.specs.inner.Requests.{IsWithinLimits};
 
 use crate::migrate::migrate;
 use crate::record::record;

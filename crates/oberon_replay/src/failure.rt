@@ -51,7 +51,7 @@ impl From<AllocError> for Failure {
 
 impl From<ReadFault> for Failure {
     ghost use Rattle.std.specs.Prelude.{◌≡◌};
-    ghost use Rattle.oberon_replay.specs.Reply.{failure_by};
+    ghost use Rattle.oberon_replay.specs.inner.Failures.{failure_by};
 
     ghost from_gives = { λ fault failure. failure ≡ failure_by fault };
 

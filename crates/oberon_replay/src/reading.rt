@@ -1,7 +1,8 @@
 //! Reading an input to its end, or up to a limit, by a loop that counts its turns. What the bytes mean is not known here.
 ghost use Rattle.std.specs.Prelude.{◌≡◌, ◌<◌, ◌≤◌, ◌++◌, ◌^◌, List, ℕ, length, IfErr, IfOk, OnErr, OnOk, true, false};
 ghost use Rattle.std.specs.Io.KnownBytes.{Consumes, IsAtEnd};
-ghost use Rattle.oberon_replay.specs.Transfer.{Goes, IsReadFault, IsReadUpTo, TakesAtMost};
+ghost use Rattle.oberon_replay.specs.Transfer.{Goes, IsReadUpTo, TakesAtMost};
+ghost use Rattle.oberon_replay.specs.inner.Failures.{IsReadFault};
 
 use crate::source::Source;
 use std::alloc::{AllocError, Global};

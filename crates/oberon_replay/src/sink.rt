@@ -1,8 +1,7 @@
 //! Where the bytes of a text go: a writer, of which contracts say whether a write failed.
 ghost use Rattle.std.specs.Prelude.{◌<◌, ◌≤◌, IfOk, OnErr, OnOk, length, true};
 ghost use Rattle.std.specs.Io.KnownBytes.{Keeps, WriteAppends};
-ghost use Rattle.oberon_replay.specs.Known.{Known};
-ghost use Rattle.oberon_replay.specs.Transfer.{Fails, Goes};
+ghost use Rattle.oberon_replay.specs.Transfer.{Known, Fails, Goes};
 
 use std::io::Write;
 

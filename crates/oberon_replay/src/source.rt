@@ -2,8 +2,7 @@
 ghost use Rattle.std.specs.Prelude.{OnErr, OnOk, true};
 ghost use Rattle.std.specs.Io.{ReadsAtMost};
 ghost use Rattle.std.specs.Io.KnownBytes.{ReadConsumes};
-ghost use Rattle.oberon_replay.specs.Known.{Known};
-ghost use Rattle.oberon_replay.specs.Transfer.{Fails, Goes};
+ghost use Rattle.oberon_replay.specs.Transfer.{Known, Fails, Goes};
 
 use std::io::{self, Read};
 

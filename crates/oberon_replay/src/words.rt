@@ -1,7 +1,8 @@
 //! What the words of the command line ask for. The command line itself is in `command`.
 ghost use Rattle.std.specs.Prelude.{◌≡◌, ◌≤◌, Some, IfSome, map, IfOk, IfErr, option_and_then};
 ghost use Rattle.clap.specs.Words.{found_of, kind_of, rows_of, subcommand_rows_of};
-ghost use Rattle.oberon_replay.specs.Asked.{IsWithinLimits, RefusedBy, asked, number_at, refusal_by, request_of};
+ghost use Rattle.oberon_replay.specs.inner.Requests.{IsWithinLimits, RefusedBy, refusal_by};
+ghost use Rattle.oberon_replay.specs.Asked.{asked, number_at, request_of};
 
 use crate::command::program;
 use clap::error::ErrorKind;

@@ -8,9 +8,8 @@ use Rattle.std.specs.Prelude.{nat_lt, slice_index}
 use Rattle.risc_machine.specs.MachineState.{CpuState, State}
 use Rattle.risc_devices.specs.DeviceState.{DeviceState, IsDeviceState, IsPhase, is_phase}
 use Rattle.risc_devices.specs.InputKind.{is_mouse}
-use Rattle.risc_pages.specs.Content.{table_words}
+use Rattle.risc_pages.specs.Tables.{table_words, zero_numbers}
 use Rattle.risc_pages.specs.Pages.{ArePages, IsPage}
-use Rattle.risc_pages.specs.Tables.{zero_numbers}
 use Rattle.oberon_format.specs.CheckpointParts.{CheckpointParts, no_checkpoint}
 use Rattle.oberon_format.specs.Recording.{IsFit, IsLawful, output_of}
 use Rattle.oberon_session.proofs.Next.{Recorded, so-recorded}
@@ -21,7 +20,7 @@ use Rattle.oberon_session.specs.Laws.{IsTableOf}
 use Rattle.oberon_session.specs.Ranges.{timer_fits}
 use Rattle.oberon_session.specs.Recorded.{checkpoint_of, count_of, first_devices, first_laid, first_state, laid_of, numbered, output_between, output_up_to, state_at, state_of}
 use Rattle.oberon_session.specs.SessionParts.{SessionParts, places_in, IsLawful as IsLawfulSession}
-use Rattle.oberon_session.specs.Progress.{IsContentOf, IsRecorded, checkpoints_to}
+use Rattle.oberon_session.specs.inner.Progress.{IsContentOf, IsRecorded, checkpoints_to}
 
 -- ---- the first table
 

@@ -13,7 +13,7 @@ use Rattle.std.specs.Prelude.{◌==◌, nat_eq, slice_index, slice_set}
 use Rattle.risc_pages.proofs.DeltaLemmas.{AreDifferences-changed_below}
 use Rattle.risc_pages.proofs.Paging.{flat_map-same}
 use Rattle.risc_pages.proofs.PoolLemmas.{page_at-table_words, page_of-shared, page_of-zero}
-use Rattle.risc_pages.specs.Content.{IsNamed, table_words}
+use Rattle.risc_pages.specs.Tables.{IsNamed, table_words}
 use Rattle.risc_pages.specs.Delta.{changed_below}
 use Rattle.risc_pages.specs.Pages.{ArePages, page_at, page_of, zero_page}
 use Rattle.oberon_session.specs.Laid.{Laid, changed_pages, is_blank, lay, lay_page, lay_pages}

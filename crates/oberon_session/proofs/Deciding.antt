@@ -8,7 +8,7 @@ use Rattle.std.specs.Prelude.{nat_le, nat_lt, slice_index}
 use Rattle.oberon_session.specs.Draft.{Draft, InputNumbers, PageText, Start}
 use Rattle.oberon_session.specs.Ranges.{count_fits, in_order, in_range, input_counts, input_fits, of_neighbours, page_fits, places_of, start_fits, timer_fits}
 use Rattle.oberon_session.specs.SessionParts.{CountFits}
-use Rattle.oberon_session.specs.Tested.{InOrder, InRange, InputFits, PageFits, StartFits}
+use Rattle.oberon_session.specs.inner.Tested.{InOrder, InRange, InputFits, PageFits, StartFits}
 use Rattle.oberon_format.specs.declared.ranges.TheConstants.{LAST_CHECKPOINT, MAX_COUNT, MAX_EVENTS}
 
 decides-le : (a b : ℕ) → Decides (nat_le a b) (a ≤ b)

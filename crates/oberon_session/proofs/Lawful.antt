@@ -11,13 +11,14 @@ use Rattle.risc_machine.specs.declared.event.Event.{Event}
 use Rattle.risc_machine.specs.InputOrder.{AreOrdered}
 use Rattle.risc_machine.specs.MachineState.{CpuState, cpu_state}
 use Rattle.oberon_session.proofs.Mapped.{unmapped}
-use Rattle.oberon_session.specs.Digits.{PlacedWords, all_placed_of, placed_of, placed_view, words_of_bytes}
+use Rattle.oberon_session.specs.Digits.{PlacedWords, all_placed_of, placed_of, words_of_bytes}
+use Rattle.oberon_session.specs.inner.Drafts.{placed_view, session_of_parts}
 use Rattle.oberon_session.specs.Draft.{Draft, PageText}
 use Rattle.oberon_session.specs.Ranges.{places_of}
 use Rattle.oberon_session.specs.Session.{cpu_of}
-use Rattle.oberon_session.specs.SessionParts.{IsLawful, places_in, session_of_parts}
+use Rattle.oberon_session.specs.SessionParts.{IsLawful, places_in}
 use Rattle.oberon_session.specs.Shape.{each}
-use Rattle.oberon_session.specs.Tested.{InOrder, InRange}
+use Rattle.oberon_session.specs.inner.Tested.{InOrder, InRange}
 use Rattle.oberon_session.specs.declared.placed.PlacedPage.{PlacedPage}
 
 module _ {A X B : Type 0} (read : A → Option X) (from : A → B) (to : X → B) (along : (x : A) (y : X) → read x ≡ Some y → to y ≡ from x) where

@@ -15,7 +15,7 @@ use Rattle.oberon_session.specs.Digits.{PlacedWords}
 use Rattle.oberon_session.specs.Laid.{changed_pages}
 use Rattle.oberon_session.specs.Recorded.{numbered}
 use Rattle.oberon_session.specs.SessionParts.{places_in}
-use Rattle.oberon_session.specs.Progress.{page_view}
+use Rattle.oberon_session.specs.inner.Progress.{page_view}
 
 pub numbered-suc : (pages : List PlacedWords) (n : ℕ) → numbered pages (suc n) ≡ slice_set (numbered pages n) (slice_index (places_in pages) n) (suc n)
 unfolding numbered

@@ -4,7 +4,7 @@ use Rattle.std.proofs.lemmas.List.{get_or-map, length-map}
 use Rattle.std.proofs.lemmas.List.Elements.{All-map}
 use Rattle.std.specs.List.{All}
 use Rattle.std.specs.List.Sorted.{IsStrictlyIncreasing}
-use Rattle.oberon_session.specs.Tested.{RisesBy}
+use Rattle.oberon_session.specs.inner.Tested.{RisesBy}
 
 module _ {X Y : Type 0} (f : Y → X) where
   pub unmapped : (P : X → Type 0) (ys : List Y) → All P (map f ys) → All (λ y. P (f y)) ys

@@ -4,7 +4,7 @@ use Rattle.std.proofs.lemmas.Bool.{cases_lt}
 use Rattle.std.proofs.lemmas.List.FromFn.{get_or-map-range_with_len, length-map-range_with_len, map-range_with_len_more}
 use Rattle.std.specs.List.{All}
 use Rattle.risc_devices.specs.DeviceState.{IsDeviceState}
-use Rattle.risc_pages.specs.Content.{IsNamed, table_words}
+use Rattle.risc_pages.specs.Tables.{IsNamed, table_words}
 use Rattle.risc_pages.specs.Pages.{ArePages}
 use Rattle.risc_machine.specs.MachineState.{IsCpuState}
 use Rattle.oberon_format.specs.declared.ranges.TheConstants.{MAX_OUTPUT, MAX_PAGES}
@@ -18,7 +18,7 @@ use Rattle.oberon_session.specs.Laid.{Laid}
 use Rattle.oberon_session.specs.Laws.{IsTableOf}
 use Rattle.oberon_session.specs.Recorded.{checkpoint_of, count_of, laid_of, output_between, output_up_to, state_of}
 use Rattle.oberon_session.specs.SessionParts.{SessionParts, IsLawful as IsLawfulSession}
-use Rattle.oberon_session.specs.Progress.{IsContentOf, IsRecorded, checkpoints_to}
+use Rattle.oberon_session.specs.inner.Progress.{IsContentOf, IsRecorded, checkpoints_to}
 
 module _ (s : SessionParts) where
   -- what is recorded up to checkpoint k, in the words of the session

@@ -12,7 +12,7 @@ use Rattle.oberon_session.specs.Laws.{IsAnswer}
 use Rattle.oberon_session.specs.Rules.{draft_in, first_fault_of}
 use Rattle.oberon_session.specs.Session.{Says, cpu_of, numbers_of_event}
 use Rattle.oberon_session.specs.SessionParts.{SessionParts}
-use Rattle.oberon_session.specs.Tested.{InputFits}
+use Rattle.oberon_session.specs.inner.Tested.{InputFits}
 use Rattle.oberon_session.specs.declared.fault.SessionFault.{SessionFault}
 
 -- ---- the events of inputs

@@ -8,7 +8,7 @@ use Rattle.risc_machine.specs.InputOrder.{AreOrdered, IsFirstWrong, IsRightPlace
 use Rattle.oberon_session.specs.Draft.{InputNumbers}
 use Rattle.oberon_session.specs.Ranges.{input_counts}
 use Rattle.oberon_session.specs.Session.{numbers_of_event}
-use Rattle.oberon_session.specs.Tested.{InputFits, NeverFalls}
+use Rattle.oberon_session.specs.inner.Tested.{InputFits, NeverFalls}
 use Rattle.oberon_format.specs.declared.ranges.TheConstants.{MAX_COUNT}
 
 counts-same : (es : List Event) → input_counts (map numbers_of_event es) ≡ map (λ (e : Event). e.count) es

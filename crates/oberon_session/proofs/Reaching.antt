@@ -5,7 +5,7 @@ use Rattle.std.specs.List.{All}
 use Rattle.risc_devices.specs.DeviceState.{DeviceState, IsDeviceState}
 use Rattle.risc_pages.specs.Pages.{ArePages}
 use Rattle.risc_machine.specs.declared.event.Event.{Event}
-use Rattle.risc_pages.specs.Content.{table_words}
+use Rattle.risc_pages.specs.Tables.{table_words}
 use Rattle.risc_machine.specs.MachineState.{CpuState, State, IsCpuState, cpu_state}
 use Rattle.risc_machine.specs.Replay.{run_of, sent_of}
 use Rattle.oberon_format.proofs.CheckpointLemmas.{checkpoint_at-is}
@@ -19,7 +19,7 @@ use Rattle.oberon_session.proofs.Steps.{laid_of-next, output-on, state-on, too-m
 use Rattle.oberon_session.specs.Laid.{Laid, changed_pages, lay, lay_pages}
 use Rattle.oberon_session.specs.Recorded.{checkpoint_of, count_of, laid_of, output_between, output_up_to, record_fault_of, state_of}
 use Rattle.oberon_session.specs.SessionParts.{SessionParts, IsLawful}
-use Rattle.oberon_session.specs.Progress.{IsReached, IsRecorded, checkpoints_to, page_view}
+use Rattle.oberon_session.specs.inner.Progress.{IsReached, IsRecorded, checkpoints_to, page_view}
 use Rattle.oberon_session.specs.declared.segment.Reached.{Reached}
 use Rattle.oberon_session.specs.declared.record_fault.RecordFault.TheVariants as fault
 

@@ -1,9 +1,10 @@
 -- What the single tests say of the whole draft.
 use Rattle.std.proofs.Common.{map}
 use Rattle.oberon_session.proofs.Mapped.{mapped-fit, mapped-rises}
-use Rattle.oberon_session.specs.Draft.{PageText, draft_view, input_view, page_view}
+use Rattle.oberon_session.specs.Draft.{PageText}
+use Rattle.oberon_session.specs.inner.Drafts.{draft_view, input_view, page_view}
 use Rattle.oberon_session.specs.Ranges.{input_counts}
-use Rattle.oberon_session.specs.Tested.{BreaksDraft, BreaksInputs, InOrder, InRange, InputsFit, NeverFalls, NumbersFit, NumbersRise, PageFits}
+use Rattle.oberon_session.specs.inner.Tested.{BreaksDraft, BreaksInputs, InOrder, InRange, InputsFit, NeverFalls, NumbersFit, NumbersRise, PageFits}
 use Rattle.oberon_session.specs.declared.fault.SessionFault.{SessionFault}
 use Rattle.oberon_session.specs.declared.fault.SessionFault.TheVariants.{Json, Shape, Range, Order, Hex, Memory}
 use Rattle.oberon_session.specs.declared.draft.Draft.{Draft as DraftValue}

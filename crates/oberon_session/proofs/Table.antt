@@ -18,7 +18,7 @@ use Rattle.oberon_session.specs.Rules.{Rule, draft_in, first_broken, first_fault
 use Rattle.oberon_session.specs.Session.{Breaks, Fits, IsSession}
 use Rattle.oberon_session.specs.SessionParts.{SessionParts}
 use Rattle.oberon_session.specs.Shape.{◌>>=◌}
-use Rattle.oberon_session.specs.Tested.{BreaksIn, InOrder, InRange, IsJson, IsSessionIn}
+use Rattle.oberon_session.specs.inner.Tested.{BreaksIn, InOrder, InRange, IsJson, IsSessionIn}
 use Rattle.oberon_session.specs.declared.fault.SessionFault.{SessionFault}
 use Rattle.oberon_session.specs.declared.fault.SessionFault.TheVariants.{Json, Shape, Range, Order, Hex, Memory}
 

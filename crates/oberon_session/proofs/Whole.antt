@@ -12,7 +12,7 @@ use Rattle.oberon_session.proofs.Reaching.{claimed-is}
 use Rattle.oberon_session.specs.Recorded.{checkpoint_of, count_of, first_state, last_of, output_between, record_fault_of, recording_of, state_at, state_of}
 use Rattle.oberon_session.specs.SessionParts.{SessionParts}
 use Rattle.oberon_session.specs.Laid.{Laid}
-use Rattle.oberon_session.specs.Progress.{IsRecorded}
+use Rattle.oberon_session.specs.inner.Progress.{IsRecorded}
 
 module _ (s : SessionParts) where
   -- it is the recording

@@ -4,15 +4,11 @@ use Rattle.std.specs.List.{range_with_len}
 use Rattle.hex.specs.Hex.{decode_of}
 use Rattle.oberon_session.specs.Shape.{◌>>=◌, each}
 use Rattle.oberon_session.specs.Draft.{PageText}
-use Rattle.oberon_session.specs.declared.placed.PlacedPage.{PlacedPage}
 
 -- a page and the place where it stands
 pub record PlacedWords : Type 0 where
   pub at : ℕ
   pub words : List ℕ
-
-abbrev pub placed_view : PlacedPage → PlacedWords
-placed_view p = record { at = p.at; words = p.page.words }
 
 -- word i of a page of these first bytes: bytes 4 * i to 4 * i + 3, the lowest first. Bytes that aren't there are 0
 abbrev pub word_of_bytes : List ℕ → ℕ → ℕ

@@ -1,13 +1,9 @@
 -- What a JSON value says, where it has the shape of a session of version 1 or 2. The format is this project's own.
-use Rattle.std.specs.Prelude.{◌==◌, ◌||◌, ℕ, List, [], ◌∷◌, length, map, Option, Some, None, if◌then◌else◌, codes}
+use Rattle.std.specs.Prelude.{◌==◌, ◌||◌, ℕ, List, [], ◌∷◌, length, Option, Some, None, if◌then◌else◌, codes}
 use Rattle.std.specs.Str.{bytes_eq}
 use Rattle.serde_json.specs.Data.{Data}
 use Rattle.serde_json.specs.Find.{get}
 use Rattle.oberon_session.specs.Shape.{◌>>=◌, each, exactly, items_of, number_of, numbers_of, only_if, text_of}
-use Rattle.oberon_session.specs.declared.draft.InputDraft.{InputDraft}
-use Rattle.oberon_session.specs.declared.draft.PageDraft.{PageDraft}
-use Rattle.oberon_session.specs.declared.draft.StartDraft.{StartDraft}
-use Rattle.oberon_session.specs.declared.draft.Draft.{Draft as DraftValue}
 
 -- the numbers of the first state
 pub record Start : Type 0 where
@@ -115,20 +111,3 @@ draft_of json = do
   Some (record { start = start; pages = pages; inputs = inputs; checkpoints = checkpoints })
 
 -- ---- what the program's values say
-
-abbrev pub start_view : StartDraft → Start
-start_view s = record { registers = s.registers.items; h = s.h; pc = s.pc; flags = s.flags; rate = s.rate; phase = s.phase }
-
-abbrev pub page_view : PageDraft → PageText
-page_view p = record { at = p.at; hex = p.hex.now }
-
-abbrev pub input_view : InputDraft → InputNumbers
-input_view i = record { count = i.count; kind = i.kind; value = i.value }
-
-abbrev pub draft_view : DraftValue → Draft
-draft_view d = record {
-  start = start_view d.start;
-  pages = map page_view d.pages.items;
-  inputs = map input_view d.inputs.items;
-  checkpoints = d.checkpoints.items;
-}

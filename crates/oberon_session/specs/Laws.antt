@@ -1,7 +1,7 @@
 -- Laws of the definitions: what laying comes to, in the words of pages and places, and that a text has one answer.
 use Rattle.std.specs.Prelude.{ℕ, ◌≡◌, ◌≢◌, ◌+◌, ◌<◌, true, false, List, ◌++◌, All, Some, Result, Ok, Err, filter, length, map, not, slice_index}
 use Rattle.std.specs.List.Sorted.{IsStrictlyIncreasing}
-use Rattle.risc_pages.specs.Content.{IsNamed, table_words}
+use Rattle.risc_pages.specs.Tables.{IsNamed, table_words}
 use Rattle.risc_pages.specs.Delta.{changed_below}
 use Rattle.risc_pages.specs.Pages.{ArePages, page_at}
 use Rattle.oberon_session.specs.Digits.{PlacedWords}

@@ -1,13 +1,13 @@
+-- Sessions and their recordings. Read it in this order: what a JSON text says, a session, the rules, its recording, laws.
 pub mod Shape
 pub mod Draft
 pub mod Digits
 pub mod Ranges
-pub mod Rules
 pub mod SessionParts
+pub mod Rules
 pub mod Session
-pub mod Tested
 pub mod FaultNames
 pub mod Laid
 pub mod Recorded
-pub mod Progress
 pub mod Laws
+pub mod inner

@@ -2,8 +2,7 @@
 use Rattle.std.specs.Prelude.{ℕ, zero, suc, ◌+◌, ◌-◌, nat_lt, false, List, [], length, map, slice_index, slice_set, Option, Some, None, if◌then◌else◌}
 use Rattle.std.specs.List.{range_with_len}
 use Rattle.std.specs.Option.{option_or}
-use Rattle.risc_pages.specs.Content.{table_words}
-use Rattle.risc_pages.specs.Tables.{zero_numbers}
+use Rattle.risc_pages.specs.Tables.{table_words, zero_numbers}
 use Rattle.risc_devices.specs.DeviceState.{DeviceState}
 use Rattle.risc_machine.specs.MachineState.{State}
 use Rattle.risc_machine.specs.OneRun.{sent_between, state_from}

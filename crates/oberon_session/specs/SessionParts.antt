@@ -3,13 +3,11 @@ use Rattle.std.specs.Prelude.{ℕ, ◌≡◌, ◌<◌, ◌≤◌, IsTrue, List, 
 use Rattle.std.specs.List.{All}
 use Rattle.std.specs.List.Sorted.{IsStrictlyIncreasing}
 use Rattle.risc_pages.specs.Pages.{IsPage}
-use Rattle.risc_machine.specs.declared.cpu.Cpu.{Cpu}
 use Rattle.risc_machine.specs.declared.event.Event.{Event}
 use Rattle.risc_machine.specs.InputOrder.{AreOrdered}
-use Rattle.risc_machine.specs.MachineState.{CpuState, IsCpuState, cpu_state}
-use Rattle.oberon_session.specs.Digits.{PlacedWords, placed_view}
+use Rattle.risc_machine.specs.MachineState.{CpuState, IsCpuState}
+use Rattle.oberon_session.specs.Digits.{PlacedWords}
 use Rattle.oberon_session.specs.Ranges.{timer_fits}
-use Rattle.oberon_session.specs.declared.placed.PlacedPage.{PlacedPage}
 use Rattle.oberon_format.specs.declared.ranges.TheConstants.{LAST_CHECKPOINT, MAX_COUNT, MAX_EVENTS}
 
 -- the processor of the first state, its timer's rate and phase, the pages of its memory, whose other places are zeros, the inputs
@@ -47,8 +45,3 @@ pub record IsLawful (s : SessionParts) : Type 0 where
   pub ordered : AreOrdered s.inputs
   pub counts : CountsFit s.counts
   pub rises : IsStrictlyIncreasing s.counts
-
--- the session of these parts, as Rust has them
-abbrev pub session_of_parts : Cpu → ℕ → ℕ → List PlacedPage → List Event → List ℕ → SessionParts
-session_of_parts cpu rate phase pages inputs counts =
-    record { cpu = cpu_state cpu; rate = rate; phase = phase; pages = map placed_view pages; inputs = inputs; counts = counts }

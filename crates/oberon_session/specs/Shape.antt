@@ -1,9 +1,7 @@
 -- Looking into a JSON value that has to have a given shape.
-use Rattle.std.specs.Prelude.{◌≡◌, ◌≢◌, ◌==◌, ℕ, suc, List, [], ◌∷◌, Bool, true, false, Option, Some, None, Result, MatchResult, if◌then◌else◌, option_map}
+use Rattle.std.specs.Prelude.{◌==◌, ℕ, suc, List, [], ◌∷◌, Bool, true, false, Option, Some, None, if◌then◌else◌, option_map}
 use Rattle.serde_json.specs.Data.{Data, Items, no_items, item, Members, no_members, member}
 use Rattle.serde_json.specs.Find.{as_array, as_number, as_object, as_str, as_u64}
-use Rattle.oberon_session.specs.declared.fault.SessionFault.{SessionFault}
-use Rattle.oberon_session.specs.declared.fault.SessionFault.TheVariants.{Memory, Shape}
 
 -- the second step, where the first gave a value
 infixl 10 ◌>>=◌
@@ -15,15 +13,6 @@ None >>= f = None
 abbrev pub only_if : {A : Type 0} → Bool → A → Option A
 only_if true x = Some x
 only_if false x = None
-
--- the result is what the definition gives, and this fault comes only where it gives nothing
-abbrev pub GivesOr : {T X : Type 0} → SessionFault → (T → X) → Option X → Result T SessionFault → Type 0
-GivesOr why view found result =
-    MatchResult result (λ value. found ≡ Some (view value))
-    (λ fault. fault ≢ Memory → (fault ≡ why) × (found ≡ None))
-
-abbrev pub Gives : {T X : Type 0} → (T → X) → Option X → Result T SessionFault → Type 0
-Gives = GivesOr Shape
 
 -- the number of members of an object
 abbrev pub member_count : Members → ℕ

@@ -2,10 +2,9 @@
 
 ghost use Rattle.std.specs.Prelude.{◌≡◌, ◌≢◌, ◌↔◌, ◌<◌, ◌≤◌, ◌^◌, length, map, slice_index};
 ghost use Rattle.std.specs.List.{All};
-ghost use Rattle.oberon_session.specs.Shape.{GivesOr};
-ghost use Rattle.oberon_session.specs.Draft.{page_view};
-ghost use Rattle.oberon_session.specs.Tested.{PageFits};
-ghost use Rattle.oberon_session.specs.Digits.{all_placed_of, placed_of, placed_view, word_of_bytes, words_of_bytes};
+ghost use Rattle.oberon_session.specs.inner.Drafts.{GivesOr, page_view, placed_view};
+ghost use Rattle.oberon_session.specs.inner.Tested.{PageFits};
+ghost use Rattle.oberon_session.specs.Digits.{all_placed_of, placed_of, word_of_bytes, words_of_bytes};
 
 use crate::SessionFault;
 use crate::draft::PageDraft;

@@ -3,10 +3,10 @@
 ghost use Rattle.std.specs.Prelude.{◌≡◌, ◌≢◌, IfOk, IfErr, MatchOption, map};
 ghost use Rattle.std.specs.List.{All};
 ghost use Rattle.risc_machine.specs.InputOrder.{AreOrdered};
-ghost use Rattle.oberon_session.specs.Draft.{input_view};
+ghost use Rattle.oberon_session.specs.inner.Drafts.{input_view};
 ghost use Rattle.oberon_session.specs.Ranges.{input_counts};
 ghost use Rattle.oberon_session.specs.Session.{numbers_of_event};
-ghost use Rattle.oberon_session.specs.Tested.{BreaksInputs, InputFits, InputsFit, NeverFalls};
+ghost use Rattle.oberon_session.specs.inner.Tested.{BreaksInputs, InputFits, InputsFit, NeverFalls};
 
 use crate::SessionFault;
 use crate::draft::InputDraft;

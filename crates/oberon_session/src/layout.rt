@@ -2,10 +2,10 @@
 
 ghost use Rattle.std.specs.Prelude.{◌≡◌, ◌+◌, ◌<◌, ◌≤◌, ◌^◌, All, IfOk, OnOk, ℕ, length, map};
 ghost use Rattle.risc_pages.specs.declared.page.Page.{Page};
-ghost use Rattle.oberon_session.specs.Digits.{placed_view};
+ghost use Rattle.oberon_session.specs.inner.Drafts.{placed_view};
 ghost use Rattle.oberon_session.specs.Laid.{is_blank, lay_page, lay_pages};
 ghost use Rattle.oberon_session.specs.Recorded.{first_laid};
-ghost use Rattle.oberon_session.specs.Progress.{laid_view, page_view};
+ghost use Rattle.oberon_session.specs.inner.Progress.{laid_view, page_view};
 
 use crate::placed::PlacedPage;
 use oberon_format::MAX_PAGES;

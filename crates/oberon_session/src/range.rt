@@ -4,8 +4,8 @@
 ghost use Rattle.std.specs.Prelude.{◌≡◌, ◌<◌, ◌^◌, ◌↔◌, IsTrue};
 ghost use Rattle.std.specs.List.{All};
 ghost use Rattle.std.specs.List.Sorted.{IsStrictlyIncreasing};
-ghost use Rattle.oberon_session.specs.Draft.{start_view};
-ghost use Rattle.oberon_session.specs.Tested.{DraftPagesFit, NumbersFit, NumbersRise, RisesBy, StartFits};
+ghost use Rattle.oberon_session.specs.inner.Drafts.{start_view};
+ghost use Rattle.oberon_session.specs.inner.Tested.{DraftPagesFit, NumbersFit, NumbersRise, RisesBy, StartFits};
 ghost use Rattle.oberon_session.specs.Ranges.{timer_fits};
 ghost use Rattle.oberon_session.specs.SessionParts.{CountsFit};
 

@@ -4,9 +4,9 @@ ghost use Rattle.std.specs.Prelude.{◌≡◌, ◌↔◌, ◌<◌, ◌^◌, IfOk
 ghost use Rattle.serde_json.specs.Errors.{IsMemory};
 ghost use Rattle.serde_json.specs.View.{view};
 ghost use Rattle.risc_machine.specs.MachineState.{cpu_state};
-ghost use Rattle.oberon_session.specs.Draft.{draft_view, start_view};
+ghost use Rattle.oberon_session.specs.inner.Drafts.{draft_view, start_view};
 ghost use Rattle.oberon_session.specs.Session.{Breaks, IsSession, Says, cpu_of, flags_of};
-ghost use Rattle.oberon_session.specs.Tested.{BreaksDraft, BreaksIn, InOrder, InRange, IsSessionIn, IsTested, StartFits};
+ghost use Rattle.oberon_session.specs.inner.Tested.{BreaksDraft, BreaksIn, InOrder, InRange, IsSessionIn, IsTested, StartFits};
 
 use crate::SessionFault;
 use crate::digits::placed_pages;

@@ -5,10 +5,9 @@ ghost use Rattle.risc_devices.specs.DeviceState.{IsPhase};
 ghost use Rattle.risc_machine.specs.InputOrder.{AreOrdered};
 ghost use Rattle.oberon_format.specs.CheckpointParts.{checkpoint_parts};
 ghost use Rattle.oberon_format.specs.Defined.{IsTrueAt};
-ghost use Rattle.oberon_format.specs.Parts.{parts_of};
-ghost use Rattle.oberon_format.specs.Recording.{IsLawful};
+ghost use Rattle.oberon_format.specs.Recording.{parts_of, IsLawful};
 ghost use Rattle.oberon_session.specs.Recorded.{first_devices, record_fault_of, recording_of};
-ghost use Rattle.oberon_session.specs.Progress.{IsRecorded, laid_view};
+ghost use Rattle.oberon_session.specs.inner.Progress.{IsRecorded, laid_view};
 
 use crate::layout::{Layout, first_layout, lay_pages};
 use crate::record_fault::RecordFault;

@@ -1,12 +1,12 @@
 //! The way of a machine from one checkpoint to the next.
 
 ghost use Rattle.std.specs.Prelude.{◌≡◌, ◌≢◌, ◌-◌, ◌<◌, ◌≤◌, ◌^◌, IfOk, IfErr, OnOk, length};
-ghost use Rattle.risc_pages.specs.Content.{IsNamed};
+ghost use Rattle.risc_pages.specs.Tables.{IsNamed};
 ghost use Rattle.risc_machine.specs.Refusal.{Keeps, MayFail};
 ghost use Rattle.risc_machine.specs.Replay.{run_of, sent_of};
 ghost use Rattle.oberon_format.specs.CheckpointParts.{checkpoint_parts};
 ghost use Rattle.oberon_format.specs.Defined.{claim_of};
-ghost use Rattle.oberon_session.specs.Progress.{IsReached};
+ghost use Rattle.oberon_session.specs.inner.Progress.{IsReached};
 
 use crate::record_fault::RecordFault;
 use oberon_format::{Checkpoint, Sent};

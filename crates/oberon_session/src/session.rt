@@ -29,7 +29,8 @@ pub struct Session {
 }
 
 impl Model for Session {
-    ghost use Rattle.oberon_session.specs.SessionParts.{SessionParts, IsLawful, session_of_parts};
+    ghost use Rattle.oberon_session.specs.SessionParts.{SessionParts, IsLawful};
+    ghost use Rattle.oberon_session.specs.inner.Drafts.{session_of_parts};
 
     ghost Value = { SessionParts };
 
@@ -41,7 +42,7 @@ impl Model for Session {
 impl Session {
     ghost use Rattle.std.specs.Prelude.{◌≡◌, map};
     ghost use Rattle.risc_machine.specs.MachineState.{cpu_state};
-    ghost use Rattle.oberon_session.specs.Digits.{placed_view};
+    ghost use Rattle.oberon_session.specs.inner.Drafts.{placed_view};
     ghost use Rattle.oberon_session.specs.SessionParts.{IsLawful};
 
     /// The processor of the first state.

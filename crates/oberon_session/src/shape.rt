@@ -2,8 +2,8 @@
 
 ghost use Rattle.std.specs.Prelude.{◌≡◌, map};
 ghost use Rattle.serde_json.specs.View.{view};
-ghost use Rattle.oberon_session.specs.Shape.{Gives};
-ghost use Rattle.oberon_session.specs.Draft.{draft_of, draft_view, input_of, input_view, inputs_of, kind_of, page_of, page_view, pages_of, since_2, start_members, start_of, start_view, version_of};
+ghost use Rattle.oberon_session.specs.inner.Drafts.{Gives, draft_view, input_view, page_view, start_view};
+ghost use Rattle.oberon_session.specs.Draft.{draft_of, input_of, inputs_of, kind_of, page_of, pages_of, since_2, start_members, start_of, version_of};
 
 use crate::SessionFault;
 use crate::draft::{Draft, InputDraft, PageDraft, StartDraft};

@@ -3,7 +3,8 @@ ghost use Rattle.std.specs.Prelude.{◌≡◌, List, ℕ, length, map};
 ghost use Rattle.serde_json.specs.Data.{Data};
 ghost use Rattle.serde_json.specs.Find.{get};
 ghost use Rattle.serde_json.specs.View.{view};
-ghost use Rattle.oberon_session.specs.Shape.{Gives, exactly, items_of, number_of, numbers_of, text_of};
+ghost use Rattle.oberon_session.specs.inner.Drafts.{Gives};
+ghost use Rattle.oberon_session.specs.Shape.{exactly, items_of, number_of, numbers_of, text_of};
 
 use crate::SessionFault;
 use serde_json::Value;

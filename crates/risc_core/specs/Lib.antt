@@ -1,8 +1,9 @@
+-- What one instruction is, before there is a machine. Read it in this order:
 pub mod Word
 pub mod Stop
 pub mod Flags
 pub mod Instruction
+pub mod Arithmetic
 pub mod Branch
 pub mod Place
-pub mod Arithmetic
 pub mod Laws

@@ -1,9 +1,10 @@
-pub mod InputKind
+-- The devices of the workstation. Read it in this order:
 pub mod KeyCodes
+pub mod InputKind
 pub mod DeviceState
 pub mod Ticks
 pub mod Input
 pub mod DeviceWords
-pub mod Shown
 pub mod Picture
 pub mod Laws
+pub mod inner

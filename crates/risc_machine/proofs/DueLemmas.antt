@@ -9,7 +9,7 @@ use Rattle.risc_devices.specs.Input.{taken_input}
 use Rattle.risc_machine.specs.declared.event.Event.{Event}
 use Rattle.risc_machine.specs.InputOrder.{AreOrdered, count_at}
 use Rattle.risc_machine.specs.Replay.{fed}
-use Rattle.risc_machine.specs.Due.{IsNextAt}
+use Rattle.risc_machine.specs.inner.Due.{IsNextAt}
 use Rattle.risc_machine.proofs.OrderLemmas.{count_at-is, count_before-next}
 
 -- the counts of inputs in order rise

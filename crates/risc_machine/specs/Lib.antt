@@ -1,16 +1,10 @@
-pub mod InputOrder
+-- The machine: one instruction, and runs that take inputs. Read it in this order:
 pub mod MachineState
 pub mod Lane
 pub mod Exec
 pub mod Replay
 pub mod OneRun
+pub mod InputOrder
 pub mod Refusal
-pub mod Due
-pub mod Boards
-pub mod Destinations
-pub mod Rests
-pub mod Matched
 pub mod Laws
-pub mod Operands
-pub mod Actions
-pub mod Entries
+pub mod inner

@@ -2,7 +2,7 @@
 ghost use Rattle.std.specs.Prelude.{◌≡◌, ◌≤◌, ◌<◌, ◌+◌, ◌-◌, ◌^◌, length};
 ghost use Rattle.risc_machine.specs.InputOrder.{AreOrdered};
 ghost use Rattle.risc_machine.specs.Replay.{fed};
-ghost use Rattle.risc_machine.specs.Due.{IsNextAt};
+ghost use Rattle.risc_machine.specs.inner.Due.{IsNextAt};
 
 use crate::event::Event;
 use risc_devices::Devices;

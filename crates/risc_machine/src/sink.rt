@@ -1,6 +1,6 @@
 //! Where the bytes that a machine sends go: to the end of a vector, or into a comparison. When it sends is with its run.
 ghost use Rattle.std.specs.Prelude.{◌≡◌, ◌++◌, ◌∷◌, [], List, ℕ, Bool, true, false, IsTrue, OnOk, OnErr, ◌+◌, ◌<◌, ◌≤◌, length, ◌↔◌};
-ghost use Rattle.risc_machine.specs.Matched.{HasMatched};
+ghost use Rattle.risc_machine.specs.inner.Matched.{HasMatched};
 
 use std::alloc::AllocError;
 

@@ -3,12 +3,12 @@ use Rattle.std.proofs.Common.{◌≡◌, ℕ, ◌*◌, ◌/◌, ◌%◌, ◌<◌
 use Rattle.std.specs.List.{All, flat_map}
 use Rattle.std.proofs.lemmas.List.{length-map, map-set, set-set}
 use Rattle.risc_pages.proofs.Paging.{All-pages, flat_map-set, flat_map-set_same, get_or-pages, length-pages, take-drop-pages}
-use Rattle.risc_pages.specs.Content.{IsContent}
+use Rattle.risc_pages.specs.Tables.{IsContent}
 use Rattle.risc_pages.specs.Contents.{Contents, IsMemory}
 use Rattle.risc_pages.specs.declared.place.Place.{Place}
 use Rattle.risc_pages.specs.declared.place.Place.TheVariants.{Blank, Shared, Owned}
 use Rattle.risc_pages.specs.Pages.{page_at, page_of}
-use Rattle.risc_pages.specs.Places.{base_of, content, contents_of, is_owned, TakesCopy}
+use Rattle.risc_pages.specs.inner.Places.{base_of, content, contents_of, is_owned, TakesCopy}
 
 pub length-content : (p : Place) → length (content p) ≡ 256
 length-content (Blank blank) = blank.now.page.whole

@@ -4,10 +4,10 @@ use Rattle.std.proofs.lemmas.Bool.{eq-eqb}
 use Rattle.std.proofs.lemmas.Bool.Decides.{eqb_tells}
 use Rattle.std.proofs.lemmas.List.Elements.{All-map, All-replicate, All-same}
 use Rattle.risc_pages.proofs.Paging.{take-drop-pages}
-use Rattle.risc_pages.specs.Content.{table_words, IsNamed}
+use Rattle.risc_pages.specs.Tables.{table_words, IsNamed}
 use Rattle.risc_pages.specs.declared.page.Page.{Page}
 use Rattle.risc_pages.specs.Pages.{ArePages, IsPage, page_at, page_of, zero_page}
-use Rattle.risc_pages.specs.PageWords.{words_of}
+use Rattle.risc_pages.specs.inner.Places.{words_of}
 
 pub IsPage-zero_page : IsPage zero_page
 unfolding zero_page

@@ -28,3 +28,9 @@ pub record AreDifferences (base words places : List ℕ) : Type 0 where
   pub rising : IsStrictlyIncreasing places
   pub each : All (λ p. (p < 1024) × (page_at words p ≢ page_at base p)) places
   pub all : (p : ℕ) → p < 1024 → page_at words p ≢ page_at base p → Contains places p
+
+-- the two differ in this page, and have the same words in each page before it
+pub record IsFirstDifferentPage (xs ys : List ℕ) (place : ℕ) : Type 0 where
+  pub inside : place < 1024
+  pub before : (p : ℕ) → p < place → page_at xs p ≡ page_at ys p
+  pub differs : page_at xs place ≢ page_at ys place

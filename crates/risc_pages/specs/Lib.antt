@@ -1,8 +1,6 @@
+-- Memories, and the pages and tables that they are kept in. Read it in this order:
 pub mod Pages
-pub mod Content
-pub mod Contents
-pub mod Difference
-pub mod Delta
 pub mod Tables
-pub mod PageWords
-pub mod Places
+pub mod Contents
+pub mod Delta
+pub mod inner

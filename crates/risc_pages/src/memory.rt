@@ -1,10 +1,9 @@
 //! Memory: a map from word number to word, in pages that are shared with a pool until they are written.
 
 ghost use Rattle.std.specs.Prelude.{◌≡◌, ◌+◌, ◌/◌, ◌<◌, ◌≤◌, ℕ, All, OnOk, OnErr, IfOk, IfNone, IfSome, IsOk, Some, true, false, slice_get, slice_index, slice_range, slice_set};
-ghost use Rattle.risc_pages.specs.Content.{table_words, IsContent, IsNamed};
+ghost use Rattle.risc_pages.specs.Tables.{table_words, IsContent, IsNamed};
 ghost use Rattle.risc_pages.specs.Contents.{IsMemory};
-ghost use Rattle.risc_pages.specs.Delta.{places_of, AreDifferences, IsDelta};
-ghost use Rattle.risc_pages.specs.Difference.{IsFirstDifference};
+ghost use Rattle.risc_pages.specs.Delta.{places_of, AreDifferences, IsDelta, IsFirstDifferentPage};
 
 use crate::delta::Delta;
 use crate::place::{Place, copy_on_write};
@@ -29,7 +28,7 @@ impl<'a> Model for Memory<'a> {
     ghost Value = { Contents };
 
     ghost use Rattle.std.specs.Prelude.{length, ◌≡◌};
-    ghost use Rattle.risc_pages.specs.Places.{contents_of};
+    ghost use Rattle.risc_pages.specs.inner.Places.{contents_of};
 
     ghost view = { λ m. contents_of m.places.items };
 
@@ -128,7 +127,7 @@ impl<'a> Memory<'a> {
     pub fn first_difference(&self, pool: &Pool, table: &Table) -> Option<u16>
         requires { IsNamed pool.now table.now }
         ensures none { IfNone result (self.now.words ≡ table_words pool.now table.now) }
-        ensures some { IfSome result (IsFirstDifference self.now.words (table_words pool.now table.now)) }
+        ensures some { IfSome result (IsFirstDifferentPage self.now.words (table_words pool.now table.now)) }
     {
         let place = self.least_other(pool, table);
         if place < 1024 { Some(place) } else { None }
@@ -141,7 +140,7 @@ impl<'a> Memory<'a> {
     fn least_other(&self, pool: &Pool, table: &Table) -> u16
         requires { IsNamed pool.now table.now }
         ensures none { 1024 ≤ result → self.now.words ≡ table_words pool.now table.now }
-        ensures some { result < 1024 → IsFirstDifference self.now.words (table_words pool.now table.now) result }
+        ensures some { result < 1024 → IsFirstDifferentPage self.now.words (table_words pool.now table.now) result }
     {
         let numbers = table.numbers();
         let mut place = 0;

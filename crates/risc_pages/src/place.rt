@@ -3,7 +3,7 @@
 
 ghost use Rattle.std.specs.Prelude.{◌≡◌, ◌≢◌, ◌↔◌, ◌<◌, ◌≤◌, ℕ, length, slice_set, IsTrue, IfNone, IfSome, OnOk, OnErr, true, false};
 ghost use Rattle.risc_pages.specs.Pages.{page_of, ArePages};
-ghost use Rattle.risc_pages.specs.Places.{content, base_of, TakesCopy};
+ghost use Rattle.risc_pages.specs.inner.Places.{content, base_of, TakesCopy};
 
 use crate::page::{Blank, Page};
 use crate::pool::Pool;

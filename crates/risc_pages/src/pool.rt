@@ -2,7 +2,7 @@
 
 ghost use Rattle.std.specs.Prelude.{◌≡◌, ◌++◌, ◌∷◌, [], ◌<◌, ◌≤◌, ◌^◌, ◌↔◌, ℕ, false, IsTrue, length, slice_index, OnOk, OnErr, IfOk};
 ghost use Rattle.risc_pages.specs.Pages.{page_of, ArePages};
-ghost use Rattle.risc_pages.specs.Places.{content, is_owned};
+ghost use Rattle.risc_pages.specs.inner.Places.{content, is_owned};
 
 use crate::page::{Blank, Page};
 use crate::place::Place;
@@ -24,7 +24,7 @@ impl Model for Pool {
     ghost Value = { List (List ℕ) };
 
     ghost use Rattle.std.specs.Prelude.{map, vec_len, ◌≤◌, ◌^◌};
-    ghost use Rattle.risc_pages.specs.PageWords.{words_of};
+    ghost use Rattle.risc_pages.specs.inner.Places.{words_of};
 
     ghost view = { λ p. map words_of p.pages.items };
 

@@ -1,7 +1,7 @@
 //! Each public call once on its happy path, and what no clause says of them.
 
 ghost use Rattle.std.specs.Prelude.{◌≡◌, IfOk, IsTrue, length};
-ghost use Rattle.risc_pages.specs.Content.{IsNamed};
+ghost use Rattle.risc_pages.specs.Tables.{IsNamed};
 
 use crate::{Memory, Page, Pool, Table};
 use std::alloc::AllocError;

@@ -1,7 +1,7 @@
 use Rattle.std.proofs.Common.{refl, ◌≡◌, ◌+◌, ◌-◌, ◌<◌, ◌≤◌, ℕ, length, ap, ◌∙◌, arith}
 use Rattle.oberon_format.specs.Recording.{last_of, count_at}
 use Rattle.oberon_format.specs.CheckpointParts.{CheckpointParts}
-use Rattle.oberon_check.specs.Tally.{end_of, IsMarked}
+use Rattle.oberon_check.specs.inner.Tally.{end_of, IsMarked}
 use Rattle.oberon_check.specs.Verdict.{IsFirstFalse}
 use Rattle.oberon_check.proofs.Collects.{truth, is_missing, end_within, collected, collected_false, collected_true, collected_whole, IsCollected}
 use Rattle.oberon_check.proofs.collector.collect.Goals as goal

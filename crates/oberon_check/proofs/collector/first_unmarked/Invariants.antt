@@ -1,5 +1,5 @@
 use Rattle.std.proofs.Common.{ℕ, ◌<◌}
-use Rattle.oberon_check.specs.Tally.{IsMarked}
+use Rattle.oberon_check.specs.inner.Tally.{IsMarked}
 use Rattle.oberon_check.proofs.collector.first_unmarked.Given as goal
 
 abbrev pub invariant-loop-segment : goal.invariant-loop-segment

@@ -1,7 +1,7 @@
 use Rattle.std.proofs.Common.{◌<◌, ◌+◌, ℕ, length, false, sym, ◌∙◌, subst, arith}
 use Rattle.std.proofs.lemmas.List.{length-replicate, length-set}
 use Rattle.oberon_check.specs.Segment.{Finding}
-use Rattle.oberon_check.specs.Tally.{IsTally}
+use Rattle.oberon_check.specs.inner.Tally.{IsTally}
 use Rattle.oberon_check.proofs.Tallying.{tally_none, tally_more, segment_here, part_here, told_more}
 use Rattle.oberon_check.proofs.collector.tally_of.Goals as goal
 

@@ -1,6 +1,6 @@
 use Rattle.std.proofs.Common.{◌≡◌, ℕ, ◌<◌, length, get_or}
 use Rattle.oberon_check.specs.Segment.{Finding, IsTrueFinding}
-use Rattle.oberon_check.specs.Tally.{IsTally}
+use Rattle.oberon_check.specs.inner.Tally.{IsTally}
 use Rattle.oberon_check.proofs.collector.tally_of.Given as goal
 
 abbrev pub invariant-loop-verdict : goal.invariant-loop-verdict

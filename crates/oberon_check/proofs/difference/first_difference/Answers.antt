@@ -1,6 +1,6 @@
 use Rattle.std.proofs.Common.{◌≡◌, ℕ, List, [], true≢false, refl, sym, ◌∙◌, subst}
-use Rattle.risc_pages.specs.Content.{table_words}
-use Rattle.risc_pages.specs.Difference as pages
+use Rattle.risc_pages.specs.Tables.{table_words}
+use Rattle.risc_pages.specs.Delta.{IsFirstDifferentPage}
 use Rattle.risc_machine.specs.MachineState.{cpu_state}
 use Rattle.oberon_format.specs.CheckpointParts.{checkpoint_parts}
 use Rattle.oberon_format.specs.Defined.{claim_of}
@@ -31,7 +31,7 @@ returns-then-not-same c sent same =
 pub returns-in-Some-first_difference : goal.returns-in-Some-first_difference
 returns-in-Some-first_difference c sent same =
     page_first _ _ _ (same_cpu c.before.before.before.before.before.before.before) (same_devices c.before.before.before.before) (sym (same.0 c.if-not-same.false))
-    (subst (λ (words : List ℕ). pages.IsFirstDifference words (table_words c.args.pool.now c.args.checkpoint.now.table) c.in-Some-first_difference.place)
+    (subst (λ (words : List ℕ). IsFirstDifferentPage words (table_words c.args.pool.now c.args.checkpoint.now.table) c.in-Some-first_difference.place)
     c.memory.ensures.words c.in-Some-first_difference.ensures.some)
 
 pub returns-in-None : goal.returns-in-None

@@ -10,7 +10,7 @@ use Rattle.oberon_format.specs.Fields.{sent_below}
 use Rattle.oberon_format.specs.FirstFault.{each}
 use Rattle.oberon_format.specs.Layout.{event_start}
 use Rattle.oberon_format.specs.PartFields.{fields_laid}
-use Rattle.oberon_format.specs.Parts.{parts_of}
+use Rattle.oberon_format.specs.Recording.{parts_of}
 use Rattle.oberon_format.specs.Rules.{field_rules, change_rules, checkpoint_rules}
 use Rattle.oberon_format.proofs.ChangeLemmas.{change_in}
 use Rattle.oberon_format.proofs.PartLemmas.{before_more, laid_first, sent_none, sent_more}

@@ -4,7 +4,7 @@ use Rattle.oberon_format.specs.declared.ranges.TheConstants.{MAX_OUTPUT}
 use Rattle.oberon_format.specs.Fields.{sent_below}
 use Rattle.oberon_format.specs.FirstFault.{first_broken, each}
 use Rattle.oberon_format.specs.PartFields.{fields_laid, start_laid}
-use Rattle.oberon_format.specs.Parts.{parts_of}
+use Rattle.oberon_format.specs.Recording.{parts_of}
 use Rattle.oberon_format.specs.Rules.{checkpoint_rules, count_before}
 use Rattle.oberon_format.proofs.parts.checkpoints_fault.Given as goal
 

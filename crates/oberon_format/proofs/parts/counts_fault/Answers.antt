@@ -4,7 +4,7 @@ use Rattle.risc_machine.specs.declared.event.Event.{Event}
 use Rattle.oberon_format.specs.declared.layout.TheConstants.{VERSION}
 use Rattle.oberon_format.specs.CheckpointParts.{checkpoint_parts}
 use Rattle.oberon_format.specs.FirstFault.{first_broken}
-use Rattle.oberon_format.specs.Parts.{parts_of}
+use Rattle.oberon_format.specs.Recording.{parts_of}
 use Rattle.oberon_format.specs.Rules.{limit_rules}
 use Rattle.std.specs.Prelude.{length, ℕ}
 use Rattle.oberon_format.proofs.LawfulLemmas.{parts_limits}

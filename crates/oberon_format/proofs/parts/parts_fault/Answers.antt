@@ -3,7 +3,7 @@ use Rattle.std.proofs.lemmas.List.{length-map}
 use Rattle.oberon_format.specs.declared.layout.TheConstants.{VERSION}
 use Rattle.oberon_format.specs.CheckpointParts.{checkpoint_parts}
 use Rattle.oberon_format.specs.PartFields.{fields_laid}
-use Rattle.oberon_format.specs.Parts.{parts_of}
+use Rattle.oberon_format.specs.Recording.{parts_of}
 use Rattle.oberon_format.proofs.LawfulLemmas.{faultless_lawful, if_none, parts_rest}
 use Rattle.oberon_format.proofs.RuleLemmas.{any_in_header}
 use Rattle.oberon_format.proofs.parts.parts_fault.Goals as goal

@@ -3,7 +3,7 @@ use Rattle.std.proofs.lemmas.List.{map-append, length-map}
 use Rattle.oberon_format.specs.CheckpointParts.{checkpoint_parts}
 use Rattle.oberon_format.specs.Recording.{output_of}
 use Rattle.oberon_format.specs.Rules.{stood}
-use Rattle.oberon_format.specs.Tested.{HasNumbers, StandIn}
+use Rattle.oberon_format.specs.inner.Tested.{HasNumbers, StandIn}
 use Rattle.oberon_format.specs.TextFields.{fields_of, page_number_of}
 use Rattle.oberon_format.proofs.RuleLemmas.{output_below_none, output_below_more}
 use Rattle.oberon_format.proofs.Output.{ranges_hold, keys_hold, changes_few, output_fits, output_more, output_all, range-none}

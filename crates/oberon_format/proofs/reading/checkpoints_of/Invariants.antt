@@ -4,7 +4,7 @@ use Rattle.oberon_format.specs.CheckpointParts.{checkpoint_parts}
 use Rattle.oberon_format.specs.Layout.{output_place, start}
 use Rattle.oberon_format.specs.Recording.{output_of}
 use Rattle.oberon_format.specs.Rules.{stood}
-use Rattle.oberon_format.specs.Tested.{HasNumbers, StandIn}
+use Rattle.oberon_format.specs.inner.Tested.{HasNumbers, StandIn}
 use Rattle.oberon_format.specs.TextFields.{fields_of}
 use Rattle.oberon_format.proofs.RuleLemmas.{output_below}
 use Rattle.oberon_format.proofs.reading.checkpoints_of.Given as goal

@@ -4,7 +4,7 @@ use Rattle.oberon_format.specs.declared.layout.TheConstants.{PLACES}
 use Rattle.oberon_format.specs.Changes.{number_after}
 use Rattle.oberon_format.specs.FirstFault.{each, first_broken}
 use Rattle.oberon_format.specs.Rules.{change_rules, place_floor}
-use Rattle.oberon_format.specs.Tested.{HasNumbers}
+use Rattle.oberon_format.specs.inner.Tested.{HasNumbers}
 use Rattle.oberon_format.specs.TextFields.{change_of}
 use Rattle.oberon_format.proofs.rules.changes_fault.Given as goal
 

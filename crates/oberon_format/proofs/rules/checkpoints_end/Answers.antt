@@ -7,7 +7,7 @@ use Rattle.oberon_format.specs.declared.ranges.TheConstants.{MAX_OUTPUT}
 use Rattle.oberon_format.specs.FirstFault.{first_broken}
 use Rattle.oberon_format.specs.Layout.{long_at, word_at, version, checkpoints, change_count, start}
 use Rattle.oberon_format.specs.Rules.{checkpoint_rules}
-use Rattle.oberon_format.specs.Tested.{HasNumbers}
+use Rattle.oberon_format.specs.inner.Tested.{HasNumbers}
 use Rattle.oberon_format.specs.TextFields.{checkpoint_of, fields_of, number_before}
 use Rattle.oberon_format.proofs.Room.{start_none, start_next, size_first, events_there, whole_room, place_next}
 use Rattle.oberon_format.proofs.RuleLemmas.{each_none, each_more, each_broken, output_below, output_below_none, output_below_more, count_before_more}

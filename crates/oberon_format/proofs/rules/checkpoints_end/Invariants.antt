@@ -4,7 +4,7 @@ use Rattle.oberon_format.specs.declared.ranges.TheConstants.{MAX_OUTPUT}
 use Rattle.oberon_format.specs.FirstFault.{each, first_broken}
 use Rattle.oberon_format.specs.Layout.{start, version}
 use Rattle.oberon_format.specs.Rules.{checkpoint_rules, count_before}
-use Rattle.oberon_format.specs.Tested.{HasNumbers}
+use Rattle.oberon_format.specs.inner.Tested.{HasNumbers}
 use Rattle.oberon_format.specs.TextFields.{fields_of, number_before}
 use Rattle.oberon_format.proofs.RuleLemmas.{output_below}
 use Rattle.oberon_format.proofs.rules.checkpoints_end.Given as goal

@@ -1,9 +1,9 @@
 use Rattle.std.proofs.lemmas.List.{map-append}
 use Rattle.std.proofs.lemmas.Result.{err_from_is_err_and}
 use Rattle.oberon_session.proofs.Shapes.{each-none, each-step}
-use Rattle.oberon_session.specs.Draft.{page_view}
+use Rattle.oberon_session.specs.inner.Drafts.{page_view}
 use Rattle.oberon_session.specs.Digits.{placed_of}
-use Rattle.oberon_session.specs.Tested.{PageFits}
+use Rattle.oberon_session.specs.inner.Tested.{PageFits}
 use Rattle.oberon_session.proofs.Mapped.{unmapped}
 use Rattle.oberon_session.proofs.digits.placed_pages.Goals as goal
 

@@ -1,7 +1,7 @@
 use Rattle.std.proofs.Common.{refl}
 use Rattle.oberon_session.proofs.Mapped.{unmapped}
-use Rattle.oberon_session.specs.Draft.{input_view}
-use Rattle.oberon_session.specs.Tested.{InputFits}
+use Rattle.oberon_session.specs.inner.Drafts.{input_view}
+use Rattle.oberon_session.specs.inner.Tested.{InputFits}
 use Rattle.oberon_session.proofs.events.events.Goals as goal
 
 pub returns-in-None-clause-err : goal.returns-in-None-clause-err

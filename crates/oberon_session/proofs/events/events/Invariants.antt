@@ -1,7 +1,7 @@
 use Rattle.std.proofs.Common.{◌≡◌, map, take}
 use Rattle.std.specs.List.{All}
-use Rattle.oberon_session.specs.Draft.{input_view}
-use Rattle.oberon_session.specs.Tested.{InputFits}
+use Rattle.oberon_session.specs.inner.Drafts.{input_view}
+use Rattle.oberon_session.specs.inner.Tested.{InputFits}
 use Rattle.oberon_session.specs.Session.{numbers_of_event}
 use Rattle.oberon_session.proofs.events.events.Given as goal
 

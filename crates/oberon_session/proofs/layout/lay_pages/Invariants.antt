@@ -1,6 +1,6 @@
 use Rattle.std.proofs.Common.{◌≡◌, ◌+◌, ◌≤◌, length, map, take}
 use Rattle.oberon_session.specs.Laid.{lay_pages}
-use Rattle.oberon_session.specs.Progress.{laid_view, page_view}
+use Rattle.oberon_session.specs.inner.Progress.{laid_view, page_view}
 use Rattle.oberon_session.proofs.layout.lay_pages.Given as goal
 
 abbrev pub invariant-loop-place : goal.invariant-loop-place

@@ -1,7 +1,8 @@
 use Rattle.std.proofs.Common.{◌∙◌, List, ap, length, refl, sym}
 use Rattle.std.proofs.lemmas.List.{length-map}
 use Rattle.oberon_session.proofs.Lawful.{is-lawful}
-use Rattle.oberon_session.specs.Draft.{InputNumbers, draft_view}
+use Rattle.oberon_session.specs.Draft.{InputNumbers}
+use Rattle.oberon_session.specs.inner.Drafts.{draft_view}
 use Rattle.oberon_session.specs.Session.{numbers_of_event}
 use Rattle.oberon_session.proofs.reading.session_of.Goals as goal
 

@@ -3,11 +3,10 @@ use Rattle.std.proofs.lemmas.Result.{IfOk-weaker}
 use Rattle.std.specs.Prelude.{Result, Ok, Err, OnOk}
 use Rattle.oberon_format.specs.CheckpointParts.{checkpoint_parts}
 use Rattle.oberon_format.specs.Defined.{IsTrueAt}
-use Rattle.oberon_format.specs.Parts.{parts_of}
-use Rattle.oberon_format.specs.Recording.{RecordingParts}
+use Rattle.oberon_format.specs.Recording.{parts_of, RecordingParts}
 use Rattle.oberon_session.proofs.Whole.{made, recording-of, truth-of}
 use Rattle.oberon_session.specs.Recorded.{last_of, recording_of}
-use Rattle.oberon_session.specs.Progress.{laid_view}
+use Rattle.oberon_session.specs.inner.Progress.{laid_view}
 use Rattle.oberon_session.proofs.recorder.make_recording.Goals as goal
 
 pub returns-clause-recording : goal.returns-clause-recording

@@ -5,7 +5,7 @@ use Rattle.oberon_session.proofs.Layouts.{few-changes, low-changes}
 use Rattle.oberon_session.proofs.Reaching.{inside-of, last-count, last-fit, recorded-more, refused-output, refused-pages}
 use Rattle.oberon_session.proofs.Steps.{count-rises, count_of-next}
 use Rattle.oberon_session.specs.Recorded.{count_of}
-use Rattle.oberon_session.specs.Progress.{laid_view}
+use Rattle.oberon_session.specs.inner.Progress.{laid_view}
 use Rattle.oberon_session.specs.declared.record_fault.RecordFault.{RecordFault}
 use Rattle.oberon_session.proofs.recorder.record_next.Goals as goal
 

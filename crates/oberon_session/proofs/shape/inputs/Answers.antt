@@ -4,7 +4,8 @@ use Rattle.std.proofs.lemmas.Result.{err_from_is_err_and}
 use Rattle.serde_json.specs.View.{view}
 use Rattle.serde_json.specs.declared.value.Value.{Value}
 use Rattle.oberon_session.proofs.Shapes.{each-none, each-step}
-use Rattle.oberon_session.specs.Draft.{input_of, input_view}
+use Rattle.oberon_session.specs.Draft.{input_of}
+use Rattle.oberon_session.specs.inner.Drafts.{input_view}
 use Rattle.oberon_session.proofs.shape.inputs.Goals as goal
 
 pub returns-in_err-input : goal.returns-in_err-input

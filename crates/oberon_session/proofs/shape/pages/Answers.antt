@@ -4,7 +4,8 @@ use Rattle.std.proofs.lemmas.Result.{err_from_is_err_and}
 use Rattle.serde_json.specs.View.{view}
 use Rattle.serde_json.specs.declared.value.Value.{Value}
 use Rattle.oberon_session.proofs.Shapes.{each-none, each-step}
-use Rattle.oberon_session.specs.Draft.{page_of, page_view}
+use Rattle.oberon_session.specs.Draft.{page_of}
+use Rattle.oberon_session.specs.inner.Drafts.{page_view}
 use Rattle.oberon_session.proofs.shape.pages.Goals as goal
 
 pub returns-in_err-page : goal.returns-in_err-page

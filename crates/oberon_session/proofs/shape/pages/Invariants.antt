@@ -1,7 +1,8 @@
 use Rattle.std.proofs.Common.{◌≡◌, Some, map, take}
 use Rattle.serde_json.specs.View.{view}
 use Rattle.oberon_session.specs.Shape.{each}
-use Rattle.oberon_session.specs.Draft.{page_of, page_view}
+use Rattle.oberon_session.specs.Draft.{page_of}
+use Rattle.oberon_session.specs.inner.Drafts.{page_view}
 use Rattle.oberon_session.proofs.shape.pages.Given as goal
 
 abbrev pub invariant-loop-item : goal.invariant-loop-item

@@ -4,8 +4,8 @@ use Rattle.oberon_claims.specs.declared.book.View.{View}
 use Rattle.oberon_claims.specs.declared.book.Plan.{Plan}
 use Rattle.oberon_claims.specs.Pass.{BookId, PassRecord}
 use Rattle.oberon_claims.specs.Counts.{one_if, once_below}
-use Rattle.oberon_claims.specs.Steps.{joined_view}
-use Rattle.oberon_claims.specs.Book.{own_view, IsLegal}
+use Rattle.oberon_claims.specs.inner.Steps.{joined_view}
+use Rattle.oberon_claims.specs.inner.Book.{own_view, IsLegal}
 use Rattle.oberon_claims.proofs.Shares.{may_take_in, closes}
 use Rattle.oberon_claims.proofs.Gathers.{gathered, gathers, first_of, next_of, nil_if, taken_once, all_gone, least_told_is, shown_all_told, shown_not_below}
 use Rattle.oberon_claims.proofs.claims.Claims.finish.Goals as goal

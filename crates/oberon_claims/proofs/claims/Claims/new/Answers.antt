@@ -4,10 +4,10 @@ use Rattle.atomic_table.specs.Table.{Me}
 use Rattle.atomic_table.specs.Seated.{TableId}
 use Rattle.oberon_claims.specs.declared.book.View.{View}
 use Rattle.oberon_claims.specs.declared.book.Plan.{Plan}
-use Rattle.oberon_claims.specs.Steps.{view_with_one_less, fresh_view}
+use Rattle.oberon_claims.specs.inner.Steps.{view_with_one_less, fresh_view}
 use Rattle.oberon_claims.specs.Pass.{BookId, PassRecord, fresh_pass}
 use Rattle.oberon_claims.proofs.Shares.{may_hand_out_as, less_one}
-use Rattle.oberon_claims.specs.Book.{own_view}
+use Rattle.oberon_claims.specs.inner.Book.{own_view}
 use Rattle.oberon_claims.proofs.claims.Claims.new.Goals as goal
 
 abbrev hand_of : TableId → View → PassRecord

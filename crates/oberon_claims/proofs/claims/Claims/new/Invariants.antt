@@ -1,6 +1,6 @@
 use Rattle.std.proofs.Common.{◌≡◌, ◌-◌, [], replicate}
 use Rattle.oberon_claims.specs.Pass.{fresh_pass}
-use Rattle.oberon_claims.specs.Book.{own_view}
+use Rattle.oberon_claims.specs.inner.Book.{own_view}
 use Rattle.oberon_claims.proofs.claims.Claims.new.Given as goal
 
 abbrev pub invariant-loop-worker : goal.invariant-loop-worker

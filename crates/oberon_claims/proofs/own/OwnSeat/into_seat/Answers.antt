@@ -3,7 +3,7 @@ use mathlib.Core.Option.{Option, some-injective}
 use lib.ListN.{get_elem?}
 use Rattle.atomic_table.specs.declared.badge.Badge.{Badge}
 use Rattle.oberon_claims.specs.declared.book.View.{View}
-use Rattle.oberon_claims.specs.Own.{OwnRecord}
+use Rattle.oberon_claims.specs.inner.Own.{OwnRecord}
 use Rattle.oberon_claims.proofs.own.OwnSeat.into_seat.Goals as goal
 
 -- the badge that is taken out is the one that was put away

@@ -6,7 +6,7 @@ use Rattle.oberon_format.specs.declared.fault.Fault.{Fault}
 use Rattle.oberon_format.specs.declared.layout.TheConstants.{VERSION}
 use Rattle.oberon_format.specs.Line.{IsNamedFault}
 use Rattle.oberon_format.specs.PartFields.{fault_of_parts}
-use Rattle.oberon_format.specs.Parts.{parts_of}
+use Rattle.oberon_format.specs.Recording.{parts_of}
 use Rattle.oberon_format.proofs.recording.Recording.from_parts.Goals as goal
 
 pub returns-in-Some-clause-lawful : goal.returns-in-Some-clause-lawful

@@ -8,7 +8,7 @@ use Rattle.risc_pages.specs.declared.page.Page.{Page}
 use Rattle.risc_pages.specs.Delta.{changed_below}
 use Rattle.risc_pages.specs.declared.place.Place.{Place}
 use Rattle.risc_pages.specs.Pages.{page_at}
-use Rattle.risc_pages.specs.Places.{base_of, content}
+use Rattle.risc_pages.specs.inner.Places.{base_of, content}
 use Rattle.risc_pages.proofs.memory.Memory.close.Goals as goal
 use Rattle.risc_pages.proofs.memory.Memory.close.Goals.{in-Some+in_ok-push, in_default}
 

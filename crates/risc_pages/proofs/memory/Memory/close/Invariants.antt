@@ -3,7 +3,7 @@ use Rattle.std.specs.List.{All, flat_map}
 use Rattle.risc_pages.specs.declared.page.Page.{Page}
 use Rattle.risc_pages.specs.Delta.{changed_below}
 use Rattle.risc_pages.specs.Pages.{page_at}
-use Rattle.risc_pages.specs.Places.{base_of, content}
+use Rattle.risc_pages.specs.inner.Places.{base_of, content}
 use Rattle.risc_pages.proofs.memory.Memory.close.Given as goal
 
 abbrev pub invariant-loop-place : goal.invariant-loop-place

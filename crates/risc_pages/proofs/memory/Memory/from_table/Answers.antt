@@ -4,7 +4,7 @@ use Rattle.risc_pages.proofs.Paging.{flat_map-same}
 use Rattle.risc_pages.proofs.PlaceLemmas.{base_of-shared, IsContent-places, IsMemory-contents_of}
 use Rattle.risc_pages.specs.declared.place.Place.{Place}
 use Rattle.risc_pages.specs.Pages.{page_of}
-use Rattle.risc_pages.specs.Places.{base_of, content, is_owned}
+use Rattle.risc_pages.specs.inner.Places.{base_of, content, is_owned}
 use Rattle.risc_pages.proofs.memory.Memory.from_table.Goals as goal
 
 numbers_count : (c : goal.After-loop-number) → length c.args.table.now ≡ 1024

@@ -3,7 +3,7 @@ use Rattle.std.specs.List.{All}
 use Rattle.std.specs.Vec.{vec_capacity}
 use Rattle.risc_pages.specs.declared.place.Place.{Place}
 use Rattle.risc_pages.specs.Pages.{page_of}
-use Rattle.risc_pages.specs.Places.{content, is_owned}
+use Rattle.risc_pages.specs.inner.Places.{content, is_owned}
 use Rattle.risc_pages.proofs.memory.Memory.from_table.Given as goal
 
 abbrev pub invariant-loop-number : goal.invariant-loop-number

@@ -3,11 +3,11 @@ use Rattle.std.proofs.lemmas.Bool.{false≢true}
 use Rattle.risc_pages.proofs.Paging.{flat_map-same}
 use Rattle.risc_pages.proofs.PlaceLemmas.{page_at-content}
 use Rattle.risc_pages.proofs.PoolLemmas.{page_at-table_words}
-use Rattle.risc_pages.specs.Content.{table_words}
+use Rattle.risc_pages.specs.Tables.{table_words}
 use Rattle.risc_pages.specs.Contents.{Contents}
 use Rattle.risc_pages.specs.declared.place.Place.{Place}
 use Rattle.risc_pages.specs.Pages.{page_at, page_of}
-use Rattle.risc_pages.specs.Places.{content}
+use Rattle.risc_pages.specs.inner.Places.{content}
 use Rattle.risc_pages.proofs.memory.Memory.least_other.Goals as goal
 
 pub returns-clause-none : goal.returns-clause-none

@@ -1,7 +1,7 @@
 use Rattle.std.proofs.Common.{◌≡◌, ◌-◌, ℕ, ◌<◌, get_or}
 use Rattle.risc_pages.specs.declared.place.Place.{Place}
 use Rattle.risc_pages.specs.Pages.{page_of}
-use Rattle.risc_pages.specs.Places.{content}
+use Rattle.risc_pages.specs.inner.Places.{content}
 use Rattle.risc_pages.proofs.memory.Memory.least_other.Given as goal
 
 abbrev pub decreases-loop-place : goal.decreases-loop-place

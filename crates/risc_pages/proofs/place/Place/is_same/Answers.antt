@@ -1,7 +1,7 @@
 use Rattle.std.proofs.Common.{refl, ap, sym, ◌∙◌}
 use Rattle.risc_pages.proofs.PoolLemmas.{page_of-zero}
 use Rattle.risc_pages.specs.declared.place.Place.{Place}
-use Rattle.risc_pages.specs.Places.{content}
+use Rattle.risc_pages.specs.inner.Places.{content}
 use Rattle.risc_pages.proofs.place.Place.is_same.Goals as goal
 
 pub returns-in-Blank-clause-same : goal.returns-in-Blank-clause-same

@@ -2,7 +2,7 @@ use Rattle.std.proofs.Common.{◌≡◌, ◌-◌, ◌<◌, ℕ, List, length, ma
 use Rattle.std.proofs.lemmas.List.{length-map, get_or-map}
 use Rattle.risc_pages.proofs.PoolLemmas.{ArePages-map, page_of-shared, page_of-zero}
 use Rattle.risc_pages.specs.Pages.{zero_page}
-use Rattle.risc_pages.specs.PageWords.{words_of}
+use Rattle.risc_pages.specs.inner.Places.{words_of}
 use Rattle.risc_pages.proofs.pool.Pool.page.Goals as goal
 
 pub returns-then-page_no-eq0-clause-words : goal.returns-then-page_no-eq0-clause-words

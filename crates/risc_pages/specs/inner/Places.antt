@@ -1,9 +1,10 @@
--- The places of a memory (this project's own choice). No public contract cites these.
+-- The places of a memory (this project's own choice).
 use Rattle.std.specs.Prelude.{ℕ, ◌≡◌, List, Bool, true, false, map, slice_set}
 use Rattle.std.specs.List.{flat_map}
 use Rattle.risc_pages.specs.declared.place.Place.{Place}
 use Rattle.risc_pages.specs.declared.place.Place.TheVariants.{Blank, Shared, Owned}
 use Rattle.risc_pages.specs.Contents.{Contents}
+use Rattle.risc_pages.specs.declared.page.Page.{Page}
 
 -- the words of the page that stands at a place
 abbrev pub content : Place → List ℕ
@@ -34,3 +35,7 @@ pub record TakesCopy (old new : List Place) (place : ℕ) (base words : List ℕ
   pub owned : is_owned own ≡ true
   pub content_is : content own ≡ words
   pub base_is : base_of own ≡ base
+
+-- the words of a page
+abbrev pub words_of : Page → List ℕ
+words_of page = page.words

@@ -1,8 +1,8 @@
--- What the recorder holds on its way. No public contract cites these.
+-- What the recorder holds on its way.
 use Rattle.std.specs.Prelude.{ℕ, ◌≡◌, ◌+◌, ◌≤◌, List, length, map, None}
 use Rattle.std.specs.List.{range_with_len}
 use Rattle.risc_pages.specs.declared.page.Page.{Page}
-use Rattle.risc_pages.specs.Content.{table_words}
+use Rattle.risc_pages.specs.Tables.{table_words}
 use Rattle.risc_machine.specs.MachineState.{State, cpu_state, IsCpuState}
 use Rattle.oberon_format.specs.CheckpointParts.{CheckpointParts}
 use Rattle.oberon_format.specs.Recording.{IsLawful, output_of}

@@ -1,7 +1,7 @@
 -- The five kinds of step: the view that each leaves, and what it tells its caller.
 use Rattle.std.specs.Prelude.{◌≡◌, ℕ, ◌+◌, ◌-◌, ◌<◌, ◌≤◌, [], ◌∷◌, ◌++◌, All}
 use Rattle.atomic_table.specs.Table.{Me, Step}
-use Rattle.oberon_claims.specs.Book.{nothing}
+use Rattle.oberon_claims.specs.inner.Book.{nothing}
 use Rattle.oberon_claims.specs.declared.book.View.{View}
 
 -- the job joins those taken

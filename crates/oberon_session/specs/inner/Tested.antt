@@ -1,5 +1,5 @@
--- What single tests of a draft say, in the words of their proofs. No public contract cites these; that the tests of the table are
--- right about them stands in `proofs/Deciding.antt`.
+-- What single tests of a draft say, in the words of their proofs. That the tests of the table are right about them stands in
+-- `proofs/Deciding.antt`.
 use Rattle.std.specs.Prelude.{◌≡◌, ◌+◌, ◌<◌, ◌≤◌, ◌^◌, ℕ, List, length, map, slice_index, slice_index_or, Some, None, IsTrue, IsUtf8, ⊤}
 use Rattle.std.specs.List.{All}
 use Rattle.std.specs.List.Sorted.{IsStrictlyIncreasing}
@@ -9,7 +9,8 @@ use Rattle.risc_devices.specs.InputKind.{IsInput}
 use Rattle.risc_machine.specs.declared.event.Event.{Event}
 use Rattle.risc_machine.specs.InputOrder.{AreOrdered}
 use Rattle.oberon_session.specs.Digits.{all_placed_of}
-use Rattle.oberon_session.specs.Draft.{Draft, InputNumbers, PageText, Start, draft_of, page_view, start_view}
+use Rattle.oberon_session.specs.Draft.{Draft, InputNumbers, PageText, Start, draft_of}
+use Rattle.oberon_session.specs.inner.Drafts.{page_view, start_view}
 use Rattle.oberon_session.specs.Ranges.{input_counts, places_of, timer_fits}
 use Rattle.oberon_session.specs.Session.{Says, numbers_of_event}
 use Rattle.oberon_session.specs.SessionParts.{CountsFit, SessionParts}

@@ -1,4 +1,4 @@
--- Comparing what is sent with what is expected, byte by byte (this project's own choice). No public contract cites this.
+-- Comparing what is sent with what is expected, byte by byte (this project's own choice).
 use Rattle.std.specs.Prelude.{◌≡◌, ◌++◌, List, ℕ, Bool, true, false, ◌≤◌, length, take}
 use Rattle.risc_machine.specs.declared.sink.Matching.{Matching}
 

@@ -10,9 +10,8 @@ use Rattle.risc_machine.specs.MachineState.{CpuState}
 use Rattle.oberon_format.specs.declared.layout.TheConstants.{MAGIC, FIRST_VERSION}
 use Rattle.oberon_format.specs.declared.change.Change.{Change}
 use Rattle.oberon_format.specs.Changes.{changes}
-use Rattle.oberon_format.specs.CheckpointParts.{CheckpointParts}
+use Rattle.oberon_format.specs.CheckpointParts.{CheckpointParts, key_bytes}
 use Rattle.oberon_format.specs.FlagsNumber.{flags_number}
-use Rattle.oberon_format.specs.KeyBytes.{key_bytes}
 use Rattle.oberon_format.specs.Recording.{RecordingParts, output_of}
 
 -- the four bytes of a number, the lowest first

@@ -1,4 +1,4 @@
--- What is known of a text of which some rules were tested. No public contract cites these.
+-- What is known of a text of which some rules were tested.
 use Rattle.std.specs.Prelude.{ℕ, true, ◌≡◌, ◌≤◌, ◌<◌, List, length, slice_index, None}
 use Rattle.oberon_format.specs.declared.layout.TheConstants.{MAGIC, HEADER_LEN, MAGIC_AT, LAST_AT, PLACES}
 use Rattle.oberon_format.specs.declared.ranges.TheConstants.{MAX_PAGES, MAX_EVENTS, MAX_CHECKPOINTS}

@@ -1,5 +1,4 @@
--- The inputs that a machine has still to take, by their places in the list (this project's own choice). No public contract
--- cites this.
+-- The inputs that a machine has still to take, by their places in the list (this project's own choice).
 use Rattle.std.specs.Prelude.{ℕ, ◌≤◌, ◌<◌, List, length}
 use Rattle.risc_machine.specs.declared.event.Event.{Event}
 use Rattle.risc_machine.specs.InputOrder.{AreOrdered, count_at}

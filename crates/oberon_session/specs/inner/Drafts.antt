@@ -1,0 +1,49 @@
+-- What the readers of JSON give, and how contracts see their parts.
+use Rattle.std.specs.Prelude.{ℕ, ◌≡◌, ◌≢◌, List, Option, Some, None, Result, MatchResult, map}
+use Rattle.oberon_session.specs.declared.fault.SessionFault.{SessionFault}
+use Rattle.oberon_session.specs.declared.fault.SessionFault.TheVariants.{Memory, Shape}
+use Rattle.oberon_session.specs.declared.draft.InputDraft.{InputDraft}
+use Rattle.oberon_session.specs.declared.draft.PageDraft.{PageDraft}
+use Rattle.oberon_session.specs.declared.draft.StartDraft.{StartDraft}
+use Rattle.oberon_session.specs.declared.draft.Draft.{Draft as DraftValue}
+use Rattle.oberon_session.specs.Draft.{Start, PageText, InputNumbers, Draft}
+use Rattle.oberon_session.specs.declared.placed.PlacedPage.{PlacedPage}
+use Rattle.oberon_session.specs.Digits.{PlacedWords}
+use Rattle.oberon_session.specs.SessionParts.{SessionParts}
+use Rattle.risc_machine.specs.declared.cpu.Cpu.{Cpu}
+use Rattle.risc_machine.specs.declared.event.Event.{Event}
+use Rattle.risc_machine.specs.MachineState.{cpu_state}
+
+-- the result is what the definition gives, and this fault comes only where it gives nothing
+abbrev pub GivesOr : {T X : Type 0} → SessionFault → (T → X) → Option X → Result T SessionFault → Type 0
+GivesOr why view found result =
+    MatchResult result (λ value. found ≡ Some (view value))
+    (λ fault. fault ≢ Memory → (fault ≡ why) × (found ≡ None))
+
+abbrev pub Gives : {T X : Type 0} → (T → X) → Option X → Result T SessionFault → Type 0
+Gives = GivesOr Shape
+
+abbrev pub start_view : StartDraft → Start
+start_view s = record { registers = s.registers.items; h = s.h; pc = s.pc; flags = s.flags; rate = s.rate; phase = s.phase }
+
+abbrev pub page_view : PageDraft → PageText
+page_view p = record { at = p.at; hex = p.hex.now }
+
+abbrev pub input_view : InputDraft → InputNumbers
+input_view i = record { count = i.count; kind = i.kind; value = i.value }
+
+abbrev pub draft_view : DraftValue → Draft
+draft_view d = record {
+  start = start_view d.start;
+  pages = map page_view d.pages.items;
+  inputs = map input_view d.inputs.items;
+  checkpoints = d.checkpoints.items;
+}
+
+abbrev pub placed_view : PlacedPage → PlacedWords
+placed_view p = record { at = p.at; words = p.page.words }
+
+-- the session of these parts, as Rust has them
+abbrev pub session_of_parts : Cpu → ℕ → ℕ → List PlacedPage → List Event → List ℕ → SessionParts
+session_of_parts cpu rate phase pages inputs counts =
+    record { cpu = cpu_state cpu; rate = rate; phase = phase; pages = map placed_view pages; inputs = inputs; counts = counts }

@@ -1,0 +1,10 @@
+-- What private functions and the insides of types say of themselves. No public contract and no law names anything of it, so none
+-- of it has to be believed.
+pub mod Boards
+pub mod Actions
+pub mod Due
+pub mod Matched
+pub mod Entries
+pub mod Operands
+pub mod Rests
+pub mod Destinations
