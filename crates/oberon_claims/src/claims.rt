@@ -127,6 +127,7 @@ impl Claims {
         ensures least { IsLeastOf (all_told passes.items) result.least }
         ensures shown { All (λ x. Contains (all_told passes.items) x) (all_shown passes.items) }
         ensures not_below { IsNotBelow result.least (all_shown passes.items) }
+        // Which the book's type keeps: so who has all passes back has one, and needn't test for it.
         ensures workers { (1 ≤ self.workers) × (self.workers ≤ 64) }
     {
         let Claims { table, own, jobs } = self;

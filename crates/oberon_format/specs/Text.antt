@@ -83,7 +83,8 @@ pub record IsCheckpoint (version : ℕ) (text : List ℕ) (place : ℕ) (before 
   pub in_first : version ≡ FIRST_VERSION → IsWhole text place c
   pub in_second : version ≡ VERSION → IsChanged text place before c
 
--- the text is of this version, which is known, and has the length, and at each place the field, of these parts
+-- the text is of this version, which is known, and has the length, and at each place the field, of these parts, lawful or not: so
+-- the first fault of parts can be told, too
 pub record IsLaidOut (v : ℕ) (text : List ℕ) (r : RecordingParts) : Type 0 where
   pub long : length text ≡ output_place text + length (output_of r.checkpoints)
   pub magic : word_at text MAGIC_AT ≡ MAGIC

@@ -1,6 +1,7 @@
 //! A recording made of its parts, or refused with the first fault of the text that would be laid out of them.
 //!
-//! That inputs are in their ranges and in their order isn't tested again: their type says it. Nothing here takes memory.
+//! What the types of the parts keep isn't tested again: that registers are words, that inputs are in their ranges and in their order,
+//! that devices are lawful (`AreFormed`). Nothing here takes memory.
 
 ghost use Rattle.std.specs.Prelude.{◌≡◌, ◌≤◌, length, slice_index, slice_index_or};
 ghost use Rattle.std.specs.Option.{IfNone};

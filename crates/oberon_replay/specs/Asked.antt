@@ -50,7 +50,8 @@ asked (word ∷ words) =
     if is_empty (faults (word ∷ words)) then option_and_then (λ p. request_of p.0 p.1) (found (word ∷ words))
     else None
 
--- the words ask for help
+-- the words ask for help. `clap` answers some words, as `help` before an unknown command, with one of two kinds of fault, so that these
+-- may get help, and may be refused
 abbrev pub IsHelp : List Text → Type 0
 IsHelp words = IsAmong DisplayHelp (faults words)
 

@@ -57,7 +57,7 @@ fn process_words<H: AllocGlobal + Env>(rt: &H) -> Result<Vec<String>, Failure> {
     )
 }
 
-/// Why the words of the process can't be had.
+/// Why the words of the process can't be had: want of memory, or anything else, as where one is not UTF-8, which refuses the words.
 fn unread(kind: ErrorKind) -> Failure
     ensures memory { kind ≡ ErrorKind.OutOfMemory → result ≡ Failure.Memory }
     ensures words { kind ≢ ErrorKind.OutOfMemory → result ≡ Failure.Words }

@@ -28,10 +28,10 @@ use std::thread::Threads;
 /// | a request for help | `clap`'s text | 0 |
 /// | others | `words refused` | 4 |
 ///
-/// It waits for nothing but the workers of a check. The words are read before the input, and of the input no more than one byte
-/// beyond the longest text that the command takes. Where a read fails, for whatever cause, only `read fault` is written, where
-/// memory is wanting only `no memory`; the status is 3. Where a write fails, or takes nothing, what went out is a front of the
-/// text, nothing else is written, and the status is 3. It is 3 nowhere else.
+/// `rt` is the runtime whose threads a check uses, and the program waits for nothing but these. The words are read before the
+/// input, and of the input no more than one byte beyond the longest text that the command takes. Where a read fails, for whatever
+/// cause, only `read fault` is written, where memory is wanting only `no memory`; the status is 3. Where a write fails, or takes
+/// nothing, what went out is a front of the text, nothing else is written, and the status is 3. It is 3 nowhere else.
 pub fn serve<'a, H: Threads + Wait + Sync, R: Source, W: Sink>(
     rt: &H,
     alloc: Global,

@@ -143,7 +143,7 @@ const fn summed(sum: Sum, h: u32, flags: Flags) -> AluOut
     output(sum.value, h, after)
 }
 
-/// What MOV moves.
+/// What MOV moves. An immediate comes with its upper half filled in, so with u set its lower half is the field im.
 #[inline(always)]
 const fn moved(u: bool, imm: bool, v: bool, c: u32, h: u32, flags: Flags) -> u32
     ensures { result ≡ moved_value u imm v c h flags }

@@ -24,6 +24,7 @@ refusal_by DisplayHelp error = Help error
 refusal_by OutOfMemory error = Memory
 refusal_by _ error = Words
 
+-- such a refusal may come for these words
 abbrev pub RefusedBy : List Text → Refusal → Type 0
 RefusedBy words (Help error) = IsHelp words
 RefusedBy words Words = IsRefused words
