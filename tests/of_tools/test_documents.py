@@ -62,7 +62,7 @@ class DocumentsTest(ToolTest):
         (self.folder / "examples").symlink_to(EXAMPLES)
         path = {"PATH": f"{PROGRAM.parent}:{os.environ['PATH']}"}
         commands = list(commands_of((TOP / "README.md").read_text()))
-        self.assertGreaterEqual(len(commands), 8)
+        self.assertGreaterEqual(len(commands), 7)
         for command in commands:
             ran = run(["bash", "-c", command.line], cwd=folder, env={**os.environ, **path})
             self.assertTrue(command.prints(ran.output.decode()), f"$ {command.line}\n{ran.output.decode()}")
