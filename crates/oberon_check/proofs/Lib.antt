@@ -8,7 +8,7 @@ pub mod Existence
 pub mod Tops
 pub mod Runs
 pub mod Gathered
-pub mod Parts
+pub mod Shares
 pub mod Answered
 pub mod Lines
 pub mod Migrations

@@ -6,18 +6,18 @@ use Rattle.oberon_check.specs.declared.collector.CollectFault.{CollectFault}
 use Rattle.oberon_check.specs.declared.collector.CollectFault.TheVariants.{Double, Missing}
 use Rattle.oberon_check.specs.Segment.{Finding}
 
--- The segment and the part of verdict k.
+-- the segment and the part of verdict k
 abbrev pub segment_at : List Finding → ℕ → ℕ
 segment_at vs k = slice_index (map (λ (v : Finding). v.segment) vs) k
 
 abbrev pub part_at : List Finding → ℕ → Option Part
 part_at vs k = slice_index_or (map (λ (v : Finding). v.part) vs) k None
 
--- One of the first n verdicts is of this segment.
+-- one of the first n verdicts is of this segment
 abbrev pub StandsBelow : List Finding → ℕ → ℕ → Type 0
 StandsBelow vs n segment = (k : ℕ) × (k < n) × (segment_at vs k ≡ segment)
 
--- The first verdict whose segment stood before it is of this segment.
+-- the first verdict whose segment stood before it is of this segment
 pub record IsFirstDouble (vs : List Finding) (segment : ℕ) : Type 0 where
   pub at : ℕ
   pub inside : at < length vs
@@ -25,14 +25,14 @@ pub record IsFirstDouble (vs : List Finding) (segment : ℕ) : Type 0 where
   pub stood : StandsBelow vs at segment
   pub before : (k : ℕ) → k < at → ¬ (StandsBelow vs k (segment_at vs k))
 
--- The least segment without a verdict, among those below the least failed one, or among all where none failed.
+-- the least segment without a verdict, among those below the least failed one, or among all where none failed
 pub record IsFirstMissing (r : RecordingParts) (vs : List Finding) (segment : ℕ) : Type 0 where
   pub inside : segment < last_of r
   pub missing : ¬ (StandsBelow vs (length vs) segment)
   pub before : (s : ℕ) → s < segment → StandsBelow vs (length vs) s
   pub below_failed : (k : ℕ) → k < length vs → IsSome (part_at vs k) → segment < segment_at vs k
 
--- A segment has two verdicts; or, where none has, a segment that is needed has none.
+-- a segment has two verdicts; or, where none has, a segment that is needed has none
 abbrev pub IsCollectFault : RecordingParts → List Finding → CollectFault → Type 0
 IsCollectFault r vs (Double segment) = IsFirstDouble vs segment
 IsCollectFault r vs (Missing segment) = ((s : ℕ) → ¬ (IsFirstDouble vs s)) × IsFirstMissing r vs segment

@@ -6,7 +6,7 @@ use Rattle.oberon_format.specs.Defined.{Outcome}
 use Rattle.oberon_check.specs.declared.part.Part.{Part}
 use Rattle.oberon_check.specs.declared.part.Part.TheVariants.{R, H, Pc, Flags, Stop, Timer, Rate, Phase, Switches, Leds, Mouse, Serial, Keys, Sent, Page}
 
--- Where a part stands in the order of the parts.
+-- where a part stands in the order of the parts
 abbrev pub rank : Part → ℕ
 rank (R i) = i
 rank H = 16
@@ -24,7 +24,7 @@ rank Keys = 27
 rank Sent = 28
 rank (Page p) = 29 + p
 
--- There are 16 registers and 1,024 pages.
+-- there are 16 registers and 1,024 pages
 abbrev pub IsPart : Part → Type 0
 IsPart (R i) = i < 16
 IsPart H = Unit {0}
@@ -42,8 +42,8 @@ IsPart Keys = Unit {0}
 IsPart Sent = Unit {0}
 IsPart (Page p) = p < 1024
 
--- The two outcomes have the same in this part. The serial line's part is its byte and whether it was received; page p is
--- the words 256 * p to 256 * p + 255 of the memory.
+-- the two outcomes have the same in this part. The serial line's part is its byte and whether it was received; page p is
+-- the words 256 * p to 256 * p + 255 of the memory
 abbrev pub IsSame : Part → Outcome → Outcome → Type 0
 IsSame (R i) x y = slice_index x.state.cpu.r i ≡ slice_index y.state.cpu.r i
 IsSame H x y = x.state.cpu.h ≡ y.state.cpu.h
@@ -61,12 +61,12 @@ IsSame Keys x y = x.state.devices.keys ≡ y.state.devices.keys
 IsSame Sent x y = x.sent ≡ y.sent
 IsSame (Page p) x y = page_at x.state.words p ≡ page_at y.state.words p
 
--- The two differ in this part, and have the same in each part before it.
+-- the two differ in this part, and have the same in each part before it
 pub record IsFirstDifference (x y : Outcome) (part : Part) : Type 0 where
   pub is_part : IsPart part
   pub before : (q : Part) → IsPart q → rank q < rank part → IsSame q x y
   pub differs : ¬ (IsSame part x y)
 
--- The first part in which the two differ, none exactly where they are the same outcome.
+-- the first part in which the two differ, none exactly where they are the same outcome
 abbrev pub IsDifference : Outcome → Outcome → Option Part → Type 0
 IsDifference x y part = MatchOption part (x ≡ y) (IsFirstDifference x y)

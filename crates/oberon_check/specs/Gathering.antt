@@ -1,4 +1,4 @@
--- What the parts of all workers hold, beside the answer that they come to.
+-- What the shares of all workers hold, beside the answer that they come to.
 use Rattle.std.specs.Prelude.{ℕ, ◌≡◌, ◌-◌, ◌<◌, List, [], ◌∷◌, ◌++◌, map, length, Option, None, Some}
 use Rattle.oberon_claims.specs.Pass.{PassRecord}
 use Rattle.oberon_claims.specs.Ledger.{all_told, IsLeastOf}
@@ -10,20 +10,20 @@ use Rattle.oberon_check.specs.Segment.{Finding, IsSegmentPart}
 use Rattle.oberon_check.specs.Collecting.{segment_at, part_at, StandsBelow}
 use Rattle.oberon_check.specs.Work.{DoneRecord}
 
--- The passes of the parts, in their order.
+-- the passes of the shares, in their order
 abbrev pub passes_of : List DoneRecord → List PassRecord
 passes_of ds = map (λ (d : DoneRecord). d.pass) ds
 
--- The findings of all parts, one part after another.
+-- the findings of all shares, one share after another
 abbrev pub all_findings : List DoneRecord → List Finding
 all_findings [] = []
 all_findings (d ∷ ds) = d.verdicts ++ all_findings ds
 
--- No two of the findings are of one segment.
+-- no two of the findings are of one segment
 abbrev pub IsEachOnce : List Finding → Type 0
 IsEachOnce vs = (j k : ℕ) → j < length vs → k < length vs → segment_at vs j ≡ segment_at vs k → j ≡ k
 
--- One of the findings is of this segment and has this part, which is what the segment's replay finds.
+-- one of the findings is of this segment and has this part, which is what the segment's replay finds
 pub record HasFinding (r : RecordingParts) (vs : List Finding) (segment : ℕ) (part : Option Part) : Type 0 where
   pub at : ℕ
   pub inside : at < length vs
@@ -31,21 +31,21 @@ pub record HasFinding (r : RecordingParts) (vs : List Finding) (segment : ℕ) (
   pub part_is : part_at vs at ≡ part
   pub replay : IsSegmentPart r segment part
 
--- The number of segments below the answer's: all of them, where every checkpoint is true.
+-- the number of segments below the answer's: all of them, where every checkpoint is true
 abbrev pub below_answer : Verdict → ℕ
 below_answer (Accepted checkpoints steps) = checkpoints
 below_answer (FalseAt checkpoint count part) = checkpoint - 1
 
--- The segment that leads to the false checkpoint has its finding, with the answer's part.
+-- the segment that leads to the false checkpoint has its finding, with the answer's part
 abbrev pub HasAnswer : RecordingParts → List Finding → Verdict → Type 0
 HasAnswer r vs (Accepted checkpoints steps) = Unit {0}
 HasAnswer r vs (FalseAt checkpoint count part) = HasFinding r vs (checkpoint - 1) (Some part)
 
--- The segment lies after the least of those told.
+-- the segment lies after the least of those told
 abbrev pub IsAfterLeast : List ℕ → ℕ → Type 0
 IsAfterLeast told segment = (least : ℕ) × IsLeastOf told (Some least) × (least < segment)
 
--- What the parts hold of a recording whose verdict is this one.
+-- what the shares hold of a recording whose verdict is this one
 pub record IsGathered (r : RecordingParts) (ds : List DoneRecord) (verdict : Verdict) : Type 0 where
   -- no segment is collected twice
   pub once : IsEachOnce (all_findings ds)

@@ -6,7 +6,7 @@ use Rattle.oberon_check.specs.declared.part.Part.TheVariants.{R, H, Pc, Flags, S
 use Rattle.oberon_check.specs.declared.verdict.Verdict.{Verdict}
 use Rattle.oberon_check.specs.declared.verdict.Verdict.TheVariants.{Accepted, FalseAt}
 
--- The name of a part.
+-- the name of a part
 abbrev pub part_name : Part → List ℕ
 part_name (R i) = codes "R" ++ decimal i
 part_name H = codes "H"
@@ -24,12 +24,12 @@ part_name Keys = codes "keys"
 part_name Sent = codes "out"
 part_name (Page p) = codes "page " ++ decimal p
 
--- The line of a verdict, with its numbers in decimal, ended by one line feed.
+-- the line of a verdict, with its numbers in decimal, ended by one line feed
 abbrev pub line_of : Verdict → List ℕ
 line_of (Accepted checkpoints steps) = codes "accepted " ++ (decimal checkpoints ++ (codes " checkpoints " ++ (decimal steps ++ codes " steps\n")))
 line_of (FalseAt checkpoint count part) = codes "false checkpoint " ++ (decimal checkpoint ++ (codes " at " ++ (decimal count ++ (codes " part " ++ (part_name part ++ codes "\n")))))
 
--- Its exit status: 0 accepted, 1 false.
+-- its exit status: 0 accepted, 1 false
 abbrev pub status_of : Verdict → ℕ
 status_of (Accepted checkpoints steps) = 0
 status_of (FalseAt checkpoint count part) = 1

@@ -6,29 +6,29 @@ use Rattle.oberon_format.specs.Defined.{Outcome, claimed}
 use Rattle.oberon_check.specs.declared.part.Part.{Part}
 use Rattle.oberon_check.specs.Difference.{IsDifference}
 
--- What a run from the state that checkpoint i claims gives at checkpoint i + 1.
+-- what a run from the state that checkpoint i claims gives at checkpoint i + 1
 abbrev pub replayed : RecordingParts → ℕ → Outcome
 replayed r i =
     let steps = count_at r (i + 1) - count_at r i in
     record { state = run_of r.inputs (count_at r i) steps (claimed r i).state; sent = sent_of r.inputs (count_at r i) steps (claimed r i).state }
 
--- The first part in which such a run differs from what checkpoint i + 1 claims, none where the segment holds.
+-- the first part in which such a run differs from what checkpoint i + 1 claims, none where the segment holds
 abbrev pub IsSegmentPart : RecordingParts → ℕ → Option Part → Type 0
 IsSegmentPart r i part = IsDifference (claimed r (i + 1)) (replayed r i) part
 
--- What a contract sees of a segment verdict: its recording, its segment and the part that was found to differ.
+-- what a contract sees of a segment verdict: its recording, its segment and the part that was found to differ
 pub record Finding : Type 0 where
   pub recording : RecordingParts
   pub segment : ℕ
   pub part : Option Part
 
--- The finding is true of its recording.
+-- the finding is true of its recording
 pub record IsTrueFinding (f : Finding) : Type 0 where
   pub lawful : IsLawful f.recording
   pub inside : f.segment < last_of f.recording
   pub replay : IsSegmentPart f.recording f.segment f.part
 
--- The verdicts of the segments from `first` on, in order, up to `end` or to the first that failed.
+-- the verdicts of the segments from `first` on, in order, up to `end` or to the first that failed
 abbrev pub IsRun : ℕ → ℕ → List Finding → Type 0
 IsRun first end [] = first ≡ end
 IsRun first end (v ∷ vs) = (first < end) × (v.segment ≡ first) × MatchOption v.part (IsRun (first + 1) end vs) (λ _. vs ≡ [])

@@ -6,44 +6,44 @@ use Rattle.oberon_format.specs.Recording.{RecordingParts, last_of}
 use Rattle.oberon_check.specs.declared.part.Part.{Part}
 use Rattle.oberon_check.specs.Segment.{Finding, IsRun}
 
--- A segment that was shown lies before this one.
+-- a segment that was shown lies before this one
 abbrev pub IsBehind : List ℕ → ℕ → Type 0
 IsBehind shown first = (x : ℕ) × Contains shown x × (x < first)
 
--- The verdicts of a job of `cut` segments, of fewer at the end: those of its segments in order, to its end or its first
--- failed one; or none, where it begins after a value shown.
+-- the verdicts of a job of `cut` segments, of fewer at the end: those of its segments in order, to its end or its first
+-- failed one; or none, where it begins after a value shown
 abbrev pub IsJob : ℕ → ℕ → List ℕ → ℕ → List Finding → Type 0
 IsJob last cut shown job vs = ((vs ≡ []) × IsBehind shown (job * cut)) ⊎ IsRun (job * cut) (min (job * cut + cut) last) vs
 
--- The list is one piece for each, in order, and nothing else.
+-- the list is one piece for each, in order, and nothing else
 abbrev pub InPieces : {A : Type 0} → (A → List Finding → Type 0) → List A → List Finding → Type 0
 InPieces P [] vs = vs ≡ []
 InPieces P (x ∷ xs) vs = (front : List Finding) × (back : List Finding) × (vs ≡ front ++ back) × P x front × InPieces P xs back
 
--- The segment, where it failed.
+-- the segment, where it failed
 abbrev pub one_failed : ℕ → Option Part → List ℕ
 one_failed segment None = []
 one_failed segment (Some part) = segment ∷ []
 
--- The segments that failed.
+-- the segments that failed
 abbrev pub failed_of : List Finding → List ℕ
 failed_of [] = []
 failed_of (v ∷ vs) = one_failed v.segment v.part ++ failed_of vs
 
--- Each job that the pass took has its verdicts, there are no others, and the segments told are the failed ones.
+-- each job that the pass took has its verdicts, there are no others, and the segments told are the failed ones
 pub record HasDone (last cut : ℕ) (p : PassRecord) (vs : List Finding) : Type 0 where
   pub jobs : InPieces (IsJob last cut p.shown) p.taken vs
   pub told : p.told ≡ failed_of vs
 
--- What a contract sees of a worker's part.
+-- what a contract sees of a worker's share
 pub record DoneRecord : Type 0 where
   pub recording : RecordingParts
   pub cut : ℕ
   pub pass : PassRecord
   pub verdicts : List Finding
 
--- The part is whole: the pass was answered None, its book has as many jobs as the recording has at this cut, the verdicts
--- are the recording's, and they are those of the jobs that the pass took.
+-- the share is whole: the pass was answered None, its book has as many jobs as the recording has at this cut, the verdicts
+-- are the recording's, and they are those of the jobs that the pass took
 pub record IsDone (d : DoneRecord) : Type 0 where
   pub cut : 1 ≤ d.cut
   pub book : d.pass.book.jobs ≡ div_ceil (last_of d.recording) d.cut
@@ -51,8 +51,8 @@ pub record IsDone (d : DoneRecord) : Type 0 where
   pub recordings : All (λ v. v.recording ≡ d.recording) d.verdicts
   pub done : HasDone (last_of d.recording) d.cut d.pass d.verdicts
 
--- The part is of this recording, cut and book.
-pub record IsPartOf (r : RecordingParts) (cut : ℕ) (book : BookId) (d : DoneRecord) : Type 0 where
+-- the share is of this recording, cut and book
+pub record IsShareOf (r : RecordingParts) (cut : ℕ) (book : BookId) (d : DoneRecord) : Type 0 where
   pub recording_is : d.recording ≡ r
   pub cut_is : d.cut ≡ cut
   pub book_is : d.pass.book ≡ book

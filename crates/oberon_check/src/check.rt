@@ -1,13 +1,13 @@
 //! The check of a recording by workers in threads of their own.
 //!
-//! Here live the start and the end of the threads. What a worker does lives in `worker`, what their parts come to in
+//! Here live the start and the end of the threads. What a worker does lives in `worker`, what their shares come to in
 //! `gathering`, and what is printed in `report`.
 ghost use Rattle.std.specs.Prelude.{◌≡◌, ◌≤◌, vec_len, All, IfOk};
 ghost use Rattle.std.specs.Int.{div_ceil};
 ghost use Rattle.oberon_claims.specs.Pass.{fresh_pass};
 ghost use Rattle.oberon_format.specs.Recording.{last_of};
 ghost use Rattle.oberon_check.specs.Verdict.{IsVerdict};
-ghost use Rattle.oberon_check.specs.Work.{IsPartOf};
+ghost use Rattle.oberon_check.specs.Work.{IsShareOf};
 
 use crate::gate::Gate;
 use crate::gathering::gather;
@@ -39,8 +39,8 @@ impl From<AllocError> for CheckFault {
     }
 }
 
-// Each pass in a thread of its own, over one recording and one book. Each part comes back by its thread's join, with what its type
-// keeps.
+/// Each pass in a thread of its own, over one recording and one book. Each share comes back by its thread's join, with what its type
+/// keeps.
 fn work_all<R: Threads + Sync, G: Gate + Sync>(
     rt: &R,
     alloc: Global,
@@ -54,19 +54,19 @@ fn work_all<R: Threads + Sync, G: Gate + Sync>(
     requires fresh { All (λ p. p ≡ fresh_pass claims.now) passes.items }
     requires jobs { claims.now.jobs ≡ div_ceil (last_of r.now) cut }
     ensures len { IfOk result (λ v. vec_len v ≡ vec_len passes) }
-    ensures parts { IfOk result (λ v. All (λ d. IfOk d (IsPartOf r.now cut claims.now)) v.items) }
+    ensures parts { IfOk result (λ v. All (λ d. IfOk d (IsShareOf r.now cut claims.now)) v.items) }
 {
     map_vec(
         rt,
         passes,
         &|pass: Pass| -> Result<Done, AllocError>
             requires { (1 ≤ cut) × (pass ≡ fresh_pass claims.now) × (claims.now.jobs ≡ div_ceil (last_of r.now) cut) }
-            ensures { IfOk result (IsPartOf r.entry.now cut claims.entry.now) }
+            ensures { IfOk result (IsShareOf r.entry.now cut claims.entry.now) }
         { work(alloc, r, claims, pass, cut, gate) },
     )
 }
 
-// The parts, if memory sufficed for each.
+/// The shares, if memory sufficed for each.
 fn all_done(
     alloc: Global,
     r: &Recording,
@@ -74,10 +74,11 @@ fn all_done(
     cut: u32,
     results: Vec<Result<Done, AllocError>>,
 ) -> Result<Vec<Done>, AllocError>
-    requires { All (λ d. IfOk d (IsPartOf r.now cut claims.now)) results.items }
+    requires { All (λ d. IfOk d (IsShareOf r.now cut claims.now)) results.items }
     ensures len { IfOk result (λ v. vec_len v ≡ vec_len results) }
-    ensures parts { IfOk result (λ v. All (IsPartOf r.now cut claims.now) v.items) }
+    ensures parts { IfOk result (λ v. All (IsShareOf r.now cut claims.now) v.items) }
 {
+    // The contract alone names these.
     let _ = r;
     let _ = claims;
     let _ = cut;

@@ -27,14 +27,14 @@ pub enum CollectFault {
     Missing(u32),
 }
 
-// Which segments have a verdict, and the least that failed.
+/// Which segments have a verdict, and the least that failed.
 #[derive(Clone, Copy)]
 struct Tally {
     seen: [bool; 4096],
     least: Option<(u32, Part)>,
 }
 
-// The least failed segment with its part, once one verdict more is taken in.
+/// The least failed segment with its part, once one verdict more is taken in.
 fn lesser(least: Option<(u32, Part)>, segment: u32, part: Option<Part>) -> Option<(u32, Part)>
     ensures { result ≡ lesser_of least segment part }
 {
@@ -47,7 +47,7 @@ fn lesser(least: Option<(u32, Part)>, segment: u32, part: Option<Part>) -> Optio
     }
 }
 
-// The number of segments that have to have a verdict.
+/// The number of segments that have to have a verdict.
 fn end(least: Option<(u32, Part)>, last: u32) -> u32
     ensures { result ≡ end_of least last }
 {
@@ -57,7 +57,7 @@ fn end(least: Option<(u32, Part)>, last: u32) -> u32
     }
 }
 
-// The tally of the verdicts, or the first segment that stood before.
+/// The tally of the verdicts, or the first segment that stood before.
 fn tally_of(verdicts: &[SegmentVerdict]) -> Result<Tally, u32>
     ensures ok { IfOk result (λ t. IsTally verdicts.now (length verdicts.now) t.seen t.least) }
     ensures findings { IfOk result (λ t. All IsTrueFinding verdicts.now) }
@@ -76,7 +76,7 @@ fn tally_of(verdicts: &[SegmentVerdict]) -> Result<Tally, u32>
     Ok(Tally { seen, least })
 }
 
-// The first segment below `end` that has no mark.
+/// The first segment below `end` that has no mark.
 fn first_unmarked(seen: &[bool; 4096], end: u32) -> Option<u32>
     requires { end ≤ 4096 }
     ensures { MatchOption result ((s : ℕ) → s < end → IsMarked seen.now s) (λ x. (x < end) × ¬ (IsMarked seen.now x) × ((s : ℕ) → s < x → IsMarked seen.now s)) }

@@ -15,7 +15,7 @@ use risc_devices::Devices;
 use risc_machine::{Cpu, Machine};
 use risc_pages::Pool;
 
-// The first register that isn't the same.
+/// The first register that isn't the same.
 fn register_difference(a: &[u32; 16], b: &[u32; 16]) -> Option<u8>
     ensures { MatchOption result (a.now ≡ b.now) (λ i. (i < 16) × ((k : ℕ) → k < i → slice_index a.now k ≡ slice_index b.now k) × (slice_index a.now i ≢ slice_index b.now i)) }
 {
@@ -27,7 +27,7 @@ fn register_difference(a: &[u32; 16], b: &[u32; 16]) -> Option<u8>
     None
 }
 
-// The first part in which two processors differ, whatever is around them.
+/// The first part in which two processors differ, whatever is around them.
 fn cpu_difference(claimed: &Cpu, cpu: &Cpu) -> Option<Part>
     ensures { (x y : Outcome) → x.state.cpu ≡ cpu_state claimed.now → y.state.cpu ≡ cpu_state cpu.now → MatchOption result (x.state.cpu ≡ y.state.cpu) (IsFirstDifference x y) }
 {
@@ -49,7 +49,7 @@ fn cpu_difference(claimed: &Cpu, cpu: &Cpu) -> Option<Part>
     None
 }
 
-// The first part in which devices differ, where the processors beside them don't.
+/// The first part in which devices differ, where the processors beside them don't.
 fn device_difference(claimed: &Devices, devices: &Devices) -> Option<Part>
     ensures { (x y : Outcome) → x.state.cpu ≡ y.state.cpu → x.state.devices ≡ claimed.now → y.state.devices ≡ devices.now → MatchOption result (x.state.devices ≡ y.state.devices) (IsFirstDifference x y) }
 {

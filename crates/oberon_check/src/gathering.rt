@@ -1,6 +1,6 @@
-//! What all workers' parts come to.
+//! What all workers' shares come to.
 //!
-//! Here lives the end of a shared check. A single worker's part lives in `worker`.
+//! Here lives the end of a shared check. A single worker's share lives in `worker`.
 ghost use Rattle.std.specs.Prelude.{◌≡◌, ℕ, vec_len, All, IfOk};
 ghost use Rattle.oberon_format.specs.Recording.{IsLawful};
 ghost use Rattle.oberon_check.specs.declared.collector.CollectFault.{CollectFault};
@@ -9,7 +9,7 @@ ghost use Rattle.oberon_check.specs.Collecting.{IsCollectFault};
 ghost use Rattle.oberon_check.specs.Gathering.{all_findings, IsGathered};
 ghost use Rattle.oberon_check.specs.Segment.{IsTrueFinding};
 ghost use Rattle.oberon_check.specs.Verdict.{IsVerdict};
-ghost use Rattle.oberon_check.specs.Work.{IsPartOf};
+ghost use Rattle.oberon_check.specs.Work.{IsShareOf};
 
 use crate::collector::collect;
 use crate::segment::SegmentVerdict;
@@ -19,8 +19,8 @@ use oberon_claims::Claims;
 use oberon_format::Recording;
 use std::alloc::{AllocError, Global};
 
-// The verdicts of all parts, one part after another, once the book is closed on their passes. The collector finds no fault in
-// them.
+/// The verdicts of all shares, one share after another, once the book is closed on their passes. The collector finds no fault in
+/// them.
 fn all_verdicts(
     alloc: Global,
     r: &Recording,
@@ -28,12 +28,13 @@ fn all_verdicts(
     done: Vec<Done>,
 ) -> Result<Vec<SegmentVerdict>, AllocError>
     requires all { vec_len done ≡ claims.workers }
-    requires parts { (cut : ℕ) × All (IsPartOf r.now cut claims) done.items }
+    requires parts { (cut : ℕ) × All (IsShareOf r.now cut claims) done.items }
     ensures findings { IfOk result (λ vs. vs.items ≡ all_findings done.items) }
     ensures recordings { IfOk result (λ vs. All (λ v. v.recording ≡ r.now) vs.items) }
     ensures whole { IfOk result (λ vs. (fault : CollectFault) → ¬ (IsCollectFault r.now vs.items fault)) }
     ensures gathered { IfOk result (λ vs. IsLawful r.now → All IsTrueFinding vs.items → (verdict : Verdict) → IsVerdict r.now verdict → IsGathered r.now done.items verdict) }
 {
+    // The contract alone names the recording.
     let _ = r;
     let mut passes = Vec::new(alloc);
     let mut verdicts = Vec::new(alloc);
@@ -46,10 +47,10 @@ fn all_verdicts(
     Ok(verdicts)
 }
 
-/// The verdict that the parts of all passes of a book come to, worked over one recording with one cut, on whatever threads.
+/// The verdict that the shares of all passes of a book come to, worked over one recording with one cut, on whatever threads.
 ///
-/// It rests on the parts alone: no two of their verdicts are of one segment, each segment below the answer's was replayed
-/// and held, and a segment without a verdict lies after the least that any worker told. A refusal of memory gives all parts up.
+/// It rests on the shares alone: no two of their verdicts are of one segment, each segment below the answer's was replayed
+/// and held, and a segment without a verdict lies after the least that any worker told. A refusal of memory gives all shares up.
 pub fn gather(
     alloc: Global,
     r: &Recording,
@@ -57,7 +58,7 @@ pub fn gather(
     done: Vec<Done>,
 ) -> Result<Verdict, AllocError>
     requires all { vec_len done ≡ claims.workers }
-    requires parts { (cut : ℕ) × All (IsPartOf r.now cut claims) done.items }
+    requires parts { (cut : ℕ) × All (IsShareOf r.now cut claims) done.items }
     ensures verdict { IfOk result (IsVerdict r.now) }
     ensures gathered { IfOk result (IsGathered r.now done.items) }
 {

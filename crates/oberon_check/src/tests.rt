@@ -3,7 +3,7 @@ ghost use Rattle.std.specs.Prelude.{◌≡◌, ◌≤◌, All, IfOk, vec_len};
 ghost use Rattle.std.specs.Int.{div_ceil};
 ghost use Rattle.oberon_claims.specs.Pass.{fresh_pass};
 ghost use Rattle.oberon_format.specs.Recording.{last_of};
-ghost use Rattle.oberon_check.specs.Work.{IsPartOf};
+ghost use Rattle.oberon_check.specs.Work.{IsShareOf};
 
 use super::*;
 use crate::difference::first_difference;
@@ -44,7 +44,7 @@ fn push_zeros(text: &mut Vec<u8>, words: u32) -> Result<(), Fail> {
     Ok(())
 }
 
-// A checkpoint whose table names page 1 at place 0.
+/// A checkpoint whose table names page 1 at place 0.
 fn push_checkpoint(text: &mut Vec<u8>, claim: Claim) -> Result<(), Fail> {
     push_word(text, claim.count)?;
     push_zeros(text, 17)?;
@@ -56,7 +56,7 @@ fn push_checkpoint(text: &mut Vec<u8>, claim: Claim) -> Result<(), Fail> {
     push_zeros(text, 1023)
 }
 
-// The text of a recording whose word 0 is a jump to itself, without inputs and output.
+/// The text of a recording whose word 0 is a jump to itself, without inputs and output.
 fn jump_text(alloc: Global, claims: &[Claim]) -> Result<Vec<u8>, Fail> {
     let checkpoints = u32::try_from(claims.len())?;
     let mut text = Vec::new(alloc);
@@ -77,7 +77,7 @@ fn jump_recording(alloc: Global, claims: &[Claim]) -> Result<Recording, Fail> {
     Ok(r)
 }
 
-// Four checkpoints, of which two claim an H that no instruction gave.
+/// Four checkpoints, of which two claim an H that no instruction gave.
 fn false_h() -> [Claim; 4] {
     [at(0, 0, 0), at(10, 0, 0), at(20, 1, 0), at(30, 1, 0)]
 }
@@ -86,7 +86,7 @@ fn true_h() -> [Claim; 4] {
     [at(0, 0, 0), at(10, 0, 0), at(20, 0, 0), at(30, 0, 0)]
 }
 
-// Ten segments, of which checkpoints 3 and 7 claim LEDs that no instruction lit.
+/// Ten segments, of which checkpoints 3 and 7 claim LEDs that no instruction lit.
 fn two_false() -> [Claim; 11] {
     [
         at(0, 0, 0),
@@ -115,7 +115,7 @@ const FALSE_LEDS: Verdict = Verdict::FalseAt {
     part: Part::Leds,
 };
 
-// The verdicts of these segments, in this order.
+/// The verdicts of these segments, in this order.
 fn verdicts_of(
     alloc: Global,
     r: &Recording,
@@ -143,7 +143,7 @@ fn collected(
     Ok(collect(r, verdicts.as_slice()))
 }
 
-// The segments and the parts that verdicts name.
+/// The segments and the parts that verdicts name.
 fn findings(
     alloc: Global,
     verdicts: &[SegmentVerdict],
@@ -200,7 +200,7 @@ fn collect_where_all_hold(rt: HostRuntime) -> Result<(), Fail> {
     Ok(())
 }
 
-// The first part in which checkpoint 0 differs from a machine that has another timer, of this rate and phase.
+/// The first part in which checkpoint 0 differs from a machine that has another timer, of this rate and phase.
 fn difference_of_timer(
     alloc: Global,
     r: &Recording,
@@ -276,7 +276,7 @@ fn texts_of_faults(rt: HostRuntime) -> Result<(), Fail> {
     Ok(())
 }
 
-// The line and the status of a text, by so many workers.
+/// The line and the status of a text, by so many workers.
 fn line_of<R: Threads + Wait + Sync, G: Gate + Sync>(
     rt: &R,
     alloc: Global,
@@ -328,7 +328,7 @@ impl Gate for CountingGate<'_> {
     }
 }
 
-// So many counters, all 0.
+/// So many counters, all 0.
 fn counters(alloc: Global, count: u32) -> Result<Vec<AtomicU64>, AllocError> {
     let mut begun = Vec::new(alloc);
     for _ in 0..count {
@@ -337,13 +337,13 @@ fn counters(alloc: Global, count: u32) -> Result<Vec<AtomicU64>, AllocError> {
     Ok(begun)
 }
 
-// Whether each of so many jobs has begun once, and no other has begun.
+/// Whether each of so many jobs has begun once, and no other has begun.
 fn each_begun_once(begun: &[AtomicU64], jobs: u32) -> bool {
     begun.iter().enumerate().all(|(job, begun)| begun.load(Ordering::SeqCst)
         == u64::from(job < jobs as usize))
 }
 
-// The verdict by so many workers, where each of the recording's jobs begins once and no other does.
+/// The verdict by so many workers, where each of the recording's jobs begins once and no other does.
 fn counted_verdict<R: Threads + Wait + Sync>(
     rt: &R,
     alloc: Global,
@@ -400,7 +400,7 @@ fn lines_of_two_false_checkpoints(rt: HostRuntime) -> Result<(), Fail> {
     Ok(())
 }
 
-// The passes are worked one after the other, in this thread.
+/// The passes are worked one after the other, in this thread.
 fn work_in_turn(
     alloc: Global,
     r: &Recording,
@@ -412,7 +412,7 @@ fn work_in_turn(
     requires fresh { All (λ p. p ≡ fresh_pass claims.now) passes.items }
     requires jobs { claims.now.jobs ≡ div_ceil (last_of r.now) cut }
     ensures len { IfOk result (λ v. vec_len v ≡ vec_len passes) }
-    ensures parts { IfOk result (λ v. All (IsPartOf r.now cut claims.now) v.items) }
+    ensures parts { IfOk result (λ v. All (IsShareOf r.now cut claims.now) v.items) }
 {
     let mut done = Vec::new(alloc);
     for pass in passes {
@@ -422,7 +422,7 @@ fn work_in_turn(
     Ok(done)
 }
 
-// Two passes, of which the first takes all jobs: it tells segment 2, and passes the other jobs over.
+/// Two passes, of which the first takes all jobs: it tells segment 2, and passes the other jobs over.
 #[test]
 fn first_pass_takes_all(rt: HostRuntime) -> Result<(), Fail> {
     let alloc = rt.alloc();

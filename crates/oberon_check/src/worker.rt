@@ -1,6 +1,6 @@
-//! One worker's part: the jobs that it claims, and the verdicts of their segments.
+//! One worker's share: the jobs that it claims, and the verdicts of their segments.
 //!
-//! Here live the loop of a worker and what it leaves. The claims themselves live in `oberon_claims`, what all workers' parts
+//! Here live the loop of a worker and what it leaves. The claims themselves live in `oberon_claims`, what all workers' shares
 //! come to in `gathering`, and the threads in `check`. Nothing here waits.
 ghost use Rattle.std.specs.Prelude.{◌≡◌, ◌<◌, ◌≤◌, ◌*◌, IfOk, OnOk};
 ghost use Rattle.std.specs.Int.{div_ceil};
@@ -16,7 +16,7 @@ use std::alloc::{AllocError, Global};
 use std::marker::Model;
 use std::snapshot::Snapshot;
 
-/// One worker's part: its pass, and the verdicts of the jobs that it took.
+/// One worker's share: its pass, and the verdicts of the jobs that it took.
 ///
 /// Whoever has it, the pass was answered `None`; each job that it took has the verdicts of its segments, in order, to its
 /// end or to its first failed one, or it has none and begins after a value that the pass was shown; there are no other
@@ -67,7 +67,7 @@ impl Done {
     }
 }
 
-// Replays the segments from one up to another, or up to the first that fails, which is told.
+/// Replays the segments from one up to another, or up to the first that fails, which is told.
 fn replay_run(
     alloc: Global,
     r: &Recording,
@@ -93,7 +93,7 @@ fn replay_run(
     Ok(())
 }
 
-// Does a job, or passes it over where a value shown is below its first segment.
+/// Does a job, or passes it over where a value shown is below its first segment.
 fn do_job(
     alloc: Global,
     r: &Recording,

@@ -2,13 +2,13 @@
 use Rattle.std.specs.Prelude.{ℕ, List, [], ◌∷◌, ◌++◌, Bool, true, false}
 use Rattle.atomic_table.specs.Seated.{TableId}
 
--- Which book it is, with the numbers that it was made for. No two books that stand at one time share a table.
+-- which book it is, with the numbers that it was made for. No two books that stand at one time share a table
 pub record BookId : Type 0 where
   pub table : TableId
   pub jobs : ℕ
   pub workers : ℕ
 
--- What a pass carries: its book, the jobs that it took, the segments that it told and the values that it was shown, each in the order in which they came, and whether a claim of it was answered None.
+-- what a pass carries: its book, the jobs that it took, the segments that it told and the values that it was shown, each in the order in which they came, and whether a claim of it was answered None
 pub record PassRecord : Type 0 where
   pub book : BookId
   pub taken : List ℕ

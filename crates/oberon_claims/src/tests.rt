@@ -8,7 +8,7 @@ use std::sync::atomic::{AtomicU64, Ordering};
 use std::test::Fail;
 use std::thread::{Threads, map_vec};
 
-// Two passes share three jobs: claims past the end, and looks that see what the other pass told.
+/// Two passes share three jobs: claims past the end, and looks that see what the other pass told.
 #[test]
 fn claims_by_hand(rt: HostRuntime) -> Result<(), Fail> {
     let (claims, mut passes) = Claims::new(rt.alloc(), 3, 2)?;
@@ -47,7 +47,7 @@ fn no_jobs(rt: HostRuntime) -> Result<(), Fail> {
     Ok(())
 }
 
-// Claims to the end, marks each job taken, and tells each that is a multiple of 7 and at least 700.
+/// Claims to the end, marks each job taken, and tells each that is a multiple of 7 and at least 700.
 fn work(claims: &Claims, mut pass: Pass, marks: &[AtomicU64]) -> Pass
     requires { pass.book ≡ claims.now }
     ensures { result.book ≡ claims.now }
@@ -66,7 +66,7 @@ fn work(claims: &Claims, mut pass: Pass, marks: &[AtomicU64]) -> Pass
     pass
 }
 
-// Each pass in a thread of its own.
+/// Each pass in a thread of its own.
 fn work_all<R: Threads + Sync>(
     rt: &R,
     claims: &Claims,
@@ -87,7 +87,7 @@ fn work_all<R: Threads + Sync>(
     )
 }
 
-// Eight threads share 4,096 jobs: each job is taken once, and the least segment told is known.
+/// Eight threads share 4,096 jobs: each job is taken once, and the least segment told is known.
 #[test]
 fn eight_threads_share_all_jobs(rt: HostRuntime) -> Result<(), Fail> {
     let mut marks = Vec::new(rt.alloc());

@@ -59,6 +59,7 @@ fn parts_fault(pool: &Pool, inputs: &Inputs, checkpoints: &[Checkpoint]) -> Opti
     ensures fault { result ≡ fault_of_parts (parts_of pool.now inputs.now checkpoints.now) }
     ensures lawful { IfNone result (IsLawful (parts_of pool.now inputs.now checkpoints.now)) }
 {
+    // What the types of the parts say of them.
     all_formed(checkpoints);
     let _pages = pool.len();
     let _events = inputs.events();

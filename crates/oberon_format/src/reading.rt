@@ -58,6 +58,7 @@ fn recording_of(alloc: Global, text: &[u8], output: usize) -> Result<Recording, 
     let pool = pool_of(alloc, text)?;
     let inputs = inputs_of(alloc, text)?;
     let checkpoints = checkpoints_of(alloc, text, output)?;
+    // What the types of the parts say of them.
     all_formed(&checkpoints);
     let _pages = pool.len();
     let _events = inputs.events();

@@ -19,7 +19,7 @@ use Rattle.oberon_session.specs.Session.{cpu_of}
 use Rattle.oberon_session.specs.SessionParts.{IsLawful, places_in}
 use Rattle.oberon_session.specs.Shape.{each}
 use Rattle.oberon_session.specs.inner.Tested.{InOrder, InRange}
-use Rattle.oberon_session.specs.declared.placed.PlacedPage.{PlacedPage}
+use Rattle.oberon_session.specs.declared.digits.PlacedPage.{PlacedPage}
 
 module _ {A X B : Type 0} (read : A → Option X) (from : A → B) (to : X → B) (along : (x : A) (y : X) → read x ≡ Some y → to y ≡ from x) where
   pub each-along : (xs : List A) (ys : List X) → each read xs ≡ Some ys → map to ys ≡ map from xs

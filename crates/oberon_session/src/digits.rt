@@ -1,5 +1,4 @@
-//! Pages read from hexadecimal digits.
-
+//! The pages of a session, each with its place, read from hexadecimal digits.
 ghost use Rattle.std.specs.Prelude.{◌≡◌, ◌≢◌, ◌↔◌, ◌<◌, ◌≤◌, ◌^◌, length, map, slice_index};
 ghost use Rattle.std.specs.List.{All};
 ghost use Rattle.oberon_session.specs.inner.Drafts.{GivesOr, page_view, placed_view};
@@ -8,10 +7,16 @@ ghost use Rattle.oberon_session.specs.Digits.{all_placed_of, placed_of, word_of_
 
 use crate::SessionFault;
 use crate::draft::PageDraft;
-use crate::placed::PlacedPage;
 use hex::FromHexError;
 use risc_pages::Page;
 use std::alloc::Global;
+
+/// A page of a session, and the place from 0 to 1,023 where it stands.
+#[derive(Clone, Copy)]
+pub struct PlacedPage {
+    pub at: u16,
+    pub page: Page,
+}
 
 /// The pages of a session, where each is written in pairs of hexadecimal digits.
 pub fn placed_pages(

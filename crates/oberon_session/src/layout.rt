@@ -7,7 +7,7 @@ ghost use Rattle.oberon_session.specs.Laid.{is_blank, lay_page, lay_pages};
 ghost use Rattle.oberon_session.specs.Recorded.{first_laid};
 ghost use Rattle.oberon_session.specs.inner.Progress.{laid_view, page_view};
 
-use crate::placed::PlacedPage;
+use crate::digits::PlacedPage;
 use oberon_format::MAX_PAGES;
 use risc_pages::{Page, Pool, Table};
 use std::alloc::{AllocError, Global};

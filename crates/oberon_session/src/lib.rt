@@ -11,7 +11,6 @@ mod events;
 mod fault;
 mod laws;
 mod layout;
-mod placed;
 mod range;
 mod reading;
 mod record_fault;

@@ -2,7 +2,7 @@
 
 ghost use Rattle.std.specs.Prelude.{◌≡◌, ◌<◌};
 
-use crate::placed::PlacedPage;
+use crate::digits::PlacedPage;
 use risc_machine::{Cpu, Inputs};
 use std::marker::Model;
 

@@ -3,11 +3,11 @@
 use Rattle.std.specs.Prelude.{ℕ, ◌+◌, ◌/◌, ◌%◌, ◌^◌, ◌<◌, ◌≤◌, Bool, ◌==◌, nat_lt, if◌then◌else◌, IsTrue, List, length, All}
 use Rattle.risc_devices.specs.InputKind.{is_mouse}
 
--- What the devices hold. The timer counts milliseconds: `rate` is how many instructions a millisecond has, 0 for a timer that
+-- what the devices hold. The timer counts milliseconds: `rate` is how many instructions a millisecond has, 0 for a timer that
 -- does not count by itself, and `phase` how many of them are done (both are this project's own choice). The buttons are bits
 -- 11 to 8 of `switches`, and the switches bits 7 to 0. `serial` is the byte that the serial line holds, and `received` whether
 -- it came since the last read: that the line holds one byte, and keeps it once it was read, is this project's own choice.
--- `keys` are the key codes that wait, oldest first.
+-- `keys` are the key codes that wait, oldest first
 pub record DeviceState : Type 0 where
   pub timer : ℕ
   pub rate : ℕ
@@ -19,14 +19,14 @@ pub record DeviceState : Type 0 where
   pub received : Bool
   pub keys : List ℕ
 
--- A phase is below its rate, or 0 where the rate is 0 (this project's own choice).
+-- a phase is below its rate, or 0 where the rate is 0 (this project's own choice)
 unfoldable pub is_phase : ℕ → ℕ → Bool
 is_phase rate phase = if rate == 0 then phase == 0 else nat_lt phase rate
 
 abbrev pub IsPhase : ℕ → ℕ → Type 0
 IsPhase rate phase = IsTrue (is_phase rate phase)
 
--- Each part is in its range. That at most sixteen key codes wait is this project's own choice, as is the mouse word's layout.
+-- each part is in its range. That at most sixteen key codes wait is this project's own choice, as is the mouse word's layout
 pub record IsDeviceState (d : DeviceState) : Type 0 where
   pub timer : d.timer < 2 ^ 32
   pub rate : d.rate < 2 ^ 32
@@ -38,11 +38,11 @@ pub record IsDeviceState (d : DeviceState) : Type 0 where
   pub keys : length d.keys ≤ 16
   pub codes : All (λ code. code < 2 ^ 8) d.keys
 
--- The byte held and "received" as one number, whose bit 8 is "received" (this project's own choice).
+-- the byte held and "received" as one number, whose bit 8 is "received" (this project's own choice)
 abbrev pub serial_number : DeviceState → ℕ
 serial_number d = d.serial + (if d.received then 2 ^ 8 else 0)
 
--- The devices with these parts, the serial line's given as one number (this project's own choice).
+-- the devices with these parts, the serial line's given as one number (this project's own choice)
 abbrev pub state_of_parts : ℕ → ℕ → ℕ → ℕ → ℕ → ℕ → ℕ → List ℕ → DeviceState
 state_of_parts timer rate phase switches leds mouse serial keys = record {
   timer = timer;
@@ -56,8 +56,8 @@ state_of_parts timer rate phase switches leds mouse serial keys = record {
   keys = keys;
 }
 
--- The parts whose numbers can be out of their range in the words that bring them: these are in it (this project's own
--- choice).
+-- the parts whose numbers can be out of their range in the words that bring them: these are in it (this project's own
+-- choice)
 pub record AreParts (rate phase switches mouse serial : ℕ) (keys : List ℕ) : Type 0 where
   pub phase_fits : IsPhase rate phase
   pub switches_fit : switches < 2 ^ 12

@@ -6,10 +6,10 @@ use Rattle.std.specs.Prelude.{ℕ, ◌+◌, ◌%◌, ◌^◌, false, ◌==◌, i
 use Rattle.risc_devices.specs.DeviceState.{DeviceState}
 use Rattle.risc_devices.specs.KeyCodes.{oldest, key_bit}
 
--- The word that a read of a device word gives:
+-- the word that a read of a device word gives:
 -- 0 the timer, in milliseconds; 1 the buttons and switches; 2 the serial line's byte; 3 whether a byte was received (bit 0),
 -- and that one may be sent (bit 1), as always; 4 and 5 the constants 255 and 1; 6 the mouse word, with bit 28 set exactly where
--- a key code waits; 7 the oldest key code; 8 to 15 zero.
+-- a key code waits; 7 the oldest key code; 8 to 15 zero
 unfoldable pub read_value : DeviceState → ℕ → ℕ
 read_value d word =
     if word == 0 then d.timer
@@ -22,18 +22,18 @@ read_value d word =
     else if word == 7 then oldest d.keys
     else 0
 
--- The devices after a read of a device word: a read of word 2 clears "received" and leaves the byte, and one of word 7 takes
--- the oldest key code out of the queue.
+-- the devices after a read of a device word: a read of word 2 clears "received" and leaves the byte, and one of word 7 takes
+-- the oldest key code out of the queue
 unfoldable pub after_read : DeviceState → ℕ → DeviceState
 after_read d word =
     if word == 2 then record d { received = false }
     else if word == 7 then record d { keys = drop 1 d.keys }
     else d
 
--- The devices after a write of a value to a device word: bits 7 to 0 of a write to word 1 are the LEDs.
+-- the devices after a write of a value to a device word: bits 7 to 0 of a write to word 1 are the LEDs
 unfoldable pub after_write : DeviceState → ℕ → ℕ → DeviceState
 after_write d word value = if word == 1 then record d { leds = value % 2 ^ 8 } else d
 
--- The byte that a write of a value to a device word sends: bits 7 to 0 of a write to word 2.
+-- the byte that a write of a value to a device word sends: bits 7 to 0 of a write to word 2
 unfoldable pub sent_byte : ℕ → ℕ → Option ℕ
 sent_byte word value = if word == 2 then Some (value % 2 ^ 8) else None

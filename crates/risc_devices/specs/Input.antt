@@ -9,16 +9,16 @@ use Rattle.risc_devices.specs.InputKind.{kind_number}
 pub use Rattle.risc_devices.specs.InputKind.{IsInput}
 unfoldable pub use Rattle.risc_devices.specs.InputKind.{is_input, is_mouse}
 
--- The number of an input's kind.
+-- the number of an input's kind
 abbrev pub kind_of : Input → ℕ
 kind_of i = kind_number i.kind
 
--- An input's value.
+-- an input's value
 abbrev pub value_of : Input → ℕ
 value_of i = i.value
 
--- An input of a kind sets its part of the devices: the timer, the buttons and switches, the mouse word, or the serial line's
--- byte, which is then "received". A key code joins the queue.
+-- an input of a kind sets its part of the devices: the timer, the buttons and switches, the mouse word, or the serial line's
+-- byte, which is then "received". A key code joins the queue
 unfoldable pub taken_value : Kind → ℕ → DeviceState → DeviceState
 taken_value Timer value d = record d { timer = value }
 taken_value Switches value d = record d { switches = value }
@@ -26,6 +26,6 @@ taken_value Mouse value d = record d { mouse = value }
 taken_value Key value d = record d { keys = joined value d.keys }
 taken_value Serial value d = record d { serial = value; received = true }
 
--- The devices once an input was taken.
+-- the devices once an input was taken
 unfoldable pub taken_input : Input → DeviceState → DeviceState
 taken_input i d = taken_value i.kind i.value d

@@ -3,7 +3,7 @@ use Rattle.std.specs.Prelude.{ℕ, ◌/◌, ◌%◌, ◌^◌, Bool, ◌&&◌, �
 use Rattle.risc_devices.specs.declared.kind.Kind.{Kind}
 use Rattle.risc_devices.specs.declared.kind.Kind.TheVariants.{Timer, Switches, Mouse, Key, Serial}
 
--- The number of a kind.
+-- the number of a kind
 abbrev pub kind_number : Kind → ℕ
 kind_number Timer = 1
 kind_number Switches = 2
@@ -11,13 +11,13 @@ kind_number Mouse = 3
 kind_number Key = 4
 kind_number Serial = 5
 
--- A mouse word has x in bits 0 to 9, y in bits 12 to 21, three keys in bits 24 to 26, and no other bit: it lies inside the
--- mask 073FF3FF.
+-- a mouse word has x in bits 0 to 9, y in bits 12 to 21, three keys in bits 24 to 26, and no other bit: it lies inside the
+-- mask 073FF3FF
 unfoldable pub is_mouse : ℕ → Bool
 is_mouse word = nat_lt (word % 2 ^ 12) (2 ^ 10) && nat_lt (word / 2 ^ 12 % 2 ^ 12) (2 ^ 10) && nat_lt (word / 2 ^ 24) (2 ^ 3)
 
--- The inputs, by the number of their kind and their value: a timer has any word, the buttons and switches are below 4,096,
--- a mouse word lies inside its mask, a key code and a byte of the serial line are below 256.
+-- the inputs, by the number of their kind and their value: a timer has any word, the buttons and switches are below 4,096,
+-- a mouse word lies inside its mask, a key code and a byte of the serial line are below 256
 unfoldable pub is_input : ℕ → ℕ → Bool
 is_input kind value =
     (kind == 1 && nat_lt value (2 ^ 32))

@@ -2,14 +2,14 @@
 use Rattle.std.specs.Prelude.{ℕ, ◌≡◌, ◌/◌, ◌%◌, ◌^◌, ◌<◌, ◌↔◌, IsTrue}
 use Rattle.risc_devices.specs.InputKind.{is_mouse}
 
--- Bit i of a number is set.
+-- bit i of a number is set
 abbrev pub HasBit : ℕ → ℕ → Type 0
 HasBit n i = n / 2 ^ i % 2 ≡ 1
 
--- A number lies inside a mask: each of its bits is one of the mask's.
+-- a number lies inside a mask: each of its bits is one of the mask's
 abbrev pub IsInside : ℕ → ℕ → Type 0
 IsInside mask n = (i : ℕ) → HasBit n i → HasBit mask i
 
--- The mouse words are the words inside the mask 073FF3FF.
+-- the mouse words are the words inside the mask 073FF3FF
 abbrev pub MouseLaw : Type 0
 MouseLaw = (word : ℕ) → IsTrue (is_mouse word) ↔ ((word < 2 ^ 32) × IsInside 0x073FF3FF word)

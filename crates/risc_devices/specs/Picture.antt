@@ -3,19 +3,19 @@
 -- each, the leftmost in the highest bit (this project's own choice).
 use Rattle.std.specs.Prelude.{◌≡◌, ℕ, ◌+◌, ◌-◌, ◌*◌, ◌/◌, ◌%◌, ◌^◌, ◌<◌, List, length, take, slice_index, All, codes}
 
--- The first twelve bytes: `P4`, a line feed, `1024 768`, a line feed.
+-- the first twelve bytes: `P4`, a line feed, `1024 768`, a line feed
 abbrev pub picture_head : List ℕ
 picture_head = codes "P4\n1024 768\n"
 
--- The dot at x, y of the display's words: bit x mod 32 of word 32 * y + x div 32.
+-- the dot at x, y of the display's words: bit x mod 32 of word 32 * y + x div 32
 abbrev pub dot : List ℕ → ℕ → ℕ → ℕ
 dot words x y = slice_index words (32 * y + x / 32) / 2 ^ (x % 32) % 2
 
--- The byte has the eight dots of its place in a row: bit 7 - j is the dot at x = 8 * col + j, y = 767 - row.
+-- the byte has the eight dots of its place in a row: bit 7 - j is the dot at x = 8 * col + j, y = 767 - row
 abbrev pub HasDots : List ℕ → ℕ → ℕ → ℕ → Type 0
 HasDots words row col byte = (j : ℕ) → j < 8 → byte / 2 ^ (7 - j) % 2 ≡ dot words (8 * col + j) (767 - row)
 
--- The bytes are the picture of the display's words.
+-- the bytes are the picture of the display's words
 pub record IsPicture (words bytes : List ℕ) : Type 0 where
   pub len : length bytes ≡ 98316
   pub bytes_fit : All (λ byte. byte < 2 ^ 8) bytes

@@ -1,8 +1,12 @@
-//! Inputs in order. When a machine takes them is with its run.
-ghost use Rattle.std.specs.Prelude.{◌≡◌, IfOk, IfErr, IfNone, IfSome};
+//! Inputs in their order, and those that a machine has still to take. One input with its count is in `event`; what an input does is
+//! with the devices.
+ghost use Rattle.std.specs.Prelude.{◌≡◌, IfOk, IfErr, IfNone, IfSome, ◌≤◌, ◌<◌, ◌+◌, ◌-◌, ◌^◌, length};
 ghost use Rattle.risc_machine.specs.InputOrder.{AreOrdered, IsFirstWrong};
+ghost use Rattle.risc_machine.specs.Replay.{fed};
+ghost use Rattle.risc_machine.specs.inner.Due.{IsNextAt};
 
 use crate::event::Event;
+use risc_devices::Devices;
 use std::marker::Model;
 
 /// The highest count that an input may have: 2^40.
@@ -85,4 +89,47 @@ fn first_wrong(list: &[Event]) -> Option<usize>
         least = event.count;
     }
     None
+}
+
+/// The place of the first input whose count is `at` or a later one.
+pub(crate) fn first_from(events: &[Event], at: u64) -> usize
+    requires { AreOrdered events.now }
+    ensures { IsNextAt events.now result at }
+{
+    events.partition_point(|event| event.count < at)
+}
+
+/// Takes the inputs of the count `at`, the first of which is at a place, and answers the place behind them.
+#[cold]
+#[inline(never)]
+pub(crate) fn take_inputs(devices: &mut Devices, events: &[Event], place: usize, at: u64) -> usize
+    requires { IsNextAt events.now place at }
+    ensures devices { devices.new ≡ fed events.now at devices.old }
+    ensures next { IsNextAt events.now result (at + 1) }
+{
+    for next in place..events.len() {
+        let event = events[next];
+        if event.count != at {
+            return next;
+        }
+        devices.take(event.input);
+    }
+    events.len()
+}
+
+/// The count up to which no input comes: that of the input at a place, or `to` if this comes first.
+pub(crate) fn quiet_until(events: &[Event], place: usize, at: u64, to: u64) -> u64
+    requires next { IsNextAt events.now place (at + 1) }
+    requires more { at < to }
+    ensures later { at < result }
+    ensures inside { result ≤ to }
+    ensures next { IsNextAt events.now place result }
+{
+    if place < events.len() {
+        let due = events[place].count;
+        if due < to {
+            return due;
+        }
+    }
+    to
 }

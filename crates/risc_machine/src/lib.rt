@@ -11,8 +11,6 @@ mod board;
 mod clocked;
 mod cpu;
 mod destination;
-mod due;
-mod entry;
 mod event;
 mod inputs;
 mod lane;

@@ -8,7 +8,6 @@
 //! Here live pages, pools, tables, memories, and the changes of a memory. Addresses, bytes and devices don't.
 #![tactic(auto)]
 
-mod delta;
 mod memory;
 mod page;
 mod place;
@@ -17,8 +16,7 @@ mod table;
 #[cfg(test)]
 mod tests;
 
-pub use delta::Delta;
-pub use memory::Memory;
+pub use memory::{Delta, Memory};
 pub use page::Page;
 pub use pool::Pool;
 pub use table::Table;

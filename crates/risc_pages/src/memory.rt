@@ -1,16 +1,22 @@
-//! Memory: a map from word number to word, in pages that are shared with a pool until they are written.
-
+//! Memory: a map from word number to word, in pages that are shared with a pool until they are written; and its changes.
 ghost use Rattle.std.specs.Prelude.{◌≡◌, ◌+◌, ◌/◌, ◌<◌, ◌≤◌, ℕ, All, OnOk, OnErr, IfOk, IfNone, IfSome, IsOk, Some, true, false, slice_get, slice_index, slice_range, slice_set};
 ghost use Rattle.risc_pages.specs.Tables.{table_words, IsContent, IsNamed};
 ghost use Rattle.risc_pages.specs.Contents.{IsMemory};
 ghost use Rattle.risc_pages.specs.Delta.{places_of, AreDifferences, IsDelta, IsFirstDifferentPage};
 
-use crate::delta::Delta;
+use crate::page::Page;
 use crate::place::{Place, copy_on_write};
 use crate::pool::Pool;
 use crate::table::Table;
 use std::alloc::{AllocError, Global};
 use std::marker::Model;
+
+/// The places whose content differs from the table that a memory was made from, by rising place, each with
+/// the page that the memory has there.
+#[derive(Drop)]
+pub struct Delta {
+    pub changed: Vec<(u16, Page)>,
+}
 
 /// A memory of 262,144 words.
 ///

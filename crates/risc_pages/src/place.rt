@@ -97,7 +97,7 @@ pub(crate) fn copy_on_write<'a>(
     Ok(())
 }
 
-// Puts a page of its own at a place.
+/// Puts a page of its own at a place.
 fn put<'a>(places: &mut Vec<Place<'a>>, place: usize, own: Box<Copied<'a>>)
     requires { place < length places.old.items }
     ensures { places.new.items ≡ slice_set places.old.items place (Place.Owned own.entry) }

@@ -8,7 +8,7 @@ use std::alloc::AllocError;
 use std::process::Abort;
 use std::test::Fail;
 
-// Whether each number of the table is that of a page.
+/// Whether each number of the table is that of a page.
 fn is_named(pool: &Pool, table: &Table) -> bool
     ensures { IsTrue result → IsNamed pool.now table.now }
 {
@@ -21,7 +21,7 @@ fn is_named(pool: &Pool, table: &Table) -> bool
     true
 }
 
-// The pool of pages that are full of 7, of 8 and of 7.
+/// The pool of pages that are full of 7, of 8 and of 7.
 fn three_pages(rt: &HostRuntime) -> Result<Pool, AllocError>
     ensures { IfOk result (λ pool. length pool ≡ 3) }
 {
@@ -32,7 +32,7 @@ fn three_pages(rt: &HostRuntime) -> Result<Pool, AllocError>
     Ok(pool)
 }
 
-// The table that names these pages at these places, and else the page of zeros.
+/// The table that names these pages at these places, and else the page of zeros.
 fn table_of(rt: &impl Abort, names: &[(u16, u32)]) -> Table {
     let mut table = Table::zeros();
     for (place, page_no) in names {

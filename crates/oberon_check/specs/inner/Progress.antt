@@ -5,11 +5,11 @@ use Rattle.oberon_format.specs.Recording.{RecordingParts, last_of}
 use Rattle.oberon_check.specs.Segment.{Finding, IsRun}
 use Rattle.oberon_check.specs.Work.{IsJob, failed_of, DoneRecord}
 
--- The part of this recording, cut, pass and verdicts.
+-- the share of this recording, cut, pass and verdicts
 abbrev pub done_record : RecordingParts → ℕ → PassRecord → List Finding → DoneRecord
 done_record r cut p vs = record { recording = r; cut = cut; pass = p; verdicts = vs }
 
--- What a pass and a list of verdicts become with the verdicts of one job more.
+-- what a pass and a list of verdicts become with the verdicts of one job more
 pub record AddsJob (r : RecordingParts) (cut job : ℕ) (p q : PassRecord) (vs ws : List Finding) : Type 0 where
   pub book : q.book ≡ p.book
   pub taken : q.taken ≡ p.taken
@@ -21,7 +21,7 @@ pub record AddsJob (r : RecordingParts) (cut job : ℕ) (p q : PassRecord) (vs w
   pub recordings : All (λ v. v.recording ≡ r) piece
   pub is_job : IsJob (last_of r) cut q.shown job piece
 
--- What they become with a run of verdicts more.
+-- what they become with a run of verdicts more
 pub record AddsRun (r : RecordingParts) (first end : ℕ) (p q : PassRecord) (vs ws : List Finding) : Type 0 where
   pub book : q.book ≡ p.book
   pub taken : q.taken ≡ p.taken

@@ -36,11 +36,11 @@ sum_of_ends views = total (λ v. v.ends) views
 abbrev pub sum_of_stands : List View → ℕ
 sum_of_stands views = total (λ v. v.stands) views
 
--- The number that `least` holds while no segment was told: 2^32, which is above every segment.
+-- the number that `least` holds while no segment was told: 2^32, which is above every segment
 abbrev pub nothing : ℕ
 nothing = 4294967296
 
--- What is kept of one seat.
+-- what is kept of one seat
 pub record IsSeat (v : View) : Type 0 where
   -- each pass claims past the end at most once, so that `next` cannot wrap
   pub ends_within : v.ends ≤ v.stands
@@ -49,7 +49,7 @@ pub record IsSeat (v : View) : Type 0 where
   pub idle_told : v.stands ≡ 0 → v.told ≡ []
   pub idle_shown : v.stands ≡ 0 → v.shown ≡ []
 
--- The book is legal, for `jobs` jobs and `workers` passes, with the words `next` and `least` and these views.
+-- the book is legal, for `jobs` jobs and `workers` passes, with the words `next` and `least` and these views
 pub record IsLegal (jobs workers next least : ℕ) (views : List View) : Type 0 where
   -- the numbers are small, so that `next` cannot wrap
   pub few_jobs : jobs ≤ 4096
@@ -68,14 +68,14 @@ pub record IsLegal (jobs workers next least : ℕ) (views : List View) : Type 0 
   -- each value shown was told, and so isn't below `least`
   pub shown_told : (x : ℕ) → 0 < times_shown x views → 0 < times_told x views
 
--- The rule of the shared words: there are two, `next` and `least`, and with all views they are a legal book.
+-- the rule of the shared words: there are two, `next` and `least`, and with all views they are a legal book
 abbrev pub Kept : Plan → State ℕ View → Type 0
 Kept plan s = (length s.words ≡ 2) × IsLegal plan.jobs plan.workers (slice_index s.words 0) (slice_index s.words 1) s.views
 
--- The book's own seat, with empty lists, while it stands for n passes.
+-- the book's own seat, with empty lists, while it stands for n passes
 abbrev pub own_view : Plan → ℕ → View
 own_view plan n = record { jobs = plan.jobs; workers = plan.workers; taken = []; told = []; shown = []; ends = 0; stands = n }
 
--- At the start it is alone, and stands for all passes.
+-- at the start it is alone, and stands for all passes
 abbrev pub own_seat : Plan → View
 own_seat plan = own_view plan plan.workers

@@ -7,15 +7,15 @@ use Rattle.atomic_table.specs.declared.badge.Badge.{Badge}
 use Rattle.std.specs.declared.snapshot.Snapshot.{Snapshot}
 use Rattle.oberon_claims.specs.declared.book.View.{View}
 
--- The table whose seat it is, and its view, alone in a list.
+-- the table whose seat it is, and its view, alone in a list
 pub record OwnRecord : Type 0 where
   pub table : TableId
   pub views : List View
 
--- The slot of the small table is at home, and has the badge that the table was made with.
+-- the slot of the small table is at home, and has the badge that the table was made with
 abbrev pub IsAtHome : Snapshot (Badge View) → State (Badge View) ℕ → Type 0
 IsAtHome badge s = s.homes ≡ some badge.value ∷ []
 
--- Nobody steps on the small table, so its seat knows nothing.
+-- nobody steps on the small table, so its seat knows nothing
 abbrev pub no_view : Snapshot (Badge View) → ℕ
 no_view badge = 0

@@ -7,7 +7,7 @@ use Rattle.oberon_session.specs.declared.draft.PageDraft.{PageDraft}
 use Rattle.oberon_session.specs.declared.draft.StartDraft.{StartDraft}
 use Rattle.oberon_session.specs.declared.draft.Draft.{Draft as DraftValue}
 use Rattle.oberon_session.specs.Draft.{Start, PageText, InputNumbers, Draft}
-use Rattle.oberon_session.specs.declared.placed.PlacedPage.{PlacedPage}
+use Rattle.oberon_session.specs.declared.digits.PlacedPage.{PlacedPage}
 use Rattle.oberon_session.specs.Digits.{PlacedWords}
 use Rattle.oberon_session.specs.SessionParts.{SessionParts}
 use Rattle.risc_machine.specs.declared.cpu.Cpu.{Cpu}

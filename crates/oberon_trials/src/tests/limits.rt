@@ -15,7 +15,7 @@ const TWO: Crew = Crew {
 
 const LAST_COUNT: u64 = 1 << 40;
 
-// A byte is stored at the serial line's place, and stands at the text's end.
+/// A byte is stored at the serial line's place, and stands at the text's end.
 fn one_byte_sent(alloc: Global) -> Result<Vec<u8>, Fail> {
     let mut before = Claim::at(2);
     before.r0 = 0x41;
@@ -29,7 +29,7 @@ fn one_byte_sent(alloc: Global) -> Result<Vec<u8>, Fail> {
     text_of(alloc, &program, &[Claim::at(0), before, after])
 }
 
-// A division by zero, which stops the machine, and a checkpoint at this count.
+/// A division by zero, which stops the machine, and a checkpoint at this count.
 fn divisor_stop(alloc: Global, count: u64) -> Result<Vec<u8>, Fail> {
     let mut end = Claim::at(count);
     end.stop = 2;
@@ -98,7 +98,7 @@ fn headers_at_the_limits_and_past_them(rt: HostRuntime) -> Result<(), Fail> {
     Ok(())
 }
 
-// As many checkpoints as there can be, one after each step. The memory is zeros alone, so each step moves R0 to itself, which sets Z.
+/// As many checkpoints as there can be, one after each step. The memory is zeros alone, so each step moves R0 to itself, which sets Z.
 fn text_of_most_checkpoints(alloc: Global) -> Result<Vec<u8>, Fail> {
     let mut claims = vec![in alloc; Claim::at(0)]?;
     for count in 1..=4096u32 {
@@ -153,7 +153,7 @@ fn the_last_count_and_the_one_after(rt: HostRuntime) -> Result<(), Fail> {
     Ok(())
 }
 
-// Whether a machine's memory is what the recording's first checkpoint claims.
+/// Whether a machine's memory is what the recording's first checkpoint claims.
 fn has_first_memory(machine: &Machine<'_>, r: &Recording) -> bool {
     let pool = r.pool();
     let first = r.checkpoint(0);

@@ -3,7 +3,7 @@ ghost use Rattle.std.specs.Prelude.{◌≡◌, All, IfOk, vec_len};
 ghost use Rattle.std.specs.Int.{div_ceil};
 ghost use Rattle.oberon_claims.specs.Pass.{fresh_pass};
 ghost use Rattle.oberon_format.specs.Recording.{last_of};
-ghost use Rattle.oberon_check.specs.Work.{IsPartOf};
+ghost use Rattle.oberon_check.specs.Work.{IsShareOf};
 
 use super::texts::jump_text;
 use oberon_check::{Done, FreeGate, Part, Verdict, gather, work};
@@ -13,7 +13,7 @@ use std::alloc::{AllocError, Global};
 use std::test::Fail;
 use std::thread::{Threads, map_vec};
 
-// Each pass in a thread of its own.
+/// Each pass in a thread of its own.
 fn work_all<R: Threads + Sync>(
     rt: &R,
     alloc: Global,
@@ -24,28 +24,28 @@ fn work_all<R: Threads + Sync>(
     requires fresh { All (λ p. p ≡ fresh_pass claims.now) passes.items }
     requires jobs { claims.now.jobs ≡ div_ceil (last_of r.now) 1 }
     ensures len { IfOk result (λ v. vec_len v ≡ vec_len passes) }
-    ensures parts { IfOk result (λ v. All (λ d. IfOk d (IsPartOf r.now 1 claims.now)) v.items) }
+    ensures parts { IfOk result (λ v. All (λ d. IfOk d (IsShareOf r.now 1 claims.now)) v.items) }
 {
     map_vec(
         rt,
         passes,
         &|pass: Pass| -> Result<Done, AllocError>
             requires { (pass ≡ fresh_pass claims.now) × (claims.now.jobs ≡ div_ceil (last_of r.now) 1) }
-            ensures { IfOk result (IsPartOf r.entry.now 1 claims.entry.now) }
+            ensures { IfOk result (IsShareOf r.entry.now 1 claims.entry.now) }
         { work(alloc, r, claims, pass, 1, &FreeGate) },
     )
 }
 
-// The parts, if memory sufficed for each.
+/// The parts, if memory sufficed for each.
 fn all_done(
     alloc: Global,
     r: &Recording,
     claims: &Claims,
     results: Vec<Result<Done, AllocError>>,
 ) -> Result<Vec<Done>, AllocError>
-    requires { All (λ d. IfOk d (IsPartOf r.now 1 claims.now)) results.items }
+    requires { All (λ d. IfOk d (IsShareOf r.now 1 claims.now)) results.items }
     ensures len { IfOk result (λ v. vec_len v ≡ vec_len results) }
-    ensures parts { IfOk result (λ v. All (IsPartOf r.now 1 claims.now) v.items) }
+    ensures parts { IfOk result (λ v. All (IsShareOf r.now 1 claims.now) v.items) }
 {
     let _ = r;
     let _ = claims;
@@ -57,7 +57,7 @@ fn all_done(
     Ok(done)
 }
 
-// Ten segments, of which checkpoints 3 and 7 are false, and a pass for each of eight threads.
+/// Ten segments, of which checkpoints 3 and 7 are false, and a pass for each of eight threads.
 #[test]
 fn eight_passes_on_threads_of_the_caller(rt: HostRuntime) -> Result<(), Fail> {
     let alloc = rt.alloc();

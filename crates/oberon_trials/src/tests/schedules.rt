@@ -13,7 +13,7 @@ use std::thread::Threads;
 
 const TWO: Crew = Crew { workers: 2, cut: 1 };
 
-// Of ten segments: each a job, three in a job with one left over, and all in one job.
+/// Of ten segments: each a job, three in a job with one left over, and all in one job.
 const CUTS: [u32; 3] = [1, 3, 10];
 
 const FALSE_AT_ONCE: &[u8] = b"false checkpoint 1 at 10 part LEDs\n";
@@ -24,7 +24,7 @@ const FALSE_FIRST: Verdict = Verdict::FalseAt {
     part: Part::Leds,
 };
 
-// The first crew of these cuts that gives another line or status of the text than these, and its line.
+/// The first crew of these cuts that gives another line or status of the text than these, and its line.
 fn dissenter<R: Threads + Wait + Sync>(
     rt: &R,
     alloc: Global,
@@ -93,7 +93,7 @@ fn the_first_of_many_false_checkpoints(rt: HostRuntime) -> Result<(), Fail> {
     Ok(())
 }
 
-// The line of a text by two workers whose jobs are single segments, and how often a held job met the others.
+/// The line of a text by two workers whose jobs are single segments, and how often a held job met the others.
 fn held_line<R: Threads + Wait + Sync>(
     rt: &R,
     alloc: Global,
@@ -111,7 +111,7 @@ fn held_line<R: Threads + Wait + Sync>(
     Ok((line, met.load(Ordering::SeqCst)))
 }
 
-// The verdict on its recording in the same way.
+/// The verdict on its recording in the same way.
 fn held_verdict<R: Threads + Wait + Sync>(
     rt: &R,
     alloc: Global,
@@ -130,8 +130,8 @@ fn held_verdict<R: Threads + Wait + Sync>(
     Ok((verdict, met.load(Ordering::SeqCst)))
 }
 
-// Checkpoints 1 and 7 are false, and the first job goes on when all others have begun: whoever takes them finds the
-// seventh false long before the first.
+/// Checkpoints 1 and 7 are false, and the first job goes on when all others have begun: whoever takes them finds the
+/// seventh false long before the first.
 #[test]
 fn the_first_job_waits_for_all_others(rt: HostRuntime) -> Result<(), Fail> {
     let alloc = rt.alloc();

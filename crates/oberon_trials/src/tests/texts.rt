@@ -73,7 +73,7 @@ pub(crate) fn header(
     Ok(text)
 }
 
-// A checkpoint whose table names this page at place 0, and no other.
+/// A checkpoint whose table names this page at place 0, and no other.
 fn push_checkpoint(text: &mut Vec<u8>, claim: &Claim, page: u32) -> Result<(), Fail> {
     text.extend_from_slice(&claim.count.to_le_bytes())?;
     push_words(text, &[claim.r0, claim.r1])?;

@@ -10,7 +10,7 @@ use std::alloc::Global;
 use std::sync::atomic::{AtomicU64, Ordering};
 use std::test::Fail;
 
-// Checkpoint 1 is false, and a long segment lies behind it.
+/// Checkpoint 1 is false, and a long segment lies behind it.
 fn long_text(alloc: Global) -> Result<Vec<u8>, Fail> {
     let claims = [
         Claim::at(0),
@@ -21,8 +21,8 @@ fn long_text(alloc: Global) -> Result<Vec<u8>, Fail> {
     text_of(alloc, &[JUMP], &claims)
 }
 
-// The job of the long segment goes on when the last one has begun. Then the false checkpoint is known, whoever found it, so
-// the long segment is passed over.
+/// The job of the long segment goes on when the last one has begun. Then the false checkpoint is known, whoever found it, so
+/// the long segment is passed over.
 const HOLDS: [Hold<'static>; 1] = [Hold {
     job: 1,
     awaits: &[2],

@@ -1,11 +1,11 @@
 use Rattle.std.proofs.Common.{◌≡◌, ◌++◌, length}
 use Rattle.std.specs.Prelude.{All}
-use Rattle.oberon_check.specs.Work.{IsPartOf}
+use Rattle.oberon_check.specs.Work.{IsShareOf}
 use Rattle.oberon_check.proofs.check.all_done.Given as goal
 
 abbrev pub invariant-loop-result : goal.invariant-loop-result
 invariant-loop-result l = record {
-  parts : All (IsPartOf l.r l.cut l.claims) l.done.items;
+  parts : All (IsShareOf l.r l.cut l.claims) l.done.items;
   count : length l.done.items ≡ length l.yielded;
   rest : l.yielded ++ l.result-iterator.rest.items ≡ l.fn.results.items;
 }

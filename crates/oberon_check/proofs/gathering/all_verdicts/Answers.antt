@@ -10,7 +10,7 @@ use Rattle.oberon_check.specs.Collecting.{IsCollectFault}
 use Rattle.oberon_check.specs.Work.{DoneRecord, IsDone}
 use Rattle.oberon_check.specs.Gathering.{passes_of, all_findings}
 use Rattle.oberon_check.proofs.Tops.{all_snoc, nil_if}
-use Rattle.oberon_check.proofs.Parts.{findings_snoc, books, recordings, pieces, first_part}
+use Rattle.oberon_check.proofs.Shares.{findings_snoc, books, recordings, pieces, first_part}
 use Rattle.oberon_check.proofs.Gathered.{AllBack, no_fault}
 use Rattle.oberon_check.proofs.Answered.{answered}
 use Rattle.oberon_check.proofs.gathering.all_verdicts.Goals as goal

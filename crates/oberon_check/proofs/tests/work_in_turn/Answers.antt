@@ -1,7 +1,7 @@
 use Rattle.std.proofs.Common.{◌≡◌, ◌<◌, ◌++◌, ◌∷◌, [], List, ℕ, length, get_or, sym, ap, ◌∙◌, subst, arith, length-append, append_assoc}
 use Rattle.oberon_claims.specs.Pass.{PassRecord, fresh_pass}
 use Rattle.oberon_check.proofs.Tops.{all_snoc, next_of}
-use Rattle.oberon_check.specs.Work.{DoneRecord, IsPartOf}
+use Rattle.oberon_check.specs.Work.{DoneRecord, IsShareOf}
 use Rattle.oberon_check.proofs.tests.work_in_turn.Goals as goal
 
 pub work-requires-clause-fresh : goal.work-requires-clause-fresh
@@ -16,13 +16,13 @@ loop-pass-preserved c =
     let step = c.in-Some.ensures.steps in
     let at = ap (λ (l : List PassRecord). c.loop-pass.yielded ++ l) (sym step.0) ∙ i.rest in
     let w = c.in_ok-one.ensures in
-    let one : IsPartOf c.args.r.now c.args.cut c.args.claims.now c.in_ok-one.one = record { recording_is = w.recording; cut_is = w.cut; book_is = w.book } in
+    let one : IsShareOf c.args.r.now c.args.cut c.args.claims.now c.in_ok-one.one = record { recording_is = w.recording; cut_is = w.cut; book_is = w.book } in
     let p = c.in_ok-push.ensures.items in
     let l = length-append c.loop-pass.done.items (c.in_ok-one.one ∷ []) in
     let l' = length-append c.loop-pass.yielded (c.in-Some.pass ∷ []) in
     let l'' = ap length p in record {
-      parts = subst (λ (ss : List DoneRecord). (k : ℕ) (d : DoneRecord) → k < length ss → IsPartOf c.args.r.now c.args.cut c.args.claims.now (get_or ss k d)) (sym p)
-          (all_snoc (IsPartOf c.args.r.now c.args.cut c.args.claims.now) _ _ i.parts one);
+      parts = subst (λ (ss : List DoneRecord). (k : ℕ) (d : DoneRecord) → k < length ss → IsShareOf c.args.r.now c.args.cut c.args.claims.now (get_or ss k d)) (sym p)
+          (all_snoc (IsShareOf c.args.r.now c.args.cut c.args.claims.now) _ _ i.parts one);
       count = omega arith;
       rest = append_assoc c.loop-pass.yielded (c.in-Some.pass ∷ []) _ ∙ at;
     }

@@ -7,7 +7,7 @@ use Rattle.oberon_session.proofs.Mapped.{at-mapped}
 use Rattle.oberon_session.specs.inner.Drafts.{placed_view}
 use Rattle.oberon_session.specs.Recorded.{first_laid}
 use Rattle.oberon_session.specs.SessionParts.{places_in}
-use Rattle.oberon_session.specs.declared.placed.PlacedPage.{PlacedPage}
+use Rattle.oberon_session.specs.declared.digits.PlacedPage.{PlacedPage}
 use Rattle.oberon_session.proofs.layout.first_layout.Goals as goal
 
 pub loop-page-init : goal.loop-page-init

@@ -1,7 +1,7 @@
 use Rattle.std.proofs.Common.{arith}
 use Rattle.risc_machine.proofs.OrderLemmas.{count_at-is}
 use Rattle.risc_machine.proofs.DueLemmas.{next-up_to}
-use Rattle.risc_machine.proofs.due.quiet_until.Goals as goal
+use Rattle.risc_machine.proofs.inputs.quiet_until.Goals as goal
 
 pub returns-then-due-to-clause-next : goal.returns-then-due-to-clause-next
 returns-then-due-to-clause-next c =

@@ -2,7 +2,7 @@ use Rattle.std.proofs.Common.{rules, nat_lt}
 use Rattle.std.proofs.lemmas.List.Sorted.{IsPartitionedBy-ltb, IsPartitionPoint-from_clause}
 use Rattle.risc_machine.specs.declared.event.Event.{Event}
 use Rattle.risc_machine.proofs.DueLemmas.{counts-rise, found-next}
-use Rattle.risc_machine.proofs.due.first_from.Goals as goal
+use Rattle.risc_machine.proofs.inputs.first_from.Goals as goal
 
 pub returns : goal.returns
 returns c =
