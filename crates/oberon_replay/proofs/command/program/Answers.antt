@@ -16,7 +16,9 @@ returns c =
     let start_is : app_of c.subcommand_required.result ≡ record { top = program_shape; subs = [] } =
     ap app_of_fields c.subcommand_required.ensures
     ∙ ap (λ (f : Command-F Command). app_of_fields (record f { subcommand_required = true })) c.no_binary_name.ensures
+    ∙ ap (λ (f : Command-F Command). with_settings (app_of_fields f)) c.after_help.ensures
     ∙ ap (λ (f : Command-F Command). with_settings (app_of_fields f)) c.about.ensures
+    ∙ ap (λ (f : Command-F Command). with_settings (app_of_fields f)) c.in_ok-bin_name.ensures.0
     ∙ ap with_settings c.new.ensures.app in
     let one = c.in_ok-subcommand.ensures.shape c.in_ok-check.ensures.local
     ∙ ap₂ with_subcommand start_is (ap (λ (a : App). a.top) c.in_ok-check.ensures.app) in
