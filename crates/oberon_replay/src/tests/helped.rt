@@ -102,5 +102,9 @@ fn lists_the_commands(rt: HostRuntime) {
 
 /// Whether these bytes stand somewhere in a text.
 fn has(text: &[u8], bytes: &[u8]) -> bool {
-    text.windows(bytes.len()).any(|window| window == bytes)
+    if bytes.is_empty() {
+        return true;
+    }
+    let mut windows = text.windows(bytes.len());
+    windows.any(|window| window == bytes)
 }
