@@ -7,6 +7,7 @@ use Rattle.std.proofs.lemmas.Bool.{cases_lt}
 use Rattle.std.proofs.lemmas.Nat.{le_bytes_4, le_bytes_8}
 use Rattle.byteorder.specs.Endian.{little_from}
 use Rattle.byteorder.specs.Numbers.{little_from-take}
+use Rattle.risc_core.specs.Flags.{flags_number}
 use Rattle.risc_devices.specs.DeviceState.{DeviceState, serial_number}
 use Rattle.risc_devices.specs.Input.{kind_of, value_of}
 use Rattle.risc_machine.specs.declared.event.Event.{Event}
@@ -17,7 +18,6 @@ use Rattle.oberon_format.specs.declared.change.Change.{Change}
 use Rattle.oberon_format.specs.declared.layout.TheConstants.{MAGIC, FIRST_VERSION, VERSION, FRONT_LEN, MAGIC_AT}
 use Rattle.oberon_format.specs.Changes.{changes}
 use Rattle.oberon_format.specs.CheckpointParts.{CheckpointParts, no_checkpoint}
-use Rattle.oberon_format.specs.FlagsNumber.{flags_number}
 use Rattle.oberon_format.proofs.Places.{bytes_at, bytes_at-next, start-laid, laid_rises}
 use Rattle.oberon_format.specs.Layout.{word_at, long_at, event_place, checkpoint_size, start, output_place}
 use Rattle.oberon_format.specs.PartFields.{changes_laid, start_laid}
@@ -126,7 +126,7 @@ cpu_back text p cpu h room is proper =
     let r = subst (λ (k : ℕ). Holds text q k (words_bytes cpu.r)) n (holds_words text q cpu.r h (omega arith) is.registers) in
     let a = holds_word text (p + 72) cpu.h h (omega arith) is.h in
     let b = holds_word text (p + 76) cpu.pc h (omega arith) is.pc in
-    let c = holds_word text (p + 80) (flags_number cpu) h (omega arith) is.flags in
+    let c = holds_word text (p + 80) (flags_number cpu.flags) h (omega arith) is.flags in
     let d = holds_word text (p + 84) cpu.stop h (omega arith) is.stop in
     let s1 = holds_join text q (p + 72) 64 4 68 _ _ r a (omega arith) (omega arith) in
     let s2 = holds_join text q (p + 76) 68 4 72 _ _ s1 b (omega arith) (omega arith) in

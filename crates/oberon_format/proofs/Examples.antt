@@ -12,7 +12,6 @@ use Rattle.oberon_format.specs.Changes.{changes_below, no_change, number_after}
 use Rattle.oberon_format.specs.CheckpointParts.{no_checkpoint}
 use Rattle.oberon_format.specs.Fields.{Fields, total}
 use Rattle.oberon_format.specs.FirstFault.{first_broken, each}
-use Rattle.oberon_format.specs.FlagsNumber.{bits_number}
 use Rattle.oberon_format.specs.Layout.{word_at, long_at, event_start, page_number_place, change_place, checkpoint_size, start}
 use Rattle.oberon_format.specs.PartFields.{checkpoint_fields, no_event, start_laid, fault_of_parts}
 use Rattle.oberon_format.specs.Ranges.{is_count, is_output, is_event, are_keys}
@@ -302,6 +301,3 @@ word-of-bytes = refl
 bytes-of-a-count : long_bytes 100 ≡ 100 ∷ 0 ∷ 0 ∷ 0 ∷ 0 ∷ 0 ∷ 0 ∷ 0 ∷ []
 unfolding long_bytes
 bytes-of-a-count = refl
-
-flags-n-and-v : bits_number true false false true ≡ 9
-flags-n-and-v = refl

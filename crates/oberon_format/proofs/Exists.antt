@@ -8,6 +8,8 @@ use Rattle.std.proofs.lemmas.Bool.Decides.{nat_tests}
 use Rattle.std.proofs.lemmas.List.Elements.{All-nil, All-push, All-take, All-drop}
 use Rattle.std.proofs.lemmas.List.FromFn.{length-map-range_with_len, get_or-map-range_with_len}
 use Rattle.byteorder.specs.Numbers.{little_from-lt}
+use Rattle.risc_core.specs.Flags.{flags_of}
+use Rattle.risc_core.proofs.FlagsLemmas.{number_back}
 use Rattle.risc_devices.specs.DeviceState.{DeviceState, IsDeviceState, is_phase}
 use Rattle.risc_devices.specs.InputKind.{is_mouse}
 use Rattle.risc_devices.proofs.InputLemmas.{input_of, kind_of-input_of, value_of-input_of}
@@ -17,7 +19,6 @@ use Rattle.risc_pages.specs.Pages.{IsPage, ArePages}
 use Rattle.oberon_format.specs.declared.layout.TheConstants.{FIRST_VERSION, PLACES, REGISTERS_AT, AUXILIARY_AT, COUNTER_AT, FLAGS_AT, STOP_AT, TIMER_AT, SWITCHES_AT, LEDS_AT, MOUSE_AT, SERIAL_AT, WAITING_AT, KEYS_AT, SENT_AT, RATE_AT, PHASE_AT, CHANGES_AT, NUMBER_AT}
 use Rattle.oberon_format.specs.declared.fault.Fault.{Fault}
 use Rattle.oberon_format.specs.CheckpointParts.{CheckpointParts}
-use Rattle.oberon_format.specs.FlagsNumber.{bits_number}
 use Rattle.oberon_format.specs.Layout.{word_at, long_at, version, pages, events, checkpoints, page_place, page_number_place, change_place, event_place, later_word, change_count, start, output_place}
 use Rattle.oberon_format.specs.Ranges.{in_ranges, are_keys}
 use Rattle.oberon_format.specs.Recording.{RecordingParts, output_of}
@@ -160,18 +161,13 @@ events_of text (suc n) bytes meets le =
 
 -- the processor at a place
 cpu_at : List ℕ → ℕ → CpuState
-cpu_at text place =
-    let flags = word_at text (place + FLAGS_AT) in
-    record {
-      r = words_from text (place + REGISTERS_AT) 16;
-      h = word_at text (place + AUXILIARY_AT);
-      pc = word_at text (place + COUNTER_AT);
-      flags = record { n = flags / 8 % 2 == 1; z = flags / 4 % 2 == 1; c = flags / 2 % 2 == 1; v = flags % 2 == 1 };
-      stop = word_at text (place + STOP_AT);
-    }
-
-flags_back : (x : ℕ) → x < 16 → bits_number (x / 8 % 2 == 1) (x / 4 % 2 == 1) (x / 2 % 2 == 1) (x % 2 == 1) ≡ x
-flags_back x lt = grind (arith, nat_tests)
+cpu_at text place = record {
+  r = words_from text (place + REGISTERS_AT) 16;
+  h = word_at text (place + AUXILIARY_AT);
+  pc = word_at text (place + COUNTER_AT);
+  flags = flags_of (word_at text (place + FLAGS_AT));
+  stop = word_at text (place + STOP_AT);
+}
 
 cpu_stands : (text : List ℕ) (place : ℕ) → word_at text (place + FLAGS_AT) < 16 → IsCpu text place (cpu_at text place)
 unfolding cpu_at
@@ -179,7 +175,7 @@ cpu_stands text place few = record {
   registers = words_stand text (place + REGISTERS_AT) 16;
   h = refl;
   pc = refl;
-  flags = sym (flags_back (word_at text (place + FLAGS_AT)) few);
+  flags = sym (number_back (word_at text (place + FLAGS_AT)) few);
   stop = refl;
 }
 

@@ -6,6 +6,8 @@ use Rattle.std.specs.Option.{IfNone}
 use Rattle.std.proofs.lemmas.Bool.{le-leb, lt-ltb, leb-true, ltb-true, ne_eqb}
 use Rattle.std.proofs.lemmas.List.{drop_at, get_or_default}
 use Rattle.std.proofs.lemmas.Bool.Decides.{nat_tests}
+use Rattle.risc_core.specs.Flags.{flags_number}
+use Rattle.risc_core.proofs.FlagsLemmas.{number_below}
 use Rattle.risc_devices.specs.DeviceState.{DeviceState, IsDeviceState, is_phase, serial_number}
 use Rattle.risc_devices.specs.InputKind.{is_input, is_mouse}
 use Rattle.risc_machine.specs.declared.event.Event.{Event}
@@ -21,7 +23,6 @@ use Rattle.oberon_format.specs.Changes.{changes}
 use Rattle.oberon_format.specs.CheckpointParts.{CheckpointParts, no_checkpoint}
 use Rattle.oberon_format.specs.Fields.{Fields, sent_below}
 use Rattle.oberon_format.specs.FirstFault.{Rule, first_broken, each}
-use Rattle.oberon_format.specs.FlagsNumber.{flags_number}
 use Rattle.oberon_format.specs.Formed.{IsFormed, AreFormed}
 use Rattle.oberon_format.specs.PartFields.{fields_laid, fault_of_parts, start_laid, changes_laid, event_fields, no_event, checkpoint_fields}
 use Rattle.oberon_format.specs.Ranges.{is_version, is_count, is_output, in_ranges, are_keys, is_change, is_checkpoint}
@@ -37,8 +38,8 @@ zeros_met : (n : ℕ) → list_all (λ byte. eqb byte 0) (replicate n 0) ≡ tru
 zeros_met zero = refl
 zeros_met (suc n) = zeros_met n
 
-pub flags_fit : (cpu : CpuState) → flags_number cpu < FLAGS_END
-flags_fit cpu = grind arith
+pub flags_fit : (cpu : CpuState) → flags_number cpu.flags < FLAGS_END
+flags_fit cpu = number_below cpu.flags
 
 pub serial_fits : (d : DeviceState) → IsDeviceState d → serial_number d < SERIAL_END
 serial_fits d fits = let s = fits.serial in grind arith
@@ -58,7 +59,7 @@ all_nine pc flags stop phase switches leds mouse serial changes a b c d e f g h 
 pub ranges_met : (v : ℕ) (before : List ℕ) (c : CheckpointParts) → IsFormed c → nat_lt c.cpu.pc COUNTER_END ≡ true → nat_le c.cpu.stop MAX_STOP ≡ true
     → in_ranges (checkpoint_fields v before c) ≡ true
 ranges_met v before c formed pc stop =
-    all_nine (nat_lt c.cpu.pc COUNTER_END) (nat_lt (flags_number c.cpu) FLAGS_END) (nat_le c.cpu.stop MAX_STOP)
+    all_nine (nat_lt c.cpu.pc COUNTER_END) (nat_lt (flags_number c.cpu.flags) FLAGS_END) (nat_le c.cpu.stop MAX_STOP)
     (is_phase c.devices.rate c.devices.phase) (nat_lt c.devices.switches SWITCHES_END)
     (nat_lt c.devices.leds LEDS_END) (is_mouse c.devices.mouse) (nat_lt (serial_number c.devices) SERIAL_END) (nat_le (changes_laid v before c) PLACES)
     pc (lt-ltb _ _ (flags_fit c.cpu)) stop formed.devices.phase (lt-ltb _ _ formed.devices.switches) (lt-ltb _ _ formed.devices.leds) formed.devices.mouse

@@ -4,6 +4,9 @@ use Rattle.std.proofs.Props.{props}
 use Rattle.std.specs.Prelude.{replicate, slice_index, ◌==◌}
 use Rattle.std.proofs.lemmas.Bool.{ne_eqb}
 use Rattle.std.proofs.lemmas.List.{take_at, drop_at, get_or_default}
+use Rattle.risc_core.specs.Flags.{flags_number, flags_of}
+use Rattle.risc_core.specs.declared.flags.Flags.{Flags}
+use Rattle.risc_core.proofs.FlagsLemmas.{flags_back}
 use Rattle.risc_devices.specs.declared.input.Input.{Input}
 use Rattle.risc_devices.specs.DeviceState.{DeviceState, IsDeviceState}
 use Rattle.risc_devices.proofs.InputLemmas.{same_input}
@@ -15,7 +18,6 @@ use Rattle.oberon_format.specs.declared.change.Change.{Change}
 use Rattle.oberon_format.specs.declared.layout.TheConstants.{PLACES, TABLE_AT}
 use Rattle.oberon_format.specs.Changes.{changes, no_change, number_after}
 use Rattle.oberon_format.specs.CheckpointParts.{CheckpointParts, no_checkpoint}
-use Rattle.oberon_format.specs.FlagsNumber.{bits_number, flags_number}
 use Rattle.oberon_format.specs.Layout.{version, page_place, event_place, change_place, start}
 use Rattle.oberon_format.specs.Ranges.{is_version}
 use Rattle.oberon_format.specs.Recording.{RecordingParts, IsFit, checkpoint_at, table_before, output_of}
@@ -55,44 +57,17 @@ same_event_at text place e f a b =
     same_event e f (sym a.count ∙ b.count) (same_input e.input f.input (sym a.kind ∙ b.kind) (sym a.value ∙ b.value))
 
 -- flags of one number
-record Bits (n z c v : Bool) : Type 0 where
-  n_is : (bits_number n z c v / 8 % 2 == 1) ≡ n
-  z_is : (bits_number n z c v / 4 % 2 == 1) ≡ z
-  c_is : (bits_number n z c v / 2 % 2 == 1) ≡ c
-  v_is : (bits_number n z c v % 2 == 1) ≡ v
-
-bits : (n z c v : Bool) → Bits n z c v
-bits true true true true = record { n_is = refl; z_is = refl; c_is = refl; v_is = refl }
-bits true true true false = record { n_is = refl; z_is = refl; c_is = refl; v_is = refl }
-bits true true false true = record { n_is = refl; z_is = refl; c_is = refl; v_is = refl }
-bits true true false false = record { n_is = refl; z_is = refl; c_is = refl; v_is = refl }
-bits true false true true = record { n_is = refl; z_is = refl; c_is = refl; v_is = refl }
-bits true false true false = record { n_is = refl; z_is = refl; c_is = refl; v_is = refl }
-bits true false false true = record { n_is = refl; z_is = refl; c_is = refl; v_is = refl }
-bits true false false false = record { n_is = refl; z_is = refl; c_is = refl; v_is = refl }
-bits false true true true = record { n_is = refl; z_is = refl; c_is = refl; v_is = refl }
-bits false true true false = record { n_is = refl; z_is = refl; c_is = refl; v_is = refl }
-bits false true false true = record { n_is = refl; z_is = refl; c_is = refl; v_is = refl }
-bits false true false false = record { n_is = refl; z_is = refl; c_is = refl; v_is = refl }
-bits false false true true = record { n_is = refl; z_is = refl; c_is = refl; v_is = refl }
-bits false false true false = record { n_is = refl; z_is = refl; c_is = refl; v_is = refl }
-bits false false false true = record { n_is = refl; z_is = refl; c_is = refl; v_is = refl }
-bits false false false false = record { n_is = refl; z_is = refl; c_is = refl; v_is = refl }
+same_flags : (f g : Flags) → flags_number f ≡ flags_number g → f ≡ g
+same_flags f g number = sym (flags_back f) ∙ ap flags_of number ∙ flags_back g
 
 same_cpu : (text : List ℕ) (place : ℕ) (a b : CpuState) → IsCpuState a → IsCpuState b → IsCpu text place a → IsCpu text place b → a ≡ b
 same_cpu text place a b fit_a fit_b x y =
     let registers : a.r ≡ b.r = same_words text (place + 8) a.r b.r (fit_a.count ∙ sym fit_b.count) x.registers y.registers in
-    let number : flags_number a ≡ flags_number b = sym x.flags ∙ y.flags in
-    let bits_a = bits a.flags.n a.flags.z a.flags.c a.flags.v in
-    let bits_b = bits b.flags.n b.flags.z b.flags.c b.flags.v in
-    let n : a.flags.n ≡ b.flags.n = sym bits_a.n_is ∙ ap (λ (k : ℕ). k / 8 % 2 == 1) number ∙ bits_b.n_is in
-    let z : a.flags.z ≡ b.flags.z = sym bits_a.z_is ∙ ap (λ (k : ℕ). k / 4 % 2 == 1) number ∙ bits_b.z_is in
-    let c : a.flags.c ≡ b.flags.c = sym bits_a.c_is ∙ ap (λ (k : ℕ). k / 2 % 2 == 1) number ∙ bits_b.c_is in
-    let v : a.flags.v ≡ b.flags.v = sym bits_a.v_is ∙ ap (λ (k : ℕ). k % 2 == 1) number ∙ bits_b.v_is in
+    let flags : a.flags ≡ b.flags = same_flags a.flags b.flags (sym x.flags ∙ y.flags) in
     let h : a.h ≡ b.h = sym x.h ∙ y.h in
     let pc : a.pc ≡ b.pc = sym x.pc ∙ y.pc in
     let stop : a.stop ≡ b.stop = sym x.stop ∙ y.stop in
-    λ i. record { r = registers i; h = h i; pc = pc i; flags = record { n = n i; z = z i; c = c i; v = v i }; stop = stop i }
+    λ i. record { r = registers i; h = h i; pc = pc i; flags = flags i; stop = stop i }
 
 same_devices_at : (text : List ℕ) (place : ℕ) (a b : DeviceState) → IsDeviceState a → IsDeviceState b → a.rate ≡ b.rate → a.phase ≡ b.phase → IsDevices text place a → IsDevices text place b → a ≡ b
 same_devices_at text place a b fit_a fit_b rate phase x y =

@@ -4,6 +4,7 @@ use Rattle.std.proofs.lemmas.List.{length-replicate, drop_at, get_or_default}
 use Rattle.std.specs.Prelude.{slice_index, slice_range, replicate}
 use Rattle.std.specs.List.{flat_map}
 use Rattle.std.proofs.lemmas.Bool.Decides.{nat_tests}
+use Rattle.risc_core.specs.Flags.{flags_number}
 use Rattle.risc_devices.specs.DeviceState.{DeviceState, IsDeviceState, is_phase, IsPhase, serial_number}
 use Rattle.risc_devices.specs.Input.{kind_of, value_of}
 use Rattle.risc_devices.proofs.InputLemmas.{kind_fits, value_fits, mouse_word_fits}
@@ -16,7 +17,6 @@ use Rattle.oberon_format.specs.declared.layout.TheConstants.{MAGIC, VERSION, MAG
 use Rattle.oberon_format.specs.declared.ranges.TheConstants.{MAX_OUTPUT}
 use Rattle.oberon_format.specs.Changes.{changes, no_change}
 use Rattle.oberon_format.specs.CheckpointParts.{CheckpointParts, no_checkpoint}
-use Rattle.oberon_format.specs.FlagsNumber.{flags_number}
 use Rattle.oberon_format.specs.Layout.{word_at, page_place, event_place, checkpoint_size, start, output_place}
 use Rattle.oberon_format.specs.PartFields.{changes_laid, start_laid}
 use Rattle.oberon_format.specs.Recording.{RecordingParts, IsLawful, IsFit, checkpoint_at, table_before, output_of}
@@ -32,7 +32,7 @@ use Rattle.oberon_format.proofs.WriteLemmas.{sent_le}
 wide : (xs : List ℕ) → ((i : ℕ) → slice_index xs i < 2 ^ 32) → AreWide xs
 wide xs h i d lt = rw (get_or_default xs i d 0 lt) (h i)
 
-flags_wide : (cpu : CpuState) → flags_number cpu < 2 ^ 32
+flags_wide : (cpu : CpuState) → flags_number cpu.flags < 2 ^ 32
 flags_wide cpu = let f = flags_fit cpu in omega arith
 
 pub event_stands : (text : List ℕ) (place : ℕ) (e : Event) → Stands text place (event_bytes e) → IsEvent text place e
@@ -59,12 +59,12 @@ cpu_stands text place cpu p s =
     let r = words_bytes cpu.r in
     let h = word_bytes cpu.h in
     let pc = word_bytes cpu.pc in
-    let f = word_bytes (flags_number cpu) in
+    let f = word_bytes (flags_number cpu.flags) in
     let st = word_bytes cpu.stop in
     let rl = length-words_bytes cpu.r in
     let hl = length-word_bytes cpu.h in
     let pl = length-word_bytes cpu.pc in
-    let fl = length-word_bytes (flags_number cpu) in
+    let fl = length-word_bytes (flags_number cpu.flags) in
     let below = p.counter in
     let stops = p.stops in
     let len = p.count in
@@ -80,7 +80,7 @@ cpu_stands text place cpu p s =
       registers = words_stand text (place + 8) cpu.r (wide cpu.r p.registers) (stands_left text (place + 8) r h s2);
       h = rw (← at 64) (word_stands text (place + 8 + 64) cpu.h (stands_right text (place + 8) 64 r h s2 l1) p.auxiliary);
       pc = rw (← at 68) (word_stands text (place + 8 + 68) cpu.pc (stands_right text (place + 8) 68 (r ++ h) pc s3 l2) (omega arith));
-      flags = rw (← at 72) (word_stands text (place + 8 + 72) (flags_number cpu) (stands_right text (place + 8) 72 (r ++ h ++ pc) f s4 l3) (flags_wide cpu));
+      flags = rw (← at 72) (word_stands text (place + 8 + 72) (flags_number cpu.flags) (stands_right text (place + 8) 72 (r ++ h ++ pc) f s4 l3) (flags_wide cpu));
       stop = rw (← at 76) (word_stands text (place + 8 + 76) cpu.stop (stands_right text (place + 8) 76 (r ++ h ++ pc ++ f) st s l4) (omega arith));
     }
 

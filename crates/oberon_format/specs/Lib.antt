@@ -6,7 +6,6 @@ pub mod Recording
 pub mod Defined
 pub mod Changes
 pub mod Layout
-pub mod FlagsNumber
 pub mod Text
 pub mod FirstFault
 pub mod Rules

@@ -1,5 +1,6 @@
 -- The fields of a text laid out of the parts of a recording, lawful or not, and the first fault of such a text.
 use Rattle.std.specs.Prelude.{ℕ, zero, suc, ◌+◌, ◌==◌, if◌then◌else◌, List, map, length, slice_index, slice_index_or, Option}
+use Rattle.risc_core.specs.Flags.{flags_number}
 use Rattle.risc_devices.specs.DeviceState.{serial_number}
 use Rattle.risc_devices.specs.Input.{kind_of, value_of}
 use Rattle.risc_machine.specs.declared.event.Event.{Event}
@@ -10,7 +11,6 @@ use Rattle.oberon_format.specs.declared.fields.CheckpointFields.{CheckpointField
 use Rattle.oberon_format.specs.declared.layout.TheConstants.{MAGIC, FIRST_VERSION, VERSION}
 use Rattle.oberon_format.specs.Fields.{EventFields, Fields}
 use Rattle.oberon_format.specs.FirstFault.{first_broken}
-use Rattle.oberon_format.specs.FlagsNumber.{flags_number}
 use Rattle.oberon_format.specs.Layout.{event_start, checkpoint_size}
 use Rattle.oberon_format.specs.Recording.{RecordingParts, checkpoint_at, table_before, output_of}
 use Rattle.oberon_format.specs.Rules.{rules}
@@ -30,7 +30,7 @@ abbrev pub checkpoint_fields : ℕ → List ℕ → CheckpointParts → Checkpoi
 checkpoint_fields version before c = record {
   count = c.count;
   pc = c.cpu.pc;
-  flags = flags_number c.cpu;
+  flags = flags_number c.cpu.flags;
   stop = c.cpu.stop;
   switches = c.devices.switches;
   leds = c.devices.leds;

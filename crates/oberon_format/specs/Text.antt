@@ -1,5 +1,6 @@
 -- Which text is that of a recording.
 use Rattle.std.specs.Prelude.{ℕ, true, ◌≡◌, ◌<◌, ◌+◌, ◌*◌, ◌^◌, List, All, length, slice_index_or, drop, slice_range}
+use Rattle.risc_core.specs.Flags.{flags_number}
 use Rattle.risc_devices.specs.DeviceState.{DeviceState, serial_number}
 use Rattle.risc_devices.specs.Input.{kind_of, value_of}
 use Rattle.risc_machine.specs.declared.event.Event.{Event}
@@ -8,7 +9,6 @@ use Rattle.oberon_format.specs.declared.change.Change.{Change}
 use Rattle.oberon_format.specs.declared.layout.TheConstants.{MAGIC, FIRST_VERSION, VERSION, MAGIC_AT, LAST_AT, KIND_AT, VALUE_AT, REGISTERS_AT, AUXILIARY_AT, COUNTER_AT, FLAGS_AT, STOP_AT, TIMER_AT, SWITCHES_AT, LEDS_AT, MOUSE_AT, SERIAL_AT, WAITING_AT, KEYS_AT, SENT_AT, TABLE_AT, RATE_AT, PHASE_AT, CHANGE_COUNT_AT, NUMBER_AT}
 use Rattle.oberon_format.specs.Changes.{changes}
 use Rattle.oberon_format.specs.CheckpointParts.{CheckpointParts, key_bytes}
-use Rattle.oberon_format.specs.FlagsNumber.{flags_number}
 use Rattle.oberon_format.specs.Layout.{word_at, long_at, version, pages, events, checkpoints, page_place, event_place, change_place, start, output_place}
 use Rattle.oberon_format.specs.Ranges.{is_version}
 use Rattle.oberon_format.specs.Recording.{RecordingParts, IsLawful, table_before, output_of}
@@ -39,7 +39,7 @@ pub record IsCpu (text : List ℕ) (place : ℕ) (cpu : CpuState) : Type 0 where
   pub registers : AreWords text (place + REGISTERS_AT) cpu.r
   pub h : word_at text (place + AUXILIARY_AT) ≡ cpu.h
   pub pc : word_at text (place + COUNTER_AT) ≡ cpu.pc
-  pub flags : word_at text (place + FLAGS_AT) ≡ flags_number cpu
+  pub flags : word_at text (place + FLAGS_AT) ≡ flags_number cpu.flags
   pub stop : word_at text (place + STOP_AT) ≡ cpu.stop
 
 -- the devices of the checkpoint at a place, but for the rate and the phase of the timer

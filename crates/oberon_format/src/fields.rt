@@ -12,7 +12,6 @@ ghost use Rattle.oberon_format.specs.Rules.{field_rules};
 use crate::change::change_count;
 use crate::checkpoint::Checkpoint;
 use crate::fault::Fault;
-use crate::flags::flags_number;
 use crate::layout::{
     CHANGE_COUNT_AT, CHANGES_AT, COUNTER_AT, FLAGS_AT, KEYS_AT, LEDS_AT, MOUSE_AT, PHASE_AT,
     PLACES, RATE_AT, SENT_AT, SERIAL_AT, STOP_AT, SWITCHES_AT, VERSION, WAITING_AT, later_word,
@@ -98,7 +97,7 @@ impl CheckpointFields {
         CheckpointFields {
             count: checkpoint.count,
             pc: checkpoint.cpu.pc,
-            flags: flags_number(checkpoint.cpu.flags),
+            flags: checkpoint.cpu.flags.number(),
             stop: checkpoint.cpu.stop as u32,
             switches: devices.switches() as u32,
             leds: devices.leds() as u32,

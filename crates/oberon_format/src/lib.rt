@@ -10,7 +10,6 @@ mod change;
 mod checkpoint;
 mod fault;
 mod fields;
-mod flags;
 mod formed;
 mod laws;
 mod layout;

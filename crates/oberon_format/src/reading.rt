@@ -16,7 +16,6 @@ ghost use Rattle.risc_machine.specs.MachineState.{cpu_state};
 use crate::change::Change;
 use crate::checkpoint::Checkpoint;
 use crate::fault::Fault;
-use crate::flags::flags_of;
 use crate::formed::all_formed;
 use crate::layout::{
     AUXILIARY_AT, CHANGE_COUNT_AT, CHANGE_LEN, CHANGES_AT, CHECKPOINT_LEN, COUNTER_AT, EVENT_LEN,
@@ -30,7 +29,7 @@ use crate::recording::Recording;
 use crate::rules::tested;
 use crate::sent::Sent;
 use risc_devices::{Devices, Input};
-use risc_machine::{Cpu, Event, Inputs};
+use risc_machine::{Cpu, Event, Flags, Inputs};
 use risc_pages::{Page, Pool, Table};
 use std::alloc::{AllocError, Global};
 
@@ -137,6 +136,7 @@ fn inputs_of(alloc: Global, text: &[u8]) -> Result<Inputs, AllocError>
 }
 
 /// The processor of the checkpoint at a place.
+#[tactic(auto, using(risc_core::proofs::FlagsLemmas::number_back))]
 fn cpu_of(text: &[u8], place: usize) -> Cpu
     requires room { place + CHANGES_AT ≤ length text.now }
     requires ranges { in_ranges (checkpoint_of text.now place) ≡ true }
@@ -148,7 +148,7 @@ fn cpu_of(text: &[u8], place: usize) -> Cpu
         r,
         h: u32_at(text, place + AUXILIARY_AT),
         pc: u32_at(text, place + COUNTER_AT),
-        flags: flags_of(u32_at(text, place + FLAGS_AT)),
+        flags: Flags::from_number(u32_at(text, place + FLAGS_AT)),
         stop: u32_at(text, place + STOP_AT) as u8,
     }
 }

@@ -14,7 +14,6 @@ ghost use Rattle.oberon_format.specs.Text.{TextIn};
 use crate::change::change_count;
 use crate::checkpoint::{Checkpoint, table_before};
 use crate::fields::key_bytes;
-use crate::flags::flags_number;
 use crate::layout::{MAGIC, PLACES, VERSION, changed_len, event_start};
 use crate::ranges::MAX_OUTPUT;
 use crate::recording::Recording;
@@ -153,7 +152,7 @@ fn push_cpu(out: &mut Vec<u8>, cpu: &Cpu) -> Result<(), AllocError>
     push_words(out, &cpu.r)?;
     push_word(out, cpu.h)?;
     push_word(out, cpu.pc)?;
-    push_word(out, flags_number(cpu.flags))?;
+    push_word(out, cpu.flags.number())?;
     push_word(out, cpu.stop as u32)
 }
 

@@ -1,8 +1,9 @@
 -- Which text is that of which session, and which fault a text has that is none.
-use Rattle.std.specs.Prelude.{◌≡◌, ◌≤◌, ◌/◌, ◌%◌, ◌^◌, ◌==◌, ℕ, Bool, List, length, map, Some, None}
+use Rattle.std.specs.Prelude.{◌≡◌, ◌≤◌, ℕ, List, length, map, Some, None}
+use Rattle.risc_core.specs.Flags.{flags_of}
 use Rattle.risc_devices.specs.Input.{kind_of, value_of}
 use Rattle.risc_machine.specs.declared.event.Event.{Event}
-use Rattle.risc_machine.specs.MachineState.{CpuState, Flags}
+use Rattle.risc_machine.specs.MachineState.{CpuState}
 use Rattle.oberon_session.specs.Digits.{all_placed_of}
 use Rattle.oberon_session.specs.Draft.{Draft, InputNumbers, Start}
 use Rattle.oberon_session.specs.Rules.{draft_in, first_fault_of}
@@ -11,14 +12,6 @@ use Rattle.oberon_session.specs.declared.fault.SessionFault.{SessionFault}
 use Rattle.oberon_session.specs.declared.fault.SessionFault.TheVariants as fault
 
 -- ---- what a draft says
-
--- whether bit i of a number is set
-abbrev pub bit : ℕ → ℕ → Bool
-bit number i = number / 2 ^ i % 2 == 1
-
--- N is bit 3 of the number, Z bit 2, C bit 1, V bit 0
-abbrev pub flags_of : ℕ → Flags
-flags_of number = record { n = bit number 3; z = bit number 2; c = bit number 1; v = bit number 0 }
 
 -- the processor of the first state, which runs
 abbrev pub cpu_of : Start → CpuState

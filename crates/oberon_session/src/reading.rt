@@ -5,7 +5,7 @@ ghost use Rattle.serde_json.specs.Errors.{IsMemory};
 ghost use Rattle.serde_json.specs.View.{view};
 ghost use Rattle.risc_machine.specs.MachineState.{cpu_state};
 ghost use Rattle.oberon_session.specs.inner.Drafts.{draft_view, start_view};
-ghost use Rattle.oberon_session.specs.Session.{Breaks, IsSession, Says, cpu_of, flags_of};
+ghost use Rattle.oberon_session.specs.Session.{Breaks, IsSession, Says, cpu_of};
 ghost use Rattle.oberon_session.specs.inner.Tested.{BreaksDraft, BreaksIn, InOrder, InRange, IsSessionIn, IsTested, StartFits};
 
 use crate::SessionFault;
@@ -109,19 +109,7 @@ fn cpu_of(start: &StartDraft) -> Cpu
         r,
         h: start.h as u32,
         pc: start.pc as u32,
-        flags: flags_of(start.flags as u8),
+        flags: Flags::from_number(start.flags as u32),
         stop: 0,
-    }
-}
-
-/// The flags of a number: N is bit 3, Z bit 2, C bit 1, V bit 0.
-fn flags_of(number: u8) -> Flags
-    ensures { result ≡ flags_of number }
-{
-    Flags {
-        n: number >> 3 & 1 == 1,
-        z: number >> 2 & 1 == 1,
-        c: number >> 1 & 1 == 1,
-        v: number & 1 == 1,
     }
 }

@@ -1,5 +1,7 @@
-//! The condition flags, and how a value written to a register sets two of them. The carry and the overflow of sums and
-//! differences are in `arithmetic`.
+//! The condition flags, how a value written to a register sets two of them, and the flags as one number. The carry and the
+//! overflow of sums and differences are in `arithmetic`.
+
+use crate::word::is_set;
 
 /// The condition flags ("The RISC Architecture", N. Wirth).
 #[derive(Clone, Copy, Debug, PartialEq, Eq)]
@@ -12,6 +14,34 @@ pub struct Flags {
     pub c: bool,
     /// Overflow of the last sum or difference of signed values (this project's own choice).
     pub v: bool,
+}
+
+impl Flags {
+    ghost use Rattle.std.specs.Prelude.{◌≡◌, ◌<◌};
+    ghost use Rattle.risc_core.specs.Flags.{flags_number, flags_of};
+
+    /// The flags as one number below 16: N is bit 3, Z bit 2, C bit 1, V bit 0 (this project's own choice).
+    #[inline]
+    pub const fn number(self) -> u32
+        ensures value { result ≡ flags_number self }
+        ensures range { result < 16 }
+    {
+        8 * self.n as u32 + 4 * self.z as u32 + 2 * self.c as u32 + self.v as u32
+    }
+
+    /// The flags of a number: N is its bit 3, Z bit 2, C bit 1, V bit 0 (this project's own choice). Its further bits are not
+    /// looked at.
+    #[inline]
+    pub const fn from_number(number: u32) -> Flags
+        ensures { result ≡ flags_of number }
+    {
+        Flags {
+            n: is_set(number, 3),
+            z: is_set(number, 2),
+            c: is_set(number, 1),
+            v: is_set(number, 0),
+        }
+    }
 }
 
 ghost use Rattle.std.specs.Prelude.{◌≡◌};

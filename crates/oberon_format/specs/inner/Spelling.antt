@@ -2,6 +2,7 @@
 use Rattle.std.specs.Prelude.{ℕ, ◌==◌, if◌then◌else◌, List, [], ◌∷◌, ◌++◌, length}
 use Rattle.std.specs.List.{flat_map}
 use Rattle.byteorder.specs.Endian.{little_bytes}
+use Rattle.risc_core.specs.Flags.{flags_number}
 use Rattle.risc_pages.specs.Tables.{zero_numbers}
 use Rattle.risc_devices.specs.DeviceState.{DeviceState, serial_number}
 use Rattle.risc_devices.specs.Input.{kind_of, value_of}
@@ -11,7 +12,6 @@ use Rattle.oberon_format.specs.declared.layout.TheConstants.{MAGIC, FIRST_VERSIO
 use Rattle.oberon_format.specs.declared.change.Change.{Change}
 use Rattle.oberon_format.specs.Changes.{changes}
 use Rattle.oberon_format.specs.CheckpointParts.{CheckpointParts, key_bytes}
-use Rattle.oberon_format.specs.FlagsNumber.{flags_number}
 use Rattle.oberon_format.specs.Recording.{RecordingParts, output_of}
 
 -- the four bytes of a number, the lowest first
@@ -29,7 +29,7 @@ unfoldable pub event_bytes : Event → List ℕ
 event_bytes e = long_bytes e.count ++ word_bytes (kind_of e.input) ++ word_bytes (value_of e.input)
 
 unfoldable pub cpu_bytes : CpuState → List ℕ
-cpu_bytes cpu = words_bytes cpu.r ++ word_bytes cpu.h ++ word_bytes cpu.pc ++ word_bytes (flags_number cpu) ++ word_bytes cpu.stop
+cpu_bytes cpu = words_bytes cpu.r ++ word_bytes cpu.h ++ word_bytes cpu.pc ++ word_bytes (flags_number cpu.flags) ++ word_bytes cpu.stop
 
 unfoldable pub device_bytes : DeviceState → List ℕ
 device_bytes d =
