@@ -1,6 +1,5 @@
 //! What each command answers to the bytes of its input. Reading them, and writing the answer, is in `serve`.
-ghost use Rattle.std.specs.Prelude.{◌≡◌, ◌≤◌, IfOk};
-ghost use Rattle.oberon_check.specs.Headline.{IsLineOf};
+ghost use Rattle.std.specs.Prelude.{◌≡◌, IfOk};
 ghost use Rattle.oberon_replay.specs.Answer.{IsAnswer, limit_of};
 ghost use Rattle.oberon_replay.specs.inner.Requests.{IsWithinLimits};
 
@@ -45,27 +44,14 @@ pub fn answer<H: Threads + Wait + Sync>(
     ensures { IfOk result (λ reply. IsAnswer request bytes.now reply.text.items reply.status) }
 {
     match request {
-        Request::Check { workers, cut } => check(rt, alloc, bytes, workers, cut),
+        Request::Check { workers, cut } => {
+            match check_bytes(rt, alloc, bytes, workers, cut, &FreeGate) {
+                Ok(Report { line, status }) => Ok(Reply { text: line, status }),
+                Err(CheckFault::Memory) => Err(AllocError),
+            }
+        }
         Request::Record => record(alloc, bytes),
         Request::Screen { at } => screen(alloc, bytes, at),
         Request::Migrate => migrate(alloc, bytes),
-    }
-}
-
-/// The line of the check.
-fn check<H: Threads + Wait + Sync>(
-    rt: &H,
-    alloc: Global,
-    bytes: &[u8],
-    workers: u32,
-    cut: u32,
-) -> Result<Reply, AllocError>
-    requires workers { (1 ≤ workers) × (workers ≤ 64) }
-    requires cut { 1 ≤ cut }
-    ensures { IfOk result (λ reply. IsLineOf bytes.now reply.text.items reply.status) }
-{
-    match check_bytes(rt, alloc, bytes, workers, cut, &FreeGate) {
-        Ok(Report { line, status }) => Ok(Reply { text: line, status }),
-        Err(CheckFault::Memory) => Err(AllocError),
     }
 }
