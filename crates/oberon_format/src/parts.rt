@@ -14,7 +14,7 @@ ghost use Rattle.oberon_format.specs.Rules.{header_rules, change_rules, checkpoi
 use crate::checkpoint::{Checkpoint, table_before};
 use crate::fault::Fault;
 use crate::fields::{CheckpointFields, fields_fault};
-use crate::formed::all_formed;
+use crate::formed::all_formed_law;
 use crate::layout::{
     CHANGE_LEN, CHANGES_AT, LONGEST_TEXT, PLACES, VERSION, changed_len, event_start,
 };
@@ -60,7 +60,7 @@ fn parts_fault(pool: &Pool, inputs: &Inputs, checkpoints: &[Checkpoint]) -> Opti
     ensures lawful { IfNone result (IsLawful (parts_of pool.now inputs.now checkpoints.now)) }
 {
     // What the types of the parts say of them.
-    all_formed(checkpoints);
+    all_formed_law(checkpoints);
     let _pages = pool.len();
     let _events = inputs.events();
     if let Some(fault) = counts_fault(pool, inputs, checkpoints) {

@@ -16,7 +16,7 @@ ghost use Rattle.risc_machine.specs.MachineState.{cpu_state};
 use crate::change::Change;
 use crate::checkpoint::Checkpoint;
 use crate::fault::Fault;
-use crate::formed::all_formed;
+use crate::formed::all_formed_law;
 use crate::layout::{
     AUXILIARY_AT, CHANGE_COUNT_AT, CHANGE_LEN, CHANGES_AT, CHECKPOINT_LEN, COUNTER_AT, EVENT_LEN,
     FLAGS_AT, HEADER_LEN, KEYS_AT, KIND_AT, LEDS_AT, MOUSE_AT, PHASE_AT, PLACES, RATE_AT,
@@ -26,7 +26,7 @@ use crate::layout::{
 };
 use crate::number::{u32_at, u64_at};
 use crate::recording::Recording;
-use crate::rules::tested;
+use crate::rules::test_text;
 use crate::sent::Sent;
 use risc_devices::{Devices, Input};
 use risc_machine::{Cpu, Event, Flags, Inputs};
@@ -41,7 +41,7 @@ pub fn read(alloc: Global, bytes: &[u8]) -> Result<Recording, Fault>
         (MatchResult result (λ r. Text bytes.now r) (λ f. f ≡ Fault.Memory))
         (λ f. result ≡ Err f) }
 {
-    let output = tested(bytes)?;
+    let output = test_text(bytes)?;
     match recording_of(alloc, bytes, output) {
         Ok(recording) => Ok(recording),
         Err(_) => Err(Fault::Memory),
@@ -58,7 +58,7 @@ fn recording_of(alloc: Global, text: &[u8], output: usize) -> Result<Recording, 
     let inputs = inputs_of(alloc, text)?;
     let checkpoints = checkpoints_of(alloc, text, output)?;
     // What the types of the parts say of them.
-    all_formed(&checkpoints);
+    all_formed_law(&checkpoints);
     let _pages = pool.len();
     let _events = inputs.events();
     Ok(Recording::from_lawful(pool, inputs, checkpoints))

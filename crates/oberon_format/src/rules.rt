@@ -295,7 +295,7 @@ fn end_fault(text: &[u8], end: &End) -> Option<Fault>
 
 /// Where the output of a text without fault begins, or the first fault of a text.
 #[tactic(auto, using(crate::proofs::RuleLemmas::in_header, crate::proofs::RuleLemmas::in_events, crate::proofs::RuleLemmas::in_checkpoints, crate::proofs::RuleLemmas::in_end))]
-pub(crate) fn tested(text: &[u8]) -> Result<usize, Fault>
+pub(crate) fn test_text(text: &[u8]) -> Result<usize, Fault>
     ensures { MatchResult result
         (λ output. (first_fault_of text.now ≡ None) × (output ≡ output_place text.now))
         (λ f. first_fault_of text.now ≡ Some f) }

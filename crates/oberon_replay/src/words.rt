@@ -2,7 +2,7 @@
 ghost use Rattle.std.specs.Prelude.{◌≡◌, ◌≤◌, Some, IfSome, map, IfOk, IfErr, option_and_then};
 ghost use Rattle.clap.specs.Words.{found_of, kind_of, rows_of, subcommand_rows_of};
 ghost use Rattle.oberon_replay.specs.inner.Requests.{IsWithinLimits, RefusedBy, refusal_by};
-ghost use Rattle.oberon_replay.specs.Asked.{asked, number_at, request_of};
+ghost use Rattle.oberon_replay.specs.Asked.{request_in, number_at, request_of};
 
 use crate::command::program;
 use clap::error::ErrorKind;
@@ -45,9 +45,9 @@ impl From<AllocError> for Refusal {
 }
 
 /// What the words ask for, by what `clap` reads from them. No words at all ask for a check with 2 workers and cut 1.
-pub fn asked<'a>(alloc: Global, words: &'a [&'a str]) -> Result<Request, Refusal>
+pub fn request_in<'a>(alloc: Global, words: &'a [&'a str]) -> Result<Request, Refusal>
     ensures ok { IfOk result (λ request.
-        asked (map (λ word. word.now) words.entry.now) ≡ Some request) }
+        request_in (map (λ word. word.now) words.entry.now) ≡ Some request) }
     ensures limits { IfOk result IsWithinLimits }
     ensures err { IfErr result (RefusedBy (map (λ word. word.now) words.entry.now)) }
 {

@@ -22,7 +22,7 @@ mod sums;
 mod word;
 
 pub use address::Place;
-pub use arithmetic::{AluOut, alu, alu_beside_sums, simple};
+pub use arithmetic::{AluOut, alu, alu_beside_sums, simple_value};
 pub use branch::{condition, link, reg_target, taken, target};
 pub use decoding::decode;
 pub use flags::{Flags, written};

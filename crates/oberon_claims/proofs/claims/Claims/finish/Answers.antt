@@ -69,11 +69,11 @@ whole c =
     subst (λ (p : ℕ × View). IsLegal plan.jobs p.0 c.word-next.result c.word-least.result (p.1 ∷ [])) (λ k. (sym workers k, view k))
     (closes plan _ _ _ c.word-next.result c.word-least.result e.0 e.1.0 e.1.1 e.2 c.word-next.ensures c.word-least.ensures (ap (λ (v : View). v.stands) view ∙ workers))
 
-capped_is : (c : goal.After-segment_of) → c.taken_of.result ≡ min c.word-next.result c.self.inside.table.shared.key.jobs
-capped_is c = c.taken_of.ensures ∙ ap (min c.word-next.result) (sym c.self.invariant.0)
+capped_is : (c : goal.After-segment_of) → c.jobs_taken.result ≡ min c.word-next.result c.self.inside.table.shared.key.jobs
+capped_is c = c.jobs_taken.ensures ∙ ap (min c.word-next.result) (sym c.self.invariant.0)
 
 pub returns-clause-jobs : goal.returns-clause-jobs
-returns-clause-jobs c = let e = c.taken_of.ensures in let j = ap (λ (b : BookId). b.jobs) c.self.view_is in omega arith
+returns-clause-jobs c = let e = c.jobs_taken.ensures in let j = ap (λ (b : BookId). b.jobs) c.self.view_is in omega arith
 
 pub returns-clause-taken : goal.returns-clause-taken
 returns-clause-taken c = λ x. taken_once c.args.self _ _ _ _ (whole c) x ∙ ap (once_below x) (sym (capped_is c))

@@ -1,7 +1,7 @@
 use Rattle.std.proofs.lemmas.Bool.{iff_false}
 use Rattle.std.proofs.lemmas.Result.{err_from_is_err_and}
 use Rattle.oberon_session.proofs.RuleLemmas.{breaks-inputs, in-order, in-range, numbers-fit, numbers-rise}
-use Rattle.oberon_session.proofs.reading.tested.Goals as goal
+use Rattle.oberon_session.proofs.reading.test_draft.Goals as goal
 
 pub returns-then-not-is_in_range-clause-err : goal.returns-then-not-is_in_range-clause-err
 returns-then-not-is_in_range-clause-err c =

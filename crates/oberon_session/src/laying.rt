@@ -14,16 +14,16 @@ use std::alloc::{AllocError, Global};
 
 /// The pages laid so far, and the table of the memory that was laid last.
 #[derive(Drop)]
-pub struct Layout {
+pub struct LaidPages {
     pub pool: Pool,
     pub table: Table,
 }
 
-/// The layout of a session's first memory: its pages in their order, each named at its place.
-pub fn first_layout(alloc: Global, pages: &[PlacedPage]) -> Result<Layout, AllocError>
+/// Lays the pages of a session's first memory in their order, each named at its place.
+pub fn lay_first(alloc: Global, pages: &[PlacedPage]) -> Result<LaidPages, AllocError>
     requires few { length pages.now ≤ 1024 }
     requires places { All (λ page. page.at < 1024) pages.now }
-    ensures { IfOk result (λ layout. laid_view layout ≡ first_laid (map placed_view pages.now)) }
+    ensures { IfOk result (λ laid. laid_view laid ≡ first_laid (map placed_view pages.now)) }
 {
     let mut pool = Pool::new(alloc);
     let mut table = Table::zeros();
@@ -31,36 +31,36 @@ pub fn first_layout(alloc: Global, pages: &[PlacedPage]) -> Result<Layout, Alloc
         pool.push(page.page)?;
         table.set(page.at, pool.len());
     }
-    Ok(Layout { pool, table })
+    Ok(LaidPages { pool, table })
 }
 
 /// Lays pages one after another, each at its place.
-pub fn lay_pages(layout: &mut Layout, changed: &[(u16, Page)]) -> Result<(), AllocError>
+pub fn lay_pages(laid: &mut LaidPages, changed: &[(u16, Page)]) -> Result<(), AllocError>
     requires few { length changed.now ≤ 1024 }
-    requires room { length layout.old.pool ≤ MAX_PAGES }
+    requires room { length laid.old.pool ≤ MAX_PAGES }
     requires places { All (λ (c : ℕ × Page). c.0 < 1024) changed.now }
-    ensures { OnOk result (laid_view layout.new ≡ lay_pages (laid_view layout.old) (map page_view changed.now)) }
+    ensures { OnOk result (laid_view laid.new ≡ lay_pages (laid_view laid.old) (map page_view changed.now)) }
 {
     for (place, page) in changed {
-        lay_page(layout, *place, page)?;
+        lay_page(laid, *place, page)?;
     }
     Ok(())
 }
 
 /// Lays a page at a place: a page of zeros has number 0, and any other becomes a new page at the pool's end.
 #[tactic(auto, unfolding(crate::specs::Laid::lay_page))]
-fn lay_page(layout: &mut Layout, place: u16, page: &Page) -> Result<(), AllocError>
+fn lay_page(laid: &mut LaidPages, place: u16, page: &Page) -> Result<(), AllocError>
     requires place { place < 1024 }
-    requires room { length layout.old.pool < 2 ^ 31 }
-    ensures laid { OnOk result (laid_view layout.new ≡ lay_page (laid_view layout.old) (place, page.now.words)) }
-    ensures grown { OnOk result (length layout.new.pool ≤ length layout.old.pool + 1) }
+    requires room { length laid.old.pool < 2 ^ 31 }
+    ensures laid { OnOk result (laid_view laid.new ≡ lay_page (laid_view laid.old) (place, page.now.words)) }
+    ensures grown { OnOk result (length laid.new.pool ≤ length laid.old.pool + 1) }
 {
     if is_blank(page) {
-        layout.table.set(place, 0);
+        laid.table.set(place, 0);
         return Ok(());
     }
-    layout.pool.push(*page)?;
-    layout.table.set(place, layout.pool.len());
+    laid.pool.push(*page)?;
+    laid.table.set(place, laid.pool.len());
     Ok(())
 }
 

@@ -1,6 +1,6 @@
 use Rattle.std.proofs.Common.{◌∙◌, ap, arith, length}
 use Rattle.oberon_replay.proofs.DisplayLemmas.{range_length}
-use Rattle.oberon_replay.proofs.screen.claimed.Goals as goal
+use Rattle.oberon_replay.proofs.screen.claimed_picture.Goals as goal
 
 pub picture-requires : goal.picture-requires
 picture-requires c =
