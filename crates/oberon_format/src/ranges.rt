@@ -1,15 +1,14 @@
 //! The ranges of fields, tested on numbers. Where these stand in a text is not known here.
 //!
-//! Each limit has its one name here, which definitions, contracts and code cite. All are this project's own choice.
+//! Each limit has its one name here, which definitions, contracts and code cite, but for that of a count, which inputs
+//! have too: `MAX_COUNT` of the machine. All are this project's own choice.
 
 ghost use Rattle.std.specs.Prelude.{◌≡◌, ◌≤◌};
 ghost use Rattle.risc_devices.specs.InputKind.{is_input};
 ghost use Rattle.oberon_format.specs.Ranges.{is_count, is_output};
 
 use risc_devices::Input;
-
-/// The largest count: 2^40.
-pub const MAX_COUNT: u64 = 1 << 40;
+use risc_machine::MAX_COUNT;
 
 /// The most bytes that a recording may send in all.
 pub const MAX_OUTPUT: u64 = 1_048_576;

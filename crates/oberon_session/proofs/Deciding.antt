@@ -9,7 +9,8 @@ use Rattle.oberon_session.specs.Draft.{Draft, InputNumbers, PageText, Start}
 use Rattle.oberon_session.specs.Ranges.{count_fits, in_order, in_range, input_counts, input_fits, of_neighbours, page_fits, places_of, start_fits, timer_fits}
 use Rattle.oberon_session.specs.SessionParts.{CountFits}
 use Rattle.oberon_session.specs.inner.Tested.{InOrder, InRange, InputFits, PageFits, StartFits}
-use Rattle.oberon_format.specs.declared.ranges.TheConstants.{LAST_CHECKPOINT, MAX_COUNT, MAX_EVENTS}
+use Rattle.risc_machine.specs.declared.inputs.TheConstants.{MAX_COUNT}
+use Rattle.oberon_format.specs.declared.ranges.TheConstants.{LAST_CHECKPOINT, MAX_EVENTS}
 
 decides-le : (a b : ℕ) → Decides (nat_le a b) (a ≤ b)
 decides-le a b = (leb-true a b, le-leb a b)
