@@ -1,7 +1,8 @@
 //! The ranges of fields, tested on numbers. Where these stand in a text is not known here.
 //!
-//! Each limit has its one name here, which definitions, contracts and code cite, but for that of a count, which inputs
-//! have too: `MAX_COUNT` of the machine. All are this project's own choice.
+//! Each limit has its one name, which definitions, contracts and code cite: here, or where a crate below has it too, as
+//! `MAX_COUNT` of counts in `risc_machine` and `COUNTER_END` of program counters in `risc_core`. All but that of program
+//! counters are this project's own choice.
 
 ghost use Rattle.std.specs.Prelude.{◌≡◌, ◌≤◌};
 ghost use Rattle.risc_devices.specs.InputKind.{is_input};
@@ -24,9 +25,6 @@ pub const LAST_CHECKPOINT: u32 = 4_096;
 
 /// The largest number of checkpoints, checkpoint 0 among them.
 pub const MAX_CHECKPOINTS: u32 = LAST_CHECKPOINT + 1;
-
-/// A program counter is below this.
-pub(crate) const COUNTER_END: u32 = 4_194_304;
 
 /// The number of a processor's flags is below this.
 pub(crate) const FLAGS_END: u32 = 16;

@@ -5,6 +5,7 @@ use Rattle.std.specs.List.{All}
 use Rattle.std.specs.List.Sorted.{IsStrictlyIncreasing}
 use Rattle.serde_json.specs.Data.{Data}
 use Rattle.serde_json.specs.Read.{read}
+use Rattle.risc_core.specs.declared.branch.TheConstants.{COUNTER_END}
 use Rattle.risc_devices.specs.InputKind.{IsInput}
 use Rattle.risc_machine.specs.declared.event.Event.{Event}
 use Rattle.risc_machine.specs.InputOrder.{AreOrdered}
@@ -25,7 +26,7 @@ use Rattle.oberon_format.specs.declared.ranges.TheConstants.{MAX_EVENTS}
 
 abbrev pub StartFits : Start → Type 0
 StartFits start =
-    All (λ register. register < 2 ^ 32) start.registers × (start.h < 2 ^ 32) × (start.pc < 2 ^ 22) × (start.flags < 16)
+    All (λ register. register < 2 ^ 32) start.registers × (start.h < 2 ^ 32) × (start.pc < COUNTER_END) × (start.flags < 16)
     × IsTrue (timer_fits start.rate start.phase)
 
 abbrev pub PageFits : PageText → Type 0
