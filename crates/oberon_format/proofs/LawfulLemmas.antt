@@ -6,6 +6,7 @@ use Rattle.std.specs.Option.{IfNone}
 use Rattle.std.proofs.lemmas.Bool.{le-leb, lt-ltb, leb-true, ltb-true, ne_eqb}
 use Rattle.std.proofs.lemmas.List.{drop_at, get_or_default}
 use Rattle.std.proofs.lemmas.Bool.Decides.{nat_tests}
+use Rattle.risc_core.specs.declared.branch.TheConstants.{COUNTER_END}
 use Rattle.risc_core.specs.Flags.{flags_number}
 use Rattle.risc_core.proofs.FlagsLemmas.{number_below}
 use Rattle.risc_devices.specs.DeviceState.{DeviceState, IsDeviceState, is_phase, serial_number}
@@ -14,11 +15,12 @@ use Rattle.risc_machine.specs.declared.event.Event.{Event}
 use Rattle.risc_machine.specs.InputOrder.{AreOrdered}
 use Rattle.risc_machine.specs.InputOrder.{count_before as before_count}
 use Rattle.risc_machine.specs.MachineState.{CpuState}
+use Rattle.risc_machine.specs.declared.inputs.TheConstants.{MAX_COUNT}
 use Rattle.risc_pages.specs.Pages.{ArePages}
 use Rattle.oberon_format.specs.declared.fault.Fault.{Fault}
 use Rattle.oberon_format.specs.declared.fault.Fault.TheVariants as fault
 use Rattle.oberon_format.specs.declared.layout.TheConstants.{FIRST_VERSION, VERSION, HEADER_LEN, LAST_AT, CHANGES_AT, PLACES}
-use Rattle.oberon_format.specs.declared.ranges.TheConstants.{MAX_COUNT, MAX_OUTPUT, MAX_PAGES, MAX_EVENTS, MAX_CHECKPOINTS, COUNTER_END, FLAGS_END, MAX_STOP, SWITCHES_END, LEDS_END, SERIAL_END}
+use Rattle.oberon_format.specs.declared.ranges.TheConstants.{MAX_OUTPUT, MAX_PAGES, MAX_EVENTS, MAX_CHECKPOINTS, FLAGS_END, MAX_STOP, SWITCHES_END, LEDS_END, SERIAL_END}
 use Rattle.oberon_format.specs.Changes.{changes}
 use Rattle.oberon_format.specs.CheckpointParts.{CheckpointParts, no_checkpoint}
 use Rattle.oberon_format.specs.Fields.{Fields, sent_below}

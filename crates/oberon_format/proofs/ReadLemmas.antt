@@ -6,11 +6,11 @@ use Rattle.std.proofs.lemmas.Bool.{leb-true}
 use Rattle.std.proofs.lemmas.Bool.Decides.{nat_tests}
 use Rattle.risc_machine.specs.declared.event.Event.{Event}
 use Rattle.risc_machine.specs.InputOrder.{AreOrdered, count_at, count_before}
+use Rattle.risc_machine.specs.declared.inputs.TheConstants.{MAX_COUNT}
 use Rattle.risc_pages.specs.Pages.{ArePages}
 use Rattle.oberon_format.specs.declared.change.Change.{Change}
 use Rattle.oberon_format.specs.declared.fault.Fault.TheVariants as fault
 use Rattle.oberon_format.specs.declared.layout.TheConstants.{FIRST_VERSION, VERSION, RATE_AT, PHASE_AT, CHANGE_COUNT_AT, PLACES}
-use Rattle.oberon_format.specs.declared.ranges.TheConstants.{MAX_COUNT}
 use Rattle.oberon_format.specs.Changes.{changes, no_change, number_after}
 use Rattle.oberon_format.specs.CheckpointParts.{CheckpointParts, no_checkpoint}
 use Rattle.oberon_format.specs.Layout.{long_at, version, pages, events, checkpoints, event_place, change_count, later_word, start, output_place}

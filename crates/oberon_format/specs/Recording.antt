@@ -7,7 +7,8 @@ use Rattle.risc_devices.specs.DeviceState.{IsDeviceState}
 use Rattle.risc_machine.specs.declared.event.Event.{Event}
 use Rattle.risc_machine.specs.InputOrder.{AreOrdered}
 use Rattle.risc_machine.specs.MachineState.{IsCpuState}
-use Rattle.oberon_format.specs.declared.ranges.TheConstants.{MAX_COUNT, MAX_OUTPUT, MAX_PAGES, MAX_EVENTS, MAX_CHECKPOINTS}
+use Rattle.risc_machine.specs.declared.inputs.TheConstants.{MAX_COUNT}
+use Rattle.oberon_format.specs.declared.ranges.TheConstants.{MAX_OUTPUT, MAX_PAGES, MAX_EVENTS, MAX_CHECKPOINTS}
 use Rattle.oberon_format.specs.CheckpointParts.{CheckpointParts, no_checkpoint, checkpoint_parts}
 use Rattle.oberon_format.specs.declared.checkpoint.Checkpoint.{Checkpoint}
 

@@ -18,9 +18,10 @@ use crate::layout::{
 };
 use crate::number::{u32_at, u64_at};
 use crate::ranges::{
-    COUNTER_END, FLAGS_END, LEDS_END, MAX_KEYS, MAX_OUTPUT, MAX_STOP, SERIAL_END, SWITCHES_END,
-    is_count, is_output,
+    FLAGS_END, LEDS_END, MAX_KEYS, MAX_OUTPUT, MAX_STOP, SERIAL_END, SWITCHES_END, is_count,
+    is_output,
 };
+use risc_core::COUNTER_END;
 use risc_devices::{Devices, is_mouse_word, is_phase_at};
 use risc_pages::Table;
 

@@ -34,9 +34,10 @@ pub use laws::{
 pub use layout::{LONGEST_TEXT, VERSION};
 pub use line::refusal;
 pub use migration::migrate;
-pub use ranges::{LAST_CHECKPOINT, MAX_CHECKPOINTS, MAX_COUNT, MAX_EVENTS, MAX_OUTPUT, MAX_PAGES};
+pub use ranges::{LAST_CHECKPOINT, MAX_CHECKPOINTS, MAX_EVENTS, MAX_OUTPUT, MAX_PAGES};
 pub use reading::read;
 pub use recording::Recording;
+pub use risc_machine::MAX_COUNT;
 pub use sent::Sent;
 pub use writing::write;
 

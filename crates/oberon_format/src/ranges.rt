@@ -1,15 +1,15 @@
 //! The ranges of fields, tested on numbers. Where these stand in a text is not known here.
 //!
-//! Each limit has its one name here, which definitions, contracts and code cite. All are this project's own choice.
+//! Each limit has its one name, which definitions, contracts and code cite: here, or where a crate below has it too, as
+//! `MAX_COUNT` of counts in `risc_machine` and `COUNTER_END` of program counters in `risc_core`. All but that of program
+//! counters are this project's own choice.
 
 ghost use Rattle.std.specs.Prelude.{◌≡◌, ◌≤◌};
 ghost use Rattle.risc_devices.specs.InputKind.{is_input};
 ghost use Rattle.oberon_format.specs.Ranges.{is_count, is_output};
 
 use risc_devices::Input;
-
-/// The largest count: 2^40.
-pub const MAX_COUNT: u64 = 1 << 40;
+use risc_machine::MAX_COUNT;
 
 /// The most bytes that a recording may send in all.
 pub const MAX_OUTPUT: u64 = 1_048_576;
@@ -25,9 +25,6 @@ pub const LAST_CHECKPOINT: u32 = 4_096;
 
 /// The largest number of checkpoints, checkpoint 0 among them.
 pub const MAX_CHECKPOINTS: u32 = LAST_CHECKPOINT + 1;
-
-/// A program counter is below this.
-pub(crate) const COUNTER_END: u32 = 4_194_304;
 
 /// The number of a processor's flags is below this.
 pub(crate) const FLAGS_END: u32 = 16;

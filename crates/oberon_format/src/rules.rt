@@ -22,7 +22,8 @@ use crate::layout::{
 };
 use crate::limits::limits_fault;
 use crate::number::{u32_at, u64_at};
-use crate::ranges::{MAX_CHECKPOINTS, MAX_COUNT, MAX_EVENTS, MAX_OUTPUT, MAX_PAGES, is_input};
+use crate::ranges::{MAX_CHECKPOINTS, MAX_EVENTS, MAX_OUTPUT, MAX_PAGES, is_input};
+use risc_machine::MAX_COUNT;
 use risc_pages::Table;
 
 /// How long a text is to be by its header: in version 1 up to the output, in version 2 up to checkpoint 0.

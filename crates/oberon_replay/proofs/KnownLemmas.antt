@@ -24,6 +24,7 @@ use Rattle.oberon_replay.specs.declared.words.Request.{Request}
 use Rattle.oberon_replay.specs.declared.words.Request.TheVariants.{Check, Migrate, Record, Screen}
 use Rattle.oberon_replay.specs.declared.failure.Failure.TheVariants.{Memory, Read, Words}
 use Rattle.oberon_format.specs.declared.layout.TheConstants.{LONGEST_TEXT}
+use Rattle.oberon_session.specs.declared.reading.TheConstants.{LONGEST_SESSION}
 use Rattle.oberon_format.proofs.Cut.{cut_is_no_text, first_fault_of-take}
 use Rattle.oberon_replay.proofs.Parsed.{asked_none}
 
@@ -65,7 +66,7 @@ cut_migration n bytes text status over within (inl is) = absurd (cut_is_no_text 
 cut_migration n bytes text status over within (inr is) = inr (cut_fault n bytes text status over within is)
 
 -- the fault of a session's text that is cut off behind more bytes than a session may have is that of the whole
-cut_breaks : (n : ℕ) (bytes : List ℕ) (f : SessionFault) → 67108865 ≤ n → n ≤ length bytes → Breaks (take n bytes) f → Breaks bytes f
+cut_breaks : (n : ℕ) (bytes : List ℕ) (f : SessionFault) → LONGEST_SESSION < n → n ≤ length bytes → Breaks (take n bytes) f → Breaks bytes f
 cut_breaks n bytes fault.Json over within is = sym (fault-cut n bytes (omega arith) within) ∙ is
 cut_breaks n bytes fault.Shape over within is = sym (fault-cut n bytes (omega arith) within) ∙ is
 cut_breaks n bytes fault.Range over within is = sym (fault-cut n bytes (omega arith) within) ∙ is
@@ -74,7 +75,7 @@ cut_breaks n bytes fault.Hex over within is = sym (fault-cut n bytes (omega arit
 cut_breaks n bytes fault.Memory over within is = absurd (omega (arith, simp length-take at is))
 
 -- so the answer of `record` is that to the whole
-cut_record : (n : ℕ) (bytes text : List ℕ) (status : ℕ) → 67108865 ≤ n → n ≤ length bytes → IsRecord (take n bytes) text status → IsRecord bytes text status
+cut_record : (n : ℕ) (bytes text : List ℕ) (status : ℕ) → LONGEST_SESSION < n → n ≤ length bytes → IsRecord (take n bytes) text status → IsRecord bytes text status
 cut_record n bytes text status over within (inl is) =
     let long = fault-long (take n bytes) (simp length-take (omega arith)) in
     let bad : None ≡ Some fault.Range = sym is.read.0 ∙ long in
@@ -96,7 +97,7 @@ whole_answer : (request : Request) (bytes text : List ℕ) (status : ℕ) → Is
 whole_answer (Check workers cut) bytes text status =
     whole (λ input. IsLineOf input text status) (LONGEST_TEXT + 1) bytes (λ within. cut_report (LONGEST_TEXT + 1) bytes text status (omega arith) within)
 whole_answer Record bytes text status =
-    whole (λ input. IsRecord input text status) 67108865 bytes (λ within. cut_record 67108865 bytes text status (omega arith) within)
+    whole (λ input. IsRecord input text status) (LONGEST_SESSION + 1) bytes (λ within. cut_record (LONGEST_SESSION + 1) bytes text status (omega arith) within)
 whole_answer (Screen at) bytes text status =
     whole (λ input. IsScreen at input text status) (LONGEST_TEXT + 1) bytes (λ within. cut_screen (LONGEST_TEXT + 1) at bytes text status (omega arith) within)
 whole_answer Migrate bytes text status =

@@ -7,11 +7,12 @@ use Rattle.oberon_replay.specs.Screen.{IsScreen}
 use Rattle.oberon_replay.specs.declared.words.Request.{Request}
 use Rattle.oberon_replay.specs.declared.words.Request.TheVariants.{Check, Migrate, Record, Screen}
 use Rattle.oberon_format.specs.declared.layout.TheConstants.{LONGEST_TEXT}
+use Rattle.oberon_session.specs.declared.reading.TheConstants.{LONGEST_SESSION}
 
--- the most bytes that the command reads: one more than the longest text of a recording has, or that of a session may have
+-- the most bytes that the command reads: one more than the longest text of a recording or of a session has
 abbrev pub limit_of : Request → ℕ
 limit_of (Check workers cut) = LONGEST_TEXT + 1
-limit_of Record = 67108865
+limit_of Record = LONGEST_SESSION + 1
 limit_of (Screen at) = LONGEST_TEXT + 1
 limit_of Migrate = LONGEST_TEXT + 1
 

@@ -10,6 +10,7 @@ use crate::screen::screen;
 use crate::words::Request;
 use oberon_check::{CheckFault, FreeGate, Report, check_bytes};
 use oberon_format::LONGEST_TEXT;
+use oberon_session::LONGEST_SESSION;
 use std::alloc::{AllocError, Global};
 use std::sync::Wait;
 use std::thread::Threads;
@@ -18,8 +19,8 @@ use std::thread::Threads;
 /// looked at further on.
 const RECORDING_LIMIT: usize = LONGEST_TEXT + 1;
 
-/// One byte more than the text of a session may have. A longer input is refused for its length alone.
-const SESSION_LIMIT: usize = 67_108_865;
+/// One byte more than the longest text of a session has. A longer input is refused for its length alone.
+const SESSION_LIMIT: usize = LONGEST_SESSION + 1;
 
 impl Request {
     /// The most bytes that the command reads.

@@ -9,7 +9,9 @@ use Rattle.oberon_session.specs.Draft.{Draft, InputNumbers, PageText, Start}
 use Rattle.oberon_session.specs.Ranges.{count_fits, in_order, in_range, input_counts, input_fits, of_neighbours, page_fits, places_of, start_fits, timer_fits}
 use Rattle.oberon_session.specs.SessionParts.{CountFits}
 use Rattle.oberon_session.specs.inner.Tested.{InOrder, InRange, InputFits, PageFits, StartFits}
-use Rattle.oberon_format.specs.declared.ranges.TheConstants.{LAST_CHECKPOINT, MAX_COUNT, MAX_EVENTS}
+use Rattle.risc_core.specs.declared.branch.TheConstants.{COUNTER_END}
+use Rattle.risc_machine.specs.declared.inputs.TheConstants.{MAX_COUNT}
+use Rattle.oberon_format.specs.declared.ranges.TheConstants.{LAST_CHECKPOINT, MAX_EVENTS}
 
 decides-le : (a b : ℕ) → Decides (nat_le a b) (a ≤ b)
 decides-le a b = (leb-true a b, le-leb a b)
@@ -27,7 +29,7 @@ decides-few most test P each xs = Decides-and (nat_le (length xs) most) (list_al
 decides-start : (start : Start) → Decides (start_fits start) (StartFits start)
 decides-start start =
     let registers = decides-all (λ register. nat_lt register (2 ^ 32)) (λ register. register < 2 ^ 32) (λ register. Decides-ltb register (2 ^ 32)) start.registers in
-    let words = Decides-and _ _ (Decides-and _ _ registers (Decides-ltb start.h (2 ^ 32))) (Decides-ltb start.pc (2 ^ 22)) in
+    let words = Decides-and _ _ (Decides-and _ _ registers (Decides-ltb start.h (2 ^ 32))) (Decides-ltb start.pc COUNTER_END) in
     Decides-like (start_fits start) (λ h. (h.0.0.0.0, h.0.0.0.1, h.0.0.1, h.0.1, h.1)) (λ h. ((((h.0, h.1), h.2), h.3), h.4))
     (Decides-and _ (timer_fits start.rate start.phase) (Decides-and _ _ words (Decides-ltb start.flags 16)) (λ h. h, λ h. h))
 

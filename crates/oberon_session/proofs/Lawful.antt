@@ -1,10 +1,11 @@
 -- The parts of a tested draft make a lawful session.
-use Rattle.std.proofs.Common.{◌≡◌, ◌<◌, ◌≤◌, ◌^◌, ◌∙◌, ℕ, List, [], ◌∷◌, Option, Some, None, arith, ap, get_or, length, map, refl, sym, subst}
+use Rattle.std.proofs.Common.{◌≡◌, ◌<◌, ◌≤◌, ◌∙◌, ℕ, List, [], ◌∷◌, Option, Some, None, arith, ap, get_or, length, map, refl, sym, subst}
 use Rattle.std.proofs.lemmas.List.{length-map}
 use Rattle.std.proofs.lemmas.List.Elements.{All-map}
 use Rattle.std.specs.List.{All}
 use Rattle.std.specs.Prelude.{Result, Ok, Err}
 use Rattle.hex.specs.Hex.{decode_of}
+use Rattle.risc_core.specs.declared.branch.TheConstants.{COUNTER_END}
 use Rattle.risc_pages.specs.Pages.{IsPage}
 use Rattle.risc_machine.specs.declared.cpu.Cpu.{Cpu}
 use Rattle.risc_machine.specs.declared.event.Event.{Event}
@@ -75,7 +76,7 @@ module _ (draft : Draft) (cpu : Cpu) (rate phase : ℕ) (pages : List PlacedPage
           count = cpu.count;
           registers = cpu.registers;
           auxiliary = cpu.auxiliary;
-          counter = subst (λ (s : CpuState). s.pc < 2 ^ 22) (sym cpu-is) range.start.2;
+          counter = subst (λ (s : CpuState). s.pc < COUNTER_END) (sym cpu-is) range.start.2;
           stops = subst (λ (s : CpuState). s.stop ≤ 4) (sym cpu-is) (omega arith);
         };
         timer = rw (rate-is, phase-is) range.start.4;

@@ -5,11 +5,11 @@ use Rattle.std.proofs.lemmas.List.{get_or-map, length-map}
 use Rattle.std.specs.List.{All}
 use Rattle.risc_machine.specs.declared.event.Event.{Event}
 use Rattle.risc_machine.specs.InputOrder.{AreOrdered, IsFirstWrong, IsRightPlace, count_at, count_before}
+use Rattle.risc_machine.specs.declared.inputs.TheConstants.{MAX_COUNT}
 use Rattle.oberon_session.specs.Draft.{InputNumbers}
 use Rattle.oberon_session.specs.Ranges.{input_counts}
 use Rattle.oberon_session.specs.Session.{numbers_of_event}
 use Rattle.oberon_session.specs.inner.Tested.{InputFits, NeverFalls}
-use Rattle.oberon_format.specs.declared.ranges.TheConstants.{MAX_COUNT}
 
 counts-same : (es : List Event) → input_counts (map numbers_of_event es) ≡ map (λ (e : Event). e.count) es
 counts-same [] = refl

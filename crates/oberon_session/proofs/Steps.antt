@@ -5,13 +5,14 @@ use Rattle.std.specs.Option.{option_or}
 use Rattle.std.specs.Prelude.{nat_lt, slice_index}
 use Rattle.risc_machine.specs.MachineState.{State}
 use Rattle.risc_machine.specs.Replay.{run_of, sent_of}
+use Rattle.risc_machine.specs.declared.inputs.TheConstants.{MAX_COUNT}
 use Rattle.oberon_session.proofs.Runs.{run-on, sent-on}
 use Rattle.oberon_session.specs.Laid.{lay}
 use Rattle.oberon_session.specs.Recorded.{count_of, fault_at, first_fault, first_laid, first_state, laid_of, output_between, output_up_to, record_fault_of, state_at, state_of}
 use Rattle.oberon_session.specs.SessionParts.{CountFits, SessionParts, IsLawful}
 use Rattle.oberon_session.specs.declared.record_fault.RecordFault.{RecordFault}
 use Rattle.oberon_session.specs.declared.record_fault.RecordFault.TheVariants as fault
-use Rattle.oberon_format.specs.declared.ranges.TheConstants.{MAX_COUNT, MAX_OUTPUT, MAX_PAGES}
+use Rattle.oberon_format.specs.declared.ranges.TheConstants.{MAX_OUTPUT, MAX_PAGES}
 
 module _ (s : SessionParts) where
   -- ---- the run

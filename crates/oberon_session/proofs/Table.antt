@@ -21,6 +21,7 @@ use Rattle.oberon_session.specs.Shape.{◌>>=◌}
 use Rattle.oberon_session.specs.inner.Tested.{BreaksIn, InOrder, InRange, IsJson, IsSessionIn}
 use Rattle.oberon_session.specs.declared.fault.SessionFault.{SessionFault}
 use Rattle.oberon_session.specs.declared.fault.SessionFault.TheVariants.{Json, Shape, Range, Order, Hex, Memory}
+use Rattle.oberon_session.specs.declared.reading.TheConstants.{LONGEST_SESSION}
 
 -- the table of a text: whether it is short enough, its value, and what it says
 abbrev table : Bool → Option Data → Option Draft → Option SessionFault
@@ -32,18 +33,18 @@ abbrev table-on : Draft → Option SessionFault
 table-on draft = first_broken ((in_range draft, Range) ∷ (in_order draft, Order) ∷ (in_digits draft, Hex) ∷ [])
 
 module _ (bytes : List ℕ) where
-  by-table : first_fault_of bytes ≡ table (nat_le (length bytes) 67108864) (json_of bytes) (draft_in bytes)
+  by-table : first_fault_of bytes ≡ table (nat_le (length bytes) LONGEST_SESSION) (json_of bytes) (draft_in bytes)
   unfolding first_fault_of
   by-table = refl
 
   -- a text that is too long
-  pub fault-long : 67108864 < length bytes → first_fault_of bytes ≡ Some Range
-  fault-long long = by-table ∙ ap (λ (fits : Bool). table fits (json_of bytes) (draft_in bytes)) (lt-leb (length bytes) 67108864 long)
+  pub fault-long : LONGEST_SESSION < length bytes → first_fault_of bytes ≡ Some Range
+  fault-long long = by-table ∙ ap (λ (fits : Bool). table fits (json_of bytes) (draft_in bytes)) (lt-leb (length bytes) LONGEST_SESSION long)
 
   module _ (fits : Fits bytes) where
     by-json : (json : Option Data) → json_of bytes ≡ json → first_fault_of bytes ≡ table true json (json >>= draft_of)
     by-json json is =
-        by-table ∙ ap (λ (b : Bool). table b (json_of bytes) (draft_in bytes)) (le-leb (length bytes) 67108864 fits)
+        by-table ∙ ap (λ (b : Bool). table b (json_of bytes) (draft_in bytes)) (le-leb (length bytes) LONGEST_SESSION fits)
         ∙ ap (λ (j : Option Data). table true j (j >>= draft_of)) is
 
     -- one without a value
@@ -169,7 +170,7 @@ faultless bytes none =
 -- ---- a text that is cut off
 
 -- one that is cut off behind more bytes than a session may have has the fault of the whole
-pub fault-cut : (n : ℕ) (bytes : List ℕ) → 67108864 < n → n ≤ length bytes → first_fault_of (take n bytes) ≡ first_fault_of bytes
+pub fault-cut : (n : ℕ) (bytes : List ℕ) → LONGEST_SESSION < n → n ≤ length bytes → first_fault_of (take n bytes) ≡ first_fault_of bytes
 fault-cut n bytes over within =
-    let long : 67108864 < length (take n bytes) = simp length-take (omega arith) in
+    let long : LONGEST_SESSION < length (take n bytes) = simp length-take (omega arith) in
     fault-long (take n bytes) long ∙ sym (fault-long bytes (omega arith))

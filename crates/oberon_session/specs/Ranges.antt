@@ -2,10 +2,12 @@
 -- are named in `oberon_format`.
 use Rattle.std.specs.Prelude.{ℕ, ◌^◌, ◌&&◌, nat_le, nat_lt, Bool, true, List, [], ◌∷◌, length, map}
 use Rattle.std.specs.List.{list_all}
+use Rattle.risc_core.specs.declared.branch.TheConstants.{COUNTER_END}
 use Rattle.risc_devices.specs.DeviceState.{is_phase}
 use Rattle.risc_devices.specs.InputKind.{is_input}
 use Rattle.oberon_session.specs.Draft.{Draft, InputNumbers, PageText, Start}
-use Rattle.oberon_format.specs.declared.ranges.TheConstants.{LAST_CHECKPOINT, MAX_COUNT, MAX_EVENTS}
+use Rattle.risc_machine.specs.declared.inputs.TheConstants.{MAX_COUNT}
+use Rattle.oberon_format.specs.declared.ranges.TheConstants.{LAST_CHECKPOINT, MAX_EVENTS}
 
 -- ---- ranges
 
@@ -13,12 +15,12 @@ use Rattle.oberon_format.specs.declared.ranges.TheConstants.{LAST_CHECKPOINT, MA
 abbrev pub timer_fits : ℕ → ℕ → Bool
 timer_fits rate phase = nat_lt rate (2 ^ 32) && nat_lt phase (2 ^ 32) && is_phase rate phase
 
--- words, a program counter of 22 bits, four flags, and the timer's rate and phase
+-- words, a program counter, four flags, and the timer's rate and phase
 abbrev pub start_fits : Start → Bool
 start_fits start =
     list_all (λ register. nat_lt register (2 ^ 32)) start.registers
     && nat_lt start.h (2 ^ 32)
-    && nat_lt start.pc (2 ^ 22)
+    && nat_lt start.pc COUNTER_END
     && nat_lt start.flags 16
     && timer_fits start.rate start.phase
 

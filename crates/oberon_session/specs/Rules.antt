@@ -10,6 +10,7 @@ use Rattle.oberon_session.specs.Ranges.{in_order, in_range}
 use Rattle.oberon_session.specs.Shape.{◌>>=◌}
 use Rattle.oberon_session.specs.declared.fault.SessionFault.{SessionFault}
 use Rattle.oberon_session.specs.declared.fault.SessionFault.TheVariants as fault
+use Rattle.oberon_session.specs.declared.reading.TheConstants.{LONGEST_SESSION}
 
 -- a rule: whether it holds, and the fault where it doesn't
 abbrev pub Rule : Type 0
@@ -40,7 +41,7 @@ in_digits draft = is_some (all_placed_of draft.pages)
 -- all rules
 abbrev pub rules : List ℕ → List Rule
 rules bytes =
-    (nat_le (length bytes) 67108864, fault.Range)
+    (nat_le (length bytes) LONGEST_SESSION, fault.Range)
     ∷ (is_some (json_of bytes), fault.Json)
     ∷ (is_some (draft_in bytes), fault.Shape)
     ∷ (says in_range (draft_in bytes), fault.Range)

@@ -10,6 +10,7 @@ use Rattle.oberon_session.specs.Rules.{draft_in, first_fault_of}
 use Rattle.oberon_session.specs.SessionParts.{SessionParts}
 use Rattle.oberon_session.specs.declared.fault.SessionFault.{SessionFault}
 use Rattle.oberon_session.specs.declared.fault.SessionFault.TheVariants as fault
+use Rattle.oberon_session.specs.declared.reading.TheConstants.{LONGEST_SESSION}
 
 -- ---- what a draft says
 
@@ -34,7 +35,7 @@ pub record Says (draft : Draft) (session : SessionParts) : Type 0 where
 
 -- the text is not too long
 abbrev pub Fits : List ℕ → Type 0
-Fits bytes = length bytes ≤ 67108864
+Fits bytes = length bytes ≤ LONGEST_SESSION
 
 -- the text breaks no rule, and is that of this session
 abbrev pub IsSession : List ℕ → SessionParts → Type 0

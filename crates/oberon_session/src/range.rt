@@ -11,6 +11,7 @@ ghost use Rattle.oberon_session.specs.SessionParts.{CountsFit};
 
 use crate::draft::{Draft, PageDraft, StartDraft};
 use oberon_format::{LAST_CHECKPOINT, MAX_COUNT};
+use risc_core::COUNTER_END;
 use risc_devices::is_phase_at;
 
 /// Whether the numbers of the first state, of pages and of checkpoints are in their ranges.
@@ -33,7 +34,7 @@ fn start_fits(start: &StartDraft) -> bool
 {
     registers_fit(&start.registers)
         && start.h < 1 << 32
-        && start.pc < 1 << 22
+        && start.pc < COUNTER_END as u64
         && start.flags < 16
         && timer_fits(start.rate, start.phase)
 }

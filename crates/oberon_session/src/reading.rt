@@ -19,20 +19,20 @@ use risc_machine::{Cpu, Flags, Inputs};
 use serde_json::{Error, Value};
 use std::alloc::Global;
 
-/// The longest text of a session, in bytes.
-const LONGEST: usize = 67_108_864;
+/// The longest text of a session, in bytes (this project's own choice).
+pub const LONGEST_SESSION: usize = 67_108_864;
 
 /// The session of a text, or the first rule that the text breaks.
 ///
-/// The rules, in the order in which they are tested: the text has at most 67,108,864 bytes (`Range`), is JSON (`Json`), has the
-/// shape of a session (`Shape`), and its numbers are in their ranges (`Range`); places of pages and counts of checkpoints rise,
-/// and counts of inputs don't fall (`Order`); and pages are written in pairs of hexadecimal digits (`Hex`). Where memory is
-/// wanting, `Memory` may stand in place of each answer, save where the text is too long.
+/// The rules, in the order in which they are tested: the text has at most `LONGEST_SESSION` bytes (`Range`), is JSON (`Json`),
+/// has the shape of a session (`Shape`), and its numbers are in their ranges (`Range`); places of pages and counts of
+/// checkpoints rise, and counts of inputs don't fall (`Order`); and pages are written in pairs of hexadecimal digits (`Hex`).
+/// Where memory is wanting, `Memory` may stand in place of each answer, save where the text is too long.
 pub fn read_session(alloc: Global, bytes: &[u8]) -> Result<Session, SessionFault>
     ensures ok { IfOk result (IsSession bytes.now) }
     ensures err { IfErr result (Breaks bytes.now) }
 {
-    if bytes.len() > LONGEST {
+    if bytes.len() > LONGEST_SESSION {
         return Err(SessionFault::Range);
     }
     match Value::from_slice(alloc, bytes) {

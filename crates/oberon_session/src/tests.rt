@@ -3,6 +3,7 @@
 mod recorded;
 
 use crate::{SessionFault, read_session};
+use oberon_format::MAX_COUNT;
 use std::alloc::Global;
 use std::test::Fail;
 
@@ -249,10 +250,10 @@ fn reads_a_whole_session(rt: HostRuntime) -> Result<(), Fail> {
     assert!(rt; words[0] == 0x4000_0005 && words[1] == 0xE7FF_FFFF && words[2] == 0xAA);
     assert!(rt; words[3] == 0 && words[255] == 0 && session.pages[1].page.words[0] == 0);
     let events = session.inputs.events();
-    assert!(rt; events.len() == 5 && events[2].count == 3 && events[4].count == 1 << 40);
+    assert!(rt; events.len() == 5 && events[2].count == 3 && events[4].count == MAX_COUNT);
     assert!(rt; events[0].input.kind() == 1 && events[2].input.value() == 121_631_743);
     assert!(rt; events[3].input.kind() == 4 && events[3].input.value() == 65);
-    assert!(rt; session.counts.as_slice() == [1, 100, 1 << 40].as_slice());
+    assert!(rt; session.counts.as_slice() == [1, 100, MAX_COUNT].as_slice());
     Ok(())
 }
 

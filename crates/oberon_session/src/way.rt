@@ -1,6 +1,7 @@
 //! The way of a machine from one checkpoint to the next.
 
-ghost use Rattle.std.specs.Prelude.{◌≡◌, ◌≢◌, ◌-◌, ◌<◌, ◌≤◌, ◌^◌, IfOk, IfErr, OnOk, length};
+ghost use Rattle.std.specs.Prelude.{◌≡◌, ◌≢◌, ◌-◌, ◌<◌, ◌≤◌, IfOk, IfErr, OnOk, length};
+ghost use Rattle.risc_core.specs.declared.branch.TheConstants.{COUNTER_END};
 ghost use Rattle.risc_pages.specs.Tables.{IsNamed};
 ghost use Rattle.risc_machine.specs.Refusal.{Keeps, MayFail};
 ghost use Rattle.risc_machine.specs.Replay.{run_of, sent_of};
@@ -37,7 +38,7 @@ pub fn reach(
     room: usize,
 ) -> Result<Reached, RecordFault>
     requires named { IsNamed pool.now last.now.table }
-    requires counter { last.now.cpu.pc < 2 ^ 22 }
+    requires counter { last.now.cpu.pc < COUNTER_END }
     requires stop { last.now.cpu.stop ≤ 4 }
     requires rises { last.now.count ≤ to }
     ensures reached { let begun = (claim_of pool.now (checkpoint_parts last.now)).state in

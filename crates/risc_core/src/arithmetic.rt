@@ -47,7 +47,7 @@ pub const fn alu(
     requires { op < 16 }
     ensures value { result ≡ outcome_of op u imm v b c h flags }
     ensures float { (result ≡ Err Stop.Float) ↔ (12 ≤ op) }
-    ensures divisor { (result ≡ Err Stop.Divisor) ↔ ((op ≡ 11) × (signed c <ℤ pos 1)) }
+    ensures divisor { (result ≡ Err Stop.Divisor) ↔ ((op ≡ DIV) × (signed c <ℤ pos 1)) }
 {
     match op {
         ADD => Ok(sum_output(add(u, b, c, flags.c), h, flags)),
@@ -70,11 +70,11 @@ pub const fn alu_beside_sums(
     flags: Flags,
 ) -> Result<AluOut, Stop>
     requires op { op < 16 }
-    requires not_add { op ≢ 8 }
-    requires not_subtract { op ≢ 9 }
+    requires not_add { op ≢ ADD }
+    requires not_subtract { op ≢ SUB }
     ensures value { result ≡ outcome_of op u imm v b c h flags }
     ensures float { (result ≡ Err Stop.Float) ↔ (12 ≤ op) }
-    ensures divisor { (result ≡ Err Stop.Divisor) ↔ ((op ≡ 11) × (signed c <ℤ pos 1)) }
+    ensures divisor { (result ≡ Err Stop.Divisor) ↔ ((op ≡ DIV) × (signed c <ℤ pos 1)) }
 {
     match op {
         MUL => Ok(multiply(u, b, c, flags)),
@@ -102,7 +102,7 @@ pub const fn simple_value(
     h: u32,
     flags: Flags,
 ) -> u32
-    requires { op < 8 }
+    requires { op < ADD }
     ensures { outcome_of op u imm v b c h flags ≡ Ok (output_of result h flags) }
 {
     match op {

@@ -1,6 +1,7 @@
--- When a list of inputs is in order (this project's own choice): counts don't fall, and none is above 2 ^ 40.
-use Rattle.std.specs.Prelude.{ℕ, ◌≤◌, ◌<◌, ◌-◌, ◌^◌, ◌==◌, if◌then◌else◌, List, map, length, slice_index}
+-- When a list of inputs is in order (this project's own choice): counts don't fall, and none is above `MAX_COUNT`.
+use Rattle.std.specs.Prelude.{ℕ, ◌≤◌, ◌<◌, ◌-◌, ◌==◌, if◌then◌else◌, List, map, length, slice_index}
 use Rattle.risc_machine.specs.declared.event.Event.{Event}
+use Rattle.risc_machine.specs.declared.inputs.TheConstants.{MAX_COUNT}
 
 -- the count of the input at a place
 abbrev pub count_at : List Event → ℕ → ℕ
@@ -10,9 +11,9 @@ count_at es place = slice_index (map (λ e. e.count) es) place
 abbrev pub count_before : List Event → ℕ → ℕ
 count_before es place = if place == 0 then 0 else count_at es (place - 1)
 
--- the count at a place is not below the one before it, and at most 2 ^ 40
+-- the count at a place is not below the one before it, and at most the greatest
 abbrev pub IsRightPlace : List Event → ℕ → Type 0
-IsRightPlace es place = (count_before es place ≤ count_at es place) × (count_at es place ≤ 2 ^ 40)
+IsRightPlace es place = (count_before es place ≤ count_at es place) × (count_at es place ≤ MAX_COUNT)
 
 -- each place is right
 abbrev pub AreOrdered : List Event → Type 0

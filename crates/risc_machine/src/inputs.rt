@@ -1,6 +1,6 @@
 //! Inputs in their order, and those that a machine has still to take. One input with its count is in `event`; what an input does is
 //! with the devices.
-ghost use Rattle.std.specs.Prelude.{◌≡◌, IfOk, IfErr, IfNone, IfSome, ◌≤◌, ◌<◌, ◌+◌, ◌-◌, ◌^◌, length};
+ghost use Rattle.std.specs.Prelude.{◌≡◌, IfOk, IfErr, IfNone, IfSome, ◌≤◌, ◌<◌, ◌+◌, ◌-◌, length};
 ghost use Rattle.risc_machine.specs.InputOrder.{AreOrdered, IsFirstWrong};
 ghost use Rattle.risc_machine.specs.Replay.{fed};
 ghost use Rattle.risc_machine.specs.inner.Due.{IsNextAt};
@@ -9,10 +9,10 @@ use crate::event::Event;
 use risc_devices::Devices;
 use std::marker::Model;
 
-/// The highest count that an input may have: 2^40.
-const LAST_COUNT: u64 = 1 << 40;
+/// The greatest count that an input or a checkpoint may have: 2^40 (this project's own choice).
+pub const MAX_COUNT: u64 = 1 << 40;
 
-/// Inputs whose counts don't fall and are at most 2^40 (this project's own choice). Contracts see the list of events.
+/// Inputs whose counts don't fall and are at most `MAX_COUNT` (this project's own choice). Contracts see the list of events.
 #[derive(Drop)]
 pub struct Inputs {
     list: Vec<Event>,
@@ -30,7 +30,7 @@ impl Model for Inputs {
     ghost invariant = { λ i. AreOrdered i.list.items };
 }
 
-/// Events that are not in order, with the first wrong place: there the count falls, or is above 2^40.
+/// Events that are not in order, with the first wrong place: there the count falls, or is above `MAX_COUNT`.
 #[derive(Drop)]
 pub struct Unordered {
     /// The events, as they were handed in.
@@ -51,7 +51,7 @@ impl Unordered {
 }
 
 impl Inputs {
-    /// The inputs of a list, whose counts don't fall and are at most 2^40.
+    /// The inputs of a list, whose counts don't fall and are at most `MAX_COUNT`.
     ///
     /// Another list is handed back, with the first place at which it is wrong. This takes no memory.
     pub fn new(list: Vec<Event>) -> Result<Inputs, Unordered>
@@ -83,7 +83,7 @@ fn first_wrong(list: &[Event]) -> Option<usize>
 {
     let mut least = 0;
     for (place, event) in list.iter().enumerate() {
-        if event.count < least || event.count > LAST_COUNT {
+        if event.count < least || event.count > MAX_COUNT {
             return Some(place);
         }
         least = event.count;

@@ -28,7 +28,7 @@ mod status;
 
 pub use cpu::Cpu;
 pub use event::Event;
-pub use inputs::{Inputs, Unordered};
+pub use inputs::{Inputs, MAX_COUNT, Unordered};
 pub use laws::{lane_law, run_law, stop_law, stopped_law};
 pub use machine::Machine;
 pub use replay::RunFault;

@@ -431,7 +431,7 @@ fn runs_off_the_end_and_stays_there(rt: HostRuntime) {
         ..STILL
     };
     assert_eq!(rt;
-        run_of(&rt, rt.alloc(), empty, &[(300_000, 1, 7)], 1 << 40),
+        run_of(&rt, rt.alloc(), empty, &[(300_000, 1, 7)], MAX_COUNT),
         want
     );
 }
@@ -522,12 +522,11 @@ fn steps_and_closes(rt: HostRuntime) {
 
 #[test]
 fn hands_back_inputs_that_are_out_of_order(rt: HostRuntime) {
-    let last = 1 << 40;
     let rows = [
         ([(0, 1, 0), (5, 1, 0), (4, 1, 0)], Some(2)),
         ([(7, 1, 0), (5, 1, 0), (6, 1, 0)], Some(1)),
-        ([(last + 1, 1, 0), (0, 1, 0), (0, 1, 0)], Some(0)),
-        ([(0, 1, 0), (0, 1, 0), (last, 1, 0)], None),
+        ([(MAX_COUNT + 1, 1, 0), (0, 1, 0), (0, 1, 0)], Some(0)),
+        ([(0, 1, 0), (0, 1, 0), (MAX_COUNT, 1, 0)], None),
     ];
     for (row, want) in rows {
         match inputs_of(&rt, rt.alloc(), &row) {

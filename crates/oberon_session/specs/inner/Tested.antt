@@ -5,9 +5,11 @@ use Rattle.std.specs.List.{All}
 use Rattle.std.specs.List.Sorted.{IsStrictlyIncreasing}
 use Rattle.serde_json.specs.Data.{Data}
 use Rattle.serde_json.specs.Read.{read}
+use Rattle.risc_core.specs.declared.branch.TheConstants.{COUNTER_END}
 use Rattle.risc_devices.specs.InputKind.{IsInput}
 use Rattle.risc_machine.specs.declared.event.Event.{Event}
 use Rattle.risc_machine.specs.InputOrder.{AreOrdered}
+use Rattle.risc_machine.specs.declared.inputs.TheConstants.{MAX_COUNT}
 use Rattle.oberon_session.specs.Digits.{all_placed_of}
 use Rattle.oberon_session.specs.Draft.{Draft, InputNumbers, PageText, Start, draft_of}
 use Rattle.oberon_session.specs.inner.Drafts.{page_view, start_view}
@@ -18,13 +20,13 @@ use Rattle.oberon_session.specs.declared.draft.Draft.{Draft as DraftValue}
 use Rattle.oberon_session.specs.declared.draft.PageDraft.{PageDraft}
 use Rattle.oberon_session.specs.declared.fault.SessionFault.{SessionFault}
 use Rattle.oberon_session.specs.declared.fault.SessionFault.TheVariants as fault
-use Rattle.oberon_format.specs.declared.ranges.TheConstants.{MAX_COUNT, MAX_EVENTS}
+use Rattle.oberon_format.specs.declared.ranges.TheConstants.{MAX_EVENTS}
 
 -- ---- ranges and order
 
 abbrev pub StartFits : Start → Type 0
 StartFits start =
-    All (λ register. register < 2 ^ 32) start.registers × (start.h < 2 ^ 32) × (start.pc < 2 ^ 22) × (start.flags < 16)
+    All (λ register. register < 2 ^ 32) start.registers × (start.h < 2 ^ 32) × (start.pc < COUNTER_END) × (start.flags < 16)
     × IsTrue (timer_fits start.rate start.phase)
 
 abbrev pub PageFits : PageText → Type 0

@@ -2,7 +2,7 @@
 
 use super::{START, START_2};
 use crate::{RecordFault, make_recording, read_session};
-use oberon_format::{Recording, write};
+use oberon_format::{MAX_COUNT, Recording, write};
 use std::alloc::Global;
 use std::process::Abort;
 use std::test::Fail;
@@ -136,7 +136,7 @@ fn refuses_too_many_pages_and_output_first(rt: HostRuntime) -> Result<(), Fail> 
     let counts = rounds_and(alloc, 262_402)?;
     let refused = recorded(alloc, FILLS, counts.as_str())?.err();
     assert!(rt; refused == Some(RecordFault::Pages));
-    let counts = rounds_and(alloc, 1 << 40)?;
+    let counts = rounds_and(alloc, MAX_COUNT)?;
     let refused = recorded(alloc, FILLS, counts.as_str())?.err();
     assert!(rt; refused == Some(RecordFault::Output));
     Ok(())

@@ -3,7 +3,7 @@
 use super::checked::{Crew, checked};
 use super::texts::{Claim, JUMP, header, stored_run, text_of};
 use oberon_check::FreeGate;
-use oberon_format::{Recording, read};
+use oberon_format::{MAX_COUNT, Recording, read};
 use risc_machine::Machine;
 use std::alloc::Global;
 use std::test::Fail;
@@ -12,8 +12,6 @@ const TWO: Crew = Crew {
     workers: 2,
     cut: 64,
 };
-
-const LAST_COUNT: u64 = 1 << 40;
 
 /// A byte is stored at the serial line's place, and stands at the text's end.
 fn one_byte_sent(alloc: Global) -> Result<Vec<u8>, Fail> {
@@ -138,11 +136,11 @@ fn the_last_count_and_the_one_after(rt: HostRuntime) -> Result<(), Fail> {
     let alloc = rt.alloc();
     for (count, expected) in [
         (
-            LAST_COUNT,
+            MAX_COUNT,
             b"accepted 1 checkpoints 1099511627776 steps\n".as_slice(),
         ),
         (
-            LAST_COUNT + 1,
+            MAX_COUNT + 1,
             b"refused 6 checkpoint at byte 5276\n".as_slice(),
         ),
     ] {
@@ -166,13 +164,13 @@ fn has_first_memory(machine: &Machine<'_>, r: &Recording) -> bool {
 #[test]
 fn a_stopped_machine_runs_to_the_last_count(rt: HostRuntime) -> Result<(), Fail> {
     let alloc = rt.alloc();
-    let text = divisor_stop(alloc, LAST_COUNT)?;
+    let text = divisor_stop(alloc, MAX_COUNT)?;
     let r = read(alloc, text.as_slice())?;
     let first = r.checkpoint(0);
     let mut cpu = first.cpu;
     let mut machine = Machine::start(alloc, r.pool(), &first.table, cpu, first.devices.copy())?;
     let mut sent = Vec::new(alloc);
-    machine.run(r.inputs(), 0, LAST_COUNT, &mut sent)?;
+    machine.run(r.inputs(), 0, MAX_COUNT, &mut sent)?;
     cpu.stop = 2;
     assert_eq!(rt; *machine.cpu(), cpu);
     let devices = machine.devices();

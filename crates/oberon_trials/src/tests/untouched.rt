@@ -5,7 +5,7 @@ use super::checked::{Crew, checked};
 use super::gates::{Hold, HoldingGate, counters};
 use super::texts::{Claim, JUMP, text_of};
 use oberon_check::{Part, Verdict, check_recording};
-use oberon_format::read;
+use oberon_format::{MAX_COUNT, read};
 use std::alloc::Global;
 use std::sync::atomic::{AtomicU64, Ordering};
 use std::test::Fail;
@@ -15,8 +15,8 @@ fn long_text(alloc: Global) -> Result<Vec<u8>, Fail> {
     let claims = [
         Claim::at(0),
         Claim::lit(10, 1),
-        Claim::at((1 << 40) - 10),
-        Claim::at(1 << 40),
+        Claim::at(MAX_COUNT - 10),
+        Claim::at(MAX_COUNT),
     ];
     text_of(alloc, &[JUMP], &claims)
 }

@@ -3,8 +3,8 @@ use Rattle.std.proofs.lemmas.Result.{IfErr-weaker, IfOk-weaker}
 use Rattle.oberon_session.proofs.Table.{breaks-text, fault-long, refused-text, session-text}
 use Rattle.oberon_session.proofs.reading.read_session.Goals as goal
 
-pub returns-then-bytes-gt-LONGEST-clause-err : goal.returns-then-bytes-gt-LONGEST-clause-err
-returns-then-bytes-gt-LONGEST-clause-err c = fault-long c.args.bytes.now (omega arith)
+pub returns-then-bytes-gt-LONGEST_SESSION-clause-err : goal.returns-then-bytes-gt-LONGEST_SESSION-clause-err
+returns-then-bytes-gt-LONGEST_SESSION-clause-err c = fault-long c.args.bytes.now (omega arith)
 
 pub returns-in-Ok-clause-ok : goal.returns-in-Ok-clause-ok
 returns-in-Ok-clause-ok c =
