@@ -1,4 +1,4 @@
-//! A recording made of its parts, or refused with the first fault of the text that would be laid out of them.
+//! The first fault of the text that would be laid out of the parts of a recording.
 //!
 //! What the types of the parts keep isn't tested again: that registers are words, that inputs are in their ranges and in their order,
 //! that devices are lawful (`AreFormed`). Nothing here takes memory.
@@ -20,42 +20,11 @@ use crate::layout::{
 };
 use crate::limits::limits_fault;
 use crate::ranges::{MAX_CHECKPOINTS, MAX_EVENTS, MAX_PAGES};
-use crate::recording::Recording;
 use risc_machine::Inputs;
 use risc_pages::{Pool, Table};
 
-impl Recording {
-    ghost use Rattle.std.specs.Prelude.{◌≡◌, ◌↔◌, IfErr, IsOk, MatchOption};
-    ghost use Rattle.oberon_format.specs.Line.{IsNamedFault};
-    ghost use Rattle.oberon_format.specs.PartFields.{fault_of_parts};
-    ghost use Rattle.oberon_format.specs.Recording.{parts_of, IsLawful};
-
-    /// The recording of these parts.
-    ///
-    /// Refused exactly where the text laid out of them has a first fault, with that fault: a number too large for its field breaks
-    /// that field's rule. The parts are then given up. Never answers `Memory`.
-    pub fn from_parts(
-        pool: Pool,
-        inputs: Inputs,
-        checkpoints: Vec<Checkpoint>,
-    ) -> Result<Recording, Fault>
-        // The recording has these parts; where their text has a fault, the first one is the answer.
-        ensures parts { let parts = parts_of pool inputs checkpoints.items in
-            MatchOption (fault_of_parts parts) (result ≡ Ok parts) (λ f. result ≡ Err f) }
-        // It is made exactly where they are lawful.
-        ensures lawful { IsOk result ↔ IsLawful (parts_of pool inputs checkpoints.items) }
-        // No memory is taken, and none is wanting.
-        ensures named { IfErr result IsNamedFault }
-    {
-        if let Some(fault) = parts_fault(&pool, &inputs, &checkpoints) {
-            return Err(fault);
-        }
-        Ok(Recording::from_lawful(pool, inputs, checkpoints))
-    }
-}
-
 /// The first fault of the text of these parts.
-fn parts_fault(pool: &Pool, inputs: &Inputs, checkpoints: &[Checkpoint]) -> Option<Fault>
+pub(crate) fn parts_fault(pool: &Pool, inputs: &Inputs, checkpoints: &[Checkpoint]) -> Option<Fault>
     ensures fault { result ≡ fault_of_parts (parts_of pool.now inputs.now checkpoints.now) }
     ensures lawful { IfNone result (IsLawful (parts_of pool.now inputs.now checkpoints.now)) }
 {

@@ -7,8 +7,16 @@ ghost use Rattle.oberon_replay.specs.Asked.{request_in, number_at, request_of};
 use crate::command::program;
 use clap::error::ErrorKind;
 use clap::{ArgMatches, Error};
-use oberon_format::LAST_CHECKPOINT;
+use oberon_format::{LAST_CHECKPOINT, LONGEST_TEXT};
+use oberon_session::LONGEST_SESSION;
 use std::alloc::{AllocError, Global};
+
+/// One byte more than the longest text of a recording has. A longer input has a fault within so many bytes, and none of them is
+/// looked at further on.
+const RECORDING_LIMIT: usize = LONGEST_TEXT + 1;
+
+/// One byte more than the longest text of a session has. A longer input is refused for its length alone.
+const SESSION_LIMIT: usize = LONGEST_SESSION + 1;
 
 /// What the program is to do.
 #[derive(Clone, Copy, Debug, PartialEq, Eq)]
@@ -21,6 +29,21 @@ pub enum Request {
     Screen { at: u32 },
     /// Print the recording that is read as a text of the version that is written.
     Migrate,
+}
+
+impl Request {
+    ghost use Rattle.std.specs.Prelude.{◌≡◌};
+    ghost use Rattle.oberon_replay.specs.Answer.{limit_of};
+
+    /// The most bytes that the command reads.
+    pub fn limit(self) -> usize
+        ensures { result ≡ limit_of self }
+    {
+        match self {
+            Request::Check { .. } | Request::Screen { .. } | Request::Migrate => RECORDING_LIMIT,
+            Request::Record => SESSION_LIMIT,
+        }
+    }
 }
 
 /// Why the words ask for none of these.
