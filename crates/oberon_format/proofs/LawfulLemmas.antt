@@ -4,11 +4,12 @@ use Rattle.std.specs.Prelude.{slice_index, replicate, nat_le, nat_lt, not, if◌
 use Rattle.std.specs.List.{list_all}
 use Rattle.std.specs.Option.{IfNone}
 use Rattle.std.proofs.lemmas.Bool.{le-leb, lt-ltb, leb-true, ltb-true, ne_eqb}
-use Rattle.std.proofs.lemmas.List.{drop_at, get_or_default}
+use Rattle.std.proofs.lemmas.List.{drop_at, get_or_default, nil_from_length}
 use Rattle.std.proofs.lemmas.Bool.Decides.{nat_tests}
 use Rattle.risc_core.specs.Flags.{flags_number}
 use Rattle.risc_core.proofs.FlagsLemmas.{number_below}
 use Rattle.risc_devices.specs.DeviceState.{DeviceState, IsDeviceState, is_phase, serial_number}
+use Rattle.risc_pages.proofs.PoolLemmas.{zero_number}
 use Rattle.risc_devices.specs.InputKind.{is_input, is_mouse}
 use Rattle.risc_machine.specs.declared.event.Event.{Event}
 use Rattle.risc_machine.specs.InputOrder.{AreOrdered}
@@ -29,7 +30,7 @@ use Rattle.oberon_format.specs.Ranges.{is_version, is_count, is_output, in_range
 use Rattle.oberon_format.specs.Recording.{RecordingParts, IsLawful, checkpoint_at, count_at, table_before, output_of}
 use Rattle.oberon_format.specs.Rules.{header_rules, limit_rules, named_len, event_rules, event_floor, place_floor, stood, count_before, checkpoint_rules, rules}
 use Rattle.oberon_format.proofs.ChangeLemmas.{change_in, after-bounded, changes-lawful, changes-make, changes-new}
-use Rattle.oberon_format.proofs.PartLemmas.{member, event_here, before_more, sent_none, sent_more, sent_all, stood_laid, table_next, zero_number, total_le, laid_few, laid_first, laid_le, changed_room, ends_met}
+use Rattle.oberon_format.proofs.PartLemmas.{member, event_here, before_more, sent_none, sent_more, sent_all, stood_laid, table_next, total_rises, laid_few, laid_first, laid_le, changed_room, ends_met}
 use Rattle.oberon_format.proofs.RuleLemmas.{any_in_end, any_in_checkpoints, AreMet, met_parts, parts_met, each_holds, each_all, and_left, and_right, version_cases, ChangedMet, whole_met, whole_meets, changed_met, changed_meets}
 use Rattle.oberon_format.proofs.Tables.{change_named}
 
@@ -134,10 +135,6 @@ bounded_output k sent own h = grind (arith, nat_tests)
 next_output : (k sent own : ℕ) → sent + own ≤ MAX_OUTPUT → is_output (k + 1) sent own ≡ true
 next_output k sent own h = grind (arith, nat_tests)
 
-length_nil : (xs : List ℕ) → length xs ≡ 0 → xs ≡ []
-length_nil [] h = refl
-length_nil (x ∷ xs) h = absurd (omega arith)
-
 -- a checkpoint whose fields are in their ranges
 record FieldsMet (v : ℕ) (r : RecordingParts) (k : ℕ) : Type 0 where
   count : is_count k (count_before (fields_laid v r) k) (count_at r k) ≡ true
@@ -184,7 +181,7 @@ changed_numbers v r k p later met lt old =
 -- and so the numbers of all tables name pages
 all_numbers : (v : ℕ) (r : RecordingParts) (n : ℕ) → v ≡ VERSION → ((k : ℕ) → k < n → ChangedMet (fields_laid v r) k) → (k p : ℕ) → k ≤ n → p < PLACES
     → slice_index (table_before r.checkpoints k) p ≤ length r.pool
-all_numbers v r n later met zero p le lt = let none = zero_number p lt in omega arith
+all_numbers v r n later met zero p le lt = let none = zero_number p in omega arith
 all_numbers v r n later met (suc k) p le lt =
     let so_far = all_numbers v r n later met k p (omega arith) lt in
     subst (λ (table : List ℕ). slice_index table p ≤ length r.pool) (sym (table_next r.checkpoints k))
@@ -228,7 +225,7 @@ met_lawful v r known pages ordered formed met =
       begins = first_count (count_before f 0) (count_at r 0) zero_met.count;
       rises = λ k lt.
           subst (λ (m : ℕ). m < count_at r (k + 1)) (before_more f k) (next_count k (count_before f (k + 1)) (count_at r (k + 1)) (each_met (k + 1) lt).count);
-      silent = length_nil (checkpoint_at r 0).sent (first_output (sent_below f 0) (length (checkpoint_at r 0).sent) zero_met.output);
+      silent = nil_from_length (checkpoint_at r 0).sent (first_output (sent_below f 0) (length (checkpoint_at r 0).sent) zero_met.output);
       output = omega arith;
       fit = λ k lt.
           let m = each_met k lt in
@@ -293,7 +290,7 @@ output_met v r (suc k) lawful lt =
     let n = length r.checkpoints in
     let next : suc k ≡ k + 1 = sym (add-one k) in
     let more = sent_more f (k + 1) in
-    let up = total_le (λ i. (f.checkpoint i).output) (k + 1 + 1) n (omega arith) in
+    let up = total_rises (λ i. (f.checkpoint i).output) (k + 1 + 1) n (omega arith) in
     let all = sent_all v r in
     let limit = lawful.output in
     let fits : sent_below f (k + 1) + length (checkpoint_at r (k + 1)).sent ≤ MAX_OUTPUT = omega arith in

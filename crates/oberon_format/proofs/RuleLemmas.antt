@@ -8,7 +8,7 @@ use Rattle.oberon_format.specs.declared.layout.TheConstants.{MAGIC, FIRST_VERSIO
 use Rattle.std.proofs.lemmas.Bool.Decides.{nat_tests}
 use Rattle.oberon_format.specs.Fields.{Fields, sent_below, total}
 use Rattle.oberon_format.specs.FirstFault.{Rule, each, first_broken}
-use Rattle.oberon_format.specs.Layout.{page_number_place, change_place, checkpoints, event_place, events, long_at, pages, start, version, word_at}
+use Rattle.oberon_format.specs.Layout.{page_number_place, change_place, checkpoints, event_place, events, long_at, start, version, word_at}
 use Rattle.oberon_format.specs.Ranges.{is_version, is_change, is_checkpoint, is_event}
 use Rattle.oberon_format.specs.Rules.{checkpoint_rules, whole_rules, changed_rules, change_rules, place_floor, stood, count_before, end_rules, event_floor, event_rules, header_rules, page_number_rules, rules, whole}
 use Rattle.oberon_format.specs.inner.Tested.{IsSized, Meets}

@@ -2,8 +2,8 @@
 use Rattle.std.proofs.Common.{◌≡◌, ◌<◌, ◌≤◌, ◌+◌, ◌-◌, ◌∙◌, ℕ, zero, suc, Bool, false, List, [], ◌∷◌, ◌++◌, length, Some, None, refl, sym, ap, arith}
 use Rattle.std.specs.Prelude.{nat_le, slice_index, ◌==◌, if◌then◌else◌}
 use Rattle.std.proofs.lemmas.Bool.{le-leb, lt-leb, ne_eqb}
-use Rattle.std.proofs.lemmas.List.{get_or-replicate}
 use Rattle.risc_pages.specs.Tables.{zero_numbers}
+use Rattle.risc_pages.proofs.PoolLemmas.{zero_number}
 use Rattle.oberon_format.specs.declared.change.Change.{Change}
 use Rattle.oberon_format.specs.declared.fault.Fault.{Fault}
 use Rattle.oberon_format.specs.declared.fault.Fault.TheVariants as fault
@@ -65,13 +65,12 @@ number_second text k p is = rw (is_later (version text) is) refl
 
 -- those before checkpoint 0
 pub numbers_none : (text : List ℕ) → HasNumbers zero_numbers (number_before text 0)
-unfolding number_before zero_numbers
-numbers_none text p lt = get_or-replicate PLACES p 0 0 lt
+unfolding number_before
+numbers_none text p lt = zero_number p
 
 -- what stood before checkpoint 0
 pub stood_none : (f : Fields) → HasNumbers zero_numbers (stood f 0)
-unfolding zero_numbers
-stood_none f p lt = get_or-replicate PLACES p 0 0 lt
+stood_none f p lt = zero_number p
 
 -- what stood before a checkpoint that is not the first
 pub stood_more : (f : Fields) (k p : ℕ) → stood f (suc k) p ≡ f.page_number k p
