@@ -18,7 +18,8 @@ use Rattle.oberon_format.specs.declared.change.Change.{Change}
 use Rattle.oberon_format.specs.declared.layout.TheConstants.{MAGIC, FIRST_VERSION, VERSION, FRONT_LEN, MAGIC_AT}
 use Rattle.oberon_format.specs.Changes.{changes}
 use Rattle.oberon_format.specs.CheckpointParts.{CheckpointParts, no_checkpoint}
-use Rattle.oberon_format.proofs.Places.{bytes_at, bytes_at-next, start-laid, laid_rises}
+use Rattle.oberon_format.proofs.PartLemmas.{laid_rises}
+use Rattle.oberon_format.proofs.Places.{bytes_at, bytes_at-next, start-laid}
 use Rattle.oberon_format.specs.Layout.{word_at, long_at, event_place, checkpoint_size, start, output_place}
 use Rattle.oberon_format.specs.PartFields.{changes_laid, start_laid}
 use Rattle.oberon_format.specs.Ranges.{is_version}

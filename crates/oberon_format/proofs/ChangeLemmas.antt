@@ -32,6 +32,10 @@ pub after_other : (change : ℕ → Change) (stood : ℕ → ℕ) (n p : ℕ) �
 unfolding number_after
 after_other change stood n p ne = cond-false ((change n).place == p) _ _ (ne_eqb _ _ ne)
 
+-- one more, as code counts it
+pub after_next : (change : ℕ → Change) (stood : ℕ → ℕ) (n p : ℕ) → number_after change stood (n + 1) p ≡ number_after change stood (suc n) p
+after_next change stood n p = ap (λ (m : ℕ). number_after change stood m p) (add-one n)
+
 pub after_none : (change : ℕ → Change) (stood : ℕ → ℕ) (p : ℕ) → number_after change stood 0 p ≡ stood p
 unfolding number_after
 after_none change stood p = refl

@@ -34,7 +34,7 @@ floor_more f i = grind (arith, nat_tests)
 pub before_more : (f : Fields) (k : ℕ) → count_before f (k + 1) ≡ (f.checkpoint k).count
 before_more f k = grind (arith, nat_tests)
 
-pub stood_more : (f : Fields) (k p : ℕ) → stood f (k + 1) p ≡ f.page_number k p
+pub stood_more : (f : Fields) (k p : ℕ) → stood f (suc k) p ≡ f.page_number k p
 stood_more f k p = grind (arith, nat_tests)
 
 -- the table before each checkpoint but the first is that of the one before
@@ -48,8 +48,7 @@ table_next cs k =
 pub stood_laid : (v : ℕ) (r : RecordingParts) (k p : ℕ) → p < PLACES → stood (fields_laid v r) k p ≡ slice_index (table_before r.checkpoints k) p
 stood_laid v r zero p lt = sym (zero_number p)
 stood_laid v r (suc k) p lt =
-    ap (λ (n : ℕ). stood (fields_laid v r) n p) (sym (add-one k)) ∙ stood_more (fields_laid v r) k p
-    ∙ ap (λ (table : List ℕ). slice_index table p) (sym (table_next r.checkpoints k))
+    stood_more (fields_laid v r) k p ∙ ap (λ (table : List ℕ). slice_index table p) (sym (table_next r.checkpoints k))
 
 -- what is sent before a checkpoint
 pub sent_none : (f : Fields) → sent_below f 0 ≡ 0
@@ -95,11 +94,11 @@ unfolding start_laid
 laid_next v r k = refl
 
 -- the places of checkpoints rise
-pub laid_le : (v : ℕ) (r : RecordingParts) (k n : ℕ) → k ≤ n → start_laid v r k ≤ start_laid v r n
-laid_le v r k zero le = let e : k ≡ 0 = omega arith in rw e (omega arith)
-laid_le v r k (suc n) le =
+pub laid_rises : (v : ℕ) (r : RecordingParts) (k n : ℕ) → k ≤ n → start_laid v r k ≤ start_laid v r n
+laid_rises v r k zero le = let e : k ≡ 0 = omega arith in rw e (omega arith)
+laid_rises v r k (suc n) le =
     elim (cases_lt k (suc n)) [
-      | inl less ↦ let ih = laid_le v r k n (omega arith) in let next = laid_next v r n in omega arith
+      | inl less ↦ let ih = laid_rises v r k n (omega arith) in let next = laid_next v r n in omega arith
       | inr more ↦ let e : k ≡ suc n = omega arith in rw e (omega arith)
     ]
 

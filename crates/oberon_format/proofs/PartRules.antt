@@ -18,7 +18,7 @@ use Rattle.oberon_format.specs.Recording.{parts_of, RecordingParts, checkpoint_a
 use Rattle.oberon_format.specs.Rules.{field_rules, change_rules, stood, count_before, checkpoint_rules}
 use Rattle.oberon_format.proofs.ChangeLemmas.{change_in}
 use Rattle.oberon_format.proofs.CheckpointLemmas.{checkpoint_at-is}
-use Rattle.oberon_format.proofs.PartLemmas.{laid_le, laid_next, laid_within, changed_room, stood_laid}
+use Rattle.oberon_format.proofs.PartLemmas.{laid_rises, laid_next, laid_within, changed_room, stood_laid}
 use Rattle.oberon_format.proofs.RuleLemmas.{rule_met, rules_changed}
 use Rattle.oberon_format.proofs.SameFields.{same_append, changes_same}
 
@@ -39,7 +39,7 @@ rules_laid r k lt =
     let n = length (changes old new) in
     let place = start_laid VERSION r k in
     let room = changed_room r k in
-    let up = laid_le VERSION r (suc k) (length r.checkpoints) (omega arith) in
+    let up = laid_rises VERSION r (suc k) (length r.checkpoints) (omega arith) in
     let fields = field_rules place k (count_before f k) (sent_below f k) (f.checkpoint k) in
     let tested = each n (change_rules (length r.pool) place (stood f k) (change_in old new)) in
     let left = each n (change_rules (length r.pool) place (slice_index old) (change_in old new)) in

@@ -1,7 +1,7 @@
 -- The first broken rule of lists of rules, and what a text has of which some rules are met.
-use Rattle.std.proofs.Common.{◌≡◌, ◌<◌, ◌≤◌, ◌+◌, ◌-◌, ℕ, zero, suc, Bool, true, false, ◌&&◌, ◌||◌, List, [], ◌∷◌, ◌++◌, length, Some, None, refl, ap, sym, ◌∙◌, arith, add-suc, add-zero, add-one, inl, inr, ◌⊎◌, eq-eqb}
+use Rattle.std.proofs.Common.{◌≡◌, ◌<◌, ◌≤◌, ◌+◌, ◌-◌, ℕ, zero, suc, Bool, true, false, ◌&&◌, List, [], ◌∷◌, ◌++◌, length, Some, None, refl, ap, sym, ◌∙◌, arith, add-suc, add-zero, add-one, inl, inr, ◌⊎◌, eq-eqb}
 use Rattle.std.specs.Prelude.{nat_le, ◌==◌}
-use Rattle.std.proofs.lemmas.Bool.{cases_lt, leb-true, le-leb, eqb-true}
+use Rattle.std.proofs.lemmas.Bool.{cases_lt, or_cases, leb-true, le-leb, eqb-true}
 use Rattle.oberon_format.specs.declared.fault.Fault.{Fault}
 use Rattle.oberon_format.specs.declared.fault.Fault.TheVariants as fault
 use Rattle.oberon_format.specs.declared.layout.TheConstants.{MAGIC, FIRST_VERSION, VERSION, MAGIC_AT, LAST_AT, KIND_AT, VALUE_AT, SENT_AT, CHANGES_AT, PLACES}
@@ -215,13 +215,12 @@ event_input text i meets lt =
     and_right _ _ holds.0
 
 -- which versions there are
-version_of : (v : ℕ) (a b : Bool) → (v == FIRST_VERSION) ≡ a → (v == VERSION) ≡ b → (a || b) ≡ true → (v ≡ FIRST_VERSION) ⊎ (v ≡ VERSION)
-version_of v true b first later h = inl (eqb-true v FIRST_VERSION first)
-version_of v false true first later h = inr (eqb-true v VERSION later)
-version_of v false false first later h = absurd cc
-
 pub version_cases : (v : ℕ) → is_version v ≡ true → (v ≡ FIRST_VERSION) ⊎ (v ≡ VERSION)
-version_cases v known = version_of v (v == FIRST_VERSION) (v == VERSION) refl refl known
+version_cases v known =
+    elim (or_cases (v == FIRST_VERSION) (v == VERSION) known) [
+      | inl first ↦ inl (eqb-true v FIRST_VERSION first)
+      | inr later ↦ inr (eqb-true v VERSION later)
+    ]
 
 pub is_first : (v : ℕ) → v ≡ FIRST_VERSION → (v == FIRST_VERSION) ≡ true
 is_first v is = eq-eqb v FIRST_VERSION is

@@ -1,8 +1,7 @@
 -- Texts and parts with the same fields have the same first fault.
-use Rattle.std.proofs.Common.{◌≡◌, ◌<◌, ◌≤◌, ◌+◌, ◌∙◌, ℕ, zero, suc, Bool, true, false, eqb, List, [], ◌∷◌, ◌++◌, Option, Some, None, sym, ap, arith, add-one, refl}
+use Rattle.std.proofs.Common.{◌≡◌, ◌<◌, ◌≤◌, ◌+◌, ◌∙◌, ℕ, zero, suc, Bool, true, false, eqb, List, [], ◌∷◌, ◌++◌, sym, ap, arith, add-one, refl}
 use Rattle.std.specs.Prelude.{nat_le, ◌==◌, if◌then◌else◌}
 use Rattle.oberon_format.specs.declared.change.Change.{Change}
-use Rattle.oberon_format.specs.declared.fault.Fault.{Fault}
 use Rattle.oberon_format.specs.declared.fault.Fault.TheVariants as fault
 use Rattle.oberon_format.specs.declared.fields.CheckpointFields.{CheckpointFields}
 use Rattle.oberon_format.specs.declared.layout.TheConstants.{FIRST_VERSION, PLACES, CHANGES_AT, LAST_AT, MAGIC, HEADER_LEN, MAGIC_AT, VERSION_AT}
@@ -13,7 +12,7 @@ use Rattle.oberon_format.specs.Ranges.{is_event, is_change, is_version}
 use Rattle.oberon_format.specs.Rules.{limit_rules, header_rules, named_len, event_rules, event_floor, place_of_event, page_number_rules, place_floor, change_rules, stood, field_rules, whole_rules, changed_rules, count_before, checkpoint_rules, end_rules, rules}
 use Rattle.oberon_format.proofs.ChangeLemmas.{floor_same}
 use Rattle.oberon_format.proofs.PartLemmas.{floor_more, before_more, stood_more}
-use Rattle.oberon_format.proofs.RuleLemmas.{met-append, broken-append}
+use Rattle.oberon_format.proofs.SameRules.{same_behind}
 use Rattle.oberon_format.proofs.Tables.{change_same}
 
 -- the same numbers, and the same members as far as these go
@@ -31,14 +30,9 @@ pub record SameFields (f g : Fields) : Type 0 where
   pub change : (k i : ℕ) → k < g.checkpoints → i < (g.checkpoint k).changes → f.change k i ≡ g.change k i
   pub page_number : (k j : ℕ) → k < g.checkpoints → j < PLACES → f.page_number k j ≡ g.page_number k j
 
-by_case : (o : Option Fault) (xs xs' ys ys' : List Rule) → first_broken xs ≡ o → first_broken xs' ≡ o → first_broken ys ≡ first_broken ys'
-    → first_broken (xs ++ ys) ≡ first_broken (xs' ++ ys')
-by_case None xs xs' ys ys' a b e = met-append xs ys a ∙ e ∙ sym (met-append xs' ys' b)
-by_case (Some g) xs xs' ys ys' a b e = broken-append xs ys g a ∙ sym (broken-append xs' ys' g b)
-
 pub same_append : (xs xs' ys ys' : List Rule) → first_broken xs ≡ first_broken xs' → first_broken ys ≡ first_broken ys'
     → first_broken (xs ++ ys) ≡ first_broken (xs' ++ ys')
-same_append xs xs' ys ys' a b = by_case (first_broken xs') xs xs' ys ys' a refl b
+same_append xs xs' ys ys' a b = same_behind xs xs' ys ys' a (λ _. b)
 
 pub same_each : (n : ℕ) (f g : ℕ → List Rule) → ((i : ℕ) → i < n → first_broken (f i) ≡ first_broken (g i)) → first_broken (each n f) ≡ first_broken (each n g)
 unfolding each
@@ -60,9 +54,7 @@ before_same f g (suc k) h =
 
 pub stood_same : (f g : Fields) (k p : ℕ) → ((i : ℕ) → i < k → f.page_number i p ≡ g.page_number i p) → stood f k p ≡ stood g k p
 stood_same f g zero p h = refl
-stood_same f g (suc k) p h =
-    let e : suc k ≡ k + 1 = sym (add-one k) in
-    ap (λ (n : ℕ). stood f n p) e ∙ stood_more f k p ∙ h k (omega arith) ∙ sym (stood_more g k p) ∙ ap (λ (n : ℕ). stood g n p) (sym e)
+stood_same f g (suc k) p h = stood_more f k p ∙ h k (omega arith) ∙ sym (stood_more g k p)
 
 pub total_same : (a b : ℕ → ℕ) (n : ℕ) → ((i : ℕ) → i < n → a i ≡ b i) → total a n ≡ total b n
 unfolding total
