@@ -83,7 +83,7 @@ header_within f h = record {
 }
 
 -- rules that hold behind others
-end_met : (xs rest : List Rule) → first_broken rest ≡ None → first_broken (xs ++ rest) ≡ first_broken xs
+end_met : (xs rest : List (Rule Fault)) → first_broken rest ≡ None → first_broken (xs ++ rest) ≡ first_broken xs
 end_met [] rest h = h
 end_met ((true, f) ∷ xs) rest h = end_met xs rest h
 end_met ((false, f) ∷ xs) rest h = refl
@@ -105,7 +105,7 @@ parts_limits v r known =
     let a : nat_le HEADER_LEN f.long ≡ true = le-leb _ _ (omega arith) in
     let b : nat_le (named_len f) f.long ≡ true = named_there v r in
     let limits = limit_rules (length r.pool) (length r.inputs) (length r.checkpoints) in
-    let rest = λ (holds : Bool). (let xs : List Rule = (true, fault.Limit LAST_AT) ∷ (holds, fault.Short f.long) ∷ [] in xs) in
+    let rest = λ (holds : Bool). (let xs : List (Rule Fault) = (true, fault.Limit LAST_AT) ∷ (holds, fault.Short f.long) ∷ [] in xs) in
     let ends : first_broken (rest (nat_le (named_len f) f.long)) ≡ None = ap (λ (holds : Bool). first_broken (rest holds)) b in
     rw (a, known) (end_met limits (rest (nat_le (named_len f) f.long)) ends)
 

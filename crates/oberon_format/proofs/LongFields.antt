@@ -5,6 +5,7 @@ use Rattle.std.proofs.Common.{◌≡◌, ◌≤◌, ◌<◌, ◌+◌, ◌-◌, �
 use Rattle.std.specs.Prelude.{nat_le}
 use Rattle.std.proofs.lemmas.Bool.{and_parts, cases_lt, le-leb, leb-true}
 use Rattle.oberon_format.specs.declared.change.Change.{Change}
+use Rattle.oberon_format.specs.declared.fault.Fault.{Fault}
 use Rattle.oberon_format.specs.declared.fault.Fault.TheVariants as fault
 use Rattle.oberon_format.specs.declared.fields.CheckpointFields.{CheckpointFields}
 use Rattle.oberon_format.specs.declared.layout.TheConstants.{LONGEST_TEXT, MAGIC, FIRST_VERSION, HEADER_LEN, PLACES, CHANGES_AT, CHANGE_LEN, MAGIC_AT, VERSION_AT, PAGES_AT, EVENTS_AT, CHECKPOINTS_AT, LAST_AT}
@@ -30,7 +31,7 @@ abbrev pub most : ℕ → ℕ → ℕ → ℕ
 most pages events k = event_start pages events + (CHANGES_AT + CHANGE_LEN * PLACES) * k
 
 -- four parts of rules, joined from the right
-regrouped : (a b c d : List Rule) → a ++ b ++ c ++ d ≡ a ++ (b ++ (c ++ d))
+regrouped : (a b c d : List (Rule Fault)) → a ++ b ++ c ++ d ≡ a ++ (b ++ (c ++ d))
 regrouped a b c d = append_assoc (a ++ b) c d ∙ append_assoc a b (c ++ d)
 
 -- what the ranges of a checkpoint say of its output and its changes
@@ -255,29 +256,29 @@ module _ (first version pages events checkpoints last : ℕ) where
 
     module _ (agree : AreFew pages events checkpoints → Agree) (over : LONGEST_TEXT < long) (over' : LONGEST_TEXT < long') where
       -- the rules from each of the header on
-      abbrev from_size : ℕ → ℕ → List Rule → List Rule
+      abbrev from_size : ℕ → ℕ → List (Rule Fault) → List (Rule Fault)
       from_size named n rest = (nat_le named n, fault.Short n) ∷ rest
 
-      abbrev from_last : ℕ → ℕ → List Rule → List Rule
+      abbrev from_last : ℕ → ℕ → List (Rule Fault) → List (Rule Fault)
       from_last named n rest = (last == 0, fault.Limit LAST_AT) ∷ from_size named n rest
 
-      abbrev from_checkpoints : ℕ → ℕ → List Rule → List Rule
+      abbrev from_checkpoints : ℕ → ℕ → List (Rule Fault) → List (Rule Fault)
       from_checkpoints named n rest = (nat_le 1 checkpoints && nat_le checkpoints MAX_CHECKPOINTS, fault.Limit CHECKPOINTS_AT) ∷ from_last named n rest
 
-      abbrev from_events : ℕ → ℕ → List Rule → List Rule
+      abbrev from_events : ℕ → ℕ → List (Rule Fault) → List (Rule Fault)
       from_events named n rest = (nat_le events MAX_EVENTS, fault.Limit EVENTS_AT) ∷ from_checkpoints named n rest
 
-      abbrev from_pages : ℕ → ℕ → List Rule → List Rule
+      abbrev from_pages : ℕ → ℕ → List (Rule Fault) → List (Rule Fault)
       from_pages named n rest = (nat_le pages MAX_PAGES, fault.Limit PAGES_AT) ∷ from_events named n rest
 
-      abbrev from_version : ℕ → ℕ → List Rule → List Rule
+      abbrev from_version : ℕ → ℕ → List (Rule Fault) → List (Rule Fault)
       from_version named n rest = (is_version version, fault.Version VERSION_AT) ∷ from_pages named n rest
 
-      abbrev from_magic : ℕ → ℕ → List Rule → List Rule
+      abbrev from_magic : ℕ → ℕ → List (Rule Fault) → List (Rule Fault)
       from_magic named n rest = (first == MAGIC, fault.Magic MAGIC_AT) ∷ from_version named n rest
 
       -- rules behind the header, which speak only of texts that name few enough parts
-      header_same : (p q : List Rule) → (AreFew pages events checkpoints → first_broken p ≡ first_broken q)
+      header_same : (p q : List (Rule Fault)) → (AreFew pages events checkpoints → first_broken p ≡ first_broken q)
           → first_broken (header_rules f ++ p) ≡ first_broken (header_rules g ++ q)
       header_same p q same =
           let a = named_len f in

@@ -2,6 +2,7 @@
 use Rattle.std.proofs.Common.{◌≡◌, ◌<◌, ◌≤◌, ◌+◌, ◌∙◌, ℕ, zero, suc, Bool, true, false, eqb, List, [], ◌∷◌, ◌++◌, sym, ap, arith, add-one, refl}
 use Rattle.std.specs.Prelude.{nat_le, ◌==◌, if◌then◌else◌}
 use Rattle.oberon_format.specs.declared.change.Change.{Change}
+use Rattle.oberon_format.specs.declared.fault.Fault.{Fault}
 use Rattle.oberon_format.specs.declared.fault.Fault.TheVariants as fault
 use Rattle.oberon_format.specs.declared.fields.CheckpointFields.{CheckpointFields}
 use Rattle.oberon_format.specs.declared.layout.TheConstants.{FIRST_VERSION, PLACES, CHANGES_AT, LAST_AT, MAGIC, HEADER_LEN, MAGIC_AT, VERSION_AT}
@@ -30,11 +31,11 @@ pub record SameFields (f g : Fields) : Type 0 where
   pub change : (k i : ℕ) → k < g.checkpoints → i < (g.checkpoint k).changes → f.change k i ≡ g.change k i
   pub page_number : (k j : ℕ) → k < g.checkpoints → j < PLACES → f.page_number k j ≡ g.page_number k j
 
-pub same_append : (xs xs' ys ys' : List Rule) → first_broken xs ≡ first_broken xs' → first_broken ys ≡ first_broken ys'
+pub same_append : (xs xs' ys ys' : List (Rule Fault)) → first_broken xs ≡ first_broken xs' → first_broken ys ≡ first_broken ys'
     → first_broken (xs ++ ys) ≡ first_broken (xs' ++ ys')
 same_append xs xs' ys ys' a b = same_behind xs xs' ys ys' a (λ _. b)
 
-pub same_each : (n : ℕ) (f g : ℕ → List Rule) → ((i : ℕ) → i < n → first_broken (f i) ≡ first_broken (g i)) → first_broken (each n f) ≡ first_broken (each n g)
+pub same_each : (n : ℕ) (f g : ℕ → List (Rule Fault)) → ((i : ℕ) → i < n → first_broken (f i) ≡ first_broken (g i)) → first_broken (each n f) ≡ first_broken (each n g)
 unfolding each
 same_each zero f g h = refl
 same_each (suc n) f g h = same_append (each n f) (each n g) (f n) (g n) (same_each n f g (λ i lt. h i (omega arith))) (h n (omega arith))
@@ -91,7 +92,7 @@ mixed : Fields → Fields → Fields
 mixed f g = record g { event = f.event; start = f.start; checkpoint = f.checkpoint; change = f.change; page_number = f.page_number }
 
 -- the header looks at two places
-header_at : Fields → ℕ → List Rule
+header_at : Fields → ℕ → List (Rule Fault)
 header_at g long =
     ((nat_le HEADER_LEN g.long, fault.Short g.long)
     ∷ (g.first == MAGIC, fault.Magic MAGIC_AT)
@@ -134,7 +135,7 @@ whole_same f g k lt same =
     let m = mixed f g in
     same_append (field_rules (f.start k) k (count_before m k) (sent_below m k) (f.checkpoint k)) (field_rules (g.start k) k (count_before g k) (sent_below g k) (g.checkpoint k))
     (each PLACES (page_number_rules g.pages (f.start k) (f.page_number k))) (each PLACES (page_number_rules g.pages (g.start k) (g.page_number k)))
-    (ap (λ (xs : List Rule). first_broken xs) (fields_same f g k lt same))
+    (ap (λ (xs : List (Rule Fault)). first_broken xs) (fields_same f g k lt same))
     (ap (λ (n : ℕ). first_broken (each PLACES (page_number_rules g.pages n (f.page_number k)))) (same.start k (omega arith))
     ∙ numbers_same g.pages (g.start k) (f.page_number k) (g.page_number k) (λ j less. same.page_number k j lt less))
 
@@ -143,8 +144,8 @@ changed_same : (f g : Fields) (k : ℕ) → k < g.checkpoints → SameFields f g
 unfolding mixed
 changed_same f g k lt same =
     let m = mixed f g in
-    let room = λ (n : ℕ). (let xs : List Rule = (nat_le (n + CHANGES_AT) g.long, fault.Short g.long) ∷ [] in xs) in
-    let ends = λ (n : ℕ). (let xs : List Rule = (nat_le n g.long, fault.Short g.long) ∷ [] in xs) in
+    let room = λ (n : ℕ). (let xs : List (Rule Fault) = (nat_le (n + CHANGES_AT) g.long, fault.Short g.long) ∷ [] in xs) in
+    let ends = λ (n : ℕ). (let xs : List (Rule Fault) = (nat_le n g.long, fault.Short g.long) ∷ [] in xs) in
     let fields = field_rules (f.start k) k (count_before m k) (sent_below m k) (f.checkpoint k) in
     let fields' = field_rules (g.start k) k (count_before g k) (sent_below g k) (g.checkpoint k) in
     let changes = each (f.checkpoint k).changes (change_rules g.pages (f.start k) (stood m k) (f.change k)) in
@@ -157,7 +158,7 @@ changed_same f g k lt same =
     ∙ changes_same g.pages (g.start k) (g.checkpoint k).changes (stood m k) (stood g k) (f.change k) (g.change k)
     (λ p less. stood_same m g k p (λ i before. same.page_number i p (omega arith) less)) (λ i less. same.change k i lt less) in
     let rest = same_append (ends (f.start (suc k))) (ends (g.start (suc k))) changes changes' (ap (λ (n : ℕ). first_broken (ends n)) next) of_changes in
-    let body = same_append fields fields' (ends (f.start (suc k)) ++ changes) (ends (g.start (suc k)) ++ changes') (ap (λ (xs : List Rule). first_broken xs) (fields_same f g k lt same)) rest in
+    let body = same_append fields fields' (ends (f.start (suc k)) ++ changes) (ends (g.start (suc k)) ++ changes') (ap (λ (xs : List (Rule Fault)). first_broken xs) (fields_same f g k lt same)) rest in
     same_append (room (f.start k)) (room (g.start k)) (fields ++ (ends (f.start (suc k)) ++ changes)) (fields' ++ (ends (g.start (suc k)) ++ changes')) (ap (λ (n : ℕ). first_broken (room n)) at) body
 
 checkpoint_same : (f g : Fields) (k : ℕ) → k < g.checkpoints → SameFields f g
@@ -175,7 +176,7 @@ checkpoints_same f g same = same_each g.checkpoints (checkpoint_rules (mixed f g
 ends_same : (f g : Fields) → SameFields f g → first_broken (end_rules (mixed f g)) ≡ first_broken (end_rules g)
 unfolding mixed
 ends_same f g same =
-    let ends = λ (at sent : ℕ). (let xs : List Rule = (nat_le (at + sent) g.long, fault.Short g.long) ∷ (eqb g.long (at + sent), fault.Trailing (at + sent)) ∷ [] in xs) in
+    let ends = λ (at sent : ℕ). (let xs : List (Rule Fault) = (nat_le (at + sent) g.long, fault.Short g.long) ∷ (eqb g.long (at + sent), fault.Trailing (at + sent)) ∷ [] in xs) in
     ap (λ (n : ℕ). first_broken (ends n (sent_below f g.checkpoints))) (same.start g.checkpoints (omega arith))
     ∙ ap (λ (n : ℕ). first_broken (ends (g.start g.checkpoints) n)) (sent_same f g g.checkpoints same.checkpoint)
 

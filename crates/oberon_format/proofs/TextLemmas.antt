@@ -22,7 +22,7 @@ use Rattle.oberon_format.proofs.SameFields.{changes_same}
 use Rattle.oberon_format.proofs.Tables.{change_inside}
 
 -- the rules of the fields of checkpoint k of a text
-abbrev pub rules_of_fields : List ℕ → ℕ → List Rule
+abbrev pub rules_of_fields : List ℕ → ℕ → List (Rule Fault)
 rules_of_fields text k = field_rules (start text k) k (count_before (fields_of text) k) (sent_below (fields_of text) k) (checkpoint_of text (start text k))
 
 -- those are the rules of its fields as they are read
@@ -37,14 +37,14 @@ fields_read text k place before sent c at b s same =
 -- a checkpoint of version 1: a fault of its fields, and else the first of its page numbers
 pub whole_fields : (text : List ℕ) (k : ℕ) (g : Fault) → version text ≡ FIRST_VERSION → first_broken (rules_of_fields text k) ≡ Some g → first_broken (checkpoint_rules (fields_of text) k) ≡ Some g
 whole_fields text k g is broken =
-    ap (λ (xs : List Rule). first_broken xs) (rules_whole (fields_of text) k is)
+    ap (λ (xs : List (Rule Fault)). first_broken xs) (rules_whole (fields_of text) k is)
     ∙ broken-append (rules_of_fields text k) (each PLACES (page_number_rules (pages text) (start text k) (page_number_of text k))) g broken
 
 pub whole_numbers : (text : List ℕ) (k number place : ℕ) → version text ≡ FIRST_VERSION → number ≡ pages text → place ≡ start text k → first_broken (rules_of_fields text k) ≡ None
     → first_broken (checkpoint_rules (fields_of text) k) ≡ first_broken (each PLACES (page_number_rules number place (λ j. word_at text (page_number_place place j))))
 whole_numbers text k number place is count at met =
     let numbers : Bool → ℕ → ℕ = λ (b : Bool) (p : ℕ). if b then word_at text (page_number_place (start text k) p) else number_before text (suc k) p in
-    ap (λ (xs : List Rule). first_broken xs) (rules_whole (fields_of text) k is)
+    ap (λ (xs : List (Rule Fault)). first_broken xs) (rules_whole (fields_of text) k is)
     ∙ met-append (rules_of_fields text k) (each PLACES (page_number_rules (pages text) (start text k) (page_number_of text k))) met
     ∙ ap (λ (b : Bool). first_broken (each PLACES (page_number_rules (pages text) (start text k) (numbers b)))) (is_first (version text) is)
     ∙ ap (λ (p : ℕ). first_broken (each PLACES (page_number_rules (pages text) p (λ j. word_at text (page_number_place p j))))) (sym at)
@@ -87,7 +87,7 @@ stood_is text zero p is = refl
 stood_is text (suc k) p is = stood_more (fields_of text) k p ∙ number_second text k p is
 
 -- the changes of a checkpoint of version 2 of a text
-abbrev pub rules_of_changes : List ℕ → ℕ → List Rule
+abbrev pub rules_of_changes : List ℕ → ℕ → List (Rule Fault)
 rules_of_changes text k = each (change_count text (start text k)) (change_rules (pages text) (start text k) (stood (fields_of text) k) (change_of text (start text k)))
 
 -- those are the rules of the changes as they are read, after the table before
@@ -102,18 +102,18 @@ changes_read text k number place count table is named at many has =
     (λ p lt. has p lt ∙ sym (stood_is text k p is)) (λ i lt. refl)
 
 -- the rules of a checkpoint of version 2 that come after those of its fields
-abbrev pub rules_after_fields : List ℕ → ℕ → List Rule
+abbrev pub rules_after_fields : List ℕ → ℕ → List (Rule Fault)
 rules_after_fields text k = (nat_le (start text (suc k)) (length text), fault.Short (length text)) ∷ rules_of_changes text k
 
 pub changed_short : (text : List ℕ) (k : ℕ) → version text ≡ VERSION → length text < start text k + CHANGES_AT → first_broken (checkpoint_rules (fields_of text) k) ≡ Some (fault.Short (length text))
 changed_short text k is short =
-    ap (λ (xs : List Rule). first_broken xs) (rules_changed (fields_of text) k is)
+    ap (λ (xs : List (Rule Fault)). first_broken xs) (rules_changed (fields_of text) k is)
     ∙ rule_unmet (nat_le (start text k + CHANGES_AT) (length text)) (fault.Short (length text)) (rules_of_fields text k ++ rules_after_fields text k) (lt-leb _ _ short)
 
 changed_from : (text : List ℕ) (k : ℕ) → version text ≡ VERSION → start text k + CHANGES_AT ≤ length text
     → first_broken (checkpoint_rules (fields_of text) k) ≡ first_broken (rules_of_fields text k ++ rules_after_fields text k)
 changed_from text k is room =
-    ap (λ (xs : List Rule). first_broken xs) (rules_changed (fields_of text) k is)
+    ap (λ (xs : List (Rule Fault)). first_broken xs) (rules_changed (fields_of text) k is)
     ∙ rule_met (nat_le (start text k + CHANGES_AT) (length text)) (fault.Short (length text)) (rules_of_fields text k ++ rules_after_fields text k) (le-leb _ _ room)
 
 pub changed_fields : (text : List ℕ) (k : ℕ) (g : Fault) → version text ≡ VERSION → start text k + CHANGES_AT ≤ length text → first_broken (rules_of_fields text k) ≡ Some g
