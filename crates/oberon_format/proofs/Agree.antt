@@ -25,38 +25,38 @@ use Rattle.oberon_format.proofs.SameFields.{SameFields, same_rules}
 use Rattle.oberon_format.proofs.TextLemmas.{later_second, number_second, numbers_none}
 
 -- an event that stands at a place has its fields there
-event_stands : (text : List ℕ) (place : ℕ) (e : Event) → IsEvent text place e → event_of text place ≡ event_fields e
-event_stands text place e is = λ i. record { count = is.count i; kind = is.kind i; value = is.value i }
+event_agrees : (text : List ℕ) (place : ℕ) (e : Event) → IsEvent text place e → event_of text place ≡ event_fields e
+event_agrees text place e is = λ i. record { count = is.count i; kind = is.kind i; value = is.value i }
 
 events_agree : (v : ℕ) (text : List ℕ) (r : RecordingParts) → IsLaidOut v text r
     → (i : ℕ) → i < length r.inputs → (fields_of text).event i ≡ (fields_laid v r).event i
 events_agree v text r is i lt =
     let e = member r.inputs i lt in
-    event_stands text (event_place text i) (get_or r.inputs i e) (is.events_stand i e lt) ∙ sym (get_or-map event_fields r.inputs i e no_event lt)
+    event_agrees text (event_place text i) (get_or r.inputs i e) (is.events_stand i e lt) ∙ sym (get_or-map event_fields r.inputs i e no_event lt)
 
 -- the rate and the phase of a checkpoint that stands at a place
-rate_stands : (v : ℕ) (text : List ℕ) (place : ℕ) (before : List ℕ) (c : CheckpointParts)
+rate_agrees : (v : ℕ) (text : List ℕ) (place : ℕ) (before : List ℕ) (c : CheckpointParts)
     → is_version v ≡ true → version text ≡ v → IsCheckpoint v text place before c → later_word text (place + RATE_AT) ≡ c.devices.rate
-rate_stands v text place before c known of is =
+rate_agrees v text place before c known of is =
     elim (version_cases v known) [
       | inl first ↦ let rate = (is.in_first first).rate in rw (of, first) (sym rate)
       | inr second ↦ let rate = (is.in_second second).rate in rw (of, second) rate
     ]
 
-phase_stands : (v : ℕ) (text : List ℕ) (place : ℕ) (before : List ℕ) (c : CheckpointParts)
+phase_agrees : (v : ℕ) (text : List ℕ) (place : ℕ) (before : List ℕ) (c : CheckpointParts)
     → is_version v ≡ true → version text ≡ v → IsCheckpoint v text place before c → later_word text (place + PHASE_AT) ≡ c.devices.phase
-phase_stands v text place before c known of is =
+phase_agrees v text place before c known of is =
     elim (version_cases v known) [
       | inl first ↦ let phase = (is.in_first first).phase in rw (of, first) (sym phase)
       | inr second ↦ let phase = (is.in_second second).phase in rw (of, second) phase
     ]
 
 -- a checkpoint that stands at a place has its fields there
-checkpoint_stands : (v : ℕ) (text : List ℕ) (place : ℕ) (before : List ℕ) (c : CheckpointParts)
+checkpoint_agrees : (v : ℕ) (text : List ℕ) (place : ℕ) (before : List ℕ) (c : CheckpointParts)
     → is_version v ≡ true → version text ≡ v → IsCheckpoint v text place before c → checkpoint_of text place ≡ checkpoint_fields v before c
-checkpoint_stands v text place before c known of is =
-    let rate = rate_stands v text place before c known of is in
-    let phase = phase_stands v text place before c known of is in
+checkpoint_agrees v text place before c known of is =
+    let rate = rate_agrees v text place before c known of is in
+    let phase = phase_agrees v text place before c known of is in
     let count = count_laid v text place before c known of is in
     λ i. record {
       count = is.front.count i;
@@ -76,13 +76,13 @@ checkpoint_stands v text place before c known of is =
     }
 
 -- a change that stands at a place
-change_stands : (text : List ℕ) (at : ℕ) (change : Change) → IsChange text at change → change_at text at ≡ change
-change_stands text at change is = λ i. record { place = is.place i; number = is.number i }
+change_agrees : (text : List ℕ) (at : ℕ) (change : Change) → IsChange text at change → change_at text at ≡ change
+change_agrees text at change is = λ i. record { place = is.place i; number = is.number i }
 
 -- change i of a checkpoint of version 2
 changes_stand : (text : List ℕ) (place : ℕ) (before : List ℕ) (c : CheckpointParts) → IsChanged text place before c → (i : ℕ) → i < length (changes before c.table)
     → change_of text place i ≡ change_in before c.table i
-changes_stand text place before c is i lt = change_stands text (change_place place i) (change_in before c.table i) (is.changes i no_change lt)
+changes_stand text place before c is i lt = change_agrees text (change_place place i) (change_in before c.table i) (is.changes i no_change lt)
 
 -- of checkpoints that stand in a text of version 2, the table before each has the numbers that the text tells
 pub tables_stand : (text : List ℕ) (cs : List CheckpointParts) (k : ℕ) → version text ≡ VERSION → StandIn text cs → k ≤ length cs → HasNumbers (table_before cs k) (number_before text k)
@@ -157,7 +157,7 @@ fields_agree v text r formed is =
       event = events_agree v text r is;
       start = start-laid v text r is;
       checkpoint = λ k lt.
-          checkpoint_stands v text (start text k) (table_before r.checkpoints k) (checkpoint_at r k) is.known is.version (is.checkpoints_stand k no_checkpoint lt);
+          checkpoint_agrees v text (start text k) (table_before r.checkpoints k) (checkpoint_at r k) is.known is.version (is.checkpoints_stand k no_checkpoint lt);
       change = λ k i lt. changes_agree v text r is k i lt;
       page_number = λ k p lt. pages_agree v text r formed is k p lt;
     }
