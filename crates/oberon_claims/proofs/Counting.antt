@@ -4,6 +4,7 @@ use Rattle.std.proofs.lemmas.Bool.Decides.{nat_tests}
 use Rattle.oberon_claims.specs.declared.book.View.{View}
 use Rattle.oberon_claims.specs.Counts.{one_if, times, once_below}
 use Rattle.oberon_claims.specs.inner.Book.{times_taken, number_taken}
+use Rattle.oberon_claims.proofs.Sums.{once_is, once_here, one_same}
 
 -- what f is at each number below n, added up
 abbrev tally : ℕ → (ℕ → ℕ) → ℕ
@@ -23,11 +24,8 @@ tally_once zero m f once within = refl
 tally_once (suc n) m f once within =
     let e = tally_once n m f once (omega arith) in
     let o = once n in
-    let here = one_below n m (omega arith) in
+    let here = once_here n m (omega arith) in
     omega arith
-  where
-    one_below : (x n : ℕ) → x < n → once_below x n ≡ 1
-    one_below x n below = grind (arith, nat_tests)
 
 -- one number, counted among those below n
 tally_one : (n y : ℕ) → tally n (λ x. one_if (eqb y x)) ≡ one_if (ltb y n)
@@ -37,19 +35,13 @@ tally_one (suc n) y = let e = tally_one n y in let s = step n y in omega arith
     step : (n y : ℕ) → one_if (ltb y (suc n)) ≡ one_if (ltb y n) + one_if (eqb y n)
     step n y = grind (arith, nat_tests)
 
-is_one : (y n : ℕ) → y < n → one_if (ltb y n) ≡ 1
-is_one y n below = grind (arith, nat_tests)
-
-same_one : (y : ℕ) → one_if (eqb y y) ≡ 1
-same_one y = grind (arith, nat_tests)
-
 length_is : (n : ℕ) (xs : List ℕ) → ((x : ℕ) → 0 < times x xs → x < n) → length xs ≡ tally n (λ x. times x xs)
 length_is n [] below = sym (tally_none n)
 length_is n (y ∷ ys) below =
     let rest = length_is n ys (λ x there. below x (omega arith)) in
     let add = tally_add n (λ x. one_if (eqb y x)) (λ x. times x ys) in
     let one = tally_one n y in
-    let is = is_one y n (below y (let s = same_one y in omega arith)) in
+    let is = once_here y n (below y (let s = one_same y y refl in omega arith)) in
     omega arith
 
 number_is : (n : ℕ) (views : List View) → ((x : ℕ) → 0 < times_taken x views → x < n) → number_taken views ≡ tally n (λ x. times_taken x views)
@@ -60,9 +52,6 @@ number_is n (v ∷ vs) below =
     let add = tally_add n (λ x. times x v.taken) (λ x. times_taken x vs) in
     omega arith
 
-below_if : (x n : ℕ) → 0 < once_below x n → x < n
-below_if x n h = grind (arith, nat_tests)
-
 pub number_of_each_once : (n : ℕ) (views : List View) → ((x : ℕ) → times_taken x views ≡ once_below x n) → number_taken views ≡ n
 number_of_each_once n views once =
-    number_is n views (λ x there. below_if x n (let o = once x in omega arith)) ∙ tally_once n n (λ x. times_taken x views) once (omega arith)
+    number_is n views (λ x there. once_is x n (let o = once x in omega arith)) ∙ tally_once n n (λ x. times_taken x views) once (omega arith)

@@ -1,23 +1,23 @@
 -- How long the text of a recording can be, and that a text that is cut off behind so many bytes has the first fault of the whole.
-use Rattle.std.proofs.Common.{◌≡◌, ◌≤◌, ◌<◌, ◌+◌, ◌-◌, ◌*◌, ◌==◌, ◌∙◌, ℕ, zero, suc, cond, if◌then◌else◌, sym, subst, Bool, true, false, List, arith, refl, ap, ap₂, drop, length, take}
+use Rattle.std.proofs.Common.{◌≡◌, ◌≤◌, ◌<◌, ◌+◌, ◌-◌, ◌*◌, ◌==◌, ◌∙◌, ℕ, zero, suc, if◌then◌else◌, sym, subst, Bool, true, false, List, arith, refl, ap, ap₂, drop, length, take}
 use Rattle.std.proofs.lemmas.Bool.{eqb-true, leb-true, leb-false}
 use Rattle.std.proofs.lemmas.List.{drop-take, get_or-take, length-take, take-take}
 use Rattle.std.specs.Prelude.{nat_le, slice_range}
 use Rattle.oberon_format.specs.FirstFault.{first_broken}
 use Rattle.oberon_format.specs.declared.fields.CheckpointFields.{CheckpointFields}
-use Rattle.oberon_format.specs.declared.layout.TheConstants.{LONGEST_TEXT, MAGIC_AT, VERSION_AT, PAGES_AT, EVENTS_AT, CHECKPOINTS_AT, LAST_AT, KIND_AT, VALUE_AT, COUNTER_AT, FLAGS_AT, STOP_AT, SWITCHES_AT, LEDS_AT, MOUSE_AT, SERIAL_AT, WAITING_AT, KEYS_AT, SENT_AT, RATE_AT, PHASE_AT, CHANGE_COUNT_AT, NUMBER_AT, FIRST_VERSION, PLACES, CHECKPOINT_LEN, CHANGES_AT, CHANGE_LEN}
-use Rattle.oberon_format.specs.Changes.{changes, number_after}
-use Rattle.oberon_format.specs.CheckpointParts.{CheckpointParts}
+use Rattle.oberon_format.specs.declared.layout.TheConstants.{LONGEST_TEXT, MAGIC_AT, VERSION_AT, PAGES_AT, EVENTS_AT, CHECKPOINTS_AT, LAST_AT, KIND_AT, VALUE_AT, COUNTER_AT, FLAGS_AT, STOP_AT, SWITCHES_AT, LEDS_AT, MOUSE_AT, SERIAL_AT, WAITING_AT, KEYS_AT, SENT_AT, RATE_AT, PHASE_AT, CHANGE_COUNT_AT, NUMBER_AT, FIRST_VERSION, PLACES, CHANGES_AT, CHANGE_LEN}
+use Rattle.oberon_format.specs.Changes.{number_after}
 use Rattle.oberon_format.specs.Fields.{Fields, total}
 use Rattle.oberon_format.specs.Layout.{version, pages, events, checkpoints, event_place, event_start, long_at, page_number_place, change_place, checkpoint_size, change_count, later_word, start, word_at}
 use Rattle.oberon_format.specs.Rules.{named_len, rules}
 use Rattle.oberon_format.specs.TextFields.{change_at, change_of, checkpoint_of, event_of, fields_of, first_fault_of, number_before, page_number_of}
-use Rattle.oberon_format.specs.PartFields.{changes_laid, start_laid}
-use Rattle.oberon_format.specs.Recording.{RecordingParts, checkpoint_at, table_before}
+use Rattle.oberon_format.specs.Recording.{RecordingParts}
 use Rattle.oberon_format.specs.Text.{Text}
-use Rattle.oberon_format.proofs.ChangeLemmas.{after-same, changes-few}
+use Rattle.oberon_format.proofs.ChangeLemmas.{after-same}
+use Rattle.oberon_format.proofs.PartLemmas.{laid_within, size_few}
 use Rattle.oberon_format.proofs.Places.{start-laid}
 use Rattle.oberon_format.proofs.Room.{start_none, named_first}
+use Rattle.oberon_format.proofs.TextLemmas.{number_where, number_else}
 use Rattle.oberon_format.proofs.LongFields.{AreFew, AgreeBelow, AgreeAt, Agree, most, faults_same, fields}
 
 -- numbers in bytes that were not cut off
@@ -112,14 +112,6 @@ change_at-take n text place within =
     let number = word_at-take n text (place + NUMBER_AT) (omega arith) in
     λ i. record { place = at i; number = number i }
 
--- a checkpoint with few enough changes is no longer than the longest
-size_most : (version changes : ℕ) → changes ≤ PLACES → checkpoint_size version changes ≤ CHANGES_AT + CHANGE_LEN * PLACES
-size_most version changes few = go (version == FIRST_VERSION)
-  where
-    go : (b : Bool) → cond b CHECKPOINT_LEN (CHANGES_AT + CHANGE_LEN * changes) ≤ CHANGES_AT + CHANGE_LEN * PLACES
-    go true = omega arith
-    go false = omega arith
-
 -- how long a text is to be by its header
 named_most : (text : List ℕ) → AreFew (pages text) (events text) (checkpoints text) → named_len (fields_of text) ≤ LONGEST_TEXT
 named_most text few = go (version text == FIRST_VERSION) refl
@@ -138,13 +130,6 @@ named_most text few = go (version text == FIRST_VERSION) refl
         let begin = start_none text in
         let named : named_len (fields_of text) ≡ start text 0 = rw is refl in
         omega arith
-
--- a page number in each version
-page_first : (text : List ℕ) (k p : ℕ) → (version text == FIRST_VERSION) ≡ true → page_number_of text k p ≡ word_at text (page_number_place (start text k) p)
-page_first text k p first = rw first refl
-
-page_later : (text : List ℕ) (k p : ℕ) → (version text == FIRST_VERSION) ≡ false → page_number_of text k p ≡ number_before text (suc k) p
-page_later text k p later = rw later refl
 
 -- a text that is cut off, and the whole, by the numbers of the header of the whole
 module _ (n : ℕ) (text : List ℕ) (over : LONGEST_TEXT < n) where
@@ -192,7 +177,7 @@ module _ (n : ℕ) (text : List ℕ) (over : LONGEST_TEXT < n) where
   numbers_below : (k : ℕ) → Below k → (version text == FIRST_VERSION) ≡ false → (p : ℕ) → p < PLACES → number_before cut k p ≡ number_before text k p
   unfolding number_before
   numbers_below zero below later p inside = refl
-  numbers_below (suc k) below later p inside = sym (page_later cut k p (later_cut later)) ∙ below.of_numbers k p (omega arith) inside ∙ page_later text k p later
+  numbers_below (suc k) below later p inside = sym (number_else cut k p (later_cut later)) ∙ below.of_numbers k p (omega arith) inside ∙ number_else text k p later
 
   module _ (few : AreFew (pages text) (events text) (checkpoints text)) (k : ℕ) (less : k < checkpoints text) (below : Below k) where
     -- there is room for the longest checkpoint
@@ -228,27 +213,27 @@ module _ (n : ℕ) (text : List ℕ) (over : LONGEST_TEXT < n) where
     unfolding start
     near_next few_changes =
         let near = below.near in
-        let size = size_most (version cut) (change_count cut (start cut k)) few_changes in
+        let size = size_few (version cut) (change_count cut (start cut k)) few_changes in
         omega arith
 
     -- its page numbers
     number_first : (version text == FIRST_VERSION) ≡ true → (p : ℕ) → p < PLACES → page_number_of cut k p ≡ page_number_of text k p
     number_first first p inside =
         let space = room in
-        page_first cut k p (first_cut first)
+        number_where cut k p (first_cut first)
         ∙ ap (λ (place : ℕ). word_at cut (page_number_place place p)) below.place
         ∙ word_at-take n text (page_number_place (start text k) p) (omega arith)
-        ∙ sym (page_first text k p first)
+        ∙ sym (number_where text k p first)
 
     number_later : (version text == FIRST_VERSION) ≡ false → change_count cut (start cut k) ≤ PLACES → (p : ℕ) → p < PLACES
         → page_number_of cut k p ≡ page_number_of text k p
     unfolding number_before
     number_later later few_changes p inside =
-        page_later cut k p (later_cut later)
+        number_else cut k p (later_cut later)
         ∙ after-same (change_of cut (start cut k)) (change_of text (start text k)) (number_before cut k) (number_before text k) (change_count cut (start cut k)) p
         (λ i under. change_here i (omega arith)) (numbers_below k below later p inside)
         ∙ ap (λ (m : ℕ). number_after (change_of text (start text k)) (number_before text k) m p) count_here
-        ∙ sym (page_later text k p later)
+        ∙ sym (number_else text k p later)
 
     number_here : change_count cut (start cut k) ≤ PLACES → (p : ℕ) → p < PLACES → page_number_of cut k p ≡ page_number_of text k p
     number_here few_changes p inside = go (version text == FIRST_VERSION) refl
@@ -338,24 +323,6 @@ first_fault_of-take n text over within =
     (page_number_of cut) (page_number_of text) (agree_cut n text over)
     (simp length-take (omega arith)) (omega arith)
 
--- there are at most as many changes as places
-changes_laid_few : (v : ℕ) (before : List ℕ) (c : CheckpointParts) → changes_laid v before c ≤ PLACES
-changes_laid_few v before c = go (v == FIRST_VERSION)
-  where
-    go : (b : Bool) → cond b 0 (length (changes before c.table)) ≤ PLACES
-    go true = omega arith
-    go false = changes-few before c.table
-
--- how far checkpoints reach at most where they are laid out
-laid_most : (v : ℕ) (r : RecordingParts) (k : ℕ) → start_laid v r k ≤ most (length r.pool) (length r.inputs) k
-unfolding start_laid
-laid_most v r zero = omega arith
-laid_most v r (suc k) =
-    let so_far = laid_most v r k in
-    let changes = changes_laid v (table_before r.checkpoints k) (checkpoint_at r k) in
-    let size = size_most v changes (changes_laid_few v (table_before r.checkpoints k) (checkpoint_at r k)) in
-    omega arith
-
 -- the longest text has 118,310,056 bytes: 24 of the header, 65,536 pages, 1,000,000 events, 4,097 checkpoints that change each place
 -- of the table, and the output
 pub text_within : (text : List ℕ) (r : RecordingParts) → Text text r → length text ≤ LONGEST_TEXT
@@ -366,7 +333,7 @@ text_within text r some =
     let count = laid.checkpoint_count in
     let end = start-laid some.version text r laid (length r.checkpoints) (omega arith) in
     let same : start text (checkpoints text) ≡ start text (length r.checkpoints) = ap (start text) count in
-    let near = laid_most some.version r (length r.checkpoints) in
+    let near = laid_within some.version r (length r.checkpoints) in
     let few_pages = lawful.pages in
     let few_events = lawful.events in
     let few_checkpoints = lawful.few in

@@ -1,10 +1,9 @@
 -- A text without fault is that of a recording, which is built here of the text alone.
 use Rattle.std.proofs.Common.{◌≡◌, Option, Some, None, ◌<◌, ◌≤◌, ◌+◌, ◌-◌, ◌*◌, ◌/◌, ◌%◌, ◌^◌, ◌∙◌, ℕ, zero, suc, Bool, true, false, cond, List, [], ◌∷◌, ◌++◌, length, map, drop, get_or, refl, sym, ap, subst, inl, inr, arith, length-append}
-use Rattle.std.specs.Prelude.{All, MatchOption, slice_index, slice_range, ◌==◌, if◌then◌else◌}
+use Rattle.std.specs.Prelude.{All, MatchOption, slice_index, slice_range, ◌==◌}
 use Rattle.std.specs.List.{range_with_len}
 use Rattle.std.proofs.lemmas.Bool.{cases_lt, ltb-true, leb-true}
 use Rattle.std.proofs.lemmas.List.{get_or_past}
-use Rattle.std.proofs.lemmas.Bool.Decides.{nat_tests}
 use Rattle.std.proofs.lemmas.List.Elements.{All-nil, All-push, All-take, All-drop}
 use Rattle.std.proofs.lemmas.List.FromFn.{length-map-range_with_len, get_or-map-range_with_len}
 use Rattle.byteorder.specs.Numbers.{little_from-lt}
@@ -32,6 +31,7 @@ use Rattle.oberon_format.proofs.ChangeLemmas.{after-bounded}
 use Rattle.oberon_format.proofs.Each.{each_push}
 use Rattle.oberon_format.proofs.Keys.{keys-stand, length-range}
 use Rattle.oberon_format.proofs.LawfulLemmas.{lawful_formed, lawful_faultless}
+use Rattle.oberon_format.proofs.Numbers.{serial_whole}
 use Rattle.oberon_format.proofs.Output.{ranges_hold, keys_hold, output_fits, output_more, output_all, range-none}
 use Rattle.oberon_format.proofs.ReadLemmas.{events_ordered, stand_next, text_read, read_lawful}
 use Rattle.oberon_format.proofs.Room.{front_there}
@@ -195,9 +195,6 @@ devices_at text place =
       keys = slice_range text (place + KEYS_AT) (place + KEYS_AT + word_at text (place + WAITING_AT));
     }
 
-serial_back : (x : ℕ) → x < 512 → x % 2 ^ 8 + (if x / 2 ^ 8 == 1 then 2 ^ 8 else 0) ≡ x
-serial_back x lt = grind (arith, nat_tests)
-
 -- what the ranges of a checkpoint's fields say
 record Small (text : List ℕ) (place : ℕ) : Type 0 where
   flags : word_at text (place + FLAGS_AT) < 16
@@ -246,7 +243,7 @@ devices_stand text place room fits keys =
       switches = refl;
       leds = refl;
       mouse = refl;
-      serial = sym (serial_back (word_at text (place + SERIAL_AT)) fits.serial);
+      serial = sym (serial_whole (word_at text (place + SERIAL_AT)) fits.serial);
       waiting = sym len;
       keys = rw len (keys-stand text place room keys);
     }

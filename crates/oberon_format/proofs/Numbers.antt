@@ -1,7 +1,10 @@
 -- The numbers at places of a text.
-use Rattle.std.proofs.Common.{◌≡◌, ◌≤◌, ◌+◌, ◌-◌, ℕ, zero, suc, List, ◌++◌, length, take, drop, refl, ap, ◌∙◌, arith, add-zero}
+use Rattle.std.proofs.Common.{◌≡◌, ◌<◌, ◌≤◌, ◌+◌, ◌-◌, ◌/◌, ◌%◌, ◌^◌, ℕ, zero, suc, List, ◌++◌, length, take, drop, refl, ap, ◌∙◌, arith, add-zero}
+use Rattle.std.specs.Prelude.{◌==◌, if◌then◌else◌}
+use Rattle.std.proofs.lemmas.Bool.Decides.{nat_tests}
 use Rattle.std.proofs.lemmas.List.{get_or-drop, get_or_append_left, take_rest}
 use Rattle.byteorder.specs.Endian.{little_from}
+use Rattle.oberon_format.specs.declared.ranges.TheConstants.{SERIAL_END}
 use Rattle.oberon_format.specs.Layout.{long_at, word_at}
 
 -- the number at a place of what follows a place
@@ -28,3 +31,7 @@ little_from-append (suc n) k xs ys h =
     let byte = get_or_append_left xs ys 0 k (omega arith) in
     let rest = little_from-append n (suc k) xs ys (omega arith) in
     rw (byte, rest) refl
+
+-- the serial line's number is that of its parts
+pub serial_whole : (serial : ℕ) → serial < SERIAL_END → serial % 2 ^ 8 + (if serial / 2 ^ 8 == 1 then 2 ^ 8 else 0) ≡ serial
+serial_whole serial h = grind (arith, nat_tests)

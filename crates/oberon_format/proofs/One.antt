@@ -1,9 +1,9 @@
 -- A text is that of at most one recording.
-use Rattle.std.proofs.Common.{◌≡◌, ◌<◌, ◌+◌, ◌-◌, ◌/◌, ◌%◌, ◌^◌, ◌∙◌, ℕ, zero, suc, Bool, true, false, List, [], ◌∷◌, length, take, drop, get_or, refl, sym, ap, subst, inl, inr, arith}
+use Rattle.std.proofs.Common.{◌≡◌, ◌<◌, ◌+◌, ◌-◌, ◌^◌, ◌∙◌, ℕ, zero, suc, true, false, List, [], ◌∷◌, length, take, drop, get_or, refl, sym, ap, subst, inl, inr, arith}
 use Rattle.std.proofs.Props.{props}
 use Rattle.std.specs.Prelude.{replicate, slice_index, ◌==◌}
 use Rattle.std.proofs.lemmas.Bool.{ne_eqb}
-use Rattle.std.proofs.lemmas.List.{take_at, drop_at, get_or_default}
+use Rattle.std.proofs.lemmas.List.{take_at, drop_at, get_or_default, same_lists}
 use Rattle.risc_core.specs.Flags.{flags_number, flags_of}
 use Rattle.risc_core.specs.declared.flags.Flags.{Flags}
 use Rattle.risc_core.proofs.FlagsLemmas.{flags_back}
@@ -25,19 +25,9 @@ use Rattle.oberon_format.specs.Text.{AreWords, IsEvent, IsCpu, IsDevices, IsWhol
 use Rattle.oberon_format.proofs.ChangeLemmas.{changes-make}
 use Rattle.oberon_format.proofs.RuleLemmas.{version_cases}
 
--- lists of one length with the same members
-same_members : {X : Type 0} (xs ys : List X) → length xs ≡ length ys → ((i : ℕ) (d : X) → i < length xs → get_or xs i d ≡ get_or ys i d) → xs ≡ ys
-same_members {X} [] [] len each = refl
-same_members {X} [] (y ∷ ys) len each = absurd (omega arith)
-same_members {X} (x ∷ xs) [] len each = absurd (omega arith)
-same_members {X} (x ∷ xs) (y ∷ ys) len each =
-    let first : x ≡ y = each 0 x (omega arith) in
-    let rest : xs ≡ ys = same_members xs ys (omega arith) (λ i d lt. each (suc i) d (omega arith)) in
-    λ i. first i ∷ rest i
-
 -- words that stand at one place
 same_words : (text : List ℕ) (place : ℕ) (xs ys : List ℕ) → length xs ≡ length ys → AreWords text place xs → AreWords text place ys → xs ≡ ys
-same_words text place xs ys len a b = same_members xs ys len (λ i d lt. sym (a i d lt) ∙ b i d (omega arith))
+same_words text place xs ys len a b = same_lists xs ys len (λ i d lt. sym (a i d lt) ∙ b i d (omega arith))
 
 -- events of one count and one input
 event_of_parts : (count : ℕ) (input : Input) → count < 2 ^ 64 → Event
@@ -118,7 +108,7 @@ same_made before xs ys fit_x fit_y same =
     let made : List Change → ℕ → ℕ = λ cs p. number_after (λ i. get_or cs i no_change) (slice_index before) (length cs) p in
     let at : (p : ℕ) → p < PLACES → slice_index xs p ≡ slice_index ys p =
     λ p lt. sym (changes-make before xs p lt) ∙ ap (λ (cs : List Change). made cs p) same ∙ changes-make before ys p lt in
-    same_members xs ys (count_x ∙ sym count_y) (λ p d lt. get_or_default xs p d 0 lt ∙ at p (omega arith) ∙ get_or_default ys p 0 d (omega arith))
+    same_lists xs ys (count_x ∙ sym count_y) (λ p d lt. get_or_default xs p d 0 lt ∙ at p (omega arith) ∙ get_or_default ys p 0 d (omega arith))
 
 -- in version 2, where it stands at one place after one table
 changed_same : (text : List ℕ) (place : ℕ) (before : List ℕ) (c d : CheckpointParts) → IsTable c.table → IsTable d.table → IsChanged text place before c → IsChanged text place before d → SameRest c d
@@ -126,7 +116,7 @@ changed_same text place before c d fit_c fit_d x y =
     let xs = changes before c.table in
     let ys = changes before d.table in
     let len : length xs ≡ length ys = sym x.count ∙ y.count in
-    let same : xs ≡ ys = same_members xs ys len (λ i e lt. same_change text (change_place place i) (get_or xs i e) (get_or ys i e) (x.changes i e lt) (y.changes i e (omega arith))) in
+    let same : xs ≡ ys = same_lists xs ys len (λ i e lt. same_change text (change_place place i) (get_or xs i e) (get_or ys i e) (x.changes i e lt) (y.changes i e (omega arith))) in
     record { rate = sym x.rate ∙ y.rate; phase = sym x.phase ∙ y.phase; table = same_made before c.table d.table fit_c fit_d same }
 
 -- so in each version that is known
@@ -185,16 +175,16 @@ checkpoints_same v text r s a b =
     λ i lt. sym (stands_r i no_checkpoint lt).front.sent ∙ (stands_s i no_checkpoint (omega arith)).front.sent in
     let sent = same_sent r.checkpoints s.checkpoints len lengths (sym a.laid.output ∙ b.laid.output) in
     let each = checkpoint_same v text r s a b sent in
-    same_members r.checkpoints s.checkpoints len (λ i d lt. get_or_default r.checkpoints i d no_checkpoint lt ∙ each i lt ∙ get_or_default s.checkpoints i no_checkpoint d (omega arith))
+    same_lists r.checkpoints s.checkpoints len (λ i d lt. get_or_default r.checkpoints i d no_checkpoint lt ∙ each i lt ∙ get_or_default s.checkpoints i no_checkpoint d (omega arith))
 
 -- a text is that of one recording in a version
 same_in : (v : ℕ) (text : List ℕ) (r s : RecordingParts) → TextIn v text r → TextIn v text s → r ≡ s
 same_in v text r s a b =
     let pages_len : length r.pool ≡ length s.pool = sym a.laid.page_count ∙ b.laid.page_count in
-    let pool : r.pool ≡ s.pool = same_members r.pool s.pool pages_len (λ i d lt.
+    let pool : r.pool ≡ s.pool = same_lists r.pool s.pool pages_len (λ i d lt.
     same_words text (page_place i) (get_or r.pool i d) (get_or s.pool i d) ((a.lawful.pool i d lt).whole ∙ sym (b.lawful.pool i d (omega arith)).whole) (a.laid.pages_stand i d lt) (b.laid.pages_stand i d (omega arith))) in
     let events_len : length r.inputs ≡ length s.inputs = sym a.laid.event_count ∙ b.laid.event_count in
-    let inputs : r.inputs ≡ s.inputs = same_members r.inputs s.inputs events_len (λ i d lt.
+    let inputs : r.inputs ≡ s.inputs = same_lists r.inputs s.inputs events_len (λ i d lt.
     same_event_at text (event_place text i) (get_or r.inputs i d) (get_or s.inputs i d) (a.laid.events_stand i d lt) (b.laid.events_stand i d (omega arith))) in
     let checkpoints = checkpoints_same v text r s a b in
     λ i. record { pool = pool i; inputs = inputs i; checkpoints = checkpoints i }

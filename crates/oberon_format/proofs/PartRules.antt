@@ -4,6 +4,7 @@ use Rattle.std.specs.Prelude.{slice_index, nat_le}
 use Rattle.std.proofs.lemmas.Bool.{le-leb}
 use Rattle.risc_machine.specs.declared.event.Event.{Event}
 use Rattle.oberon_format.specs.declared.checkpoint.Checkpoint.{Checkpoint}
+use Rattle.oberon_format.specs.declared.fault.Fault.{Fault}
 use Rattle.oberon_format.specs.declared.fault.Fault.TheVariants as fault
 use Rattle.oberon_format.specs.declared.fields.CheckpointFields.{CheckpointFields}
 use Rattle.oberon_format.specs.declared.layout.TheConstants.{VERSION, LONGEST_TEXT, CHANGES_AT}
@@ -18,12 +19,12 @@ use Rattle.oberon_format.specs.Recording.{parts_of, RecordingParts, checkpoint_a
 use Rattle.oberon_format.specs.Rules.{field_rules, change_rules, stood, count_before, checkpoint_rules}
 use Rattle.oberon_format.proofs.ChangeLemmas.{change_in}
 use Rattle.oberon_format.proofs.CheckpointLemmas.{checkpoint_at-is}
-use Rattle.oberon_format.proofs.PartLemmas.{laid_le, laid_next, laid_within, changed_room, stood_laid}
+use Rattle.oberon_format.proofs.PartLemmas.{laid_rises, laid_next, laid_within, changed_room, stood_laid}
 use Rattle.oberon_format.proofs.RuleLemmas.{rule_met, rules_changed}
 use Rattle.oberon_format.proofs.SameFields.{same_append, changes_same}
 
 -- the rules of fields at a place, and of the changes from a table to another
-abbrev pub laid_rules : ℕ → ℕ → ℕ → ℕ → ℕ → CheckpointFields → List ℕ → List ℕ → List Rule
+abbrev pub laid_rules : ℕ → ℕ → ℕ → ℕ → ℕ → CheckpointFields → List ℕ → List ℕ → List (Rule Fault)
 laid_rules pages place k before sent fields old new =
     field_rules place k before sent fields ++ each (length (changes old new)) (change_rules pages place (slice_index old) (change_in old new))
 
@@ -39,7 +40,7 @@ rules_laid r k lt =
     let n = length (changes old new) in
     let place = start_laid VERSION r k in
     let room = changed_room r k in
-    let up = laid_le VERSION r (suc k) (length r.checkpoints) (omega arith) in
+    let up = laid_rises VERSION r (suc k) (length r.checkpoints) (omega arith) in
     let fields = field_rules place k (count_before f k) (sent_below f k) (f.checkpoint k) in
     let tested = each n (change_rules (length r.pool) place (stood f k) (change_in old new)) in
     let left = each n (change_rules (length r.pool) place (slice_index old) (change_in old new)) in
@@ -47,7 +48,7 @@ rules_laid r k lt =
     let same : first_broken ends ≡ first_broken left =
     rule_met (nat_le (start_laid VERSION r (suc k)) f.long) (fault.Short f.long) tested (le-leb _ _ (omega arith))
     ∙ changes_same (length r.pool) place n (stood f k) (slice_index old) (change_in old new) (change_in old new) (λ p less. stood_laid VERSION r k p less) (λ i less. refl) in
-    ap (λ (xs : List Rule). first_broken xs) (rules_changed f k refl)
+    ap (λ (xs : List (Rule Fault)). first_broken xs) (rules_changed f k refl)
     ∙ rule_met (nat_le (place + CHANGES_AT) f.long) (fault.Short f.long) (fields ++ ends) (le-leb _ _ (omega arith))
     ∙ same_append fields fields ends left refl same
 

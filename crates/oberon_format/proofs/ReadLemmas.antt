@@ -3,7 +3,6 @@ use Rattle.std.proofs.Common.{◌≡◌, ◌<◌, ◌≤◌, ◌+◌, ◌-◌, �
 use Rattle.std.specs.Prelude.{slice_index, slice_index_or, nat_le, ◌==◌, if◌then◌else◌}
 use Rattle.std.proofs.lemmas.List.{get_or-map, get_or_append_left, get_or_default, length-drop}
 use Rattle.std.proofs.lemmas.Bool.{leb-true}
-use Rattle.std.proofs.lemmas.Bool.Decides.{nat_tests}
 use Rattle.risc_machine.specs.declared.event.Event.{Event}
 use Rattle.risc_machine.specs.InputOrder.{AreOrdered, count_at, count_before}
 use Rattle.risc_machine.specs.declared.inputs.TheConstants.{MAX_COUNT}
@@ -21,15 +20,15 @@ use Rattle.oberon_format.specs.Formed.{AreFormed}
 use Rattle.oberon_format.specs.inner.Tested.{HasNumbers, Meets, StandIn}
 use Rattle.oberon_format.specs.Text.{EachAt, IsPageAt, IsEventAt, IsFront, IsWhole, IsChanged, IsCheckpoint, IsLaidOut}
 use Rattle.oberon_format.specs.TextFields.{fields_of, event_of, change_of, number_before, page_number_of}
-use Rattle.oberon_format.proofs.Agree.{text_agrees}
-use Rattle.oberon_format.proofs.ChangeLemmas.{AreLawful, change_in, changes-make, lawful-are, after-same}
+use Rattle.oberon_format.proofs.Agree.{tables_stand, text_agrees}
+use Rattle.oberon_format.proofs.ChangeLemmas.{AreLawful, lawful-are, after-same}
 use Rattle.oberon_format.proofs.Each.{each_push}
 use Rattle.oberon_format.proofs.LawfulLemmas.{faultless_lawful}
-use Rattle.oberon_format.proofs.PartLemmas.{member}
+use Rattle.oberon_format.proofs.PartLemmas.{member, table_next}
 use Rattle.oberon_format.proofs.Room.{output_there}
 use Rattle.oberon_format.proofs.RuleLemmas.{each_holds, rule_holds, and_left, and_right}
 use Rattle.oberon_format.proofs.Tables.{change_rises, change_inside, change_differs}
-use Rattle.oberon_format.proofs.TextLemmas.{later_first, later_second, number_first, number_second, numbers_none, stood_is, checkpoint_changed}
+use Rattle.oberon_format.proofs.TextLemmas.{later_first, later_second, number_first, number_second, stood_is, checkpoint_changed}
 
 -- the events of a text without fault are in order
 count_stands : (text : List ℕ) (es : List Event) (i : ℕ) → EachAt (IsEventAt text) es → i < length es → count_at es i ≡ long_at text (event_place text i)
@@ -51,10 +50,6 @@ events_ordered text es meets len each place lt =
     let high = leb-true count MAX_COUNT (and_right (nat_le (event_floor f place) count) (nat_le count MAX_COUNT) counts) in
     (omega arith, omega arith)
 
--- the table before a checkpoint that is not the first
-table_next : (cs : List CheckpointParts) (k : ℕ) → table_before cs (suc k) ≡ (slice_index_or cs k no_checkpoint).table
-table_next cs k = grind (arith, nat_tests)
-
 -- the tables before are the same as checkpoints come
 before_pushed : (cs : List CheckpointParts) (c : CheckpointParts) (k : ℕ) → k ≤ length cs → table_before (cs ++ c ∷ []) k ≡ table_before cs k
 before_pushed cs c zero le = refl
@@ -62,23 +57,6 @@ before_pushed cs c (suc k) le =
     table_next (cs ++ c ∷ []) k
     ∙ ap (λ (x : CheckpointParts). x.table) (get_or_append_left cs (c ∷ []) no_checkpoint k (omega arith))
     ∙ sym (table_next cs k)
-
--- of checkpoints that stand in a text of version 2, the table before each has the numbers that the text tells
-pub tables_stand : (text : List ℕ) (cs : List CheckpointParts) (k : ℕ) → version text ≡ VERSION → StandIn text cs → k ≤ length cs → HasNumbers (table_before cs k) (number_before text k)
-unfolding number_before
-tables_stand text cs zero is stand le p lt = numbers_none text p lt
-tables_stand text cs (suc k) is stand le p lt =
-    let before = table_before cs k in
-    let table = (slice_index_or cs k no_checkpoint).table in
-    let place = start text k in
-    let changed = (stand k no_checkpoint (omega arith)).in_second is in
-    let many : change_count text place ≡ length (changes before table) = later_second text (place + CHANGE_COUNT_AT) is ∙ changed.count in
-    let same : (i : ℕ) → i < length (changes before table) → change_in before table i ≡ change_of text place i =
-    λ i less. λ j. record { place = sym (changed.changes i no_change less).place j; number = sym (changed.changes i no_change less).number j } in
-    ap (λ (t : List ℕ). slice_index t p) (table_next cs k)
-    ∙ sym (changes-make before table p lt)
-    ∙ after-same (change_in before table) (change_of text place) (slice_index before) (number_before text k) (length (changes before table)) p same (tables_stand text cs k is stand (omega arith) p lt)
-    ∙ ap (λ (n : ℕ). number_after (change_of text place) (number_before text k) n p) (sym many)
 
 -- the changes of a checkpoint that breaks no rule are lawful after the table before it
 changes_lawful : (text : List ℕ) (k : ℕ) (before : List ℕ) → Meets text → k < checkpoints text → version text ≡ VERSION → HasNumbers before (number_before text k)

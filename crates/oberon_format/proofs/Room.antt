@@ -112,10 +112,7 @@ front_there text k meets lt =
 
 -- the whole of a checkpoint of version 1
 pub whole_there : (text : List ℕ) (k : ℕ) → Meets text → k < checkpoints text → version text ≡ FIRST_VERSION → start text k + CHECKPOINT_LEN ≤ length text
-whole_there text k meets lt is =
-    let all = checkpoint_there text k meets lt in
-    let size = size_first (version text) (change_count text (start text k)) is in
-    omega arith
+whole_there text k meets lt is = whole_room text k meets.sized lt is
 
 -- the changes of one of version 2
 pub changes_there : (text : List ℕ) (k : ℕ) → Meets text → k < checkpoints text → version text ≡ VERSION → change_place (start text k) (change_count text (start text k)) ≤ length text

@@ -42,6 +42,12 @@ stands_right text place n xs ys s e = record {
   here = omega (arith, length-append s.front xs, s.here, e);
 }
 
+-- from one place of a part to another
+pub stands_behind : (text : List ℕ) (place from to : ℕ) (xs ys : List ℕ) → Stands text (place + from) (xs ++ ys) → from + length xs ≡ to → Stands text (place + to) ys
+stands_behind text place from to xs ys s e =
+    let at : place + from + length xs ≡ place + to = omega arith in
+    subst (λ (p : ℕ). Stands text p ys) at (stands_right text (place + from) (length xs) xs ys s refl)
+
 pub stands_from : (text : List ℕ) (n : ℕ) (xs ys : List ℕ) → Stands text 0 (xs ++ ys) → length xs ≡ n → Stands text n ys
 stands_from text n xs ys s e = subst (λ (k : ℕ). Stands text k ys) (zero-add n) (stands_right text 0 n xs ys s e)
 

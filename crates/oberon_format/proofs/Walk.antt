@@ -82,9 +82,9 @@ third_left : (a b c d : Bool) → a ≡ true → b ≡ true → d ≡ true → (
 third_left a b true d ha hb hd = rw (ha, hb, hd) refl
 third_left a b false d ha hb hd = rw (ha, hb) refl
 
-pub change_tested : (pages i : ℕ) (before table : List ℕ) → i < length (changes before table)
+pub number_tested : (pages i : ℕ) (before table : List ℕ) → i < length (changes before table)
     → is_change pages (place_floor (change_in before table) i) (slice_index before) (change_in before table i) ≡ nat_le (change_in before table i).number pages
-change_tested pages i before table lt =
+number_tested pages i before table lt =
     let c = change_in before table i in
     let are = changes-lawful before table in
     let differs : (c.number == slice_index before c.place) ≡ false = ne_eqb _ _ (are.differs i lt) in
@@ -98,5 +98,5 @@ pub next_rule : (pages place p : ℕ) (before table : List ℕ) → p < PLACES �
 next_rule pages place p before table lt ne =
     let m = length (changes_below p before table) in
     let next = next_change p before table lt ne in
-    let test = change_tested pages m before table next.inside ∙ ap (λ (c : Change). nat_le c.number pages) next.is in
+    let test = number_tested pages m before table next.inside ∙ ap (λ (c : Change). nat_le c.number pages) next.is in
     (next.inside, ap (λ (holds : Bool). first_broken ((holds, fault.Page (change_place place m)) ∷ [])) test)

@@ -31,12 +31,13 @@ numbered-more pages n place at =
     let next : n + 1 ≡ suc n = omega arith in
     rw (next, at) (sym (numbered-suc pages n))
 
-module _ (words : List ℕ) where
-  abbrev with-page : ℕ → ℕ × List ℕ
-  with-page place = (place, page_at words place)
+-- a place with its page
+abbrev pub with-page : List ℕ → ℕ → ℕ × List ℕ
+with-page words place = (place, page_at words place)
 
+module _ (words : List ℕ) where
   pages-with : (changed : List (ℕ × Page)) → All (λ (c : ℕ × Page). c.1.words ≡ page_at words c.0) changed
-      → map page_view changed ≡ map with-page (places_of changed)
+      → map page_view changed ≡ map (with-page words) (places_of changed)
   pages-with [] all = refl
   pages-with (c ∷ changed) all =
       let first : c.1.words ≡ page_at words c.0 = all 0 c (omega arith) in

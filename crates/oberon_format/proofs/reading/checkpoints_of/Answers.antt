@@ -9,7 +9,8 @@ use Rattle.oberon_format.proofs.RuleLemmas.{output_below_none, output_below_more
 use Rattle.oberon_format.proofs.Output.{ranges_hold, keys_hold, changes_few, output_fits, output_more, output_all, range-none}
 use Rattle.oberon_format.proofs.ReadLemmas.{stand_next}
 use Rattle.oberon_format.proofs.Room.{front_there, place_next}
-use Rattle.oberon_format.proofs.TextLemmas.{stood_none, stood_more}
+use Rattle.oberon_format.proofs.PartLemmas.{stood_more}
+use Rattle.oberon_format.proofs.TextLemmas.{stood_none}
 use Rattle.oberon_format.proofs.reading.checkpoints_of.Goals as goal
 use Rattle.oberon_format.specs.Layout.{checkpoints, output_place}
 

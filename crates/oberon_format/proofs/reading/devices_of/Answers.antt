@@ -1,15 +1,12 @@
-use Rattle.std.proofs.Common.{◌≡◌, ◌∙◌, ◌+◌, ◌≤◌, ◌<◌, ◌/◌, ◌%◌, ◌^◌, ℕ, length, sym, ap, subst, arith}
-use Rattle.std.specs.Prelude.{slice_range, ◌==◌, if◌then◌else◌}
+use Rattle.std.proofs.Common.{◌≡◌, ◌∙◌, ◌+◌, ◌≤◌, ◌<◌, length, sym, ap, subst, arith}
+use Rattle.std.specs.Prelude.{slice_range}
 use Rattle.std.proofs.lemmas.Bool.Decides.{nat_tests}
 use Rattle.risc_devices.specs.DeviceState.{DeviceState}
 use Rattle.oberon_format.specs.declared.layout.TheConstants.{KEYS_AT}
 use Rattle.oberon_format.specs.Text.{IsDevices}
 use Rattle.oberon_format.proofs.Keys.{keys-stand, length-range}
+use Rattle.oberon_format.proofs.Numbers.{serial_whole}
 use Rattle.oberon_format.proofs.reading.devices_of.Goals as goal
-
--- the serial line's number is that of its parts
-serial_whole : (serial : ℕ) → serial < 512 → serial % 2 ^ 8 + (if serial / 2 ^ 8 == 1 then 2 ^ 8 else 0) ≡ serial
-serial_whole serial h = grind (arith, nat_tests)
 
 pub returns : goal.returns
 returns c =
