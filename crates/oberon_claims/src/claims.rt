@@ -40,7 +40,7 @@ impl Model for Claims {
 impl Claims {
     /// A new book of `jobs` jobs, at most 4,096, and `workers` fresh passes of it, 1 to 64.
     ///
-    /// It is refused only where memory was.
+    /// It fails only for want of memory.
     pub fn new(alloc: Global, jobs: u32, workers: u32) -> Result<(Claims, Vec<Pass>), AllocError>
         requires jobs { jobs ≤ 4096 }
         requires workers { (1 ≤ workers) × (workers ≤ 64) }

@@ -9,7 +9,7 @@ use Rattle.oberon_format.specs.Changes.{changes, no_change, number_after}
 use Rattle.oberon_format.specs.CheckpointParts.{CheckpointParts, no_checkpoint}
 use Rattle.oberon_format.specs.Formed.{AreFormed}
 use Rattle.oberon_format.specs.FirstFault.{first_broken}
-use Rattle.oberon_format.specs.Layout.{version, event_place, change_place, change_count, later_word, start}
+use Rattle.oberon_format.specs.Layout.{version, event_offset, change_offset, change_count, later_word, start}
 use Rattle.oberon_format.specs.PartFields.{fields_laid, event_fields, no_event, checkpoint_fields, changes_laid}
 use Rattle.oberon_format.specs.Ranges.{is_version}
 use Rattle.oberon_format.specs.Recording.{RecordingParts, checkpoint_at, table_before, output_of}
@@ -25,39 +25,39 @@ use Rattle.oberon_format.proofs.SameFields.{SameFields, same_rules}
 use Rattle.oberon_format.proofs.TextLemmas.{later_second, number_second, numbers_none}
 
 -- an event that stands at a place has its fields there
-event_agrees : (text : List ℕ) (place : ℕ) (e : Event) → IsEvent text place e → event_of text place ≡ event_fields e
-event_agrees text place e is = λ i. record { count = is.count i; kind = is.kind i; value = is.value i }
+event_agrees : (text : List ℕ) (offset : ℕ) (e : Event) → IsEvent text offset e → event_of text offset ≡ event_fields e
+event_agrees text offset e is = λ i. record { count = is.count i; kind = is.kind i; value = is.value i }
 
 events_agree : (v : ℕ) (text : List ℕ) (r : RecordingParts) → IsLaidOut v text r
     → (i : ℕ) → i < length r.inputs → (fields_of text).event i ≡ (fields_laid v r).event i
 events_agree v text r is i lt =
     let e = member r.inputs i lt in
-    event_agrees text (event_place text i) (get_or r.inputs i e) (is.events_stand i e lt) ∙ sym (get_or-map event_fields r.inputs i e no_event lt)
+    event_agrees text (event_offset text i) (get_or r.inputs i e) (is.events_stand i e lt) ∙ sym (get_or-map event_fields r.inputs i e no_event lt)
 
 -- the rate and the phase of a checkpoint that stands at a place
-rate_agrees : (v : ℕ) (text : List ℕ) (place : ℕ) (before : List ℕ) (c : CheckpointParts)
-    → is_version v ≡ true → version text ≡ v → IsCheckpoint v text place before c → later_word text (place + RATE_AT) ≡ c.devices.rate
-rate_agrees v text place before c known of is =
+rate_agrees : (v : ℕ) (text : List ℕ) (offset : ℕ) (before : List ℕ) (c : CheckpointParts)
+    → is_version v ≡ true → version text ≡ v → IsCheckpoint v text offset before c → later_word text (offset + RATE_AT) ≡ c.devices.rate
+rate_agrees v text offset before c known of is =
     elim (version_cases v known) [
       | inl first ↦ let rate = (is.in_first first).rate in rw (of, first) (sym rate)
       | inr second ↦ let rate = (is.in_second second).rate in rw (of, second) rate
     ]
 
-phase_agrees : (v : ℕ) (text : List ℕ) (place : ℕ) (before : List ℕ) (c : CheckpointParts)
-    → is_version v ≡ true → version text ≡ v → IsCheckpoint v text place before c → later_word text (place + PHASE_AT) ≡ c.devices.phase
-phase_agrees v text place before c known of is =
+phase_agrees : (v : ℕ) (text : List ℕ) (offset : ℕ) (before : List ℕ) (c : CheckpointParts)
+    → is_version v ≡ true → version text ≡ v → IsCheckpoint v text offset before c → later_word text (offset + PHASE_AT) ≡ c.devices.phase
+phase_agrees v text offset before c known of is =
     elim (version_cases v known) [
       | inl first ↦ let phase = (is.in_first first).phase in rw (of, first) (sym phase)
       | inr second ↦ let phase = (is.in_second second).phase in rw (of, second) phase
     ]
 
 -- a checkpoint that stands at a place has its fields there
-checkpoint_agrees : (v : ℕ) (text : List ℕ) (place : ℕ) (before : List ℕ) (c : CheckpointParts)
-    → is_version v ≡ true → version text ≡ v → IsCheckpoint v text place before c → checkpoint_of text place ≡ checkpoint_fields v before c
-checkpoint_agrees v text place before c known of is =
-    let rate = rate_agrees v text place before c known of is in
-    let phase = phase_agrees v text place before c known of is in
-    let count = count_laid v text place before c known of is in
+checkpoint_agrees : (v : ℕ) (text : List ℕ) (offset : ℕ) (before : List ℕ) (c : CheckpointParts)
+    → is_version v ≡ true → version text ≡ v → IsCheckpoint v text offset before c → checkpoint_of text offset ≡ checkpoint_fields v before c
+checkpoint_agrees v text offset before c known of is =
+    let rate = rate_agrees v text offset before c known of is in
+    let phase = phase_agrees v text offset before c known of is in
+    let count = count_laid v text offset before c known of is in
     λ i. record {
       count = is.front.count i;
       pc = is.front.cpu.pc i;
@@ -80,9 +80,9 @@ change_agrees : (text : List ℕ) (at : ℕ) (change : Change) → IsChange text
 change_agrees text at change is = λ i. record { place = is.place i; number = is.number i }
 
 -- change i of a checkpoint of version 2
-changes_stand : (text : List ℕ) (place : ℕ) (before : List ℕ) (c : CheckpointParts) → IsChanged text place before c → (i : ℕ) → i < length (changes before c.table)
-    → change_of text place i ≡ change_in before c.table i
-changes_stand text place before c is i lt = change_agrees text (change_place place i) (change_in before c.table i) (is.changes i no_change lt)
+changes_stand : (text : List ℕ) (offset : ℕ) (before : List ℕ) (c : CheckpointParts) → IsChanged text offset before c → (i : ℕ) → i < length (changes before c.table)
+    → change_of text offset i ≡ change_in before c.table i
+changes_stand text offset before c is i lt = change_agrees text (change_offset offset i) (change_in before c.table i) (is.changes i no_change lt)
 
 -- of checkpoints that stand in a text of version 2, the table before each has the numbers that the text tells
 pub tables_stand : (text : List ℕ) (cs : List CheckpointParts) (k : ℕ) → version text ≡ VERSION → StandIn text cs → k ≤ length cs → HasNumbers (table_before cs k) (number_before text k)
@@ -91,14 +91,14 @@ tables_stand text cs zero is stand le p lt = numbers_none text p lt
 tables_stand text cs (suc k) is stand le p lt =
     let before = table_before cs k in
     let c = slice_index_or cs k no_checkpoint in
-    let place = start text k in
+    let offset = start text k in
     let changed = (stand k no_checkpoint (omega arith)).in_second is in
-    let many : change_count text place ≡ length (changes before c.table) = later_second text (place + CHANGE_COUNT_AT) is ∙ changed.count in
+    let many : change_count text offset ≡ length (changes before c.table) = later_second text (offset + CHANGE_COUNT_AT) is ∙ changed.count in
     ap (λ (t : List ℕ). slice_index t p) (table_next cs k)
     ∙ sym (changes-make before c.table p lt)
-    ∙ sym (after-same (change_of text place) (change_in before c.table) (number_before text k) (slice_index before) (length (changes before c.table)) p
-    (changes_stand text place before c changed) (sym (tables_stand text cs k is stand (omega arith) p lt)))
-    ∙ ap (λ (n : ℕ). number_after (change_of text place) (number_before text k) n p) (sym many)
+    ∙ sym (after-same (change_of text offset) (change_in before c.table) (number_before text k) (slice_index before) (length (changes before c.table)) p
+    (changes_stand text offset before c changed) (sym (tables_stand text cs k is stand (omega arith) p lt)))
+    ∙ ap (λ (n : ℕ). number_after (change_of text offset) (number_before text k) n p) (sym many)
 
 -- the page numbers of a text of either version
 pages_agree : (v : ℕ) (text : List ℕ) (r : RecordingParts) → AreFormed r.checkpoints → IsLaidOut v text r → (k p : ℕ) → k < length r.checkpoints → p < PLACES

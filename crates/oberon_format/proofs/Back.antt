@@ -20,7 +20,7 @@ use Rattle.oberon_format.specs.Changes.{changes}
 use Rattle.oberon_format.specs.CheckpointParts.{CheckpointParts, key_bytes, no_checkpoint}
 use Rattle.oberon_format.proofs.PartLemmas.{laid_rises}
 use Rattle.oberon_format.proofs.Places.{bytes_at, bytes_at-next, start-laid}
-use Rattle.oberon_format.specs.Layout.{word_at, long_at, page_place, event_start, event_place, change_place, checkpoint_size, start, output_place}
+use Rattle.oberon_format.specs.Layout.{word_at, long_at, page_offset, event_start, event_offset, change_offset, checkpoint_size, start, output_offset}
 use Rattle.oberon_format.specs.PartFields.{changes_laid, start_laid}
 use Rattle.oberon_format.specs.Ranges.{is_version}
 use Rattle.oberon_format.specs.Recording.{RecordingParts, IsLawful, IsFit, checkpoint_at, table_before, output_of}
@@ -42,9 +42,9 @@ all_bytes text bytes i =
     ]
 
 -- the n bytes from a place on
-pub record Holds (text : List ℕ) (place n : ℕ) (bytes : List ℕ) : Type 0 where
-  pub is : slice_range text place (place + n) ≡ bytes
-  pub room : place + n ≤ length text
+pub record Holds (text : List ℕ) (offset n : ℕ) (bytes : List ℕ) : Type 0 where
+  pub is : slice_range text offset (offset + n) ≡ bytes
+  pub room : offset + n ≤ length text
 
 holds_join : (text : List ℕ) (p q n m k : ℕ) (xs ys : List ℕ) → Holds text p n xs → Holds text q m ys → q ≡ p + n → k ≡ n + m → Holds text p k (xs ++ ys)
 holds_join text p q n m k xs ys a b eq ek =
@@ -204,7 +204,7 @@ changed_back text p before c h room is =
     let a = spans_word text p RATE_AT PHASE_AT c.devices.rate h (omega arith) refl is.rate in
     let b = spans_word text p PHASE_AT CHANGE_COUNT_AT c.devices.phase h (omega arith) refl is.phase in
     let n = spans_word text p CHANGE_COUNT_AT CHANGES_AT (length cs) h (omega arith) refl is.count in
-    let all = holds_all change_bytes CHANGE_LEN text (p + CHANGES_AT) cs (omega arith) (λ i d lt. change_back text (change_place p i) (get_or cs i d) h (omega arith) (is.changes i d lt)) in
+    let all = holds_all change_bytes CHANGE_LEN text (p + CHANGES_AT) cs (omega arith) (λ i d lt. change_back text (change_offset p i) (get_or cs i d) h (omega arith) (is.changes i d lt)) in
     let m = spans text p CHANGES_AT end (CHANGE_LEN * length cs) (flat_map change_bytes cs) refl all in
     let s1 = spans_join text p RATE_AT PHASE_AT CHANGE_COUNT_AT _ _ (omega arith) (omega arith) a b in
     let s2 = spans_join text p CHANGE_COUNT_AT CHANGES_AT end _ _ (omega arith) (omega arith) n m in
@@ -247,22 +247,22 @@ record Between (text : List ℕ) (from to : ℕ) (bytes : List ℕ) : Type 0 whe
   holds : Holds text from count bytes
 
 -- checkpoints, each of its own length, where places tell these lengths
-blocks_back : (v : ℕ) (text : List ℕ) (place size : ℕ → ℕ) (before : List ℕ) (cs : List CheckpointParts) → ((k : ℕ) → k < length cs → place (suc k) ≡ place k + size k)
-    → ((k : ℕ) → k < length cs → Holds text (place k) (size k) (bytes_at v before cs k)) → place 0 ≤ length text → Between text (place 0) (place (length cs)) (checkpoints_bytes v before cs)
+blocks_back : (v : ℕ) (text : List ℕ) (offset size : ℕ → ℕ) (before : List ℕ) (cs : List CheckpointParts) → ((k : ℕ) → k < length cs → offset (suc k) ≡ offset k + size k)
+    → ((k : ℕ) → k < length cs → Holds text (offset k) (size k) (bytes_at v before cs k)) → offset 0 ≤ length text → Between text (offset 0) (offset (length cs)) (checkpoints_bytes v before cs)
 unfolding checkpoints_bytes
-blocks_back v text place size before [] next each room = record { count = 0; reach = omega arith; holds = holds_none text (place 0) room }
-blocks_back v text place size before (c ∷ cs) next each room =
-    let first : Holds text (place 0) (size 0) (checkpoint_bytes v before c) = each 0 (omega arith) in
-    let step : place 1 ≡ place 0 + size 0 = next 0 (omega arith) in
+blocks_back v text offset size before [] next each room = record { count = 0; reach = omega arith; holds = holds_none text (offset 0) room }
+blocks_back v text offset size before (c ∷ cs) next each room =
+    let first : Holds text (offset 0) (size 0) (checkpoint_bytes v before c) = each 0 (omega arith) in
+    let step : offset 1 ≡ offset 0 + size 0 = next 0 (omega arith) in
     let there = first.room in
-    let rest : Between text (place 1) (place (suc (length cs))) (checkpoints_bytes v c.table cs) =
-    blocks_back v text (λ i. place (suc i)) (λ i. size (suc i)) c.table cs (λ i lt. next (suc i) (omega arith))
-    (λ i lt. subst (Holds text (place (suc i)) (size (suc i))) (bytes_at-next v before c cs i) (each (suc i) (omega arith))) (omega arith) in
+    let rest : Between text (offset 1) (offset (suc (length cs))) (checkpoints_bytes v c.table cs) =
+    blocks_back v text (λ i. offset (suc i)) (λ i. size (suc i)) c.table cs (λ i lt. next (suc i) (omega arith))
+    (λ i lt. subst (Holds text (offset (suc i)) (size (suc i))) (bytes_at-next v before c cs i) (each (suc i) (omega arith))) (omega arith) in
     let reach = rest.reach in
     record {
       count = size 0 + rest.count;
       reach = omega arith;
-      holds = holds_join text (place 0) (place 1) (size 0) rest.count (size 0 + rest.count) _ _ first rest.holds step refl;
+      holds = holds_join text (offset 0) (offset 1) (size 0) rest.count (size 0 + rest.count) _ _ first rest.holds step refl;
     }
 
 header_back : (v : ℕ) (text : List ℕ) (r : RecordingParts) → IsBytes text → HEADER_LEN ≤ length text → IsLaidOut v text r → Holds text 0 HEADER_LEN (header_bytes v r)
@@ -291,34 +291,34 @@ is_spelling v text r h p is =
     let np = length r.pool in
     let ne = length r.inputs in
     let out = output_of cs in
-    let place = start_laid v r in
+    let offset = start_laid v r in
     let size : ℕ → ℕ = λ k. checkpoint_size v (changes_laid v (table_before cs k) (checkpoint_at r k)) in
     let long = is.long in
     let cp = is.page_count in
     let ce = is.event_count in
-    let starts : (k : ℕ) → k ≤ length cs → start text k ≡ place k = start-laid v text r is in
-    let end : output_place text ≡ place (length cs) = ap (start text) is.checkpoint_count ∙ starts (length cs) (omega arith) in
-    let first : place 0 ≡ event_start np ne = refl in
-    let rise : place 0 ≤ place (length cs) = laid_rises v r 0 (length cs) (omega arith) in
-    let stand : (k : ℕ) → k < length cs → IsCheckpoint v text (place k) (table_before cs k) (checkpoint_at r k) =
+    let starts : (k : ℕ) → k ≤ length cs → start text k ≡ offset k = start-laid v text r is in
+    let end : output_offset text ≡ offset (length cs) = ap (start text) is.checkpoint_count ∙ starts (length cs) (omega arith) in
+    let first : offset 0 ≡ event_start np ne = refl in
+    let rise : offset 0 ≤ offset (length cs) = laid_rises v r 0 (length cs) (omega arith) in
+    let stand : (k : ℕ) → k < length cs → IsCheckpoint v text (offset k) (table_before cs k) (checkpoint_at r k) =
     λ k lt. subst (λ (n : ℕ). IsCheckpoint v text n (table_before cs k) (checkpoint_at r k)) (starts k (omega arith)) (is.checkpoints_stand k no_checkpoint lt) in
-    let within : (k : ℕ) → k < length cs → place k + size k ≤ length text = λ k lt. let more : place (suc k) ≤ place (length cs) = laid_rises v r (suc k) (length cs) (omega arith) in omega arith in
-    let each : (k : ℕ) → k < length cs → Holds text (place k) (size k) (bytes_at v zero_numbers cs k) =
-    λ k lt. checkpoint_back v text (place k) r.pool (table_before cs k) (checkpoint_at r k) is.known h (p.fit k lt) (within k lt) (stand k lt) in
+    let within : (k : ℕ) → k < length cs → offset k + size k ≤ length text = λ k lt. let more : offset (suc k) ≤ offset (length cs) = laid_rises v r (suc k) (length cs) (omega arith) in omega arith in
+    let each : (k : ℕ) → k < length cs → Holds text (offset k) (size k) (bytes_at v zero_numbers cs k) =
+    λ k lt. checkpoint_back v text (offset k) r.pool (table_before cs k) (checkpoint_at r k) is.known h (p.fit k lt) (within k lt) (stand k lt) in
     let s0 = header_back v text r h (omega arith) is in
-    let s1 = holds_all words_bytes PAGE_LEN text HEADER_LEN r.pool (omega arith) (λ i d lt. page_back text (page_place i) (get_or r.pool i d) h (omega arith) (is.pages_stand i d lt) (p.pool i d lt)) in
-    let s2 = holds_all event_bytes EVENT_LEN text (page_place np) r.inputs (omega arith)
-    (λ i d lt. holds_at text (event_place text i) (event_start np i) EVENT_LEN _ (omega arith) (event_back text (event_place text i) (get_or r.inputs i d) h (omega arith) (is.events_stand i d lt))) in
-    let s3 = blocks_back v text place size zero_numbers cs (λ k lt. refl) each (omega arith) in
+    let s1 = holds_all words_bytes PAGE_LEN text HEADER_LEN r.pool (omega arith) (λ i d lt. page_back text (page_offset i) (get_or r.pool i d) h (omega arith) (is.pages_stand i d lt) (p.pool i d lt)) in
+    let s2 = holds_all event_bytes EVENT_LEN text (page_offset np) r.inputs (omega arith)
+    (λ i d lt. holds_at text (event_offset text i) (event_start np i) EVENT_LEN _ (omega arith) (event_back text (event_offset text i) (get_or r.inputs i d) h (omega arith) (is.events_stand i d lt))) in
+    let s3 = blocks_back v text offset size zero_numbers cs (λ k lt. refl) each (omega arith) in
     let n = s3.count in
     let reach = s3.reach in
-    let j1 = holds_join text 0 HEADER_LEN HEADER_LEN (PAGE_LEN * np) (page_place np) _ _ s0 s1 (omega arith) refl in
-    let j2 = holds_join text 0 (page_place np) (page_place np) (EVENT_LEN * ne) (place 0) _ _ j1 s2 (omega arith) refl in
-    let j3 = holds_join text 0 (place 0) (place 0) n (place (length cs)) _ _ j2 s3.holds (omega arith) reach in
+    let j1 = holds_join text 0 HEADER_LEN HEADER_LEN (PAGE_LEN * np) (page_offset np) _ _ s0 s1 (omega arith) refl in
+    let j2 = holds_join text 0 (page_offset np) (page_offset np) (EVENT_LEN * ne) (offset 0) _ _ j1 s2 (omega arith) refl in
+    let j3 = holds_join text 0 (offset 0) (offset 0) n (offset (length cs)) _ _ j2 s3.holds (omega arith) reach in
     let head = header_bytes v r ++ flat_map words_bytes r.pool ++ flat_map event_bytes r.inputs ++ checkpoints_bytes v zero_numbers cs in
-    let front : take (place (length cs)) text ≡ head = holds_front text (place (length cs)) _ j3 in
-    let back : drop (place (length cs)) text ≡ out = ap (λ (k : ℕ). drop k text) (sym end) ∙ is.output in
-    sym (take-append-drop (place (length cs)) text) ∙ ap (λ (l : List ℕ). l ++ drop (place (length cs)) text) front ∙ ap (λ (l : List ℕ). head ++ l) back
+    let front : take (offset (length cs)) text ≡ head = holds_front text (offset (length cs)) _ j3 in
+    let back : drop (offset (length cs)) text ≡ out = ap (λ (k : ℕ). drop k text) (sym end) ∙ is.output in
+    sym (take-append-drop (offset (length cs)) text) ∙ ap (λ (l : List ℕ). l ++ drop (offset (length cs)) text) front ∙ ap (λ (l : List ℕ). head ++ l) back
 
 -- a text of a recording in a version is the bytes of the recording in that version
 pub spelled_back : (v : ℕ) (text : List ℕ) (r : RecordingParts) → AreBytes text → TextIn v text r → text ≡ spelling v r

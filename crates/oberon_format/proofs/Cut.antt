@@ -8,7 +8,7 @@ use Rattle.oberon_format.specs.declared.fields.CheckpointFields.{CheckpointField
 use Rattle.oberon_format.specs.declared.layout.TheConstants.{LONGEST_TEXT, MAGIC_AT, VERSION_AT, PAGES_AT, EVENTS_AT, CHECKPOINTS_AT, LAST_AT, KIND_AT, VALUE_AT, COUNTER_AT, FLAGS_AT, STOP_AT, SWITCHES_AT, LEDS_AT, MOUSE_AT, SERIAL_AT, WAITING_AT, KEYS_AT, SENT_AT, RATE_AT, PHASE_AT, CHANGE_COUNT_AT, NUMBER_AT, FIRST_VERSION, PLACES, CHANGES_AT, CHANGE_LEN}
 use Rattle.oberon_format.specs.Changes.{number_after}
 use Rattle.oberon_format.specs.Fields.{Fields, total}
-use Rattle.oberon_format.specs.Layout.{version, pages, events, checkpoints, event_place, event_start, long_at, page_number_place, change_place, checkpoint_size, change_count, later_word, start, word_at}
+use Rattle.oberon_format.specs.Layout.{version, pages, events, checkpoints, event_offset, event_start, long_at, page_number_offset, change_offset, checkpoint_size, change_count, later_word, start, word_at}
 use Rattle.oberon_format.specs.Rules.{named_len, rules}
 use Rattle.oberon_format.specs.TextFields.{change_at, change_of, checkpoint_of, event_of, fields_of, first_fault_of, number_before, page_number_of}
 use Rattle.oberon_format.specs.Recording.{RecordingParts}
@@ -21,33 +21,33 @@ use Rattle.oberon_format.proofs.TextLemmas.{number_where, number_else}
 use Rattle.oberon_format.proofs.LongFields.{AreFew, AgreeBelow, AgreeAt, Agree, most, faults_same, fields}
 
 -- numbers in bytes that were not cut off
-word_at-take : (n : ℕ) (text : List ℕ) (place : ℕ) → place + 4 ≤ n → word_at (take n text) place ≡ word_at text place
+word_at-take : (n : ℕ) (text : List ℕ) (offset : ℕ) → offset + 4 ≤ n → word_at (take n text) offset ≡ word_at text offset
 unfolding word_at
-word_at-take n text place within =
-    let byte0 = get_or-take n text place 0 (omega arith) in
-    let byte1 = get_or-take n text (suc place) 0 (omega arith) in
-    let byte2 = get_or-take n text (suc (suc place)) 0 (omega arith) in
-    let byte3 = get_or-take n text (suc (suc (suc place))) 0 (omega arith) in
+word_at-take n text offset within =
+    let byte0 = get_or-take n text offset 0 (omega arith) in
+    let byte1 = get_or-take n text (suc offset) 0 (omega arith) in
+    let byte2 = get_or-take n text (suc (suc offset)) 0 (omega arith) in
+    let byte3 = get_or-take n text (suc (suc (suc offset))) 0 (omega arith) in
     rw (byte0, byte1, byte2, byte3) refl
 
-long_at-take : (n : ℕ) (text : List ℕ) (place : ℕ) → place + 8 ≤ n → long_at (take n text) place ≡ long_at text place
+long_at-take : (n : ℕ) (text : List ℕ) (offset : ℕ) → offset + 8 ≤ n → long_at (take n text) offset ≡ long_at text offset
 unfolding long_at
-long_at-take n text place within =
-    let byte0 = get_or-take n text place 0 (omega arith) in
-    let byte1 = get_or-take n text (suc place) 0 (omega arith) in
-    let byte2 = get_or-take n text (suc (suc place)) 0 (omega arith) in
-    let byte3 = get_or-take n text (suc (suc (suc place))) 0 (omega arith) in
-    let byte4 = get_or-take n text (suc (suc (suc (suc place)))) 0 (omega arith) in
-    let byte5 = get_or-take n text (suc (suc (suc (suc (suc place))))) 0 (omega arith) in
-    let byte6 = get_or-take n text (suc (suc (suc (suc (suc (suc place)))))) 0 (omega arith) in
-    let byte7 = get_or-take n text (suc (suc (suc (suc (suc (suc (suc place))))))) 0 (omega arith) in
+long_at-take n text offset within =
+    let byte0 = get_or-take n text offset 0 (omega arith) in
+    let byte1 = get_or-take n text (suc offset) 0 (omega arith) in
+    let byte2 = get_or-take n text (suc (suc offset)) 0 (omega arith) in
+    let byte3 = get_or-take n text (suc (suc (suc offset))) 0 (omega arith) in
+    let byte4 = get_or-take n text (suc (suc (suc (suc offset)))) 0 (omega arith) in
+    let byte5 = get_or-take n text (suc (suc (suc (suc (suc offset))))) 0 (omega arith) in
+    let byte6 = get_or-take n text (suc (suc (suc (suc (suc (suc offset)))))) 0 (omega arith) in
+    let byte7 = get_or-take n text (suc (suc (suc (suc (suc (suc (suc offset))))))) 0 (omega arith) in
     rw (byte0, byte1, byte2, byte3, byte4, byte5, byte6, byte7) refl
 
-event_of-take : (n : ℕ) (text : List ℕ) (place : ℕ) → place + 16 ≤ n → event_of (take n text) place ≡ event_of text place
-event_of-take n text place within =
-    let count = long_at-take n text place (omega arith) in
-    let kind = word_at-take n text (place + KIND_AT) (omega arith) in
-    let value = word_at-take n text (place + VALUE_AT) (omega arith) in
+event_of-take : (n : ℕ) (text : List ℕ) (offset : ℕ) → offset + 16 ≤ n → event_of (take n text) offset ≡ event_of text offset
+event_of-take n text offset within =
+    let count = long_at-take n text offset (omega arith) in
+    let kind = word_at-take n text (offset + KIND_AT) (omega arith) in
+    let value = word_at-take n text (offset + VALUE_AT) (omega arith) in
     rw (count, kind, value) refl
 
 slice_range-take : (n : ℕ) (text : List ℕ) (from to : ℕ) → to ≤ n → slice_range (take n text) from to ≡ slice_range text from to
@@ -69,26 +69,26 @@ slice_range-take n text from to within = go (nat_le from n) refl
 version-take : (n : ℕ) (text : List ℕ) → LONGEST_TEXT < n → version (take n text) ≡ version text
 version-take n text over = word_at-take n text VERSION_AT (omega arith)
 
-later_word-take : (n : ℕ) (text : List ℕ) (place : ℕ) → LONGEST_TEXT < n → place + 4 ≤ n → later_word (take n text) place ≡ later_word text place
-later_word-take n text place over within =
-    ap₂ (λ (v word : ℕ). if v == FIRST_VERSION then 0 else word) (version-take n text over) (word_at-take n text place within)
+later_word-take : (n : ℕ) (text : List ℕ) (offset : ℕ) → LONGEST_TEXT < n → offset + 4 ≤ n → later_word (take n text) offset ≡ later_word text offset
+later_word-take n text offset over within =
+    ap₂ (λ (v word : ℕ). if v == FIRST_VERSION then 0 else word) (version-take n text over) (word_at-take n text offset within)
 
-checkpoint_of-take : (n : ℕ) (text : List ℕ) (place : ℕ) → LONGEST_TEXT < n → place + CHANGES_AT ≤ n → checkpoint_of (take n text) place ≡ checkpoint_of text place
-checkpoint_of-take n text place over within =
-    let count = long_at-take n text place (omega arith) in
-    let pc = word_at-take n text (place + COUNTER_AT) (omega arith) in
-    let flags = word_at-take n text (place + FLAGS_AT) (omega arith) in
-    let stop = word_at-take n text (place + STOP_AT) (omega arith) in
-    let switches = word_at-take n text (place + SWITCHES_AT) (omega arith) in
-    let leds = word_at-take n text (place + LEDS_AT) (omega arith) in
-    let mouse = word_at-take n text (place + MOUSE_AT) (omega arith) in
-    let serial = word_at-take n text (place + SERIAL_AT) (omega arith) in
-    let waiting = word_at-take n text (place + WAITING_AT) (omega arith) in
-    let keys = slice_range-take n text (place + KEYS_AT) (place + SENT_AT) (omega arith) in
-    let output = word_at-take n text (place + SENT_AT) (omega arith) in
-    let rate = later_word-take n text (place + RATE_AT) over (omega arith) in
-    let phase = later_word-take n text (place + PHASE_AT) over (omega arith) in
-    let changes = later_word-take n text (place + CHANGE_COUNT_AT) over (omega arith) in
+checkpoint_of-take : (n : ℕ) (text : List ℕ) (offset : ℕ) → LONGEST_TEXT < n → offset + CHANGES_AT ≤ n → checkpoint_of (take n text) offset ≡ checkpoint_of text offset
+checkpoint_of-take n text offset over within =
+    let count = long_at-take n text offset (omega arith) in
+    let pc = word_at-take n text (offset + COUNTER_AT) (omega arith) in
+    let flags = word_at-take n text (offset + FLAGS_AT) (omega arith) in
+    let stop = word_at-take n text (offset + STOP_AT) (omega arith) in
+    let switches = word_at-take n text (offset + SWITCHES_AT) (omega arith) in
+    let leds = word_at-take n text (offset + LEDS_AT) (omega arith) in
+    let mouse = word_at-take n text (offset + MOUSE_AT) (omega arith) in
+    let serial = word_at-take n text (offset + SERIAL_AT) (omega arith) in
+    let waiting = word_at-take n text (offset + WAITING_AT) (omega arith) in
+    let keys = slice_range-take n text (offset + KEYS_AT) (offset + SENT_AT) (omega arith) in
+    let output = word_at-take n text (offset + SENT_AT) (omega arith) in
+    let rate = later_word-take n text (offset + RATE_AT) over (omega arith) in
+    let phase = later_word-take n text (offset + PHASE_AT) over (omega arith) in
+    let changes = later_word-take n text (offset + CHANGE_COUNT_AT) over (omega arith) in
     λ i. record {
       count = count i;
       pc = pc i;
@@ -106,10 +106,10 @@ checkpoint_of-take n text place over within =
       changes = changes i;
     }
 
-change_at-take : (n : ℕ) (text : List ℕ) (place : ℕ) → place + CHANGE_LEN ≤ n → change_at (take n text) place ≡ change_at text place
-change_at-take n text place within =
-    let at = word_at-take n text place (omega arith) in
-    let number = word_at-take n text (place + NUMBER_AT) (omega arith) in
+change_at-take : (n : ℕ) (text : List ℕ) (offset : ℕ) → offset + CHANGE_LEN ≤ n → change_at (take n text) offset ≡ change_at text offset
+change_at-take n text offset within =
+    let at = word_at-take n text offset (omega arith) in
+    let number = word_at-take n text (offset + NUMBER_AT) (omega arith) in
     λ i. record { place = at i; number = number i }
 
 -- how long a text is to be by its header
@@ -139,18 +139,18 @@ module _ (n : ℕ) (text : List ℕ) (over : LONGEST_TEXT < n) where
   -- the texts agree up to checkpoint k, or in checkpoint k
   abbrev Below : ℕ → Type 0
   Below k = AgreeBelow (word_at text MAGIC_AT) (version text) (pages text) (events text) (checkpoints text) (word_at text LAST_AT)
-      (length cut) (length text) (λ i. event_of cut (event_place cut i)) (λ i. event_of text (event_place text i)) (start cut) (start text)
+      (length cut) (length text) (λ i. event_of cut (event_offset cut i)) (λ i. event_of text (event_offset text i)) (start cut) (start text)
       (λ k. checkpoint_of cut (start cut k)) (λ k. checkpoint_of text (start text k)) (λ k. change_of cut (start cut k)) (λ k. change_of text (start text k))
       (page_number_of cut) (page_number_of text) k
 
   abbrev Here : ℕ → Type 0
   Here k = AgreeAt (word_at text MAGIC_AT) (version text) (pages text) (events text) (checkpoints text) (word_at text LAST_AT)
-      (length cut) (length text) (λ i. event_of cut (event_place cut i)) (λ i. event_of text (event_place text i)) (start cut) (start text)
+      (length cut) (length text) (λ i. event_of cut (event_offset cut i)) (λ i. event_of text (event_offset text i)) (start cut) (start text)
       (λ k. checkpoint_of cut (start cut k)) (λ k. checkpoint_of text (start text k)) (λ k. change_of cut (start cut k)) (λ k. change_of text (start text k))
       (page_number_of cut) (page_number_of text) k
 
   -- where the checkpoints begin
-  events_begin : event_place cut (events cut) ≡ event_place text (events text)
+  events_begin : event_offset cut (events cut) ≡ event_offset text (events text)
   events_begin = ap₂ event_start (word_at-take n text PAGES_AT (omega arith)) (word_at-take n text EVENTS_AT (omega arith))
 
   -- all before checkpoint 0 agrees
@@ -186,7 +186,7 @@ module _ (n : ℕ) (text : List ℕ) (over : LONGEST_TEXT < n) where
         let few_pages = few.of_pages in
         let few_events = few.of_events in
         let few_checkpoints = few.of_checkpoints in
-        let place = below.place in
+        let offset = below.place in
         let near = below.near in
         omega arith
 
@@ -202,12 +202,12 @@ module _ (n : ℕ) (text : List ℕ) (over : LONGEST_TEXT < n) where
     change_here : (i : ℕ) → i < PLACES → change_of cut (start cut k) i ≡ change_of text (start text k) i
     change_here i inside =
         let space = room in
-        ap (λ (place : ℕ). change_of cut place i) below.place ∙ change_at-take n text (change_place (start text k) i) (omega arith)
+        ap (λ (offset : ℕ). change_of cut offset i) below.place ∙ change_at-take n text (change_offset (start text k) i) (omega arith)
 
     -- where the next checkpoint begins
-    place_next : start cut (suc k) ≡ start text (suc k)
+    offset_next : start cut (suc k) ≡ start text (suc k)
     unfolding start
-    place_next = ap₂ (λ (place size : ℕ). place + size) below.place (ap₂ checkpoint_size (version-take n text over) count_here)
+    offset_next = ap₂ (λ (offset size : ℕ). offset + size) below.place (ap₂ checkpoint_size (version-take n text over) count_here)
 
     near_next : change_count cut (start cut k) ≤ PLACES → start cut (suc k) ≤ most (pages text) (events text) (suc k)
     unfolding start
@@ -221,8 +221,8 @@ module _ (n : ℕ) (text : List ℕ) (over : LONGEST_TEXT < n) where
     number_first first p inside =
         let space = room in
         number_where cut k p (first_cut first)
-        ∙ ap (λ (place : ℕ). word_at cut (page_number_place place p)) below.place
-        ∙ word_at-take n text (page_number_place (start text k) p) (omega arith)
+        ∙ ap (λ (offset : ℕ). word_at cut (page_number_offset offset p)) below.place
+        ∙ word_at-take n text (page_number_offset (start text k) p) (omega arith)
         ∙ sym (number_where text k p first)
 
     number_later : (version text == FIRST_VERSION) ≡ false → change_count cut (start cut k) ≤ PLACES → (p : ℕ) → p < PLACES
@@ -246,7 +246,7 @@ module _ (n : ℕ) (text : List ℕ) (over : LONGEST_TEXT < n) where
     here : Here k
     here = record {
       of_checkpoint = fields_here;
-      place = λ few_changes. place_next;
+      place = λ few_changes. offset_next;
       near = near_next;
       of_changes = λ few_changes i under. change_here i (omega arith);
       of_numbers = number_here;
@@ -254,7 +254,7 @@ module _ (n : ℕ) (text : List ℕ) (over : LONGEST_TEXT < n) where
 
   -- the fields of the text that is cut off, with the header of the whole
   fields_cut : fields_of cut ≡ fields (word_at text MAGIC_AT) (version text) (pages text) (events text) (checkpoints text) (word_at text LAST_AT)
-      (length cut) (λ i. event_of cut (event_place cut i)) (start cut) (λ k. checkpoint_of cut (start cut k))
+      (length cut) (λ i. event_of cut (event_offset cut i)) (start cut) (λ k. checkpoint_of cut (start cut k))
       (λ k. change_of cut (start cut k)) (page_number_of cut)
   fields_cut =
       let first = word_at-take n text MAGIC_AT (omega arith) in
@@ -271,7 +271,7 @@ module _ (n : ℕ) (text : List ℕ) (over : LONGEST_TEXT < n) where
         events = of_events i;
         checkpoints = of_checkpoints i;
         last = last i;
-        event = λ j. event_of cut (event_place cut j);
+        event = λ j. event_of cut (event_offset cut j);
         start = start cut;
         checkpoint = λ k. checkpoint_of cut (start cut k);
         change = λ k. change_of cut (start cut k);
@@ -291,17 +291,17 @@ module _ (n : ℕ) (text : List ℕ) (over : LONGEST_TEXT < n) where
 
   -- an event
   event_same : AreFew (pages text) (events text) (checkpoints text) → (i : ℕ) → i < events text
-      → event_of cut (event_place cut i) ≡ event_of text (event_place text i)
+      → event_of cut (event_offset cut i) ≡ event_of text (event_offset text i)
   event_same few i less =
       let of_pages = word_at-take n text PAGES_AT (omega arith) in
       let few_pages = few.of_pages in
       let few_events = few.of_events in
-      event_of-take n text (event_place cut i) (omega arith) ∙ ap (λ (p : ℕ). event_of text (event_start p i)) of_pages
+      event_of-take n text (event_offset cut i) (omega arith) ∙ ap (λ (p : ℕ). event_of text (event_start p i)) of_pages
 
   -- what rules look at was not cut off
   agree_cut : AreFew (pages text) (events text) (checkpoints text)
       → Agree (word_at text MAGIC_AT) (version text) (pages text) (events text) (checkpoints text) (word_at text LAST_AT)
-      (length cut) (length text) (λ i. event_of cut (event_place cut i)) (λ i. event_of text (event_place text i)) (start cut) (start text)
+      (length cut) (length text) (λ i. event_of cut (event_offset cut i)) (λ i. event_of text (event_offset text i)) (start cut) (start text)
       (λ k. checkpoint_of cut (start cut k)) (λ k. checkpoint_of text (start text k)) (λ k. change_of cut (start cut k)) (λ k. change_of text (start text k))
       (page_number_of cut) (page_number_of text)
   agree_cut few = record {
@@ -318,7 +318,7 @@ first_fault_of-take n text over within =
     let cut : List ℕ = take n text in
     ap (λ (f : Fields). first_broken (rules f)) (fields_cut n text over)
     ∙ faults_same (word_at text MAGIC_AT) (version text) (pages text) (events text) (checkpoints text) (word_at text LAST_AT)
-    (length cut) (length text) (λ i. event_of cut (event_place cut i)) (λ i. event_of text (event_place text i)) (start cut) (start text)
+    (length cut) (length text) (λ i. event_of cut (event_offset cut i)) (λ i. event_of text (event_offset text i)) (start cut) (start text)
     (λ k. checkpoint_of cut (start cut k)) (λ k. checkpoint_of text (start text k)) (λ k. change_of cut (start cut k)) (λ k. change_of text (start text k))
     (page_number_of cut) (page_number_of text) (agree_cut n text over)
     (simp length-take (omega arith)) (omega arith)

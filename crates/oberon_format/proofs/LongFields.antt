@@ -12,9 +12,9 @@ use Rattle.oberon_format.specs.declared.layout.TheConstants.{LONGEST_TEXT, MAGIC
 use Rattle.oberon_format.specs.declared.ranges.TheConstants.{MAX_OUTPUT, MAX_PAGES, MAX_EVENTS, MAX_CHECKPOINTS}
 use Rattle.oberon_format.specs.Fields.{EventFields, Fields, sent_below, total}
 use Rattle.oberon_format.specs.FirstFault.{Rule, each, first_broken}
-use Rattle.oberon_format.specs.Layout.{event_start, page_number_place, change_place}
+use Rattle.oberon_format.specs.Layout.{event_start, page_number_offset, change_offset}
 use Rattle.oberon_format.specs.Ranges.{is_change, is_checkpoint, is_event, is_version}
-use Rattle.oberon_format.specs.Rules.{change_rules, changed_rules, checkpoint_rules, count_before, end_rules, event_floor, event_rules, header_rules, named_len, page_number_rules, place_floor, place_of_event, rules, stood, whole, whole_rules}
+use Rattle.oberon_format.specs.Rules.{change_rules, changed_rules, checkpoint_rules, count_before, end_rules, event_floor, event_rules, header_rules, named_len, page_number_rules, place_floor, offset_of_event, rules, stood, whole, whole_rules}
 use Rattle.oberon_format.proofs.RuleLemmas.{and_left, and_right, met_left, met_right, rule_holds}
 use Rattle.oberon_format.proofs.SameFields.{before_same, sent_same, stood_same}
 use Rattle.oberon_format.proofs.SameRules.{both_pass, each_same, same_after, same_behind, same_rule, too_long}
@@ -98,7 +98,7 @@ module _ (first version pages events checkpoints last : ℕ) where
         (fields_same k below here) (ap (λ (n : ℕ). fault.Checkpoint n) below.place) (λ met.
         let few = changes_within k (count_before f k) (sent_below f k) (checkpoint k) met in
         ap first_broken (each_same PLACES (page_number_rules pages (start k) (number k)) (page_number_rules pages (start' k) (number' k))
-        (λ j less. ap₂ (λ (n place : ℕ). (nat_le n pages, fault.Page (page_number_place place j)) ∷ []) (here.of_numbers few j less) below.place)))
+        (λ j less. ap₂ (λ (n offset : ℕ). (nat_le n pages, fault.Page (page_number_offset offset j)) ∷ []) (here.of_numbers few j less) below.place)))
 
     -- the rules of the changes of one of version 2
     changes_same : (k : ℕ) → AgreeBelow k → AgreeAt k → (checkpoint k).changes ≤ PLACES
@@ -113,7 +113,7 @@ module _ (first version pages events checkpoints last : ℕ) where
         let lawful : is_change pages (place_floor (change k) i) (stood f k) (change k i) ≡ is_change pages (place_floor (change' k) i) (stood g k) (change' k i) =
         change_same pages (place_floor (change k) i) (stood f k) (stood g k) (change k i) (λ p low inside. stood_same f g k p (λ j under. below.of_numbers j p under inside))
         ∙ ap₂ (λ (n : ℕ) (c : Change). is_change pages n (stood g k) c) floor one in
-        ap₂ (λ (holds : Bool) (place : ℕ). (holds, fault.Page (change_place place i)) ∷ []) lawful below.place)
+        ap₂ (λ (holds : Bool) (offset : ℕ). (holds, fault.Page (change_offset offset i)) ∷ []) lawful below.place)
         ∙ ap (λ (c : CheckpointFields). each c.changes (change_rules pages (start' k) (stood g k) (change' k))) here.of_checkpoint
 
     module _ (few : AreFew pages events checkpoints) (over : LONGEST_TEXT < long) (over' : LONGEST_TEXT < long') where
@@ -123,7 +123,7 @@ module _ (first version pages events checkpoints last : ℕ) where
           let few_pages = few.of_pages in
           let few_events = few.of_events in
           let few_checkpoints = few.of_checkpoints in
-          let place = below.place in
+          let offset = below.place in
           let near = below.near in
           let rows = each (checkpoint k).changes (change_rules pages (start k) (stood f k) (change k)) in
           let rows' = each (checkpoint' k).changes (change_rules pages (start' k) (stood g k) (change' k)) in
@@ -232,7 +232,7 @@ module _ (first version pages events checkpoints last : ℕ) where
         event_same : (i : ℕ) → i < events → ((j : ℕ) → j < events → event j ≡ event' j) → event_rules f i ≡ event_rules g i
         event_same i below same =
             let floor_same : event_floor f i ≡ event_floor g i = ap (λ (e : EventFields). if i == 0 then 0 else e.count) (same (i - 1) (omega arith)) in
-            ap₂ (λ (floor : ℕ) (e : EventFields). (is_event floor e, fault.Event (place_of_event f i)) ∷ []) floor_same (same i below)
+            ap₂ (λ (floor : ℕ) (e : EventFields). (is_event floor e, fault.Event (offset_of_event f i)) ∷ []) floor_same (same i below)
 
         -- the rules after the header
         tail_same : ((j : ℕ) → j < events → event j ≡ event' j)

@@ -35,9 +35,9 @@ pub bytes_at-next : (v : ℕ) (before : List ℕ) (c : CheckpointParts) (cs : Li
 bytes_at-next v before c cs k = ap (λ (t : List ℕ). checkpoint_bytes v t (slice_index_or cs k no_checkpoint)) (table_from-next before c cs k)
 
 -- the number of changes that stands in a text is that of its checkpoint
-pub count_laid : (v : ℕ) (text : List ℕ) (place : ℕ) (before : List ℕ) (c : CheckpointParts) → is_version v ≡ true → version text ≡ v → IsCheckpoint v text place before c
-    → change_count text place ≡ changes_laid v before c
-count_laid v text place before c known is stands =
+pub count_laid : (v : ℕ) (text : List ℕ) (offset : ℕ) (before : List ℕ) (c : CheckpointParts) → is_version v ≡ true → version text ≡ v → IsCheckpoint v text offset before c
+    → change_count text offset ≡ changes_laid v before c
+count_laid v text offset before c known is stands =
     ⊎_elim (λ (first : v ≡ FIRST_VERSION). rw (is, first) refl) (λ (second : v ≡ VERSION). let count = (stands.in_second second).count in rw (is, second) count) (version_cases v known)
 
 -- the sum goes on where the numbers of changes are those laid out

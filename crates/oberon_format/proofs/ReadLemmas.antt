@@ -12,7 +12,7 @@ use Rattle.oberon_format.specs.declared.fault.Fault.TheVariants as fault
 use Rattle.oberon_format.specs.declared.layout.TheConstants.{FIRST_VERSION, VERSION, RATE_AT, PHASE_AT, CHANGE_COUNT_AT, PLACES}
 use Rattle.oberon_format.specs.Changes.{changes, no_change, number_after}
 use Rattle.oberon_format.specs.CheckpointParts.{CheckpointParts, no_checkpoint}
-use Rattle.oberon_format.specs.Layout.{long_at, version, pages, events, checkpoints, event_place, change_count, later_word, start, output_place}
+use Rattle.oberon_format.specs.Layout.{long_at, version, pages, events, checkpoints, event_offset, change_count, later_word, start, output_offset}
 use Rattle.oberon_format.specs.Ranges.{is_event}
 use Rattle.oberon_format.specs.Recording.{RecordingParts, IsLawful, output_of, table_before}
 use Rattle.oberon_format.specs.Rules.{event_rules, event_floor, place_floor, stood}
@@ -31,23 +31,23 @@ use Rattle.oberon_format.proofs.Tables.{change_rises, change_inside, change_diff
 use Rattle.oberon_format.proofs.TextLemmas.{later_first, later_second, number_first, number_second, stood_is, checkpoint_changed}
 
 -- the events of a text without fault are in order
-count_stands : (text : List ℕ) (es : List Event) (i : ℕ) → EachAt (IsEventAt text) es → i < length es → count_at es i ≡ long_at text (event_place text i)
+count_stands : (text : List ℕ) (es : List Event) (i : ℕ) → EachAt (IsEventAt text) es → i < length es → count_at es i ≡ long_at text (event_offset text i)
 count_stands text es i each lt =
     let d = member es i lt in
     get_or-map (λ (e : Event). e.count) es i d 0 lt ∙ sym (each i d lt).count
 
 pub events_ordered : (text : List ℕ) (es : List Event) → Meets text → length es ≡ events text → EachAt (IsEventAt text) es → AreOrdered es
-events_ordered text es meets len each place lt =
+events_ordered text es meets len each offset lt =
     let f = fields_of text in
-    let here = count_stands text es place each lt in
-    let before : count_before es place ≡ event_floor f place =
-    ap (λ (n : ℕ). if place == 0 then 0 else n) (count_stands text es (place - 1) each (omega arith)) in
-    let one = each_holds (event_rules f) (events text) place (omega arith) meets.events_meet in
-    let holds = (rule_holds (is_event (event_floor f place) (event_of text (event_place text place))) (fault.Event (event_place text place)) [] one).0 in
-    let count = long_at text (event_place text place) in
+    let here = count_stands text es offset each lt in
+    let before : count_before es offset ≡ event_floor f offset =
+    ap (λ (n : ℕ). if offset == 0 then 0 else n) (count_stands text es (offset - 1) each (omega arith)) in
+    let one = each_holds (event_rules f) (events text) offset (omega arith) meets.events_meet in
+    let holds = (rule_holds (is_event (event_floor f offset) (event_of text (event_offset text offset))) (fault.Event (event_offset text offset)) [] one).0 in
+    let count = long_at text (event_offset text offset) in
     let counts = and_left _ _ holds in
-    let low = leb-true (event_floor f place) count (and_left (nat_le (event_floor f place) count) (nat_le count MAX_COUNT) counts) in
-    let high = leb-true count MAX_COUNT (and_right (nat_le (event_floor f place) count) (nat_le count MAX_COUNT) counts) in
+    let low = leb-true (event_floor f offset) count (and_left (nat_le (event_floor f offset) count) (nat_le count MAX_COUNT) counts) in
+    let high = leb-true count MAX_COUNT (and_right (nat_le (event_floor f offset) count) (nat_le count MAX_COUNT) counts) in
     (omega arith, omega arith)
 
 -- the tables before are the same as checkpoints come
@@ -88,17 +88,17 @@ changed_stands : (text : List ℕ) (k : ℕ) (before : List ℕ) (c : Checkpoint
     → IsChanged text (start text k) before c
 unfolding number_before
 changed_stands text k before c meets lt is stood rate phase has =
-    let place = start text k in
-    let change = change_of text place in
-    let n = change_count text place in
+    let offset = start text k in
+    let change = change_of text offset in
+    let n = change_count text offset in
     let made : (p : ℕ) → p < PLACES → slice_index c.table p ≡ number_after change (slice_index before) n p =
     λ p less. has p less ∙ number_second text k p is ∙ after-same change change (number_before text k) (slice_index before) n p (λ i few. refl) (sym (stood p less)) in
     let are = lawful-are change n before c.table (changes_lawful text k before meets lt is stood) made in
     let many = are.0 in
     record {
-      rate = sym (later_second text (place + RATE_AT) is) ∙ sym rate;
-      phase = sym (later_second text (place + PHASE_AT) is) ∙ sym phase;
-      count = sym (later_second text (place + CHANGE_COUNT_AT) is) ∙ sym are.0;
+      rate = sym (later_second text (offset + RATE_AT) is) ∙ sym rate;
+      phase = sym (later_second text (offset + PHASE_AT) is) ∙ sym phase;
+      count = sym (later_second text (offset + CHANGE_COUNT_AT) is) ∙ sym are.0;
       changes = λ i d less.
           let same : slice_index_or (changes before c.table) i d ≡ change i = get_or_default (changes before c.table) i d no_change less ∙ are.1 i (omega arith) in
           record { place = ap (λ (x : Change). x.place) (sym same); number = ap (λ (x : Change). x.number) (sym same) };
@@ -121,12 +121,12 @@ stand_next text cs c k meets lt count stand front rate phase len has i d less =
 -- the parts that were read are those of the text
 pub text_read : (text : List ℕ) (pool : List (List ℕ)) (inputs : List Event) (cs : List CheckpointParts) → Meets text
     → length pool ≡ pages text → EachAt (IsPageAt text) pool → length inputs ≡ events text → EachAt (IsEventAt text) inputs
-    → length cs ≡ checkpoints text → StandIn text cs → drop (output_place text) text ≡ output_of cs
+    → length cs ≡ checkpoints text → StandIn text cs → drop (output_offset text) text ≡ output_of cs
     → IsLaidOut (version text) text (record { pool = pool; inputs = inputs; checkpoints = cs })
 text_read text pool inputs cs meets np each_page ne each_event nk stand output =
     let there = output_there text meets in
-    let rest = length-drop (output_place text) text in
-    let same : length (drop (output_place text) text) ≡ length (output_of cs) = ap (λ (l : List ℕ). length l) output in
+    let rest = length-drop (output_offset text) text in
+    let same : length (drop (output_offset text) text) ≡ length (output_of cs) = ap (λ (l : List ℕ). length l) output in
     record {
       long = omega arith;
       magic = meets.magic_is;

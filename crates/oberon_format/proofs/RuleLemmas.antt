@@ -8,7 +8,7 @@ use Rattle.oberon_format.specs.declared.layout.TheConstants.{MAGIC, FIRST_VERSIO
 use Rattle.std.proofs.lemmas.Bool.Decides.{nat_tests}
 use Rattle.oberon_format.specs.Fields.{Fields, sent_below, total}
 use Rattle.oberon_format.specs.FirstFault.{Rule, each, first_broken}
-use Rattle.oberon_format.specs.Layout.{page_number_place, change_place, checkpoints, event_place, events, long_at, start, version, word_at}
+use Rattle.oberon_format.specs.Layout.{page_number_offset, change_offset, checkpoints, event_offset, events, long_at, start, version, word_at}
 use Rattle.oberon_format.specs.Ranges.{is_version, is_change, is_checkpoint, is_event}
 use Rattle.oberon_format.specs.Rules.{checkpoint_rules, whole_rules, changed_rules, change_rules, place_floor, stood, count_before, end_rules, event_floor, event_rules, header_rules, page_number_rules, rules, whole}
 use Rattle.oberon_format.specs.inner.Tested.{IsSized, Meets}
@@ -208,10 +208,10 @@ pub and_right : (a b : Bool) → (a && b) ≡ true → b ≡ true
 and_right true b h = h
 and_right false b h = absurd cc
 
-pub event_input : (text : List ℕ) (i : ℕ) → Meets text → i < events text → is_input (word_at text (event_place text i + KIND_AT)) (word_at text (event_place text i + VALUE_AT)) ≡ true
+pub event_input : (text : List ℕ) (i : ℕ) → Meets text → i < events text → is_input (word_at text (event_offset text i + KIND_AT)) (word_at text (event_offset text i + VALUE_AT)) ≡ true
 event_input text i meets lt =
     let one = each_holds (event_rules (fields_of text)) (events text) i lt meets.events_meet in
-    let holds = rule_holds (is_event (event_floor (fields_of text) i) (event_of text (event_place text i))) (fault.Event (event_place text i)) [] one in
+    let holds = rule_holds (is_event (event_floor (fields_of text) i) (event_of text (event_offset text i))) (fault.Event (event_offset text i)) [] one in
     and_right _ _ holds.0
 
 -- which versions there are
@@ -273,7 +273,7 @@ whole_met f k is met =
     record {
       fields = one.0;
       numbers = λ j lt.
-          let holds = rule_holds (nat_le (f.page_number k j) f.pages) (fault.Page (page_number_place (f.start k) j)) [] (each_holds numbers PLACES j lt one.1) in
+          let holds = rule_holds (nat_le (f.page_number k j) f.pages) (fault.Page (page_number_offset (f.start k) j)) [] (each_holds numbers PLACES j lt one.1) in
           leb-true (f.page_number k j) f.pages holds.0;
     }
 
@@ -282,7 +282,7 @@ whole_meets f k is met =
     let numbers = page_number_rules f.pages (f.start k) (f.page_number k) in
     ap (λ (xs : List (Rule Fault)). first_broken xs) (rules_whole f k is)
     ∙ rule_met (is_checkpoint k (count_before f k) (sent_below f k) (f.checkpoint k)) (fault.Checkpoint (f.start k)) (each PLACES numbers) met.fields
-    ∙ each_all numbers PLACES (λ j lt. rule_met (nat_le (f.page_number k j) f.pages) (fault.Page (page_number_place (f.start k) j)) [] (le-leb _ _ (met.numbers j lt)))
+    ∙ each_all numbers PLACES (λ j lt. rule_met (nat_le (f.page_number k j) f.pages) (fault.Page (page_number_offset (f.start k) j)) [] (le-leb _ _ (met.numbers j lt)))
 
 pub changed_met : (f : Fields) (k : ℕ) → f.version ≡ VERSION → first_broken (checkpoint_rules f k) ≡ None → ChangedMet f k
 changed_met f k is met =
@@ -298,7 +298,7 @@ changed_met f k is met =
       fields = fields.0;
       ends = leb-true _ _ end.0;
       each_change = λ i lt.
-          (rule_holds (is_change f.pages (place_floor (f.change k) i) (stood f k) (f.change k i)) (fault.Page (change_place (f.start k) i)) [] (each_holds changes n i lt end.1)).0;
+          (rule_holds (is_change f.pages (place_floor (f.change k) i) (stood f k) (f.change k i)) (fault.Page (change_offset (f.start k) i)) [] (each_holds changes n i lt end.1)).0;
     }
 
 pub changed_meets : (f : Fields) (k : ℕ) → f.version ≡ VERSION → ChangedMet f k → first_broken (checkpoint_rules f k) ≡ None
@@ -310,7 +310,7 @@ changed_meets f k is met =
     ∙ rule_met (nat_le (f.start k + CHANGES_AT) f.long) (fault.Short f.long) ((is_checkpoint k (count_before f k) (sent_below f k) (f.checkpoint k), fault.Checkpoint (f.start k)) ∷ ends) (le-leb _ _ met.room)
     ∙ rule_met (is_checkpoint k (count_before f k) (sent_below f k) (f.checkpoint k)) (fault.Checkpoint (f.start k)) ends met.fields
     ∙ rule_met (nat_le (f.start (suc k)) f.long) (fault.Short f.long) (each n changes) (le-leb _ _ met.ends)
-    ∙ each_all changes n (λ i lt. rule_met (is_change f.pages (place_floor (f.change k) i) (stood f k) (f.change k i)) (fault.Page (change_place (f.start k) i)) [] (met.each_change i lt))
+    ∙ each_all changes n (λ i lt. rule_met (is_change f.pages (place_floor (f.change k) i) (stood f k) (f.change k i)) (fault.Page (change_offset (f.start k) i)) [] (met.each_change i lt))
 
 -- the fields of a checkpoint of a text that breaks no rule are in their ranges
 pub checkpoint_holds : (text : List ℕ) (k : ℕ) → Meets text → k < checkpoints text → is_checkpoint k (count_before (fields_of text) k) (output_below text k) (checkpoint_of text (start text k)) ≡ true

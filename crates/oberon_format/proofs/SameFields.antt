@@ -8,9 +8,9 @@ use Rattle.oberon_format.specs.declared.fields.CheckpointFields.{CheckpointField
 use Rattle.oberon_format.specs.declared.layout.TheConstants.{FIRST_VERSION, PLACES, CHANGES_AT, LAST_AT, MAGIC, HEADER_LEN, MAGIC_AT, VERSION_AT}
 use Rattle.oberon_format.specs.Fields.{Fields, EventFields, total, sent_below}
 use Rattle.oberon_format.specs.FirstFault.{Rule, first_broken, each}
-use Rattle.oberon_format.specs.Layout.{page_number_place, change_place}
+use Rattle.oberon_format.specs.Layout.{page_number_offset, change_offset}
 use Rattle.oberon_format.specs.Ranges.{is_event, is_change, is_version}
-use Rattle.oberon_format.specs.Rules.{limit_rules, header_rules, named_len, event_rules, event_floor, place_of_event, page_number_rules, place_floor, change_rules, stood, field_rules, whole_rules, changed_rules, count_before, checkpoint_rules, end_rules, rules}
+use Rattle.oberon_format.specs.Rules.{limit_rules, header_rules, named_len, event_rules, event_floor, offset_of_event, page_number_rules, place_floor, change_rules, stood, field_rules, whole_rules, changed_rules, count_before, checkpoint_rules, end_rules, rules}
 use Rattle.oberon_format.proofs.ChangeLemmas.{floor_same}
 use Rattle.oberon_format.proofs.PartLemmas.{floor_more, before_more, stood_more}
 use Rattle.oberon_format.proofs.SameRules.{same_behind}
@@ -69,23 +69,23 @@ pub sent_same : (f g : Fields) (k : ℕ) → ((i : ℕ) → i < k → f.checkpoi
 sent_same f g k h = total_same _ _ k (λ i less. ap (λ (x : CheckpointFields). x.output) (h i less))
 
 -- the page numbers of a checkpoint of version 1
-pub numbers_same : (pages place : ℕ) (m n : ℕ → ℕ) → ((j : ℕ) → j < PLACES → m j ≡ n j)
-    → first_broken (each PLACES (page_number_rules pages place m)) ≡ first_broken (each PLACES (page_number_rules pages place n))
-numbers_same pages place m n h =
-    same_each PLACES (page_number_rules pages place m) (page_number_rules pages place n)
-    (λ j lt. ap (λ (v : ℕ). first_broken ((nat_le v pages, fault.Page (page_number_place place j)) ∷ [])) (h j lt))
+pub numbers_same : (pages offset : ℕ) (m n : ℕ → ℕ) → ((j : ℕ) → j < PLACES → m j ≡ n j)
+    → first_broken (each PLACES (page_number_rules pages offset m)) ≡ first_broken (each PLACES (page_number_rules pages offset n))
+numbers_same pages offset m n h =
+    same_each PLACES (page_number_rules pages offset m) (page_number_rules pages offset n)
+    (λ j lt. ap (λ (v : ℕ). first_broken ((nat_le v pages, fault.Page (page_number_offset offset j)) ∷ [])) (h j lt))
 
 -- the changes of a checkpoint of version 2
-pub changes_same : (pages place n : ℕ) (s t : ℕ → ℕ) (a b : ℕ → Change) → ((p : ℕ) → p < PLACES → s p ≡ t p) → ((i : ℕ) → i < n → a i ≡ b i)
-    → first_broken (each n (change_rules pages place s a)) ≡ first_broken (each n (change_rules pages place t b))
-changes_same pages place n s t a b stands same =
-    same_each n (change_rules pages place s a) (change_rules pages place t b) (λ i lt.
+pub changes_same : (pages offset n : ℕ) (s t : ℕ → ℕ) (a b : ℕ → Change) → ((p : ℕ) → p < PLACES → s p ≡ t p) → ((i : ℕ) → i < n → a i ≡ b i)
+    → first_broken (each n (change_rules pages offset s a)) ≡ first_broken (each n (change_rules pages offset t b))
+changes_same pages offset n s t a b stands same =
+    same_each n (change_rules pages offset s a) (change_rules pages offset t b) (λ i lt.
     let floor : place_floor a i ≡ place_floor b i = floor_same a b i (λ j less. same j (omega arith)) in
     let test : is_change pages (place_floor a i) s (a i) ≡ is_change pages (place_floor b i) t (b i) =
     ap (λ (m : ℕ). is_change pages m s (a i)) floor
     ∙ ap (λ (c : Change). is_change pages (place_floor b i) s c) (same i lt)
     ∙ change_same pages (place_floor b i) s t (b i) (λ p above less. stands p less) in
-    ap (λ (holds : Bool). first_broken ((holds, fault.Page (change_place place i)) ∷ [])) test)
+    ap (λ (holds : Bool). first_broken ((holds, fault.Page (change_offset offset i)) ∷ [])) test)
 
 -- fields with the numbers of one and the members of the other
 mixed : Fields → Fields → Fields
@@ -115,8 +115,8 @@ events_same : (f g : Fields) → SameFields f g → first_broken (each g.events 
 unfolding mixed
 events_same f g same =
     same_each g.events (event_rules (mixed f g)) (event_rules g) (λ i lt.
-    ap (λ (x : ℕ). first_broken ((is_event x (f.event i), fault.Event (place_of_event g i)) ∷ [])) (event_floor_same (mixed f g) g g.events i lt same.event)
-    ∙ ap (λ (e : EventFields). first_broken ((is_event (event_floor g i) e, fault.Event (place_of_event g i)) ∷ [])) (same.event i lt))
+    ap (λ (x : ℕ). first_broken ((is_event x (f.event i), fault.Event (offset_of_event g i)) ∷ [])) (event_floor_same (mixed f g) g g.events i lt same.event)
+    ∙ ap (λ (e : EventFields). first_broken ((is_event (event_floor g i) e, fault.Event (offset_of_event g i)) ∷ [])) (same.event i lt))
 
 -- the fields of a checkpoint
 fields_same : (f g : Fields) (k : ℕ) → k < g.checkpoints → SameFields f g

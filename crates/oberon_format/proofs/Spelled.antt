@@ -17,7 +17,7 @@ use Rattle.oberon_format.specs.declared.layout.TheConstants.{MAGIC, VERSION, HEA
 use Rattle.oberon_format.specs.declared.ranges.TheConstants.{MAX_OUTPUT, MAX_KEYS}
 use Rattle.oberon_format.specs.Changes.{changes, no_change}
 use Rattle.oberon_format.specs.CheckpointParts.{CheckpointParts, no_checkpoint}
-use Rattle.oberon_format.specs.Layout.{word_at, version, pages, events, checkpoints, page_place, event_start, event_place, change_place, checkpoint_size, start, output_place}
+use Rattle.oberon_format.specs.Layout.{word_at, version, pages, events, checkpoints, page_offset, event_start, event_offset, change_offset, checkpoint_size, start, output_offset}
 use Rattle.oberon_format.specs.PartFields.{changes_laid, start_laid}
 use Rattle.oberon_format.specs.Recording.{RecordingParts, IsLawful, IsFit, checkpoint_at, table_before, output_of}
 use Rattle.oberon_format.specs.inner.Spelling.{word_bytes, long_bytes, words_bytes, event_bytes, cpu_bytes, device_bytes, front_bytes, change_bytes, changes_bytes, changed_bytes, tail_bytes, checkpoint_bytes, checkpoints_bytes, header_bytes, spelling}
@@ -35,27 +35,27 @@ wide xs h i d lt = rw (get_or_default xs i d 0 lt) (h i)
 flags_wide : (cpu : CpuState) → flags_number cpu.flags < 2 ^ 32
 flags_wide cpu = let f = flags_fit cpu in omega arith
 
-pub event_stands : (text : List ℕ) (place : ℕ) (e : Event) → Stands text place (event_bytes e) → IsEvent text place e
+pub event_stands : (text : List ℕ) (offset : ℕ) (e : Event) → Stands text offset (event_bytes e) → IsEvent text offset e
 unfolding event_bytes
-event_stands text place e s =
+event_stands text offset e s =
     let c = long_bytes e.count in
     let k = word_bytes (kind_of e.input) in
     let v = word_bytes (value_of e.input) in
     let small : kind_of e.input < 6 = kind_fits (kind_of e.input) (value_of e.input) e.input.lawful in
-    let ck = stands_left text place (c ++ k) v s in
+    let ck = stands_left text offset (c ++ k) v s in
     record {
-      count = long_stands text place e.count (stands_left text place c k ck) e.range;
-      kind = word_stands text (place + KIND_AT) (kind_of e.input) (stands_right text place KIND_AT c k ck (length-long_bytes e.count)) (omega arith);
-      value = word_stands text (place + VALUE_AT) (value_of e.input) (stands_right text place VALUE_AT (c ++ k) v s (omega (arith, length-append c k, length-long_bytes e.count, length-word_bytes (kind_of e.input)))) (value_fits (kind_of e.input) (value_of e.input) e.input.lawful);
+      count = long_stands text offset e.count (stands_left text offset c k ck) e.range;
+      kind = word_stands text (offset + KIND_AT) (kind_of e.input) (stands_right text offset KIND_AT c k ck (length-long_bytes e.count)) (omega arith);
+      value = word_stands text (offset + VALUE_AT) (value_of e.input) (stands_right text offset VALUE_AT (c ++ k) v s (omega (arith, length-append c k, length-long_bytes e.count, length-word_bytes (kind_of e.input)))) (value_fits (kind_of e.input) (value_of e.input) e.input.lawful);
     }
 
 pub length-event_bytes : (e : Event) → length (event_bytes e) ≡ EVENT_LEN
 unfolding event_bytes
 length-event_bytes e = simp (length-append, length-long_bytes, length-word_bytes)
 
-pub cpu_stands : (text : List ℕ) (place : ℕ) (cpu : CpuState) → IsCpuState cpu → Stands text (place + REGISTERS_AT) (cpu_bytes cpu) → IsCpu text place cpu
+pub cpu_stands : (text : List ℕ) (offset : ℕ) (cpu : CpuState) → IsCpuState cpu → Stands text (offset + REGISTERS_AT) (cpu_bytes cpu) → IsCpu text offset cpu
 unfolding cpu_bytes
-cpu_stands text place cpu p s =
+cpu_stands text offset cpu p s =
     let r = words_bytes cpu.r in
     let h = word_bytes cpu.h in
     let pc = word_bytes cpu.pc in
@@ -68,19 +68,19 @@ cpu_stands text place cpu p s =
     let below = p.counter in
     let stops = p.stops in
     let len = p.count in
-    let s4 = stands_left text (place + REGISTERS_AT) (r ++ h ++ pc ++ f) st s in
-    let s3 = stands_left text (place + REGISTERS_AT) (r ++ h ++ pc) f s4 in
-    let s2 = stands_left text (place + REGISTERS_AT) (r ++ h) pc s3 in
+    let s4 = stands_left text (offset + REGISTERS_AT) (r ++ h ++ pc ++ f) st s in
+    let s3 = stands_left text (offset + REGISTERS_AT) (r ++ h ++ pc) f s4 in
+    let s2 = stands_left text (offset + REGISTERS_AT) (r ++ h) pc s3 in
     let l1 : REGISTERS_AT + length r ≡ AUXILIARY_AT = omega arith in
     let l2 : REGISTERS_AT + length (r ++ h) ≡ COUNTER_AT = omega (arith, length-append r h) in
     let l3 : REGISTERS_AT + length (r ++ h ++ pc) ≡ FLAGS_AT = omega (arith, length-append (r ++ h) pc) in
     let l4 : REGISTERS_AT + length (r ++ h ++ pc ++ f) ≡ STOP_AT = omega (arith, length-append (r ++ h ++ pc) f) in
     record {
-      registers = words_stand text (place + REGISTERS_AT) cpu.r (wide cpu.r p.registers) (stands_left text (place + REGISTERS_AT) r h s2);
-      h = word_stands text (place + AUXILIARY_AT) cpu.h (stands_behind text place REGISTERS_AT AUXILIARY_AT r h s2 l1) p.auxiliary;
-      pc = word_stands text (place + COUNTER_AT) cpu.pc (stands_behind text place REGISTERS_AT COUNTER_AT (r ++ h) pc s3 l2) (omega arith);
-      flags = word_stands text (place + FLAGS_AT) (flags_number cpu.flags) (stands_behind text place REGISTERS_AT FLAGS_AT (r ++ h ++ pc) f s4 l3) (flags_wide cpu);
-      stop = word_stands text (place + STOP_AT) cpu.stop (stands_behind text place REGISTERS_AT STOP_AT (r ++ h ++ pc ++ f) st s l4) (omega arith);
+      registers = words_stand text (offset + REGISTERS_AT) cpu.r (wide cpu.r p.registers) (stands_left text (offset + REGISTERS_AT) r h s2);
+      h = word_stands text (offset + AUXILIARY_AT) cpu.h (stands_behind text offset REGISTERS_AT AUXILIARY_AT r h s2 l1) p.auxiliary;
+      pc = word_stands text (offset + COUNTER_AT) cpu.pc (stands_behind text offset REGISTERS_AT COUNTER_AT (r ++ h) pc s3 l2) (omega arith);
+      flags = word_stands text (offset + FLAGS_AT) (flags_number cpu.flags) (stands_behind text offset REGISTERS_AT FLAGS_AT (r ++ h ++ pc) f s4 l3) (flags_wide cpu);
+      stop = word_stands text (offset + STOP_AT) cpu.stop (stands_behind text offset REGISTERS_AT STOP_AT (r ++ h ++ pc ++ f) st s l4) (omega arith);
     }
 
 -- a phase is a number of four bytes, as its rate is
@@ -88,9 +88,9 @@ phase_fits : (rate phase : ℕ) → rate < 2 ^ 32 → IsPhase rate phase → pha
 unfolding is_phase
 phase_fits rate phase small fits = grind (arith, nat_tests)
 
-pub device_stands : (text : List ℕ) (place : ℕ) (d : DeviceState) → IsDeviceState d → Stands text (place + TIMER_AT) (device_bytes d) → IsDevices text place d
+pub device_stands : (text : List ℕ) (offset : ℕ) (d : DeviceState) → IsDeviceState d → Stands text (offset + TIMER_AT) (device_bytes d) → IsDevices text offset d
 unfolding device_bytes
-device_stands text place d p all =
+device_stands text offset d p all =
     let a = word_bytes d.timer in
     let b = word_bytes d.switches in
     let e = word_bytes d.leds in
@@ -99,12 +99,12 @@ device_stands text place d p all =
     let h = word_bytes (length d.keys) in
     let ks : List ℕ = d.keys in
     let zs : List ℕ = replicate (MAX_KEYS - length d.keys) 0 in
-    let s6 = stands_left text (place + TIMER_AT) (a ++ b ++ e ++ m ++ g ++ h) (ks ++ zs) all in
-    let s5 = stands_left text (place + TIMER_AT) (a ++ b ++ e ++ m ++ g) h s6 in
-    let s4 = stands_left text (place + TIMER_AT) (a ++ b ++ e ++ m) g s5 in
-    let s3 = stands_left text (place + TIMER_AT) (a ++ b ++ e) m s4 in
-    let s2 = stands_left text (place + TIMER_AT) (a ++ b) e s3 in
-    let s1 = stands_left text (place + TIMER_AT) a b s2 in
+    let s6 = stands_left text (offset + TIMER_AT) (a ++ b ++ e ++ m ++ g ++ h) (ks ++ zs) all in
+    let s5 = stands_left text (offset + TIMER_AT) (a ++ b ++ e ++ m ++ g) h s6 in
+    let s4 = stands_left text (offset + TIMER_AT) (a ++ b ++ e ++ m) g s5 in
+    let s3 = stands_left text (offset + TIMER_AT) (a ++ b ++ e) m s4 in
+    let s2 = stands_left text (offset + TIMER_AT) (a ++ b) e s3 in
+    let s1 = stands_left text (offset + TIMER_AT) a b s2 in
     let z1 = length-word_bytes d.timer in
     let l1 : TIMER_AT + length a ≡ SWITCHES_AT = omega arith in
     let z2 = length-word_bytes d.switches in
@@ -122,17 +122,17 @@ device_stands text place d p all =
     let small_leds = p.leds in
     let small_mouse = mouse_word_fits d.mouse p.mouse in
     let small_serial = serial_fits d p in
-    let kz : Stands text (place + KEYS_AT) (ks ++ zs) = stands_behind text place TIMER_AT KEYS_AT (a ++ b ++ e ++ m ++ g ++ h) (ks ++ zs) all l6 in
+    let kz : Stands text (offset + KEYS_AT) (ks ++ zs) = stands_behind text offset TIMER_AT KEYS_AT (a ++ b ++ e ++ m ++ g ++ h) (ks ++ zs) all l6 in
     let full : length (ks ++ zs) ≡ MAX_KEYS = omega (arith, length-append ks zs, length-replicate {A = ℕ} (MAX_KEYS - length d.keys) 0) in
-    let to : place + SENT_AT ≡ place + KEYS_AT + length (ks ++ zs) = omega arith in
+    let to : offset + SENT_AT ≡ offset + KEYS_AT + length (ks ++ zs) = omega arith in
     record {
-      timer = word_stands text (place + TIMER_AT) d.timer (stands_left text (place + TIMER_AT) a b s2) p.timer;
-      switches = word_stands text (place + SWITCHES_AT) d.switches (stands_behind text place TIMER_AT SWITCHES_AT a b s2 l1) (omega arith);
-      leds = word_stands text (place + LEDS_AT) d.leds (stands_behind text place TIMER_AT LEDS_AT (a ++ b) e s3 l2) (omega arith);
-      mouse = word_stands text (place + MOUSE_AT) d.mouse (stands_behind text place TIMER_AT MOUSE_AT (a ++ b ++ e) m s4 l3) (omega arith);
-      serial = word_stands text (place + SERIAL_AT) (serial_number d) (stands_behind text place TIMER_AT SERIAL_AT (a ++ b ++ e ++ m) g s5 l4) (omega arith);
-      waiting = word_stands text (place + WAITING_AT) (length d.keys) (stands_behind text place TIMER_AT WAITING_AT (a ++ b ++ e ++ m ++ g) h s6 l5) (omega arith);
-      keys = stands_range text (place + KEYS_AT) (place + SENT_AT) (ks ++ zs) kz to;
+      timer = word_stands text (offset + TIMER_AT) d.timer (stands_left text (offset + TIMER_AT) a b s2) p.timer;
+      switches = word_stands text (offset + SWITCHES_AT) d.switches (stands_behind text offset TIMER_AT SWITCHES_AT a b s2 l1) (omega arith);
+      leds = word_stands text (offset + LEDS_AT) d.leds (stands_behind text offset TIMER_AT LEDS_AT (a ++ b) e s3 l2) (omega arith);
+      mouse = word_stands text (offset + MOUSE_AT) d.mouse (stands_behind text offset TIMER_AT MOUSE_AT (a ++ b ++ e) m s4 l3) (omega arith);
+      serial = word_stands text (offset + SERIAL_AT) (serial_number d) (stands_behind text offset TIMER_AT SERIAL_AT (a ++ b ++ e ++ m) g s5 l4) (omega arith);
+      waiting = word_stands text (offset + WAITING_AT) (length d.keys) (stands_behind text offset TIMER_AT WAITING_AT (a ++ b ++ e ++ m ++ g) h s6 l5) (omega arith);
+      keys = stands_range text (offset + KEYS_AT) (offset + SENT_AT) (ks ++ zs) kz to;
     }
 
 pub length-device_bytes : (d : DeviceState) → length d.keys ≤ MAX_KEYS → TIMER_AT + length (device_bytes d) ≡ SENT_AT
@@ -144,16 +144,16 @@ unfolding cpu_bytes
 length-cpu_bytes cpu len = simp (length-append, length-word_bytes, length-words_bytes) (omega arith)
 
 -- what a checkpoint begins with
-front_stands : (text : List ℕ) (place : ℕ) (pool : List (List ℕ)) (c : CheckpointParts) → IsFit pool c → length c.sent ≤ MAX_OUTPUT → Stands text place (front_bytes c) → IsFront text place c
+front_stands : (text : List ℕ) (offset : ℕ) (pool : List (List ℕ)) (c : CheckpointParts) → IsFit pool c → length c.sent ≤ MAX_OUTPUT → Stands text offset (front_bytes c) → IsFront text offset c
 unfolding front_bytes
-front_stands text place pool c p few s =
+front_stands text offset pool c p few s =
     let bounded = p.bounded in
     let a = long_bytes c.count in
     let b = cpu_bytes c.cpu in
     let d = device_bytes c.devices in
     let e = word_bytes (length c.sent) in
-    let s3 = stands_left text place (a ++ b ++ d) e s in
-    let s2 = stands_left text place (a ++ b) d s3 in
+    let s3 = stands_left text offset (a ++ b ++ d) e s in
+    let s2 = stands_left text offset (a ++ b) d s3 in
     let z1 = length-long_bytes c.count in
     let l1 : length a ≡ REGISTERS_AT = omega arith in
     let z2 = length-cpu_bytes c.cpu p.cpu.count in
@@ -161,10 +161,10 @@ front_stands text place pool c p few s =
     let z3 = length-device_bytes c.devices p.devices.keys in
     let l3 : length (a ++ b ++ d) ≡ SENT_AT = omega (arith, length-append (a ++ b) d) in
     record {
-      count = long_stands text place c.count (stands_left text place a b s2) (omega arith);
-      cpu = cpu_stands text place c.cpu p.cpu (stands_right text place REGISTERS_AT a b s2 l1);
-      devices = device_stands text place c.devices p.devices (stands_right text place TIMER_AT (a ++ b) d s3 l2);
-      sent = word_stands text (place + SENT_AT) (length c.sent) (stands_right text place SENT_AT (a ++ b ++ d) e s l3) (omega arith);
+      count = long_stands text offset c.count (stands_left text offset a b s2) (omega arith);
+      cpu = cpu_stands text offset c.cpu p.cpu (stands_right text offset REGISTERS_AT a b s2 l1);
+      devices = device_stands text offset c.devices p.devices (stands_right text offset TIMER_AT (a ++ b) d s3 l2);
+      sent = word_stands text (offset + SENT_AT) (length c.sent) (stands_right text offset SENT_AT (a ++ b ++ d) e s l3) (omega arith);
     }
 
 -- which is as long in each version
@@ -176,14 +176,14 @@ length-front_bytes pool c p =
     simp (length-append, length-word_bytes, length-long_bytes) (omega arith)
 
 -- a change
-change_stands : (text : List ℕ) (place : ℕ) (change : Change) → change.place < 2 ^ 32 → change.number < 2 ^ 32 → Stands text place (change_bytes change) → IsChange text place change
+change_stands : (text : List ℕ) (offset : ℕ) (change : Change) → change.place < 2 ^ 32 → change.number < 2 ^ 32 → Stands text offset (change_bytes change) → IsChange text offset change
 unfolding change_bytes
-change_stands text place change low small s =
+change_stands text offset change low small s =
     let a = word_bytes change.place in
     let b = word_bytes change.number in
     record {
-      place = word_stands text place change.place (stands_left text place a b s) low;
-      number = word_stands text (place + NUMBER_AT) change.number (stands_right text place NUMBER_AT a b s (length-word_bytes change.place)) small;
+      place = word_stands text offset change.place (stands_left text offset a b s) low;
+      number = word_stands text (offset + NUMBER_AT) change.number (stands_right text offset NUMBER_AT a b s (length-word_bytes change.place)) small;
     }
 
 -- and its length
@@ -207,41 +207,41 @@ change_small before table fits i d lt =
     rw (get_or_default (changes before table) i d no_change lt) (omega arith)
 
 -- what follows in version 2
-changed_stands : (text : List ℕ) (place : ℕ) (before : List ℕ) (c : CheckpointParts) → IsDeviceState c.devices → IsTable c.table → Stands text (place + RATE_AT) (changed_bytes before c)
-    → IsChanged text place before c
+changed_stands : (text : List ℕ) (offset : ℕ) (before : List ℕ) (c : CheckpointParts) → IsDeviceState c.devices → IsTable c.table → Stands text (offset + RATE_AT) (changed_bytes before c)
+    → IsChanged text offset before c
 unfolding changed_bytes changes_bytes
-changed_stands text place before c devices table s =
+changed_stands text offset before c devices table s =
     let cs = changes before c.table in
     let a = word_bytes c.devices.rate in
     let b = word_bytes c.devices.phase in
     let n = word_bytes (length cs) in
     let m = flat_map change_bytes cs in
     let few = changes-few before c.table in
-    let s2 = stands_left text (place + RATE_AT) (a ++ b) (n ++ m) s in
+    let s2 = stands_left text (offset + RATE_AT) (a ++ b) (n ++ m) s in
     let l1 : RATE_AT + length a ≡ PHASE_AT = omega (arith, length-word_bytes c.devices.rate) in
     let l2 : RATE_AT + length (a ++ b) ≡ CHANGE_COUNT_AT = omega (arith, length-append a b, length-word_bytes c.devices.phase) in
     let l3 : CHANGE_COUNT_AT + length n ≡ CHANGES_AT = omega (arith, length-word_bytes (length cs)) in
-    let s3 : Stands text (place + CHANGE_COUNT_AT) (n ++ m) = stands_behind text place RATE_AT CHANGE_COUNT_AT (a ++ b) (n ++ m) s l2 in
-    let s4 : Stands text (place + CHANGES_AT) m = stands_behind text place CHANGE_COUNT_AT CHANGES_AT n m s3 l3 in
-    let each = each_stands change_bytes CHANGE_LEN text (place + CHANGES_AT) cs (λ i d h. length-change_bytes (get_or cs i d)) s4 in
+    let s3 : Stands text (offset + CHANGE_COUNT_AT) (n ++ m) = stands_behind text offset RATE_AT CHANGE_COUNT_AT (a ++ b) (n ++ m) s l2 in
+    let s4 : Stands text (offset + CHANGES_AT) m = stands_behind text offset CHANGE_COUNT_AT CHANGES_AT n m s3 l3 in
+    let each = each_stands change_bytes CHANGE_LEN text (offset + CHANGES_AT) cs (λ i d h. length-change_bytes (get_or cs i d)) s4 in
     record {
-      rate = word_stands text (place + RATE_AT) c.devices.rate (stands_left text (place + RATE_AT) a b s2) devices.rate;
-      phase = word_stands text (place + PHASE_AT) c.devices.phase (stands_behind text place RATE_AT PHASE_AT a b s2 l1) (phase_fits c.devices.rate c.devices.phase devices.rate devices.phase);
-      count = word_stands text (place + CHANGE_COUNT_AT) (length cs) (stands_left text (place + CHANGE_COUNT_AT) n m s3) (omega arith);
-      changes = λ i d h. change_stands text (change_place place i) (get_or cs i d) (change_low before c.table i d h) (change_small before c.table table i d h) (each i d h);
+      rate = word_stands text (offset + RATE_AT) c.devices.rate (stands_left text (offset + RATE_AT) a b s2) devices.rate;
+      phase = word_stands text (offset + PHASE_AT) c.devices.phase (stands_behind text offset RATE_AT PHASE_AT a b s2 l1) (phase_fits c.devices.rate c.devices.phase devices.rate devices.phase);
+      count = word_stands text (offset + CHANGE_COUNT_AT) (length cs) (stands_left text (offset + CHANGE_COUNT_AT) n m s3) (omega arith);
+      changes = λ i d h. change_stands text (change_offset offset i) (get_or cs i d) (change_low before c.table i d h) (change_small before c.table table i d h) (each i d h);
     }
 
 -- a checkpoint of version 2
-checkpoint_stands : (text : List ℕ) (place : ℕ) (pool : List (List ℕ)) (before : List ℕ) (c : CheckpointParts) → IsFit pool c → length c.sent ≤ MAX_OUTPUT
-    → Stands text place (checkpoint_bytes VERSION before c) → IsCheckpoint VERSION text place before c
+checkpoint_stands : (text : List ℕ) (offset : ℕ) (pool : List (List ℕ)) (before : List ℕ) (c : CheckpointParts) → IsFit pool c → length c.sent ≤ MAX_OUTPUT
+    → Stands text offset (checkpoint_bytes VERSION before c) → IsCheckpoint VERSION text offset before c
 unfolding checkpoint_bytes tail_bytes
-checkpoint_stands text place pool before c p few s =
+checkpoint_stands text offset pool before c p few s =
     let f = front_bytes c in
     let t = tail_bytes VERSION before c in
     record {
-      front = front_stands text place pool c p few (stands_left text place f t s);
+      front = front_stands text offset pool c p few (stands_left text offset f t s);
       in_first = λ is. absurd (omega arith);
-      in_second = λ is. changed_stands text place before c p.devices p.table (stands_right text place FRONT_LEN f t s (length-front_bytes pool c p));
+      in_second = λ is. changed_stands text offset before c p.devices p.table (stands_right text offset FRONT_LEN f t s (length-front_bytes pool c p));
     }
 
 -- whose length its changes tell
@@ -310,7 +310,7 @@ laid_out r p =
     let C = checkpoints_bytes VERSION zero_numbers cs in
     let O = output_of cs in
     let text = H ++ P ++ E ++ C ++ O in
-    let place = start_laid VERSION r in
+    let offset = start_laid VERSION r in
     let s5 = stands_whole text in
     let s4 = stands_left text 0 (H ++ P ++ E ++ C) O s5 in
     let s3 = stands_left text 0 (H ++ P ++ E) C s4 in
@@ -320,22 +320,22 @@ laid_out r p =
     let ne = length r.inputs in
     let page_len : (i : ℕ) (d : List ℕ) → i < length r.pool → length (words_bytes (get_or r.pool i d)) ≡ PAGE_LEN = λ i d h. length-page_bytes (get_or r.pool i d) (p.pool i d h) in
     let event_len : (i : ℕ) (d : Event) → i < length r.inputs → length (event_bytes (get_or r.inputs i d)) ≡ EVENT_LEN = λ i d h. length-event_bytes (get_or r.inputs i d) in
-    let spaced : AreSpaced place VERSION zero_numbers cs = λ k h. ap (λ (n : ℕ). place k + n) (sym (length-checkpoint_bytes r.pool (table_before cs k) (checkpoint_at r k) (fits k h))) in
+    let spaced : AreSpaced offset VERSION zero_numbers cs = λ k h. ap (λ (n : ℕ). offset k + n) (sym (length-checkpoint_bytes r.pool (table_before cs k) (checkpoint_at r k) (fits k h))) in
     let l1 : length H ≡ HEADER_LEN = length-header_bytes r in
     let lp = length-flat_map words_bytes PAGE_LEN r.pool page_len in
     let le = length-flat_map event_bytes EVENT_LEN r.inputs event_len in
-    let lc : place (length cs) ≡ place 0 + length C = length-blocks VERSION place zero_numbers cs spaced in
-    let l2 : length (H ++ P) ≡ page_place np = omega (arith, length-append H P) in
-    let first : place 0 ≡ event_start np ne = refl in
-    let l3 : length (H ++ P ++ E) ≡ place 0 = omega (arith, length-append (H ++ P) E) in
-    let l4 : length (H ++ P ++ E ++ C) ≡ place (length cs) = omega (arith, length-append (H ++ P ++ E) C) in
+    let lc : offset (length cs) ≡ offset 0 + length C = length-blocks VERSION offset zero_numbers cs spaced in
+    let l2 : length (H ++ P) ≡ page_offset np = omega (arith, length-append H P) in
+    let first : offset 0 ≡ event_start np ne = refl in
+    let l3 : length (H ++ P ++ E) ≡ offset 0 = omega (arith, length-append (H ++ P) E) in
+    let l4 : length (H ++ P ++ E ++ C) ≡ offset (length cs) = omega (arith, length-append (H ++ P ++ E) C) in
     let pages_at = each_stands words_bytes PAGE_LEN text HEADER_LEN r.pool page_len (stands_from text HEADER_LEN H P s2 l1) in
-    let events_at = each_stands event_bytes EVENT_LEN text (page_place np) r.inputs event_len (stands_from text (page_place np) (H ++ P) E s3 l2) in
-    let blocks = blocks_stand VERSION text place zero_numbers cs spaced (stands_from text (place 0) (H ++ P ++ E) C s4 l3) in
-    let stand : (k : ℕ) → k < length cs → IsCheckpoint VERSION text (place k) (table_before cs k) (checkpoint_at r k) =
-    λ k h. checkpoint_stands text (place k) r.pool (table_before cs k) (checkpoint_at r k) (fits k h) (sent k h) (blocks k h) in
-    let found : (k : ℕ) → k ≤ length cs → start text k ≡ place k = start-found VERSION text r refl header.v header.p header.e stand in
-    let end : output_place text ≡ place (length cs) = ap (start text) header.k ∙ found (length cs) (omega arith) in
+    let events_at = each_stands event_bytes EVENT_LEN text (page_offset np) r.inputs event_len (stands_from text (page_offset np) (H ++ P) E s3 l2) in
+    let blocks = blocks_stand VERSION text offset zero_numbers cs spaced (stands_from text (offset 0) (H ++ P ++ E) C s4 l3) in
+    let stand : (k : ℕ) → k < length cs → IsCheckpoint VERSION text (offset k) (table_before cs k) (checkpoint_at r k) =
+    λ k h. checkpoint_stands text (offset k) r.pool (table_before cs k) (checkpoint_at r k) (fits k h) (sent k h) (blocks k h) in
+    let found : (k : ℕ) → k ≤ length cs → start text k ≡ offset k = start-found VERSION text r refl header.v header.p header.e stand in
+    let end : output_offset text ≡ offset (length cs) = ap (start text) header.k ∙ found (length cs) (omega arith) in
     record {
       long = omega (arith, length-append (H ++ P ++ E ++ C) O);
       magic = header.m;
@@ -345,12 +345,12 @@ laid_out r p =
       event_count = header.e;
       checkpoint_count = header.k;
       zero = header.z;
-      pages_stand = λ i d h. words_stand text (page_place i) (get_or r.pool i d) (p.pool i d h).fit (pages_at i d h);
-      events_stand = λ i d h. event_stands text (event_place text i) (get_or r.inputs i d) (rw header.p (events_at i d h));
+      pages_stand = λ i d h. words_stand text (page_offset i) (get_or r.pool i d) (p.pool i d h).fit (pages_at i d h);
+      events_stand = λ i d h. event_stands text (event_offset text i) (get_or r.inputs i d) (rw header.p (events_at i d h));
       checkpoints_stand = λ k d h.
           subst (λ (c : CheckpointParts). IsCheckpoint VERSION text (start text k) (table_before cs k) c) (get_or_default cs k no_checkpoint d h)
           (subst (λ (n : ℕ). IsCheckpoint VERSION text n (table_before cs k) (checkpoint_at r k)) (sym (found k (omega arith))) (stand k h));
-      output = ap (λ (k : ℕ). drop k text) end ∙ drop_at (H ++ P ++ E ++ C) O (place (length cs)) l4;
+      output = ap (λ (k : ℕ). drop k text) end ∙ drop_at (H ++ P ++ E ++ C) O (offset (length cs)) l4;
     }
 
 -- and so they are its text

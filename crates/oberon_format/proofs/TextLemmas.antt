@@ -11,7 +11,7 @@ use Rattle.oberon_format.specs.declared.layout.TheConstants.{FIRST_VERSION, VERS
 use Rattle.oberon_format.specs.Changes.{number_after}
 use Rattle.oberon_format.specs.Fields.{Fields, sent_below}
 use Rattle.oberon_format.specs.FirstFault.{Rule, first_broken, each}
-use Rattle.oberon_format.specs.Layout.{word_at, pages, checkpoints, page_number_place, change_count, later_word, start, version}
+use Rattle.oberon_format.specs.Layout.{word_at, pages, checkpoints, page_number_offset, change_count, later_word, start, version}
 use Rattle.oberon_format.specs.Rules.{checkpoint_rules, field_rules, page_number_rules, change_rules, place_floor, count_before, stood}
 use Rattle.oberon_format.specs.inner.Tested.{HasNumbers, Meets}
 use Rattle.oberon_format.specs.TextFields.{change_of, checkpoint_of, fields_of, number_before, page_number_of}
@@ -26,10 +26,10 @@ abbrev pub rules_of_fields : List ℕ → ℕ → List (Rule Fault)
 rules_of_fields text k = field_rules (start text k) k (count_before (fields_of text) k) (sent_below (fields_of text) k) (checkpoint_of text (start text k))
 
 -- those are the rules of its fields as they are read
-pub fields_read : (text : List ℕ) (k place before sent : ℕ) (c : CheckpointFields) → place ≡ start text k → before ≡ count_before (fields_of text) k
-    → sent ≡ sent_below (fields_of text) k → c ≡ checkpoint_of text place → first_broken (field_rules place k before sent c) ≡ first_broken (rules_of_fields text k)
-fields_read text k place before sent c at b s same =
-    ap (λ (x : CheckpointFields). first_broken (field_rules place k before sent x)) same
+pub fields_read : (text : List ℕ) (k offset before sent : ℕ) (c : CheckpointFields) → offset ≡ start text k → before ≡ count_before (fields_of text) k
+    → sent ≡ sent_below (fields_of text) k → c ≡ checkpoint_of text offset → first_broken (field_rules offset k before sent c) ≡ first_broken (rules_of_fields text k)
+fields_read text k offset before sent c at b s same =
+    ap (λ (x : CheckpointFields). first_broken (field_rules offset k before sent x)) same
     ∙ ap (λ (p : ℕ). first_broken (field_rules p k before sent (checkpoint_of text p))) at
     ∙ ap (λ (x : ℕ). first_broken (field_rules (start text k) k x sent (checkpoint_of text (start text k)))) b
     ∙ ap (λ (x : ℕ). first_broken (field_rules (start text k) k (count_before (fields_of text) k) x (checkpoint_of text (start text k)))) s
@@ -40,32 +40,32 @@ whole_fields text k g is broken =
     ap (λ (xs : List (Rule Fault)). first_broken xs) (rules_whole (fields_of text) k is)
     ∙ broken-append (rules_of_fields text k) (each PLACES (page_number_rules (pages text) (start text k) (page_number_of text k))) g broken
 
-pub whole_numbers : (text : List ℕ) (k number place : ℕ) → version text ≡ FIRST_VERSION → number ≡ pages text → place ≡ start text k → first_broken (rules_of_fields text k) ≡ None
-    → first_broken (checkpoint_rules (fields_of text) k) ≡ first_broken (each PLACES (page_number_rules number place (λ j. word_at text (page_number_place place j))))
-whole_numbers text k number place is count at met =
-    let numbers : Bool → ℕ → ℕ = λ (b : Bool) (p : ℕ). if b then word_at text (page_number_place (start text k) p) else number_before text (suc k) p in
+pub whole_numbers : (text : List ℕ) (k number offset : ℕ) → version text ≡ FIRST_VERSION → number ≡ pages text → offset ≡ start text k → first_broken (rules_of_fields text k) ≡ None
+    → first_broken (checkpoint_rules (fields_of text) k) ≡ first_broken (each PLACES (page_number_rules number offset (λ j. word_at text (page_number_offset offset j))))
+whole_numbers text k number offset is count at met =
+    let numbers : Bool → ℕ → ℕ = λ (b : Bool) (p : ℕ). if b then word_at text (page_number_offset (start text k) p) else number_before text (suc k) p in
     ap (λ (xs : List (Rule Fault)). first_broken xs) (rules_whole (fields_of text) k is)
     ∙ met-append (rules_of_fields text k) (each PLACES (page_number_rules (pages text) (start text k) (page_number_of text k))) met
     ∙ ap (λ (b : Bool). first_broken (each PLACES (page_number_rules (pages text) (start text k) (numbers b)))) (is_first (version text) is)
-    ∙ ap (λ (p : ℕ). first_broken (each PLACES (page_number_rules (pages text) p (λ j. word_at text (page_number_place p j))))) (sym at)
-    ∙ ap (λ (n : ℕ). first_broken (each PLACES (page_number_rules n place (λ j. word_at text (page_number_place place j))))) (sym count)
+    ∙ ap (λ (p : ℕ). first_broken (each PLACES (page_number_rules (pages text) p (λ j. word_at text (page_number_offset p j))))) (sym at)
+    ∙ ap (λ (n : ℕ). first_broken (each PLACES (page_number_rules n offset (λ j. word_at text (page_number_offset offset j))))) (sym count)
 
 -- a word behind the front of a checkpoint, by the version
-pub later_first : (text : List ℕ) (place : ℕ) → version text ≡ FIRST_VERSION → later_word text place ≡ 0
-later_first text place is = rw (is_first (version text) is) refl
+pub later_first : (text : List ℕ) (offset : ℕ) → version text ≡ FIRST_VERSION → later_word text offset ≡ 0
+later_first text offset is = rw (is_first (version text) is) refl
 
-pub later_second : (text : List ℕ) (place : ℕ) → version text ≡ VERSION → later_word text place ≡ word_at text place
-later_second text place is = rw (is_later (version text) is) refl
+pub later_second : (text : List ℕ) (offset : ℕ) → version text ≡ VERSION → later_word text offset ≡ word_at text offset
+later_second text offset is = rw (is_later (version text) is) refl
 
 -- the page numbers of a checkpoint, by the test of the version
-pub number_where : (text : List ℕ) (k p : ℕ) → (version text == FIRST_VERSION) ≡ true → page_number_of text k p ≡ word_at text (page_number_place (start text k) p)
+pub number_where : (text : List ℕ) (k p : ℕ) → (version text == FIRST_VERSION) ≡ true → page_number_of text k p ≡ word_at text (page_number_offset (start text k) p)
 number_where text k p test = rw test refl
 
 pub number_else : (text : List ℕ) (k p : ℕ) → (version text == FIRST_VERSION) ≡ false → page_number_of text k p ≡ number_before text (suc k) p
 number_else text k p test = rw test refl
 
 -- and by the version
-pub number_first : (text : List ℕ) (k p : ℕ) → version text ≡ FIRST_VERSION → page_number_of text k p ≡ word_at text (page_number_place (start text k) p)
+pub number_first : (text : List ℕ) (k p : ℕ) → version text ≡ FIRST_VERSION → page_number_of text k p ≡ word_at text (page_number_offset (start text k) p)
 number_first text k p is = number_where text k p (is_first (version text) is)
 
 pub number_second : (text : List ℕ) (k p : ℕ) → version text ≡ VERSION → page_number_of text k p ≡ number_before text (suc k) p
@@ -91,12 +91,12 @@ abbrev pub rules_of_changes : List ℕ → ℕ → List (Rule Fault)
 rules_of_changes text k = each (change_count text (start text k)) (change_rules (pages text) (start text k) (stood (fields_of text) k) (change_of text (start text k)))
 
 -- those are the rules of the changes as they are read, after the table before
-pub changes_read : (text : List ℕ) (k number place count : ℕ) (table : List ℕ) → version text ≡ VERSION → number ≡ pages text → place ≡ start text k → count ≡ change_count text place
+pub changes_read : (text : List ℕ) (k number offset count : ℕ) (table : List ℕ) → version text ≡ VERSION → number ≡ pages text → offset ≡ start text k → count ≡ change_count text offset
     → HasNumbers table (number_before text k)
-    → first_broken (each count (change_rules number place (slice_index table) (change_of text place))) ≡ first_broken (rules_of_changes text k)
-changes_read text k number place count table is named at many has =
-    ap (λ (n : ℕ). first_broken (each n (change_rules number place (slice_index table) (change_of text place)))) many
-    ∙ ap (λ (n : ℕ). first_broken (each (change_count text place) (change_rules n place (slice_index table) (change_of text place)))) named
+    → first_broken (each count (change_rules number offset (slice_index table) (change_of text offset))) ≡ first_broken (rules_of_changes text k)
+changes_read text k number offset count table is named at many has =
+    ap (λ (n : ℕ). first_broken (each n (change_rules number offset (slice_index table) (change_of text offset)))) many
+    ∙ ap (λ (n : ℕ). first_broken (each (change_count text offset) (change_rules n offset (slice_index table) (change_of text offset)))) named
     ∙ ap (λ (p : ℕ). first_broken (each (change_count text p) (change_rules (pages text) p (slice_index table) (change_of text p)))) at
     ∙ changes_same (pages text) (start text k) (change_count text (start text k)) (slice_index table) (stood (fields_of text) k) (change_of text (start text k)) (change_of text (start text k))
     (λ p lt. has p lt ∙ sym (stood_is text k p is)) (λ i lt. refl)
@@ -135,12 +135,12 @@ changed_changes text k is room met there =
     changed_after text k is room met ∙ rule_met (nat_le (start text (suc k)) (length text)) (fault.Short (length text)) (rules_of_changes text k) (le-leb _ _ there)
 
 -- the changes of checkpoint k make the table before it its own
-pub numbers_next : (text : List ℕ) (k place count : ℕ) (before after : List ℕ) → place ≡ start text k → count ≡ change_count text place → HasNumbers before (number_before text k)
-    → HasNumbers after (number_after (change_of text place) (slice_index before) count) → HasNumbers after (number_before text (suc k))
+pub numbers_next : (text : List ℕ) (k offset count : ℕ) (before after : List ℕ) → offset ≡ start text k → count ≡ change_count text offset → HasNumbers before (number_before text k)
+    → HasNumbers after (number_after (change_of text offset) (slice_index before) count) → HasNumbers after (number_before text (suc k))
 unfolding number_before
-numbers_next text k place count before after at many has made p lt =
+numbers_next text k offset count before after at many has made p lt =
     made p lt
-    ∙ ap (λ (n : ℕ). number_after (change_of text place) (slice_index before) n p) many
+    ∙ ap (λ (n : ℕ). number_after (change_of text offset) (slice_index before) n p) many
     ∙ ap (λ (q : ℕ). number_after (change_of text q) (slice_index before) (change_count text q) p) at
     ∙ after-same (change_of text (start text k)) (change_of text (start text k)) (slice_index before) (number_before text k) (change_count text (start text k)) p (λ i less. refl) (has p lt)
 

@@ -9,20 +9,20 @@ use Rattle.oberon_format.specs.declared.layout.TheConstants.{MAGIC, FIRST_VERSIO
 use Rattle.oberon_format.specs.declared.ranges.TheConstants.{MAX_PAGES, MAX_EVENTS, MAX_CHECKPOINTS}
 use Rattle.oberon_format.specs.Fields.{Fields, sent_below}
 use Rattle.oberon_format.specs.FirstFault.{Rule, each}
-use Rattle.oberon_format.specs.Layout.{event_start, page_number_place, change_place}
+use Rattle.oberon_format.specs.Layout.{event_start, page_number_offset, change_offset}
 use Rattle.oberon_format.specs.Ranges.{is_version, is_event, is_checkpoint, is_change}
 
 -- where event i begins
-abbrev pub place_of_event : Fields → ℕ → ℕ
-place_of_event f i = event_start f.pages i
+abbrev pub offset_of_event : Fields → ℕ → ℕ
+offset_of_event f i = event_start f.pages i
 
 -- where the output begins
-abbrev pub place_of_output : Fields → ℕ
-place_of_output f = f.start f.checkpoints
+abbrev pub offset_of_output : Fields → ℕ
+offset_of_output f = f.start f.checkpoints
 
 -- how long the text is to be by its header: in version 1 up to the output, in version 2 up to checkpoint 0
 abbrev pub named_len : Fields → ℕ
-named_len f = if f.version == FIRST_VERSION then place_of_output f else f.start 0
+named_len f = if f.version == FIRST_VERSION then offset_of_output f else f.start 0
 
 -- the numbers of pages, events and checkpoints that a header names
 abbrev pub limit_rules : ℕ → ℕ → ℕ → List (Rule Fault)
@@ -50,28 +50,28 @@ event_floor f i = if i == 0 then 0 else (f.event (i - 1)).count
 
 -- event i is in its ranges
 abbrev pub event_rules : Fields → ℕ → List (Rule Fault)
-event_rules f i = (is_event (event_floor f i) (f.event i), fault.Event (place_of_event f i)) ∷ []
+event_rules f i = (is_event (event_floor f i) (f.event i), fault.Event (offset_of_event f i)) ∷ []
 
 -- the count of the checkpoint before checkpoint k
 abbrev pub count_before : Fields → ℕ → ℕ
 count_before f k = if k == 0 then 0 else (f.checkpoint (k - 1)).count
 
--- the fields of checkpoint k, which begins at a place, are in their ranges
+-- the fields of checkpoint k, which begins at an offset, are in their ranges
 abbrev pub field_rules : ℕ → ℕ → ℕ → ℕ → CheckpointFields → List (Rule Fault)
-field_rules place k before sent c = (is_checkpoint k before sent c, fault.Checkpoint place) ∷ []
+field_rules offset k before sent c = (is_checkpoint k before sent c, fault.Checkpoint offset) ∷ []
 
--- page number j of a checkpoint that begins at a place is at most the number of pages
+-- page number j of a checkpoint that begins at an offset is at most the number of pages
 abbrev pub page_number_rules : ℕ → ℕ → (ℕ → ℕ) → ℕ → List (Rule Fault)
-page_number_rules pages place number j = (nat_le (number j) pages, fault.Page (page_number_place place j)) ∷ []
+page_number_rules pages offset number j = (nat_le (number j) pages, fault.Page (page_number_offset offset j)) ∷ []
 
 -- the least place that change i may have: places rise
 abbrev pub place_floor : (ℕ → Change) → ℕ → ℕ
 place_floor change i = if i == 0 then 0 else (change (i - 1)).place + 1
 
--- change i of a checkpoint that begins at a place is lawful, where numbers stood before the checkpoint
+-- change i of a checkpoint that begins at an offset is lawful, where numbers stood before the checkpoint
 abbrev pub change_rules : ℕ → ℕ → (ℕ → ℕ) → (ℕ → Change) → ℕ → List (Rule Fault)
-change_rules pages place stood change i =
-    (is_change pages (place_floor change i) stood (change i), fault.Page (change_place place i)) ∷ []
+change_rules pages offset stood change i =
+    (is_change pages (place_floor change i) stood (change i), fault.Page (change_offset offset i)) ∷ []
 
 -- the page number at a place before checkpoint k: at first 0
 abbrev pub stood : Fields → ℕ → ℕ → ℕ
@@ -98,7 +98,7 @@ checkpoint_rules f k = if f.version == FIRST_VERSION then whole_rules f k else c
 
 -- how long the text is to be
 abbrev pub whole : Fields → ℕ
-whole f = place_of_output f + sent_below f f.checkpoints
+whole f = offset_of_output f + sent_below f f.checkpoints
 
 -- the output is there, and nothing after it
 abbrev pub end_rules : Fields → List (Rule Fault)

@@ -52,18 +52,18 @@ fn counts_fault(pool: &Pool, inputs: &Inputs, checkpoints: &[Checkpoint]) -> Opt
     )
 }
 
-/// The first fault of the changes from one table to another, in a checkpoint that begins at a place.
-fn changes_fault(pages: u32, place: usize, before: &Table, table: &Table) -> Option<Fault>
-    requires { place ≤ LONGEST_TEXT }
-    ensures { result ≡ first_broken (each (length (changes before.now table.now)) (change_rules pages place (slice_index before.now) (λ i. slice_index_or (changes before.now table.now) i no_change))) }
+/// The first fault of the changes from one table to another, in a checkpoint that begins at an offset.
+fn changes_fault(pages: u32, offset: usize, before: &Table, table: &Table) -> Option<Fault>
+    requires { offset ≤ LONGEST_TEXT }
+    ensures { result ≡ first_broken (each (length (changes before.now table.now)) (change_rules pages offset (slice_index before.now) (λ i. slice_index_or (changes before.now table.now) i no_change))) }
 {
-    let mut change_place = place + CHANGES_AT;
+    let mut change_offset = offset + CHANGES_AT;
     for p in 0..PLACES as u16 {
         if before.entry(p) != table.entry(p) {
             if table.entry(p) > pages {
-                return Some(Fault::Page(change_place as u64));
+                return Some(Fault::Page(change_offset as u64));
             }
-            change_place += CHANGE_LEN;
+            change_offset += CHANGE_LEN;
         }
     }
     None
@@ -78,22 +78,22 @@ fn checkpoints_fault(pool: &Pool, inputs: &Inputs, checkpoints: &[Checkpoint]) -
 {
     let pages = pool.len();
     let zeros = Table::zeros();
-    let mut place = event_start(pages, inputs.events().len());
+    let mut offset = event_start(pages, inputs.events().len());
     let mut before = 0;
     let mut sent = 0;
     for k in 0..checkpoints.len() {
         let checkpoint = &checkpoints[k];
         let table = table_before(checkpoints, k, &zeros);
         let fields = CheckpointFields::of_parts(table, checkpoint);
-        if let Some(fault) = fields_fault(place, k, before, sent, &fields) {
+        if let Some(fault) = fields_fault(offset, k, before, sent, &fields) {
             return Some(fault);
         }
-        if let Some(fault) = changes_fault(pages, place, table, &checkpoint.table) {
+        if let Some(fault) = changes_fault(pages, offset, table, &checkpoint.table) {
             return Some(fault);
         }
         before = fields.count;
         sent += fields.output;
-        place += changed_len(fields.changes);
+        offset += changed_len(fields.changes);
     }
     None
 }

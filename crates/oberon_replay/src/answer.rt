@@ -13,7 +13,7 @@ use std::alloc::{AllocError, Global};
 use std::sync::Wait;
 use std::thread::Threads;
 
-/// The answer of a command to the bytes of an input. Only want of memory is refused.
+/// The answer of a command to the bytes of an input. It fails only for want of memory.
 pub fn answer<H: Threads + Wait + Sync>(
     rt: &H,
     alloc: Global,

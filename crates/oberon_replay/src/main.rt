@@ -44,7 +44,7 @@ fn main(rt: HostRuntime) -> ExitCode {
     };
     match texts(rt.alloc(), &words) {
         Ok(words) => run(&rt, rt.alloc(), &words, &mut rt.stdin(), output),
-        Err(refused) => fail(output, Failure::from(refused)),
+        Err(wanting) => fail(output, Failure::from(wanting)),
     }
 }
 

@@ -62,7 +62,7 @@ impl From<AllocError> for Refusal {
 
     ghost from_gives = { λ _ refusal. refusal ≡ Refusal.Memory };
 
-    fn from(_refused: AllocError) -> Refusal {
+    fn from(_wanting: AllocError) -> Refusal {
         Refusal::Memory
     }
 }

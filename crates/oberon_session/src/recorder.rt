@@ -51,7 +51,7 @@ pub fn make_recording(alloc: Global, session: &Session) -> Result<Recording, Rec
 /// Checkpoint 0 of a session.
 fn begin(alloc: Global, session: &Session) -> Result<Recorder, RecordFault>
     ensures recorded { IfOk result (λ recorder. IsRecorded session.now 0 (laid_view recorder.laid) (map checkpoint_parts recorder.checkpoints.items) recorder.sent) }
-    ensures refused { IfErr result (λ fault. fault ≡ RecordFault.Memory) }
+    ensures wanting { IfErr result (λ fault. fault ≡ RecordFault.Memory) }
 {
     let laid = lay_first(alloc, session.pages())?;
     let first = Checkpoint {
@@ -119,7 +119,7 @@ fn record_next(
 fn finish(alloc: Global, inputs: &Inputs, recorder: Recorder) -> Result<Recording, RecordFault>
     requires { IsLawful (parts_of recorder.laid.pool inputs.now recorder.checkpoints.items) }
     ensures recording { IfOk result (λ recording. recording ≡ parts_of recorder.laid.pool inputs.now recorder.checkpoints.items) }
-    ensures refused { IfErr result (λ fault. fault ≡ RecordFault.Memory) }
+    ensures wanting { IfErr result (λ fault. fault ≡ RecordFault.Memory) }
 {
     let inputs = copy_inputs(alloc, inputs)?;
     match Recording::from_parts(recorder.laid.pool, inputs, recorder.checkpoints) {
@@ -131,7 +131,7 @@ fn finish(alloc: Global, inputs: &Inputs, recorder: Recorder) -> Result<Recordin
 /// The same inputs again.
 fn copy_inputs(alloc: Global, inputs: &Inputs) -> Result<Inputs, RecordFault>
     ensures same { IfOk result (λ copy. copy ≡ inputs.now) }
-    ensures refused { IfErr result (λ fault. fault ≡ RecordFault.Memory) }
+    ensures wanting { IfErr result (λ fault. fault ≡ RecordFault.Memory) }
 {
     let events = inputs.events().to_vec(alloc)?;
     match Inputs::new(events) {

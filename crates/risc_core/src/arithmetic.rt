@@ -236,7 +236,7 @@ const fn divide_down(u: bool, b: u32, c: u32) -> (u32, u32)
 const fn divide(u: bool, b: u32, c: u32, flags: Flags) -> Result<AluOut, Stop>
     ensures value { result ≡ quotient_of u b c flags }
     ensures not_float { result ≢ Err Stop.Float }
-    ensures refused { (result ≡ Err Stop.Divisor) ↔ (signed c <ℤ pos 1) }
+    ensures stops { (result ≡ Err Stop.Divisor) ↔ (signed c <ℤ pos 1) }
 {
     if c.cast_signed() < 1 {
         return Err(Stop::Divisor);
