@@ -1,5 +1,5 @@
 -- The parts of all workers together: no segment has two verdicts, and each that counts has one.
-use Rattle.std.proofs.Common.{◌≡◌, ◌≢◌, ◌⊎◌, ℕ, zero, suc, ◌+◌, ◌*◌, ◌/◌, ◌%◌, ◌<◌, ◌≤◌, min, List, [], ◌∷◌, ◌++◌, map, length, get_or, Bool, true, false, nat_eq, nat_lt, Option, None, Some, refl, ap, sym, ◌∙◌, subst, arith, inl, inr, ⊎_elim, lt_of_not-le, div-add-mod', mul-le-mul_right}
+use Rattle.std.proofs.Common.{◌≡◌, ◌≢◌, ◌⊎◌, ℕ, zero, suc, ◌+◌, ◌*◌, ◌/◌, ◌%◌, ◌<◌, ◌≤◌, min, List, [], ◌∷◌, ◌++◌, map, length, get_or, Bool, true, false, cond, nat_eq, nat_lt, Option, None, Some, refl, ap, sym, ◌∙◌, subst, arith, inl, inr, ⊎_elim, lt_of_not-le, div-add-mod', mul-le-mul_right}
 use Rattle.std.specs.Prelude.{All, Contains, IsSome, MatchOption, is_some}
 use Rattle.std.specs.Int.{div_ceil}
 use Rattle.std.proofs.lemmas.Grind.{div_ceil_times}
@@ -7,10 +7,10 @@ use Rattle.std.proofs.lemmas.List.{length-map, get_or_default}
 use Rattle.std.proofs.lemmas.List.Elements.{Contains-append_left, Contains-append_right, Contains-append_cases}
 use mathlib.Core.Logic.{dite}
 use native.Mathlib.Decide.{dec_le, dec_lt, ℕ_discrete}
-use Rattle.oberon_claims.specs.Counts.{times, once_below, one_if}
+use Rattle.oberon_claims.specs.Counts.{times, once_below}
 use Rattle.oberon_claims.specs.Pass.{PassRecord}
 use Rattle.oberon_claims.specs.Ledger.{all_taken, all_told, all_shown}
-use Rattle.oberon_claims.proofs.Sums.{times_append, once_here, one_is, one_same}
+use Rattle.oberon_claims.proofs.Sums.{times_append, times_front, once_here, one_is, one_same}
 use Rattle.oberon_format.specs.Recording.{RecordingParts, last_of}
 use Rattle.oberon_check.specs.declared.part.Part.{Part}
 use Rattle.oberon_check.specs.declared.collector.CollectFault.{CollectFault}
@@ -30,14 +30,14 @@ segments_append (x ∷ xs) ys = ap (λ (l : List ℕ). x.segment ∷ l) (segment
 times_pieces : (s : ℕ) (vs front back : List Finding) → vs ≡ front ++ back → times s (segments vs) ≡ times s (segments front) + times s (segments back)
 times_pieces s vs front back is = ap (λ (l : List Finding). times s (segments l)) is ∙ ap (times s) (segments_append front back) ∙ times_append s (segments front) (segments back)
 
-one_other : (x y : ℕ) → x ≢ y → one_if (nat_eq x y) ≡ 0
-one_other x y ne = go (one_if (nat_eq x y)) refl
+one_other : (x y : ℕ) → x ≢ y → cond {A = ℕ} (nat_eq x y) 1 0 ≡ 0
+one_other x y ne = go (cond (nat_eq x y) 1 0) refl
   where
-    go : (n : ℕ) → one_if (nat_eq x y) ≡ n → one_if (nat_eq x y) ≡ 0
+    go : (n : ℕ) → cond (nat_eq x y) 1 0 ≡ n → cond {A = ℕ} (nat_eq x y) 1 0 ≡ 0
     go zero e = e
     go (suc n) e = absurd (ne (one_is x y (omega arith)))
 
-one_small : (b : Bool) → one_if b ≤ 1
+one_small : (b : Bool) → cond b 1 0 ≤ 1
 one_small true = omega arith
 one_small false = omega arith
 
@@ -46,6 +46,7 @@ run_before : (first end s : ℕ) (vs : List Finding) → IsRun first end vs → 
 run_before first end s [] h below = refl
 run_before first end s (v ∷ vs) h below =
     let here = one_other v.segment s (λ e. (let f = h.1 in absurd (omega arith))) in
+    let front = times_front s v.segment (segments vs) in
     let rest = tail v.part (λ run. run_before (first + 1) end s vs run (omega arith)) h.2 in omega arith
   where
     tail : (o : Option Part) → (IsRun (first + 1) end vs → times s (segments vs) ≡ 0) → MatchOption o (IsRun (first + 1) end vs) (λ _. vs ≡ []) → times s (segments vs) ≡ 0
@@ -57,6 +58,7 @@ run_past first end s [] h past = refl
 run_past first end s (v ∷ vs) h past =
     let below = h.0 in
     let here = one_other v.segment s (λ e. (let f = h.1 in absurd (omega arith))) in
+    let front = times_front s v.segment (segments vs) in
     let rest = tail v.part (λ run. run_past (first + 1) end s vs run past) h.2 in omega arith
   where
     tail : (o : Option Part) → (IsRun (first + 1) end vs → times s (segments vs) ≡ 0) → MatchOption o (IsRun (first + 1) end vs) (λ _. vs ≡ []) → times s (segments vs) ≡ 0
@@ -70,9 +72,9 @@ run_once first end s (v ∷ vs) h = tail v.part (λ run. run_once (first + 1) en
     tail : (o : Option Part) → (IsRun (first + 1) end vs → times s (segments vs) ≤ 1) → MatchOption o (IsRun (first + 1) end vs) (λ _. vs ≡ []) → times s (segments (v ∷ vs)) ≤ 1
     tail None next run =
         dite (ℕ_discrete v.segment s)
-        (λ (same : v.segment ≡ s). (let f = h.1 in let rest = run_before (first + 1) end s vs run (omega arith) in let one = one_small (nat_eq v.segment s) in omega arith))
-        (λ other. (let here = one_other v.segment s other in let rest = next run in omega arith))
-    tail (Some p) next is = let rest : times s (segments vs) ≡ 0 = ap (λ (l : List Finding). times s (segments l)) is in let one = one_small (nat_eq v.segment s) in omega arith
+        (λ (same : v.segment ≡ s). (let f = h.1 in let front = times_front s v.segment (segments vs) in let rest = run_before (first + 1) end s vs run (omega arith) in let one = one_small (nat_eq v.segment s) in omega arith))
+        (λ other. (let here = one_other v.segment s other in let front = times_front s v.segment (segments vs) in let rest = next run in omega arith))
+    tail (Some p) next is = let front = times_front s v.segment (segments vs) in let rest : times s (segments vs) ≡ 0 = ap (λ (l : List Finding). times s (segments l)) is in let one = one_small (nat_eq v.segment s) in omega arith
 
 -- a segment of a run has a verdict, or one before it failed
 run_has : (first end s : ℕ) (vs : List Finding) → IsRun first end vs → first ≤ s → s < end → Contains (segments vs) s ⊎ ((f : ℕ) × Contains (failed_of vs) f × (f < s))
@@ -109,7 +111,7 @@ in_job cut s job some from below =
     (λ (gt : q < job). (let b : (q + 1) * cut ≤ job * cut = mul-le-mul_right cut (omega arith) in absurd (omega arith)))
     (λ le. omega arith))
 
-job_once : (last cut s job : ℕ) (shown : List ℕ) (vs : List Finding) → 0 < cut → IsJob last cut shown job vs → times s (segments vs) ≤ one_if (nat_eq job (s / cut))
+job_once : (last cut s job : ℕ) (shown : List ℕ) (vs : List Finding) → 0 < cut → IsJob last cut shown job vs → times s (segments vs) ≤ cond (nat_eq job (s / cut)) 1 0
 job_once last cut s job shown vs some h =
     ⊎_elim
     (λ (w : (vs ≡ []) × IsBehind shown (job * cut)). (let none : times s (segments vs) ≡ 0 = ap (λ (l : List Finding). times s (segments l)) w.0 in omega arith))
@@ -125,6 +127,7 @@ jobs_once last cut s shown [] vs some h = let none : times s (segments vs) ≡ 0
 jobs_once last cut s shown (job ∷ taken) vs some h =
     let here = job_once last cut s job shown h.0 some h.3 in
     let rest = jobs_once last cut s shown taken h.1 some h.4 in
+    let front = times_front (s / cut) job taken in
     let both = times_pieces s vs h.0 h.1 h.2 in omega arith
 
 all_once : (last cut s : ℕ) (ps : List PassRecord) (vs : List Finding) → 0 < cut → InPieces (HasDone last cut) ps vs → times s (segments vs) ≤ times (s / cut) (all_taken ps)
@@ -138,14 +141,14 @@ all_once last cut s (p ∷ ps) vs some h =
 -- a number at two places
 one_time : (s : ℕ) (xs : List ℕ) (k : ℕ) → k < length xs → get_or xs k 0 ≡ s → 1 ≤ times s xs
 one_time s [] k inside is = absurd (omega arith)
-one_time s (x ∷ xs) zero inside is = let one = one_same x s is in omega arith
-one_time s (x ∷ xs) (suc k) inside is = let r = one_time s xs k (omega arith) is in omega arith
+one_time s (x ∷ xs) zero inside is = let front = times_front s x xs in let one = one_same x s is in omega arith
+one_time s (x ∷ xs) (suc k) inside is = let front = times_front s x xs in let r = one_time s xs k (omega arith) is in omega arith
 
 two_times : (s : ℕ) (xs : List ℕ) (j k : ℕ) → j < k → k < length xs → get_or xs j 0 ≡ s → get_or xs k 0 ≡ s → 2 ≤ times s xs
 two_times s [] j k before inside a b = absurd (omega arith)
 two_times s (x ∷ xs) j zero before inside a b = absurd (omega arith)
-two_times s (x ∷ xs) zero (suc k) before inside a b = let one = one_same x s a in let r = one_time s xs k (omega arith) b in omega arith
-two_times s (x ∷ xs) (suc j) (suc k) before inside a b = let r = two_times s xs j k (omega arith) (omega arith) a b in omega arith
+two_times s (x ∷ xs) zero (suc k) before inside a b = let front = times_front s x xs in let one = one_same x s a in let r = one_time s xs k (omega arith) b in omega arith
+two_times s (x ∷ xs) (suc j) (suc k) before inside a b = let front = times_front s x xs in let r = two_times s xs j k (omega arith) (omega arith) a b in omega arith
 
 stands : (vs : List Finding) (s : ℕ) → Contains (segments vs) s → StandsBelow vs (length vs) s
 stands vs s c =
@@ -198,7 +201,7 @@ job_piece last cut job shown (j ∷ taken) vs h there =
       in_segments = left_in vs h.0 h.1 h.2;
       in_failed = left_failed vs h.0 h.1 h.2;
     })
-    (λ other. (let none = one_other j job other in let r = job_piece last cut job shown taken h.1 h.4 (omega arith) in record {
+    (λ other. (let none = one_other j job other in let front = times_front job j taken in let r = job_piece last cut job shown taken h.1 h.4 (omega arith) in record {
       front = r.front;
       is_job = r.is_job;
       in_segments = λ s c. right_in vs h.0 h.1 h.2 s (r.in_segments s c);

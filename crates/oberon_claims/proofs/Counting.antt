@@ -1,10 +1,10 @@
 -- Where each number below n was taken once and no other was, n numbers were taken.
-use Rattle.std.proofs.Common.{◌≡◌, ℕ, zero, suc, ◌+◌, ◌<◌, ◌≤◌, List, [], ◌∷◌, length, sym, refl, ◌∙◌, arith, eqb, ltb}
+use Rattle.std.proofs.Common.{◌≡◌, ℕ, zero, suc, ◌+◌, ◌<◌, ◌≤◌, List, [], ◌∷◌, length, sym, refl, ◌∙◌, arith, eqb, cond}
 use Rattle.std.proofs.lemmas.Bool.Decides.{nat_tests}
 use Rattle.oberon_claims.specs.declared.book.View.{View}
-use Rattle.oberon_claims.specs.Counts.{one_if, times, once_below}
+use Rattle.oberon_claims.specs.Counts.{times, once_below}
 use Rattle.oberon_claims.specs.inner.Book.{times_taken, number_taken}
-use Rattle.oberon_claims.proofs.Sums.{once_is, once_here, one_same}
+use Rattle.oberon_claims.proofs.Sums.{times_front, once_is, once_here, one_same}
 
 -- what f is at each number below n, added up
 abbrev tally : ℕ → (ℕ → ℕ) → ℕ
@@ -19,6 +19,9 @@ tally_add : (n : ℕ) (f g : ℕ → ℕ) → tally n (λ x. f x + g x) ≡ tall
 tally_add zero f g = refl
 tally_add (suc n) f g = let e = tally_add n f g in omega arith
 
+one_below : (x n : ℕ) → x < n → once_below x n ≡ 1
+one_below x n below = grind (arith, nat_tests)
+
 tally_once : (n m : ℕ) (f : ℕ → ℕ) → ((x : ℕ) → f x ≡ once_below x m) → n ≤ m → tally n f ≡ n
 tally_once zero m f once within = refl
 tally_once (suc n) m f once within =
@@ -28,20 +31,21 @@ tally_once (suc n) m f once within =
     omega arith
 
 -- one number, counted among those below n
-tally_one : (n y : ℕ) → tally n (λ x. one_if (eqb y x)) ≡ one_if (ltb y n)
+tally_one : (n y : ℕ) → tally n (λ x. cond (eqb y x) 1 0) ≡ once_below y n
 tally_one zero y = grind (arith, nat_tests)
 tally_one (suc n) y = let e = tally_one n y in let s = step n y in omega arith
   where
-    step : (n y : ℕ) → one_if (ltb y (suc n)) ≡ one_if (ltb y n) + one_if (eqb y n)
+    step : (n y : ℕ) → once_below y (suc n) ≡ once_below y n + cond (eqb y n) 1 0
     step n y = grind (arith, nat_tests)
 
 length_is : (n : ℕ) (xs : List ℕ) → ((x : ℕ) → 0 < times x xs → x < n) → length xs ≡ tally n (λ x. times x xs)
 length_is n [] below = sym (tally_none n)
 length_is n (y ∷ ys) below =
-    let rest = length_is n ys (λ x there. below x (omega arith)) in
-    let add = tally_add n (λ x. one_if (eqb y x)) (λ x. times x ys) in
+    let rest = length_is n ys (λ x there. below x (let f = times_front x y ys in omega arith)) in
+    let add = tally_add n (λ x. cond (eqb y x) 1 0) (λ x. times x ys) in
+    let front : tally n (λ x. times x (y ∷ ys)) ≡ tally n (λ x. cond (eqb y x) 1 0 + times x ys) = λ i. tally n (λ x. times_front x y ys i) in
     let one = tally_one n y in
-    let is = once_here y n (below y (let s = one_same y y refl in omega arith)) in
+    let is = once_here y n (below y (let f = times_front y y ys in let s = one_same y y refl in omega arith)) in
     omega arith
 
 number_is : (n : ℕ) (views : List View) → ((x : ℕ) → 0 < times_taken x views → x < n) → number_taken views ≡ tally n (λ x. times_taken x views)

@@ -1,18 +1,18 @@
 -- What the passes' seats come to once they are put together.
-use Rattle.std.proofs.Common.{◌≡◌, ℕ, zero, suc, ◌+◌, ◌<◌, ◌≤◌, List, [], ◌∷◌, ◌++◌, length, get_or, min, Bool, true, false, sym, refl, ap, ◌∙◌, subst, arith, ⊎_elim, length-append, append_assoc, append-nil, eqb, Option, None, Some}
+use Rattle.std.proofs.Common.{◌≡◌, ℕ, zero, suc, ◌+◌, ◌<◌, ◌≤◌, List, [], ◌∷◌, ◌++◌, length, get_or, min, Bool, true, false, sym, refl, ap, ◌∙◌, subst, arith, ⊎_elim, length-append, append_assoc, append-nil, eqb, Option, None, Some, cond}
 use Rattle.std.specs.Prelude.{All, Contains, MatchOption, HoldsAt}
 use Rattle.oberon_claims.specs.declared.book.View.{View}
-use Rattle.oberon_claims.specs.Counts.{one_if, times, once_below}
+use Rattle.oberon_claims.specs.Counts.{times, once_below}
 use Rattle.oberon_claims.specs.Pass.{BookId, PassRecord}
 use Rattle.oberon_claims.specs.Ledger.{all_taken, all_told, all_shown, SomeEnded, IsLeastOf, IsNotBelow}
 use Rattle.oberon_claims.specs.inner.Book.{nothing, times_told, IsLegal}
 use Rattle.oberon_claims.specs.inner.Steps.{joined_view}
 use Rattle.oberon_claims.proofs.Counting.{number_of_each_once}
-use Rattle.oberon_claims.proofs.Sums.{times_here, one_is, empty_if}
+use Rattle.oberon_claims.proofs.Sums.{times_front, times_here, one_is, empty_if}
 
 abbrev pub marks : List PassRecord → ℕ
 marks [] = 0
-marks (p ∷ ps) = one_if p.ended + marks ps
+marks (p ∷ ps) = cond p.ended 1 0 + marks ps
 
 abbrev pub gathered : BookId → List PassRecord → View
 gathered book ps = record { jobs = book.jobs; workers = book.workers; taken = all_taken ps; told = all_told ps; shown = all_shown ps; ends = marks ps; stands = length ps }
@@ -29,7 +29,7 @@ shown_more : (ps : List PassRecord) (p : PassRecord) → all_shown ps ++ p.shown
 shown_more [] p = sym (append-nil p.shown)
 shown_more (q ∷ ps) p = append_assoc q.shown (all_shown ps) p.shown ∙ ap (λ (l : List ℕ). q.shown ++ l) (shown_more ps p)
 
-marks_more : (ps : List PassRecord) (p : PassRecord) → marks ps + one_if p.ended ≡ marks (ps ++ p ∷ [])
+marks_more : (ps : List PassRecord) (p : PassRecord) → marks ps + cond p.ended 1 0 ≡ marks (ps ++ p ∷ [])
 marks_more [] p = omega arith
 marks_more (q ∷ ps) p = let e = marks_more ps p in omega arith
 
@@ -38,7 +38,7 @@ pub record IsSeatOf (v : View) (p : PassRecord) : Type 0 where
   pub taken : v.taken ≡ p.taken
   pub told : v.told ≡ p.told
   pub shown : v.shown ≡ p.shown
-  pub ends : v.ends ≡ one_if p.ended
+  pub ends : v.ends ≡ cond p.ended 1 0
   pub stands : v.stands ≡ 1
 
 pub gathers : (book : BookId) (ps : List PassRecord) (p : PassRecord) (v : View) → IsSeatOf v p → joined_view (gathered book ps) v ≡ gathered book (ps ++ p ∷ [])
@@ -61,7 +61,7 @@ module _ {A : Type 0} where
 
 marks_at : (ps : List PassRecord) (k : ℕ) → k < length ps → HoldsAt (λ (q : PassRecord). q.ended ≡ true) ps k → 0 < marks ps
 marks_at [] k in_range holds = absurd (omega arith)
-marks_at (p ∷ ps) zero in_range holds = let e : one_if p.ended ≡ 1 = ap one_if (holds p) in omega arith
+marks_at (p ∷ ps) zero in_range holds = let e : cond {A = ℕ} p.ended 1 0 ≡ 1 = ap (λ (b : Bool). cond b 1 0) (holds p) in omega arith
 marks_at (p ∷ ps) (suc k) in_range holds = let r = marks_at ps k (omega arith) holds in omega arith
 
 some_marks : (ps : List PassRecord) → SomeEnded ps → 0 < marks ps
@@ -70,12 +70,12 @@ some_marks ps m = marks_at ps m.0 m.1 m.2
 -- what stands in a list stands at some place
 pub found : (x : ℕ) (xs : List ℕ) → 0 < times x xs → Contains xs x
 found x [] there = absurd (omega arith)
-found x (y ∷ ys) there = go x y ys (eqb y x) refl there (λ t. found x ys t)
+found x (y ∷ ys) there = go x y ys (eqb y x) refl (let f = times_front x y ys in omega arith) (λ t. found x ys t)
   where
-    go : (x y : ℕ) (ys : List ℕ) (b : Bool) → eqb y x ≡ b → 0 < one_if (eqb y x) + times x ys → (0 < times x ys → Contains ys x) → Contains (y ∷ ys) x
-    go x y ys true e there next = (0, omega arith, one_is y x (let o : one_if (eqb y x) ≡ 1 = ap one_if e in omega arith))
+    go : (x y : ℕ) (ys : List ℕ) (b : Bool) → eqb y x ≡ b → 0 < cond (eqb y x) 1 0 + times x ys → (0 < times x ys → Contains ys x) → Contains (y ∷ ys) x
+    go x y ys true e there next = (0, omega arith, one_is y x (let o : cond {A = ℕ} (eqb y x) 1 0 ≡ 1 = ap (λ (b : Bool). cond b 1 0) e in omega arith))
     go x y ys false e there next =
-        let o : one_if (eqb y x) ≡ 0 = ap one_if e in
+        let o : cond {A = ℕ} (eqb y x) 1 0 ≡ 0 = ap (λ (b : Bool). cond b 1 0) e in
         let r = next (omega arith) in
         (suc r.0, (let h = r.1 in omega arith), r.2)
 

@@ -1,12 +1,12 @@
 -- Each step keeps the book legal.
-use Rattle.std.proofs.Common.{◌≡◌, ◌⊎◌, ℕ, ◌+◌, ◌<◌, ◌≤◌, List, [], ◌∷◌, length, set, get_or, min, inl, inr, sym, refl, ap, ◌∙◌, subst, arith, eqb, ⊎_elim, length-append}
+use Rattle.std.proofs.Common.{◌≡◌, ◌⊎◌, ℕ, ◌+◌, ◌<◌, ◌≤◌, List, [], ◌∷◌, length, set, get_or, min, inl, inr, sym, refl, ap, ◌∙◌, subst, arith, eqb, ⊎_elim, length-append, cond}
 use Rattle.std.specs.Prelude.{slice_index}
 use mathlib.Core.Logic.{dite}
 use native.Mathlib.Decide.{dec_le}
 use mathlib.Core.Option.{some}
 use lib.ListN.{get_elem?}
 use Rattle.oberon_claims.specs.declared.book.View.{View}
-use Rattle.oberon_claims.specs.Counts.{one_if, times, once_below}
+use Rattle.oberon_claims.specs.Counts.{times, once_below}
 use Rattle.oberon_claims.specs.inner.Book.{total, nothing, times_told, times_shown, number_taken, IsSeat, IsLegal}
 use Rattle.oberon_claims.specs.inner.Steps.{view_with_job, view_with_end, view_with_told, view_with_shown}
 use Rattle.oberon_claims.proofs.Counting.{number_of_each_once}
@@ -150,7 +150,7 @@ module _ (jobs workers next least : ℕ) (views : List View) (id : ℕ) (v : Vie
   say x small stands =
       let w = view_with_told v x in
       let same : (f : View → ℕ) → f w ≡ f v → total f (set views id w) ≡ total f views = λ f e. (let s = total_set f views id v w at in omega arith) in
-      let more : (y : ℕ) → times_told y (set views id w) ≡ times_told y views + one_if (eqb x y) =
+      let more : (y : ℕ) → times_told y (set views id w) ≡ times_told y views + cond (eqb x y) 1 0 =
       λ y. (let s = total_set (λ u. times y u.told) views id v w at in let a = times_append y v.told (x ∷ []) in omega arith) in
       record {
         few_jobs = legal.few_jobs;

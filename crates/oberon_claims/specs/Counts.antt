@@ -1,19 +1,13 @@
 -- How often a number stands in a list.
-use Rattle.std.specs.Prelude.{◌≡◌, ℕ, ◌+◌, List, [], ◌∷◌, Bool, true, false, nat_eq, nat_lt}
-
--- 1 where the test holds, and else 0
-abbrev pub one_if : Bool → ℕ
-one_if true = 1
-one_if false = 0
+use Rattle.std.specs.Prelude.{◌≡◌, ℕ, List, count_by, nat_eq, nat_lt, if◌then◌else◌}
 
 -- how often x stands in the list
 abbrev pub times : ℕ → List ℕ → ℕ
-times x [] = 0
-times x (y ∷ ys) = one_if (nat_eq y x) + times x ys
+times x xs = count_by (λ y. nat_eq y x) xs
 
 -- 1 for each number below n, and 0 for any other
 abbrev pub once_below : ℕ → ℕ → ℕ
-once_below x n = one_if (nat_lt x n)
+once_below x n = if nat_lt x n then 1 else 0
 
 -- the list has each number below n once, and no other number
 abbrev pub IsEachOnceBelow : ℕ → List ℕ → Type 0

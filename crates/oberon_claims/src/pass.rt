@@ -19,8 +19,7 @@ pub struct Pass {
 }
 
 impl Model for Pass {
-    ghost use Rattle.std.specs.Prelude.{◌≡◌, []};
-    ghost use Rattle.oberon_claims.specs.Counts.{one_if};
+    ghost use Rattle.std.specs.Prelude.{◌≡◌, [], if◌then◌else◌};
     ghost use Rattle.oberon_claims.specs.Pass.{PassRecord};
 
     ghost Value = { PassRecord };
@@ -28,5 +27,5 @@ impl Model for Pass {
     ghost view = { λ p. record { book = record { table = p.seat.table_id; jobs = p.seat.me.0.jobs; workers = p.seat.me.0.workers }; taken = p.seat.me.0.taken; told = p.seat.me.0.told; shown = p.seat.me.0.shown; ended = p.answered_none } };
 
     // It holds no slot, stands for itself, and came past the end just where its mark says so.
-    ghost invariant = { λ p. (p.seat.me.1 ≡ []) × (p.seat.me.0.stands ≡ 1) × (p.seat.me.0.ends ≡ one_if p.answered_none) };
+    ghost invariant = { λ p. (p.seat.me.1 ≡ []) × (p.seat.me.0.stands ≡ 1) × (p.seat.me.0.ends ≡ (if p.answered_none then 1 else 0)) };
 }

@@ -1,4 +1,5 @@
--- The ranges of a recording's fields. All limits are this project's own choice, and their names stand in the code's module `ranges`.
+-- The ranges of a recording's fields. All limits are this project's own choice, but for the end of program counters, and their
+-- names stand in the code's module `ranges`, or in a crate below that has them too.
 use Rattle.std.specs.Prelude.{ℕ, drop, ◌+◌, Bool, true, ◌&&◌, ◌||◌, ◌==◌, nat_le, nat_lt, not, if◌then◌else◌}
 use Rattle.std.specs.List.{list_all}
 use Rattle.risc_core.specs.declared.branch.TheConstants.{COUNTER_END}

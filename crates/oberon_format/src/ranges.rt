@@ -1,8 +1,8 @@
 //! The ranges of fields, tested on numbers. Where these stand in a text is not known here.
 //!
-//! Each limit has its one name, which definitions, contracts and code cite: here, or where a crate below has it too, as
-//! `MAX_COUNT` of counts in `risc_machine` and `COUNTER_END` of program counters in `risc_core`. All but that of program
-//! counters are this project's own choice.
+//! Each limit has its one name, which definitions, contracts and code cite: here, or in a crate below that has it too, as
+//! `MAX_COUNT` of counts in `risc_machine` and `COUNTER_END` of program counters in `risc_core`. All are this project's own
+//! choice, but for the end of program counters.
 
 ghost use Rattle.std.specs.Prelude.{◌≡◌, ◌≤◌};
 ghost use Rattle.risc_devices.specs.InputKind.{is_input};

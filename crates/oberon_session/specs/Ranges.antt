@@ -1,5 +1,5 @@
--- The ranges and the order of a session's numbers, each as a test. All limits are this project's own choice; those of its recording
--- are named in `oberon_format`.
+-- The ranges and the order of a session's numbers, each as a test. All limits are this project's own choice, but for the end of
+-- program counters; those of its recording are named in `oberon_format` and the crates below it.
 use Rattle.std.specs.Prelude.{ℕ, ◌^◌, ◌&&◌, nat_le, nat_lt, Bool, true, List, [], ◌∷◌, length, map}
 use Rattle.std.specs.List.{list_all}
 use Rattle.risc_core.specs.declared.branch.TheConstants.{COUNTER_END}

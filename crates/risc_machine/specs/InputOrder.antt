@@ -11,7 +11,7 @@ count_at es place = slice_index (map (λ e. e.count) es) place
 abbrev pub count_before : List Event → ℕ → ℕ
 count_before es place = if place == 0 then 0 else count_at es (place - 1)
 
--- the count at a place is not below the one before it, and at most the greatest
+-- the count at a place is not below the one before it, and at most `MAX_COUNT`
 abbrev pub IsRightPlace : List Event → ℕ → Type 0
 IsRightPlace es place = (count_before es place ≤ count_at es place) × (count_at es place ≤ MAX_COUNT)
 

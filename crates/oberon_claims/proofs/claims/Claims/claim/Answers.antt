@@ -1,5 +1,4 @@
-use Rattle.std.proofs.Common.{sym, ap, ◌∙◌, arith}
-use Rattle.oberon_claims.specs.Counts.{one_if}
+use Rattle.std.proofs.Common.{sym, ap, ◌∙◌, arith, Bool, cond}
 use Rattle.oberon_claims.specs.Pass.{BookId, PassRecord}
 use Rattle.oberon_claims.proofs.Steps.{may_take}
 use Rattle.oberon_claims.proofs.claims.Claims.claim.Goals as goal
@@ -9,5 +8,5 @@ fetch_add-found-requires c =
     let i = c.self.invariant in
     let p = c.pass.invariant in
     let same = ap (λ (h : PassRecord). h.book) c.pass.view_is ∙ c.requires.book ∙ sym c.self.view_is in
-    let unmarked = p.2 ∙ ap one_if c.if-pass.false in
+    let unmarked = p.2 ∙ ap (λ (b : Bool). cond b 1 0) c.if-pass.false in
     (ap (λ (b : BookId). b.table) same, omega arith, may_take _ _ _ _ (ap (λ (b : BookId). b.jobs) same ∙ sym i.0) unmarked (omega arith))

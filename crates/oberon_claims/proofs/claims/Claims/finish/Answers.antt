@@ -1,10 +1,10 @@
-use Rattle.std.proofs.Common.{◌≡◌, ℕ, [], ◌∷◌, ◌++◌, List, length, sym, ap, ◌∙◌, subst, arith, append-nil, append_assoc, min}
+use Rattle.std.proofs.Common.{◌≡◌, ℕ, [], ◌∷◌, ◌++◌, List, length, sym, ap, ◌∙◌, subst, arith, append-nil, append_assoc, min, cond}
 use Rattle.std.proofs.lemmas.List.{nil_from_length}
 use Rattle.atomic_table.specs.Table.{Me}
 use Rattle.oberon_claims.specs.declared.book.View.{View}
 use Rattle.oberon_claims.specs.declared.book.Plan.{Plan}
 use Rattle.oberon_claims.specs.Pass.{BookId, PassRecord}
-use Rattle.oberon_claims.specs.Counts.{one_if, once_below}
+use Rattle.oberon_claims.specs.Counts.{once_below}
 use Rattle.oberon_claims.specs.inner.Steps.{joined_view}
 use Rattle.oberon_claims.specs.inner.Book.{own_view, IsLegal}
 use Rattle.oberon_claims.proofs.Shares.{may_take_in, closes}
@@ -46,7 +46,7 @@ loop-pass-preserved c =
             taken = ap (λ (h : PassRecord). h.taken) is;
             told = ap (λ (h : PassRecord). h.told) is;
             shown = ap (λ (h : PassRecord). h.shown) is;
-            ends = p.2 ∙ ap (λ (h : PassRecord). one_if h.ended) is;
+            ends = p.2 ∙ ap (λ (h : PassRecord). cond h.ended 1 0) is;
             stands = p.1;
           },
       append_assoc c.loop-pass.yielded (c.in-Some.pass ∷ []) _ ∙ ap (λ (l : List PassRecord). c.loop-pass.yielded ++ l) (sym step.0) ∙ i.2,
