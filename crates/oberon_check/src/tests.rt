@@ -67,7 +67,7 @@ fn verdicts_of(
     Ok(verdicts)
 }
 
-fn collected(
+fn collect_some(
     alloc: Global,
     r: &Recording,
     segments: &[u32],
@@ -104,14 +104,20 @@ fn segments_of_a_false_h(rt: HostRuntime) -> Result<(), Fail> {
 fn collect_by_hand(rt: HostRuntime) -> Result<(), Fail> {
     let alloc = rt.alloc();
     let r = jump_recording(alloc, 3, &GIVEN_H)?;
-    assert_eq!(rt; collected(alloc, &r, &[2, 0, 1])?, Ok(FALSE_H));
-    assert_eq!(rt; collected(alloc, &r, &[0, 1])?, Ok(FALSE_H));
-    assert_eq!(rt; collected(alloc, &r, &[1])?, Err(CollectFault::Missing(0)));
+    assert_eq!(rt; collect_some(alloc, &r, &[2, 0, 1])?, Ok(FALSE_H));
+    assert_eq!(rt; collect_some(alloc, &r, &[0, 1])?, Ok(FALSE_H));
     assert_eq!(rt;
-        collected(alloc, &r, &[0, 0])?,
+        collect_some(alloc, &r, &[1])?,
+        Err(CollectFault::Missing(0))
+    );
+    assert_eq!(rt;
+        collect_some(alloc, &r, &[0, 0])?,
         Err(CollectFault::Double(0))
     );
-    assert_eq!(rt; collected(alloc, &r, &[])?, Err(CollectFault::Missing(0)));
+    assert_eq!(rt;
+        collect_some(alloc, &r, &[])?,
+        Err(CollectFault::Missing(0))
+    );
     Ok(())
 }
 
@@ -123,13 +129,13 @@ fn collect_where_all_hold(rt: HostRuntime) -> Result<(), Fail> {
         checkpoints: 3,
         steps: 30,
     };
-    assert_eq!(rt; collected(alloc, &r, &[2, 0, 1])?, Ok(accepted));
+    assert_eq!(rt; collect_some(alloc, &r, &[2, 0, 1])?, Ok(accepted));
     let r = jump_recording(alloc, 0, &[])?;
     let accepted = Verdict::Accepted {
         checkpoints: 0,
         steps: 0,
     };
-    assert_eq!(rt; collected(alloc, &r, &[])?, Ok(accepted));
+    assert_eq!(rt; collect_some(alloc, &r, &[])?, Ok(accepted));
     Ok(())
 }
 

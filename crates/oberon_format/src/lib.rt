@@ -28,8 +28,9 @@ mod writing;
 pub use checkpoint::Checkpoint;
 pub use fault::Fault;
 pub use laws::{
-    cut_text_law, fault_of_parts_law, lawful_parts_law, longest_text_law, named_fault_law, one_recording_law, one_text_law,
-    one_text_at_most_law, read_back_law, text_or_fault_law, written_back_law,
+    cut_text_law, fault_of_parts_law, lawful_parts_law, longest_text_law, named_fault_law,
+    one_recording_law, one_text_at_most_law, one_text_law, read_back_law, text_or_fault_law,
+    written_back_law,
 };
 pub use layout::{LONGEST_TEXT, VERSION};
 pub use line::refusal;

@@ -12,7 +12,7 @@ const LENGTH: usize = 5_292;
 const CHANGED_LENGTH: usize = 1_216;
 
 /// A text of version 1 with a page of zeros, a timer's event at count 0 and a checkpoint that is all zeros, and one byte more.
-fn sound() -> [u8; LENGTH + 1] {
+fn sound_text() -> [u8; LENGTH + 1] {
     let mut text = [0; LENGTH + 1];
     text[0] = b'O';
     text[1] = b'R';
@@ -27,7 +27,7 @@ fn sound() -> [u8; LENGTH + 1] {
 }
 
 /// A text of version 2 with that page, which its checkpoint has at place 0, and that event.
-fn changed() -> [u8; CHANGED_LENGTH] {
+fn changed_text() -> [u8; CHANGED_LENGTH] {
     let mut text = [0; CHANGED_LENGTH];
     text[0] = b'O';
     text[1] = b'R';
@@ -50,12 +50,12 @@ fn front(text: &[u8], length: usize) -> &[u8] {
 
 /// Reads a text without fault of each version, and texts with each of the eight faults, and prints what came of each.
 pub(crate) fn texts<H: AllocGlobal + Print>(rt: &H) -> io::Result<()> {
-    let text = sound();
+    let text = sound_text();
     match read(rt.alloc(), front(&text, LENGTH)) {
         Ok(_) => println!(rt; "sound: read")?,
         Err(fault) => println!(rt; "sound: {fault}")?,
     }
-    match read(rt.alloc(), &changed()) {
+    match read(rt.alloc(), &changed_text()) {
         Ok(_) => println!(rt; "changed: read")?,
         Err(fault) => println!(rt; "changed: {fault}")?,
     }
@@ -63,43 +63,43 @@ pub(crate) fn texts<H: AllocGlobal + Print>(rt: &H) -> io::Result<()> {
     show(rt, front(&text, 24))?;
     show(rt, front(&text, LENGTH - 1))?;
     // the magic, the version, and each number of the header
-    broken(rt, 0, b'o')?;
-    broken(rt, 4, 3)?;
-    broken(rt, 11, 1)?;
-    broken(rt, 15, 1)?;
-    broken(rt, 16, 0)?;
-    broken(rt, 20, 1)?;
+    show_broken(rt, 0, b'o')?;
+    show_broken(rt, 4, 3)?;
+    show_broken(rt, 11, 1)?;
+    show_broken(rt, 15, 1)?;
+    show_broken(rt, 16, 0)?;
+    show_broken(rt, 20, 1)?;
     // the kind of the event, the count of the checkpoint, and its first and its last page number
-    broken(rt, 1_056, 6)?;
-    broken(rt, 1_064, 1)?;
-    broken(rt, 1_196, 2)?;
-    broken(rt, 5_288, 2)?;
+    show_broken(rt, 1_056, 6)?;
+    show_broken(rt, 1_064, 1)?;
+    show_broken(rt, 1_196, 2)?;
+    show_broken(rt, 5_288, 2)?;
     show(rt, &text)?;
     // version 2: a text that ends inside its checkpoint and inside its change; the phase, which is 0 at rate 0, and the number of
     // changes; a change past the last place, to a page that is not in the pool, and to the page that stood there
-    show(rt, front(&changed(), 1_207))?;
-    show(rt, front(&changed(), CHANGED_LENGTH - 1))?;
-    broken_change(rt, 1_200, 1)?;
-    broken_change(rt, 1_205, 5)?;
-    broken_change(rt, 1_209, 4)?;
-    broken_change(rt, 1_212, 2)?;
-    broken_change(rt, 1_212, 0)
+    show(rt, front(&changed_text(), 1_207))?;
+    show(rt, front(&changed_text(), CHANGED_LENGTH - 1))?;
+    show_broken_change(rt, 1_200, 1)?;
+    show_broken_change(rt, 1_205, 5)?;
+    show_broken_change(rt, 1_209, 4)?;
+    show_broken_change(rt, 1_212, 2)?;
+    show_broken_change(rt, 1_212, 0)
 }
 
 /// Prints the fault of the text of version 1 with another byte at a place.
-fn broken<H: AllocGlobal + Print>(rt: &H, place: usize, byte: u8) -> io::Result<()>
+fn show_broken<H: AllocGlobal + Print>(rt: &H, place: usize, byte: u8) -> io::Result<()>
     requires { place < 5292 }
 {
-    let mut text = sound();
+    let mut text = sound_text();
     text[place] = byte;
     show(rt, front(&text, LENGTH))
 }
 
 /// Prints the fault of the text of version 2 with another byte at a place.
-fn broken_change<H: AllocGlobal + Print>(rt: &H, place: usize, byte: u8) -> io::Result<()>
+fn show_broken_change<H: AllocGlobal + Print>(rt: &H, place: usize, byte: u8) -> io::Result<()>
     requires { place < 1216 }
 {
-    let mut text = changed();
+    let mut text = changed_text();
     text[place] = byte;
     show(rt, &text)
 }
