@@ -41,7 +41,7 @@ impl From<AllocError> for CheckFault {
 
 /// Each pass in a thread of its own, over one recording and one book. Each share comes back by its thread's join, with what its type
 /// keeps.
-fn work_all<R: Threads + Sync, G: Gate + Sync>(
+pub(crate) fn work_all<R: Threads + Sync, G: Gate + Sync>(
     rt: &R,
     alloc: Global,
     r: &Recording,
@@ -67,7 +67,7 @@ fn work_all<R: Threads + Sync, G: Gate + Sync>(
 }
 
 /// The shares, if memory sufficed for each.
-fn all_done(
+pub(crate) fn shares_of(
     alloc: Global,
     r: &Recording,
     claims: &Claims,
@@ -110,6 +110,6 @@ pub fn check_recording<R: Threads + Wait + Sync, G: Gate + Sync>(
     let jobs = (r.count() - 1).div_ceil(cut);
     let (claims, passes) = Claims::new(alloc, jobs, workers)?;
     let results = work_all(rt, alloc, r, &claims, passes, cut, gate)?;
-    let done = all_done(alloc, r, &claims, cut, results)?;
+    let done = shares_of(alloc, r, &claims, cut, results)?;
     Ok(gather(alloc, r, claims, done)?)
 }

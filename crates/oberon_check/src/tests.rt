@@ -6,6 +6,7 @@ ghost use Rattle.oberon_format.specs.Recording.{last_of};
 ghost use Rattle.oberon_check.specs.Work.{IsShareOf};
 
 use super::*;
+use crate::check::{shares_of, work_all};
 use crate::difference::first_difference;
 use oberon_claims::{Claims, Pass};
 use oberon_format::{Recording, read};
@@ -359,6 +360,19 @@ fn work_in_turn(
         done.push(one)?;
     }
     Ok(done)
+}
+
+/// Ten segments, of which checkpoints 3 and 7 are false, and a pass for each of eight threads.
+#[test]
+fn eight_passes_on_threads_of_the_caller(rt: HostRuntime) -> Result<(), Fail> {
+    let alloc = rt.alloc();
+    let r = jump_recording(alloc, 10, &LIT_LEDS)?;
+    let jobs = (r.count() - 1).div_ceil(1);
+    let (claims, passes) = Claims::new(alloc, jobs, 8)?;
+    let results = work_all(&rt, alloc, &r, &claims, passes, 1, &FreeGate)?;
+    let done = shares_of(alloc, &r, &claims, 1, results)?;
+    assert_eq!(rt; gather(alloc, &r, claims, done)?, FALSE_LEDS);
+    Ok(())
 }
 
 /// Two passes, of which the first takes all jobs: it tells segment 2, and passes the other jobs over.

@@ -4,6 +4,5 @@
 mod checked;
 mod gates;
 mod limits;
-mod passes;
 mod schedules;
 mod untouched;

@@ -1,7 +1,7 @@
 use Rattle.std.proofs.Common.{◌≡◌, ◌++◌, length}
 use Rattle.std.specs.Prelude.{All}
 use Rattle.oberon_check.specs.Work.{IsShareOf}
-use Rattle.oberon_check.proofs.check.all_done.Given as goal
+use Rattle.oberon_check.proofs.check.shares_of.Given as goal
 
 abbrev pub invariant-loop-result : goal.invariant-loop-result
 invariant-loop-result l = record {

@@ -4,7 +4,7 @@ use Rattle.std.specs.declared.alloc.AllocError.{AllocError}
 use Rattle.std.proofs.lemmas.List.Elements.{All-push}
 use Rattle.oberon_claims.proofs.Gathers.{next_of}
 use Rattle.oberon_check.specs.Work.{DoneRecord, IsShareOf}
-use Rattle.oberon_check.proofs.check.all_done.Goals as goal
+use Rattle.oberon_check.proofs.check.shares_of.Goals as goal
 
 abbrev Answer : Type 0
 Answer = Result DoneRecord AllocError
