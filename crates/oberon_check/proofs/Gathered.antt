@@ -3,7 +3,6 @@ use Rattle.std.proofs.Common.{◌≡◌, ◌≢◌, ◌⊎◌, ℕ, zero, suc, �
 use Rattle.std.specs.Prelude.{All, Contains, IsSome, MatchOption, is_some}
 use Rattle.std.specs.Int.{div_ceil}
 use Rattle.std.proofs.lemmas.Grind.{div_ceil_times}
-use Rattle.std.proofs.lemmas.Bool.{eq-eqb, lt-ltb}
 use Rattle.std.proofs.lemmas.List.{length-map, get_or_default}
 use Rattle.std.proofs.lemmas.List.Elements.{Contains-append_left, Contains-append_right, Contains-append_cases}
 use mathlib.Core.Logic.{dite}
@@ -11,7 +10,7 @@ use native.Mathlib.Decide.{dec_le, dec_lt, ℕ_discrete}
 use Rattle.oberon_claims.specs.Counts.{times, once_below}
 use Rattle.oberon_claims.specs.Pass.{PassRecord}
 use Rattle.oberon_claims.specs.Ledger.{all_taken, all_told, all_shown}
-use Rattle.oberon_claims.proofs.Sums.{times_append, times_front, one_is}
+use Rattle.oberon_claims.proofs.Sums.{times_append, times_front, once_here, one_is, one_same}
 use Rattle.oberon_format.specs.Recording.{RecordingParts, last_of}
 use Rattle.oberon_check.specs.declared.part.Part.{Part}
 use Rattle.oberon_check.specs.declared.collector.CollectFault.{CollectFault}
@@ -30,9 +29,6 @@ segments_append (x ∷ xs) ys = ap (λ (l : List ℕ). x.segment ∷ l) (segment
 
 times_pieces : (s : ℕ) (vs front back : List Finding) → vs ≡ front ++ back → times s (segments vs) ≡ times s (segments front) + times s (segments back)
 times_pieces s vs front back is = ap (λ (l : List Finding). times s (segments l)) is ∙ ap (times s) (segments_append front back) ∙ times_append s (segments front) (segments back)
-
-one_same : (x y : ℕ) → x ≡ y → cond {A = ℕ} (nat_eq x y) 1 0 ≡ 1
-one_same x y e = ap (λ (b : Bool). cond b 1 0) (eq-eqb x y e)
 
 one_other : (x y : ℕ) → x ≢ y → cond {A = ℕ} (nat_eq x y) 1 0 ≡ 0
 one_other x y ne = go (cond (nat_eq x y) 1 0) refl
@@ -257,9 +253,6 @@ job_below last cut s some below =
     dite (dec_le jobs (s / cut))
     (λ (le : jobs ≤ s / cut). (let b : jobs * cut ≤ s / cut * cut = mul-le-mul_right cut le in absurd (omega arith)))
     (λ gt. lt_of_not-le gt)
-
-once_here : (x n : ℕ) → x < n → once_below x n ≡ 1
-once_here x n h = ap (λ (b : Bool). cond b 1 0) (lt-ltb x n h)
 
 -- what is known once all parts are back: each job was taken once, and what was shown was told
 pub record AllBack (last cut : ℕ) (ps : List PassRecord) (vs : List Finding) : Type 0 where

@@ -2,36 +2,21 @@
 use Rattle.std.proofs.Common.{◌≡◌, ℕ, zero, suc, ◌+◌, ◌-◌, ◌<◌, ◌≤◌, List, refl, ap, sym, ◌∙◌, arith}
 use Rattle.risc_machine.specs.declared.event.Event.{Event}
 use Rattle.risc_machine.specs.MachineState.{State}
-use Rattle.risc_machine.specs.Exec.{exec}
-use Rattle.risc_machine.specs.Replay.{feed, run_of, sent_of}
+use Rattle.risc_machine.specs.Replay.{run_of, sent_of}
+use Rattle.risc_machine.proofs.LawLemmas.{run_of-on}
+use Rattle.risc_machine.proofs.RunLemmas.{run_of-none}
 use Rattle.oberon_format.specs.Recording.{RecordingParts, IsLawful, count_at, last_of}
 use Rattle.oberon_format.specs.Defined.{Outcome, claimed, state_at, defined}
 use Rattle.oberon_check.specs.Segment.{replayed}
 
-run_of-suc : (es : List Event) (start k : ℕ) (s : State) → run_of es start (suc k) s ≡ (exec (feed es (start + k) (run_of es start k s))).0
-unfolding run_of
-run_of-suc es start k s = refl
-
-run_of-zero : (es : List Event) (start : ℕ) (s : State) → run_of es start 0 s ≡ s
-unfolding run_of
-run_of-zero es start s = refl
-
 -- a run goes on from where it is
-run_of-then : (es : List Event) (a b : ℕ) (s : State) → run_of es 0 (a + b) s ≡ run_of es a b (run_of es 0 a s)
-run_of-then es a zero s = ap (λ (n : ℕ). run_of es 0 n s) (omega arith) ∙ sym (run_of-zero es a (run_of es 0 a s))
-run_of-then es a (suc b) s =
-    let n : a + suc b ≡ suc (a + b) = omega arith in
-    let m : 0 + (a + b) ≡ a + b = omega arith in
-    ap (λ (k : ℕ). run_of es 0 k s) n
-    ∙ run_of-suc es 0 (a + b) s
-    ∙ ap (λ (k : ℕ). (exec (feed es k (run_of es 0 (a + b) s))).0) m
-    ∙ ap (λ (t : State). (exec (feed es (a + b) t)).0) (run_of-then es a b s)
-    ∙ sym (run_of-suc es a b (run_of es 0 a s))
-
 run_of-to : (es : List Event) (from to : ℕ) (s : State) → from ≤ to → run_of es from (to - from) (run_of es 0 from s) ≡ run_of es 0 to s
 run_of-to es from to s h =
-    let n : from + (to - from) ≡ to = omega arith in
-    sym (run_of-then es from (to - from) s) ∙ ap (λ (k : ℕ). run_of es 0 k s) n
+    let begin : 0 + from ≡ from = omega arith in
+    let end : from + (to - from) ≡ to = omega arith in
+    ap (λ (k : ℕ). run_of es k (to - from) (run_of es 0 from s)) (sym begin)
+    ∙ sym (run_of-on es 0 from (to - from) s)
+    ∙ ap (λ (k : ℕ). run_of es 0 k s) end
 
 -- the segments below i hold
 abbrev pub HoldBelow : RecordingParts → ℕ → Type 0
@@ -40,7 +25,7 @@ HoldBelow r i = (j : ℕ) → j < i → claimed r (j + 1) ≡ replayed r j
 -- then the state that checkpoint i claims is the defined one
 pub claimed-defined : (r : RecordingParts) → IsLawful r → (i : ℕ) → i ≤ last_of r → HoldBelow r i → (claimed r i).state ≡ state_at r (count_at r i)
 claimed-defined r lawful zero inside hold =
-    sym (run_of-zero r.inputs 0 (claimed r 0).state) ∙ ap (λ (n : ℕ). state_at r n) (sym lawful.begins)
+    sym (run_of-none r.inputs 0 0 (claimed r 0).state refl) ∙ ap (λ (n : ℕ). state_at r n) (sym lawful.begins)
 claimed-defined r lawful (suc i) inside hold =
     let n : i + 1 ≡ suc i = omega arith in
     let rises = lawful.rises i (omega arith) in

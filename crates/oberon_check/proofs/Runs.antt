@@ -8,7 +8,7 @@ use Rattle.oberon_check.specs.declared.part.Part.{Part}
 use Rattle.oberon_check.specs.Segment.{Finding, IsRun}
 use Rattle.oberon_check.specs.Work.{IsJob, InPieces, one_failed, failed_of, HasDone}
 use Rattle.oberon_check.specs.inner.Progress.{AddsJob, AddsRun}
-use Rattle.oberon_check.proofs.Tops.{all_snoc}
+use Rattle.std.proofs.lemmas.List.Elements.{All-push}
 
 -- the verdicts of the segments from first on, up to end, all of which held
 abbrev pub IsHeld : ℕ → ℕ → List Finding → Type 0
@@ -68,7 +68,7 @@ pub held_more : (r : RecordingParts) (first k : ℕ) (vs us ws : List Finding) (
 held_more r first k vs us ws v h now of s p = record {
   piece = h.piece ++ v ∷ [];
   verdicts = grown r vs us ws h.piece v h.verdicts now;
-  recordings = all_snoc (λ (t : Finding). t.recording ≡ r) h.piece v h.recordings of;
+  recordings = All-push (λ (t : Finding). t.recording ≡ r) h.piece v h.recordings of;
   held = held_snoc first k h.piece v h.held s (none_or_some v.part p);
 }
 
@@ -82,7 +82,7 @@ run_failed r first k end p q vs us ws v h now of s some below is =
       piece = h.piece ++ v ∷ [];
       verdicts = grown r vs us ws h.piece v h.verdicts now;
       told = ap (λ (x : PassRecord). x.told) is ∙ ap (λ (l : List ℕ). p.told ++ l) (sym one);
-      recordings = all_snoc (λ (t : Finding). t.recording ≡ r) h.piece v h.recordings of;
+      recordings = All-push (λ (t : Finding). t.recording ≡ r) h.piece v h.recordings of;
       is_run = failed_run first k end h.piece v h.held below s some;
     }
   where

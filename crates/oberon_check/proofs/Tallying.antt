@@ -1,11 +1,12 @@
 -- One verdict more.
-use Rattle.std.proofs.Common.{◌≡◌, ◌≢◌, ◌⊎◌, ℕ, zero, suc, ◌+◌, ◌<◌, ◌≤◌, List, length, get_or, replicate, Bool, true, false, nat_lt, Option, None, Some, refl, ap, sym, ◌∙◌, subst, arith, true≢false, inl, inr, ⊎_elim, lt_of_not-le}
+use Rattle.std.proofs.Common.{◌≡◌, ◌≢◌, ◌⊎◌, ℕ, ◌+◌, ◌<◌, ◌≤◌, List, length, get_or, replicate, Bool, true, false, nat_lt, Option, None, Some, refl, ap, sym, ◌∙◌, subst, arith, true≢false, inl, inr, ⊎_elim, lt_of_not-le}
 use Rattle.std.proofs.Math.ListN.{set}
 use Rattle.std.specs.Prelude.{IsSome, ◌↔◌, if◌then◌else◌}
-use Rattle.std.proofs.lemmas.List.{get_or-map, get_or-replicate, get_or-set_same, get_or-set_other, get_or_default}
+use Rattle.std.proofs.lemmas.List.{get_or-map, get_or-set_same, get_or-set_other, get_or_default}
 use Rattle.std.proofs.lemmas.Bool.Decides.{nat_tests}
 use mathlib.Core.Logic.{dite}
 use native.Mathlib.Decide.{dec_le, ℕ_discrete}
+use Rattle.risc_pages.proofs.PoolLemmas.{replicate_anywhere}
 use Rattle.oberon_check.specs.declared.part.Part.{Part}
 use Rattle.oberon_check.specs.Segment.{Finding, IsTrueFinding}
 use Rattle.oberon_check.specs.Collecting.{segment_at, part_at, StandsBelow}
@@ -17,17 +18,9 @@ segment_here vs k v inside is = get_or-map (λ (t : Finding). t.segment) vs k v 
 pub part_here : (vs : List Finding) (k : ℕ) (v : Finding) → k < length vs → v ≡ get_or vs k v → part_at vs k ≡ v.part
 part_here vs k v inside is = get_or-map (λ (t : Finding). t.part) vs k v None inside ∙ ap (λ (t : Finding). t.part) (sym is)
 
-unmarked : (n s : ℕ) → get_or (replicate n false) s false ≡ false
-unmarked n s = dite (dec_le n s) (λ (past : n ≤ s). grind (arith, past_end n s past)) (λ before. get_or-replicate n s false false (lt_of_not-le before))
-  where
-    past_end : (n s : ℕ) → n ≤ s → get_or (replicate n false) s false ≡ false
-    past_end zero s past = refl
-    past_end (suc n) zero past = absurd (omega arith)
-    past_end (suc n) (suc s) past = past_end n s (omega arith)
-
 pub tally_none : (vs : List Finding) (n : ℕ) → IsTally vs 0 (replicate n false) None
 tally_none vs n = record {
-  marks = λ s few. ((λ m. absurd (true≢false (sym m ∙ unmarked n s))), (λ (stands : StandsBelow vs 0 s). let h = stands.1 in absurd (omega arith)));
+  marks = λ s few. ((λ m. absurd (true≢false (sym m ∙ replicate_anywhere n false s))), (λ (stands : StandsBelow vs 0 s). let h = stands.1 in absurd (omega arith)));
   single = λ k below. absurd (omega arith);
   least_failed = λ k below. absurd (omega arith);
 }

@@ -23,7 +23,7 @@ use thiserror::Error;
 /// Why a check has no answer.
 #[derive(Clone, Copy, Debug, PartialEq, Eq, Error)]
 pub enum CheckFault {
-    /// Memory was refused.
+    /// Memory was wanting.
     #[error("there is no memory")]
     Memory,
 }
@@ -34,7 +34,7 @@ impl From<AllocError> for CheckFault {
 
     ghost from_gives = { λ _ fault. fault ≡ CheckFault.Memory };
 
-    fn from(_refused: AllocError) -> CheckFault {
+    fn from(_wanting: AllocError) -> CheckFault {
         CheckFault::Memory
     }
 }
@@ -94,7 +94,7 @@ fn all_done(
 /// `cut`, the number of segments in a job, bears on the answer.
 ///
 /// The gate is called once before each job. The call returns when all workers have ended; `Memory` is answered only where
-/// memory was refused.
+/// memory was wanting.
 pub fn check_recording<R: Threads + Wait + Sync, G: Gate + Sync>(
     rt: &R,
     alloc: Global,

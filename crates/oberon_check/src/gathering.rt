@@ -50,7 +50,7 @@ fn all_verdicts(
 /// The verdict that the shares of all passes of a book come to, worked over one recording with one cut, on whatever threads.
 ///
 /// It rests on the shares alone: no two of their verdicts are of one segment, each segment below the answer's was replayed
-/// and held, and a segment without a verdict lies after the least that any worker told. A refusal of memory gives all shares up.
+/// and held, and a segment without a verdict lies after the least that any worker told. Want of memory gives all shares up.
 pub fn gather(
     alloc: Global,
     r: &Recording,

@@ -1,7 +1,7 @@
 //! The laws of this crate's definitions, each the contract of a function that does nothing.
 ghost use Rattle.oberon_check.specs.Laws.{OneLine, OneVerdict, SameLine};
 
-use oberon_format::{one_recording, text_or_fault};
+use oberon_format::{one_recording_law, text_or_fault_law};
 
 /// A lawful recording has exactly one verdict.
 pub const fn verdict_law()
@@ -12,14 +12,14 @@ pub const fn verdict_law()
 pub fn line_law()
     ensures { OneLine }
 {
-    one_recording();
-    text_or_fault();
+    one_recording_law();
+    text_or_fault_law();
 }
 
 /// The line and the status of a migrated text are those of the text.
 pub fn migration_law()
     ensures { SameLine }
 {
-    one_recording();
-    text_or_fault();
+    one_recording_law();
+    text_or_fault_law();
 }

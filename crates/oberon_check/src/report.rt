@@ -25,7 +25,7 @@ pub struct Report {
 /// recording from checkpoint 0. Nothing is asked of the text, and neither `workers` nor `cut` bears on the answer.
 ///
 /// A job is `cut` segments that follow each other, and the gate is called before each. `Memory` is answered only where
-/// memory was refused.
+/// memory was wanting.
 pub fn check_bytes<R: Threads + Wait + Sync, G: Gate + Sync>(
     rt: &R,
     alloc: Global,

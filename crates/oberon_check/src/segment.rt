@@ -53,8 +53,8 @@ impl SegmentVerdict {
     }
 }
 
-/// Replays segment `i` from what its checkpoint claims, and compares with what the next checkpoint claims. It is refused
-/// only where memory was.
+/// Replays segment `i` from what its checkpoint claims, and compares with what the next checkpoint claims. It fails
+/// only for want of memory.
 pub fn replay_segment(alloc: Global, r: &Recording, i: u32) -> Result<SegmentVerdict, AllocError>
     requires { i < last_of r.now }
     ensures recording { IfOk result (λ v. v.recording ≡ r.now) }

@@ -9,6 +9,8 @@ use super::*;
 use crate::difference::first_difference;
 use oberon_claims::{Claims, Pass};
 use oberon_format::{Recording, read};
+use recording_texts::Spot::{H, Leds};
+use recording_texts::{JUMPS, Spot};
 use risc_devices::Devices;
 use risc_machine::Machine;
 use std::alloc::{AllocError, Global};
@@ -17,90 +19,21 @@ use std::sync::atomic::{AtomicU64, Ordering};
 use std::test::Fail;
 use std::thread::Threads;
 
-/// A jump to itself.
-const JUMP: u32 = 0xE7FF_FFFF;
+/// What is turned where checkpoints 2 and 3 claim an H that no instruction gave.
+const GIVEN_H: [(Spot, u32); 2] = [(H(2), 1), (H(3), 1)];
 
-/// What a checkpoint claims beside zeros: its count, H and the LEDs.
-#[derive(Clone, Copy)]
-struct Claim {
-    count: u32,
-    h: u32,
-    leds: u32,
-}
+/// What is turned where checkpoints 3 and 7 claim LEDs that no instruction lit.
+const LIT_LEDS: [(Spot, u32); 2] = [(Leds(3), 1), (Leds(7), 1)];
 
-const fn at(count: u32, h: u32, leds: u32) -> Claim {
-    Claim { count, h, leds }
-}
-
-fn push_word(text: &mut Vec<u8>, word: u32) -> Result<(), Fail> {
-    text.extend_from_slice(&word.to_le_bytes())?;
-    Ok(())
-}
-
-fn push_zeros(text: &mut Vec<u8>, words: u32) -> Result<(), Fail> {
-    for _ in 0..words {
-        push_word(text, 0)?;
-    }
-    Ok(())
-}
-
-/// A checkpoint whose table names page 1 at place 0.
-fn push_checkpoint(text: &mut Vec<u8>, claim: Claim) -> Result<(), Fail> {
-    push_word(text, claim.count)?;
-    push_zeros(text, 17)?;
-    push_word(text, claim.h)?;
-    push_zeros(text, 5)?;
-    push_word(text, claim.leds)?;
-    push_zeros(text, 8)?;
-    push_word(text, 1)?;
-    push_zeros(text, 1023)
-}
-
-/// The text of a recording whose word 0 is a jump to itself, without inputs and output.
-fn jump_text(alloc: Global, claims: &[Claim]) -> Result<Vec<u8>, Fail> {
-    let checkpoints = u32::try_from(claims.len())?;
-    let mut text = Vec::new(alloc);
-    text.extend_from_slice(b"ORSR")?;
-    for word in [1, 1, 0, checkpoints, 0, JUMP] {
-        push_word(&mut text, word)?;
-    }
-    push_zeros(&mut text, 255)?;
-    for claim in claims {
-        push_checkpoint(&mut text, *claim)?;
-    }
-    Ok(text)
-}
-
-fn jump_recording(alloc: Global, claims: &[Claim]) -> Result<Recording, Fail> {
-    let text = jump_text(alloc, claims)?;
+/// A jump to itself in so many segments, with these numbers turned.
+fn jump_recording(
+    alloc: Global,
+    segments: usize,
+    turned: &[(Spot, u32)],
+) -> Result<Recording, Fail> {
+    let text = JUMPS.up_to(segments).first_text(alloc, turned)?;
     let r = read(alloc, text.as_slice())?;
     Ok(r)
-}
-
-/// Four checkpoints, of which two claim an H that no instruction gave.
-fn false_h() -> [Claim; 4] {
-    [at(0, 0, 0), at(10, 0, 0), at(20, 1, 0), at(30, 1, 0)]
-}
-
-fn true_h() -> [Claim; 4] {
-    [at(0, 0, 0), at(10, 0, 0), at(20, 0, 0), at(30, 0, 0)]
-}
-
-/// Ten segments, of which checkpoints 3 and 7 claim LEDs that no instruction lit.
-fn two_false() -> [Claim; 11] {
-    [
-        at(0, 0, 0),
-        at(10, 0, 0),
-        at(20, 0, 0),
-        at(30, 0, 1),
-        at(40, 0, 0),
-        at(50, 0, 0),
-        at(60, 0, 0),
-        at(70, 0, 1),
-        at(80, 0, 0),
-        at(90, 0, 0),
-        at(100, 0, 0),
-    ]
 }
 
 const FALSE_H: Verdict = Verdict::FalseAt {
@@ -157,7 +90,7 @@ fn findings(
 
 #[test]
 fn segments_of_a_false_h(rt: HostRuntime) -> Result<(), Fail> {
-    let r = jump_recording(rt.alloc(), &false_h())?;
+    let r = jump_recording(rt.alloc(), 3, &GIVEN_H)?;
     let verdicts = verdicts_of(rt.alloc(), &r, &[0, 1, 2])?;
     let found = findings(rt.alloc(), verdicts.as_slice())?;
     assert_eq!(rt;
@@ -170,7 +103,7 @@ fn segments_of_a_false_h(rt: HostRuntime) -> Result<(), Fail> {
 #[test]
 fn collect_by_hand(rt: HostRuntime) -> Result<(), Fail> {
     let alloc = rt.alloc();
-    let r = jump_recording(alloc, &false_h())?;
+    let r = jump_recording(alloc, 3, &GIVEN_H)?;
     assert_eq!(rt; collected(alloc, &r, &[2, 0, 1])?, Ok(FALSE_H));
     assert_eq!(rt; collected(alloc, &r, &[0, 1])?, Ok(FALSE_H));
     assert_eq!(rt; collected(alloc, &r, &[1])?, Err(CollectFault::Missing(0)));
@@ -185,13 +118,13 @@ fn collect_by_hand(rt: HostRuntime) -> Result<(), Fail> {
 #[test]
 fn collect_where_all_hold(rt: HostRuntime) -> Result<(), Fail> {
     let alloc = rt.alloc();
-    let r = jump_recording(alloc, &true_h())?;
+    let r = jump_recording(alloc, 3, &[])?;
     let accepted = Verdict::Accepted {
         checkpoints: 3,
         steps: 30,
     };
     assert_eq!(rt; collected(alloc, &r, &[2, 0, 1])?, Ok(accepted));
-    let r = jump_recording(alloc, &[at(0, 0, 0)])?;
+    let r = jump_recording(alloc, 0, &[])?;
     let accepted = Verdict::Accepted {
         checkpoints: 0,
         steps: 0,
@@ -222,7 +155,7 @@ fn difference_of_timer(
 #[test]
 fn differences_of_timers(rt: HostRuntime) -> Result<(), Fail> {
     let alloc = rt.alloc();
-    let r = jump_recording(alloc, &[at(0, 0, 0)])?;
+    let r = jump_recording(alloc, 0, &[])?;
     for (timer, rate, phase, part) in [
         (0, 0, 0, None),
         (7, 10, 3, Some(Part::Timer)),
@@ -294,14 +227,14 @@ fn line_of<R: Threads + Wait + Sync, G: Gate + Sync>(
 
 #[test]
 fn lines_of_texts(rt: HostRuntime) -> Result<(), Fail> {
-    let text = jump_text(rt.alloc(), &false_h())?;
+    let text = JUMPS.up_to(3).first_text(rt.alloc(), &GIVEN_H)?;
     let (line, status) = line_of(&rt, rt.alloc(), text.as_slice(), 1, 1, &FreeGate)?;
     assert_eq!(rt;
         line.as_slice(),
         b"false checkpoint 2 at 20 part H\n".as_slice()
     );
     assert_eq!(rt; status, 1);
-    let text = jump_text(rt.alloc(), &true_h())?;
+    let text = JUMPS.up_to(3).first_text(rt.alloc(), &[])?;
     let (line, status) = line_of(&rt, rt.alloc(), text.as_slice(), 64, 2, &FreeGate)?;
     assert_eq!(rt;
         line.as_slice(),
@@ -368,7 +301,7 @@ fn counted_verdict<R: Threads + Wait + Sync>(
 
 #[test]
 fn two_false_checkpoints(rt: HostRuntime) -> Result<(), Fail> {
-    let r = jump_recording(rt.alloc(), &two_false())?;
+    let r = jump_recording(rt.alloc(), 10, &LIT_LEDS)?;
     for (cut, jobs) in [(1, 10), (4, 3), (100, 1)] {
         for workers in [1, 2, 64] {
             let verdict = counted_verdict(&rt, rt.alloc(), &r, workers, cut, jobs)?;
@@ -381,7 +314,7 @@ fn two_false_checkpoints(rt: HostRuntime) -> Result<(), Fail> {
 #[test]
 fn lines_of_two_false_checkpoints(rt: HostRuntime) -> Result<(), Fail> {
     let alloc = rt.alloc();
-    let text = jump_text(alloc, &two_false())?;
+    let text = JUMPS.first_text(alloc, &LIT_LEDS)?;
     for (cut, jobs) in [(1, 10), (4, 3), (100, 1)] {
         for workers in [1, 2, 64] {
             let begun = counters(alloc, 12)?;
@@ -426,7 +359,7 @@ fn work_in_turn(
 #[test]
 fn first_pass_takes_all(rt: HostRuntime) -> Result<(), Fail> {
     let alloc = rt.alloc();
-    let r = jump_recording(alloc, &two_false())?;
+    let r = jump_recording(alloc, 10, &LIT_LEDS)?;
     let jobs = (r.count() - 1).div_ceil(4);
     let (claims, passes) = Claims::new(alloc, jobs, 2)?;
     let done = work_in_turn(alloc, &r, &claims, passes, 4)?;
@@ -474,8 +407,7 @@ impl Gate for MeetingGate<'_> {
 #[test]
 fn workers_meet(rt: HostRuntime) -> Result<(), Fail> {
     let alloc = rt.alloc();
-    let claims = [at(0, 0, 0), at(10, 0, 0), at(20, 0, 0)];
-    let r = jump_recording(alloc, &claims)?;
+    let r = jump_recording(alloc, 2, &[])?;
     let begun = counters(alloc, 2)?;
     let met = AtomicU64::new(0);
     let gate = MeetingGate {
@@ -495,8 +427,7 @@ fn workers_meet(rt: HostRuntime) -> Result<(), Fail> {
 #[test]
 fn workers_of_a_text_meet(rt: HostRuntime) -> Result<(), Fail> {
     let alloc = rt.alloc();
-    let claims = [at(0, 0, 0), at(10, 0, 0), at(20, 0, 0)];
-    let text = jump_text(alloc, &claims)?;
+    let text = JUMPS.up_to(2).first_text(alloc, &[])?;
     let begun = counters(alloc, 2)?;
     let met = AtomicU64::new(0);
     let gate = MeetingGate {

@@ -126,7 +126,7 @@ fn do_job(
 
 /// Claims jobs until there is none, calls the gate before each, and does it. It waits for nobody.
 ///
-/// A job is `cut` segments that follow each other, the last one perhaps fewer: job j begins at segment `j * cut`. A refusal
+/// A job is `cut` segments that follow each other, the last one perhaps fewer: job j begins at segment `j * cut`. Want
 /// of memory gives the pass up, and its book can't be gathered any more.
 pub fn work<G: Gate>(
     alloc: Global,

@@ -4,7 +4,7 @@ use Rattle.std.proofs.lemmas.Bool.Decides.{nat_tests}
 use Rattle.oberon_claims.specs.declared.book.View.{View}
 use Rattle.oberon_claims.specs.Counts.{times, once_below}
 use Rattle.oberon_claims.specs.inner.Book.{times_taken, number_taken}
-use Rattle.oberon_claims.proofs.Sums.{times_front, one_same}
+use Rattle.oberon_claims.proofs.Sums.{times_front, once_is, once_here, one_same}
 
 -- what f is at each number below n, added up
 abbrev tally : ℕ → (ℕ → ℕ) → ℕ
@@ -19,15 +19,12 @@ tally_add : (n : ℕ) (f g : ℕ → ℕ) → tally n (λ x. f x + g x) ≡ tall
 tally_add zero f g = refl
 tally_add (suc n) f g = let e = tally_add n f g in omega arith
 
-one_below : (x n : ℕ) → x < n → once_below x n ≡ 1
-one_below x n below = grind (arith, nat_tests)
-
 tally_once : (n m : ℕ) (f : ℕ → ℕ) → ((x : ℕ) → f x ≡ once_below x m) → n ≤ m → tally n f ≡ n
 tally_once zero m f once within = refl
 tally_once (suc n) m f once within =
     let e = tally_once n m f once (omega arith) in
     let o = once n in
-    let here = one_below n m (omega arith) in
+    let here = once_here n m (omega arith) in
     omega arith
 
 -- one number, counted among those below n
@@ -45,7 +42,7 @@ length_is n (y ∷ ys) below =
     let add = tally_add n (λ x. cond (eqb y x) 1 0) (λ x. times x ys) in
     let front : tally n (λ x. times x (y ∷ ys)) ≡ tally n (λ x. cond (eqb y x) 1 0 + times x ys) = λ i. tally n (λ x. times_front x y ys i) in
     let one = tally_one n y in
-    let is = one_below y n (below y (let f = times_front y y ys in let s = one_same y in omega arith)) in
+    let is = once_here y n (below y (let f = times_front y y ys in let s = one_same y y refl in omega arith)) in
     omega arith
 
 number_is : (n : ℕ) (views : List View) → ((x : ℕ) → 0 < times_taken x views → x < n) → number_taken views ≡ tally n (λ x. times_taken x views)
@@ -56,9 +53,6 @@ number_is n (v ∷ vs) below =
     let add = tally_add n (λ x. times x v.taken) (λ x. times_taken x vs) in
     omega arith
 
-below_if : (x n : ℕ) → 0 < once_below x n → x < n
-below_if x n h = grind (arith, nat_tests)
-
 pub number_of_each_once : (n : ℕ) (views : List View) → ((x : ℕ) → times_taken x views ≡ once_below x n) → number_taken views ≡ n
 number_of_each_once n views once =
-    number_is n views (λ x there. below_if x n (let o = once x in omega arith)) ∙ tally_once n n (λ x. times_taken x views) once (omega arith)
+    number_is n views (λ x there. once_is x n (let o = once x in omega arith)) ∙ tally_once n n (λ x. times_taken x views) once (omega arith)

@@ -50,13 +50,14 @@ gathers book ps p v is =
     let stands : length ps + v.stands ≡ length (ps ++ p ∷ []) = let e = is.stands in let l = length-append ps (p ∷ []) in omega arith in
     λ i. record { jobs = book.jobs; workers = book.workers; taken = taken i; told = told i; shown = shown i; ends = ends i; stands = stands i }
 
--- the next of the passes is of the book
-pub next_of : (P : PassRecord → Type 0) (all ys : List PassRecord) (p : PassRecord) (rest : List PassRecord) → ys ++ p ∷ rest ≡ all → All P all → P p
-next_of P all ys p rest is holds = go P ys p rest (λ k d in_range. subst (λ (l : List PassRecord). (i : ℕ) (e : PassRecord) → i < length l → P (get_or l i e)) (sym is) holds k d in_range)
-  where
-    go : (P : PassRecord → Type 0) (ys : List PassRecord) (p : PassRecord) (rest : List PassRecord) → All P (ys ++ p ∷ rest) → P p
-    go P [] p rest holds = holds 0 p (omega arith)
-    go P (y ∷ ys) p rest holds = go P ys p rest (λ k d in_range. holds (suc k) d (omega arith))
+-- what holds of each element of a list holds of the next one
+module _ {A : Type 0} where
+  at_next : (P : A → Type 0) (ys : List A) (p : A) (rest : List A) → All P (ys ++ p ∷ rest) → P p
+  at_next P [] p rest holds = holds 0 p (omega arith)
+  at_next P (y ∷ ys) p rest holds = at_next P ys p rest (λ k d in_range. holds (suc k) d (omega arith))
+
+  pub next_of : (P : A → Type 0) (all ys : List A) (p : A) (rest : List A) → ys ++ p ∷ rest ≡ all → All P all → P p
+  next_of P all ys p rest is holds = at_next P ys p rest (subst (λ (l : List A). (i : ℕ) (e : A) → i < length l → P (get_or l i e)) (sym is) holds)
 
 marks_at : (ps : List PassRecord) (k : ℕ) → k < length ps → HoldsAt (λ (q : PassRecord). q.ended ≡ true) ps k → 0 < marks ps
 marks_at [] k in_range holds = absurd (omega arith)
@@ -118,10 +119,6 @@ shown_not_below told shown None none all = empty_if_none shown (λ k d in_range.
     empty_if_none [] none = refl
     empty_if_none (x ∷ xs) none = absurd (none 0 x (omega arith))
 shown_not_below told shown (Some x) is all = λ k d in_range. (let c = all k d in_range in subst (λ (y : ℕ). x ≤ y) (c.2) (is.1 c.0 (get_or shown k d) c.1))
-
-pub nil_if : (xs : List PassRecord) → length xs ≡ 0 → xs ≡ []
-nil_if [] e = refl
-nil_if (x ∷ xs) e = absurd (omega arith)
 
 -- the one view of a list of one
 pub first_of : {v w : View} → v ∷ [] ≡ w ∷ [] → v ≡ w

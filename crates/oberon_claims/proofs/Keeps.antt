@@ -178,7 +178,7 @@ module _ (jobs workers next least : ℕ) (views : List View) (id : ℕ) (v : Vie
             (λ gt.
             let m : x ≡ min least x = omega arith in
             subst (λ (n : ℕ). (n ≡ nothing) ⊎ (0 < times_told n (set views id w))) m
-            (let r = more x in let o = one_same x in inr (omega arith)));
+            (let r = more x in let o = one_same x x refl in inr (omega arith)));
         shown_told = λ y there.
             let r = more y in
             let t = legal.shown_told y (subst (λ (n : ℕ). 0 < n) (same (λ u. times y u.shown) refl) there) in

@@ -8,7 +8,7 @@ ghost use Rattle.oberon_claims.specs.Pass.{fresh_pass, pass_with_job, pass_with_
 ghost use Rattle.oberon_claims.specs.Ledger.{all_taken, all_told, all_shown, SomeEnded, IsLeastOf, IsNotBelow};
 
 use crate::book::{HandOut, LEAST, Legal, Look, NEXT, NOTHING, Plan, Take, TakeIn, Tell, View};
-use crate::ledger::{Ledger, segment_of, taken_of};
+use crate::ledger::{Ledger, jobs_taken, segment_of};
 use crate::own::OwnSeat;
 use crate::pass::Pass;
 use atomic_table::Table;
@@ -40,7 +40,7 @@ impl Model for Claims {
 impl Claims {
     /// A new book of `jobs` jobs, at most 4,096, and `workers` fresh passes of it, 1 to 64.
     ///
-    /// It is refused only where memory was.
+    /// It fails only for want of memory.
     pub fn new(alloc: Global, jobs: u32, workers: u32) -> Result<(Claims, Vec<Pass>), AllocError>
         requires jobs { jobs ≤ 4096 }
         requires workers { (1 ≤ workers) × (workers ≤ 64) }
@@ -144,7 +144,7 @@ impl Claims {
         let least = closed.word(LEAST);
         closed.free();
         Ledger {
-            taken: taken_of(next, jobs),
+            taken: jobs_taken(next, jobs),
             least: segment_of(least),
         }
     }

@@ -17,7 +17,7 @@ pub struct Ledger {
 }
 
 /// How many of `jobs` jobs were taken, where `next` claims were made.
-pub(crate) fn taken_of(next: u64, jobs: u32) -> u32
+pub(crate) fn jobs_taken(next: u64, jobs: u32) -> u32
     ensures { result ≡ min next jobs }
 {
     if next < u64::from(jobs) {

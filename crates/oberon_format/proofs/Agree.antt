@@ -1,63 +1,63 @@
 -- A text that is laid out of parts has their fields, and so their first fault.
-use Rattle.std.proofs.Common.{◌≡◌, ◌<◌, ◌≤◌, ◌+◌, ◌-◌, ◌∙◌, ℕ, zero, suc, true, false, List, get_or, length, refl, sym, ap, subst, inl, inr, arith}
-use Rattle.std.specs.Prelude.{slice_index, slice_index_or, ◌==◌}
-use Rattle.std.proofs.lemmas.Bool.{ne_eqb}
-use Rattle.std.proofs.lemmas.List.{get_or-map, get_or-replicate}
+use Rattle.std.proofs.Common.{◌≡◌, ◌<◌, ◌≤◌, ◌+◌, ◌∙◌, ℕ, zero, suc, true, List, get_or, length, refl, sym, ap, subst, inl, inr, arith}
+use Rattle.std.specs.Prelude.{slice_index, slice_index_or}
+use Rattle.std.proofs.lemmas.List.{get_or-map}
 use Rattle.risc_machine.specs.declared.event.Event.{Event}
-use Rattle.risc_pages.specs.Tables.{zero_numbers}
 use Rattle.oberon_format.specs.declared.change.Change.{Change}
-use Rattle.oberon_format.specs.declared.layout.TheConstants.{FIRST_VERSION, VERSION, PLACES, RATE_AT, PHASE_AT}
+use Rattle.oberon_format.specs.declared.layout.TheConstants.{FIRST_VERSION, VERSION, PLACES, RATE_AT, PHASE_AT, CHANGE_COUNT_AT}
 use Rattle.oberon_format.specs.Changes.{changes, no_change, number_after}
 use Rattle.oberon_format.specs.CheckpointParts.{CheckpointParts, no_checkpoint}
 use Rattle.oberon_format.specs.Formed.{AreFormed}
 use Rattle.oberon_format.specs.FirstFault.{first_broken}
-use Rattle.oberon_format.specs.Layout.{version, event_place, change_place, change_count, later_word, start}
+use Rattle.oberon_format.specs.Layout.{version, event_offset, change_offset, change_count, later_word, start}
 use Rattle.oberon_format.specs.PartFields.{fields_laid, event_fields, no_event, checkpoint_fields, changes_laid}
 use Rattle.oberon_format.specs.Ranges.{is_version}
 use Rattle.oberon_format.specs.Recording.{RecordingParts, checkpoint_at, table_before, output_of}
 use Rattle.oberon_format.specs.Rules.{rules}
-use Rattle.oberon_format.specs.Text.{IsEvent, IsChange, IsChanged, IsCheckpoint, IsLaidOut}
+use Rattle.oberon_format.specs.inner.Tested.{HasNumbers, StandIn}
+use Rattle.oberon_format.specs.Text.{EachAt, IsEvent, IsChange, IsChanged, IsCheckpoint, IsLaidOut}
 use Rattle.oberon_format.specs.TextFields.{fields_of, event_of, checkpoint_of, change_at, change_of, number_before, page_number_of, first_fault_of}
 use Rattle.oberon_format.proofs.ChangeLemmas.{change_in, changes-make, after-same}
-use Rattle.oberon_format.proofs.PartLemmas.{member}
+use Rattle.oberon_format.proofs.PartLemmas.{member, table_next}
 use Rattle.oberon_format.proofs.Places.{count_laid, start-laid}
 use Rattle.oberon_format.proofs.RuleLemmas.{version_cases}
 use Rattle.oberon_format.proofs.SameFields.{SameFields, same_rules}
+use Rattle.oberon_format.proofs.TextLemmas.{later_second, number_second, numbers_none}
 
 -- an event that stands at a place has its fields there
-event_stands : (text : List ℕ) (place : ℕ) (e : Event) → IsEvent text place e → event_of text place ≡ event_fields e
-event_stands text place e is = λ i. record { count = is.count i; kind = is.kind i; value = is.value i }
+event_agrees : (text : List ℕ) (offset : ℕ) (e : Event) → IsEvent text offset e → event_of text offset ≡ event_fields e
+event_agrees text offset e is = λ i. record { count = is.count i; kind = is.kind i; value = is.value i }
 
 events_agree : (v : ℕ) (text : List ℕ) (r : RecordingParts) → IsLaidOut v text r
     → (i : ℕ) → i < length r.inputs → (fields_of text).event i ≡ (fields_laid v r).event i
 events_agree v text r is i lt =
     let e = member r.inputs i lt in
-    event_stands text (event_place text i) (get_or r.inputs i e) (is.events_stand i e lt) ∙ sym (get_or-map event_fields r.inputs i e no_event lt)
+    event_agrees text (event_offset text i) (get_or r.inputs i e) (is.events_stand i e lt) ∙ sym (get_or-map event_fields r.inputs i e no_event lt)
 
 -- the rate and the phase of a checkpoint that stands at a place
-rate_stands : (v : ℕ) (text : List ℕ) (place : ℕ) (before : List ℕ) (c : CheckpointParts)
-    → is_version v ≡ true → version text ≡ v → IsCheckpoint v text place before c → later_word text (place + RATE_AT) ≡ c.devices.rate
-rate_stands v text place before c known of is =
+rate_agrees : (v : ℕ) (text : List ℕ) (offset : ℕ) (before : List ℕ) (c : CheckpointParts)
+    → is_version v ≡ true → version text ≡ v → IsCheckpoint v text offset before c → later_word text (offset + RATE_AT) ≡ c.devices.rate
+rate_agrees v text offset before c known of is =
     elim (version_cases v known) [
       | inl first ↦ let rate = (is.in_first first).rate in rw (of, first) (sym rate)
       | inr second ↦ let rate = (is.in_second second).rate in rw (of, second) rate
     ]
 
-phase_stands : (v : ℕ) (text : List ℕ) (place : ℕ) (before : List ℕ) (c : CheckpointParts)
-    → is_version v ≡ true → version text ≡ v → IsCheckpoint v text place before c → later_word text (place + PHASE_AT) ≡ c.devices.phase
-phase_stands v text place before c known of is =
+phase_agrees : (v : ℕ) (text : List ℕ) (offset : ℕ) (before : List ℕ) (c : CheckpointParts)
+    → is_version v ≡ true → version text ≡ v → IsCheckpoint v text offset before c → later_word text (offset + PHASE_AT) ≡ c.devices.phase
+phase_agrees v text offset before c known of is =
     elim (version_cases v known) [
       | inl first ↦ let phase = (is.in_first first).phase in rw (of, first) (sym phase)
       | inr second ↦ let phase = (is.in_second second).phase in rw (of, second) phase
     ]
 
 -- a checkpoint that stands at a place has its fields there
-checkpoint_stands : (v : ℕ) (text : List ℕ) (place : ℕ) (before : List ℕ) (c : CheckpointParts)
-    → is_version v ≡ true → version text ≡ v → IsCheckpoint v text place before c → checkpoint_of text place ≡ checkpoint_fields v before c
-checkpoint_stands v text place before c known of is =
-    let rate = rate_stands v text place before c known of is in
-    let phase = phase_stands v text place before c known of is in
-    let count = count_laid v text place before c known of is in
+checkpoint_agrees : (v : ℕ) (text : List ℕ) (offset : ℕ) (before : List ℕ) (c : CheckpointParts)
+    → is_version v ≡ true → version text ≡ v → IsCheckpoint v text offset before c → checkpoint_of text offset ≡ checkpoint_fields v before c
+checkpoint_agrees v text offset before c known of is =
+    let rate = rate_agrees v text offset before c known of is in
+    let phase = phase_agrees v text offset before c known of is in
+    let count = count_laid v text offset before c known of is in
     λ i. record {
       count = is.front.count i;
       pc = is.front.cpu.pc i;
@@ -76,42 +76,29 @@ checkpoint_stands v text place before c known of is =
     }
 
 -- a change that stands at a place
-change_stands : (text : List ℕ) (at : ℕ) (change : Change) → IsChange text at change → change_at text at ≡ change
-change_stands text at change is = λ i. record { place = is.place i; number = is.number i }
+change_agrees : (text : List ℕ) (at : ℕ) (change : Change) → IsChange text at change → change_at text at ≡ change
+change_agrees text at change is = λ i. record { place = is.place i; number = is.number i }
 
 -- change i of a checkpoint of version 2
-changes_stand : (text : List ℕ) (place : ℕ) (before : List ℕ) (c : CheckpointParts) → IsChanged text place before c → (i : ℕ) → i < length (changes before c.table)
-    → change_of text place i ≡ change_in before c.table i
-changes_stand text place before c is i lt = change_stands text (change_place place i) (change_in before c.table i) (is.changes i no_change lt)
+changes_stand : (text : List ℕ) (offset : ℕ) (before : List ℕ) (c : CheckpointParts) → IsChanged text offset before c → (i : ℕ) → i < length (changes before c.table)
+    → change_of text offset i ≡ change_in before c.table i
+changes_stand text offset before c is i lt = change_agrees text (change_offset offset i) (change_in before c.table i) (is.changes i no_change lt)
 
--- the table before each checkpoint but the first is that of the one before
-table_next : (cs : List CheckpointParts) (k : ℕ) → table_before cs (suc k) ≡ (slice_index_or cs k no_checkpoint).table
-table_next cs k =
-    let later : (suc k == 0) ≡ false = ne_eqb (suc k) 0 (λ e. omega arith) in
-    let back : suc k - 1 ≡ k = omega arith in
-    rw (later, back) refl
-
--- the numbers before a checkpoint of version 2 are those of the table before it
-no_numbers : (p : ℕ) → p < PLACES → 0 ≡ slice_index zero_numbers p
-unfolding zero_numbers
-no_numbers p less = sym (get_or-replicate PLACES p 0 0 less)
-
-numbers_stand : (text : List ℕ) (r : RecordingParts) → IsLaidOut VERSION text r → (k p : ℕ) → k ≤ length r.checkpoints → p < PLACES
-    → number_before text k p ≡ slice_index (table_before r.checkpoints k) p
+-- of checkpoints that stand in a text of version 2, the table before each has the numbers that the text tells
+pub tables_stand : (text : List ℕ) (cs : List CheckpointParts) (k : ℕ) → version text ≡ VERSION → StandIn text cs → k ≤ length cs → HasNumbers (table_before cs k) (number_before text k)
 unfolding number_before
-numbers_stand text r is zero p le less = no_numbers p less
-numbers_stand text r is (suc k) p le less =
-    let lt : k < length r.checkpoints = omega arith in
-    let before = table_before r.checkpoints k in
-    let c = checkpoint_at r k in
-    let changed = (is.checkpoints_stand k no_checkpoint lt).in_second refl in
-    let count : change_count text (start text k) ≡ length (changes before c.table) =
-    count_laid VERSION text (start text k) before c refl is.version (is.checkpoints_stand k no_checkpoint lt) in
-    ap (λ (n : ℕ). number_after (change_of text (start text k)) (number_before text k) n p) count
-    ∙ after-same (change_of text (start text k)) (change_in before c.table) (number_before text k) (slice_index before) (length (changes before c.table)) p
-    (changes_stand text (start text k) before c changed) (numbers_stand text r is k p (omega arith) less)
-    ∙ changes-make before c.table p less
-    ∙ ap (λ (table : List ℕ). slice_index table p) (sym (table_next r.checkpoints k))
+tables_stand text cs zero is stand le p lt = numbers_none text p lt
+tables_stand text cs (suc k) is stand le p lt =
+    let before = table_before cs k in
+    let c = slice_index_or cs k no_checkpoint in
+    let offset = start text k in
+    let changed = (stand k no_checkpoint (omega arith)).in_second is in
+    let many : change_count text offset ≡ length (changes before c.table) = later_second text (offset + CHANGE_COUNT_AT) is ∙ changed.count in
+    ap (λ (t : List ℕ). slice_index t p) (table_next cs k)
+    ∙ sym (changes-make before c.table p lt)
+    ∙ sym (after-same (change_of text offset) (change_in before c.table) (number_before text k) (slice_index before) (length (changes before c.table)) p
+    (changes_stand text offset before c changed) (sym (tables_stand text cs k is stand (omega arith) p lt)))
+    ∙ ap (λ (n : ℕ). number_after (change_of text offset) (number_before text k) n p) (sym many)
 
 -- the page numbers of a text of either version
 pages_agree : (v : ℕ) (text : List ℕ) (r : RecordingParts) → AreFormed r.checkpoints → IsLaidOut v text r → (k p : ℕ) → k < length r.checkpoints → p < PLACES
@@ -124,9 +111,10 @@ pages_agree v text r formed is k p lt less =
           let number = ((is.checkpoints_stand k no_checkpoint lt).in_first first).table p 0 (omega arith) in
           rw (of, first) number
       | inr second ↦
-          let number = numbers_stand text r (subst (λ (n : ℕ). IsLaidOut n text r) second is) (suc k) p (omega arith) less in
-          let here = number ∙ ap (λ (table : List ℕ). slice_index table p) (table_next r.checkpoints k) in
-          rw (of, second) here
+          let stand : StandIn text r.checkpoints = subst (λ (n : ℕ). EachAt (λ j c. IsCheckpoint n text (start text j) (table_before r.checkpoints j) c) r.checkpoints) (sym of) is.checkpoints_stand in
+          let is_second : version text ≡ VERSION = of ∙ second in
+          number_second text k p is_second ∙ sym (tables_stand text r.checkpoints (suc k) is_second stand (omega arith) p less)
+          ∙ ap (λ (table : List ℕ). slice_index table p) (table_next r.checkpoints k)
     ]
 
 -- in version 1 a checkpoint has no changes, in version 2 it has those of its table
@@ -169,7 +157,7 @@ fields_agree v text r formed is =
       event = events_agree v text r is;
       start = start-laid v text r is;
       checkpoint = λ k lt.
-          checkpoint_stands v text (start text k) (table_before r.checkpoints k) (checkpoint_at r k) is.known is.version (is.checkpoints_stand k no_checkpoint lt);
+          checkpoint_agrees v text (start text k) (table_before r.checkpoints k) (checkpoint_at r k) is.known is.version (is.checkpoints_stand k no_checkpoint lt);
       change = λ k i lt. changes_agree v text r is k i lt;
       page_number = λ k p lt. pages_agree v text r formed is k p lt;
     }

@@ -1,5 +1,5 @@
 -- The changes between two tables: they are lawful, they make the second table of the first, and no other lawful changes do.
-use Rattle.std.proofs.Common.{◌≡◌, ◌≢◌, ◌⊎◌, ◌<◌, ◌≤◌, ◌+◌, ◌∙◌, ℕ, zero, suc, List, [], ◌∷◌, ◌++◌, length, append-nil, refl, sym, ap, subst, ⊎_elim, arith, add-one, eq-eqb, length-append}
+use Rattle.std.proofs.Common.{◌≡◌, ◌≢◌, ◌<◌, ◌≤◌, ◌+◌, ◌∙◌, ℕ, zero, suc, List, [], ◌∷◌, ◌++◌, length, append-nil, refl, sym, ap, subst, ⊎_elim, arith, add-one, eq-eqb, length-append}
 use Rattle.std.specs.Prelude.{slice_index, slice_index_or, ◌==◌, if◌then◌else◌}
 use Rattle.std.proofs.lemmas.Bool.{cases_eq, cases_lt, cond-true, cond-false, ne_eqb}
 use Rattle.std.proofs.lemmas.Bool.Decides.{nat_tests}
@@ -31,6 +31,10 @@ after_here change stood n p e = cond-true ((change n).place == p) _ _ (eq-eqb _ 
 pub after_other : (change : ℕ → Change) (stood : ℕ → ℕ) (n p : ℕ) → (change n).place ≢ p → number_after change stood (suc n) p ≡ number_after change stood n p
 unfolding number_after
 after_other change stood n p ne = cond-false ((change n).place == p) _ _ (ne_eqb _ _ ne)
+
+-- one more, as code counts it
+pub after_next : (change : ℕ → Change) (stood : ℕ → ℕ) (n p : ℕ) → number_after change stood (n + 1) p ≡ number_after change stood (suc n) p
+after_next change stood n p = ap (λ (m : ℕ). number_after change stood m p) (add-one n)
 
 pub after_none : (change : ℕ → Change) (stood : ℕ → ℕ) (p : ℕ) → number_after change stood 0 p ≡ stood p
 unfolding number_after

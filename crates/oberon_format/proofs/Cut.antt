@@ -1,53 +1,53 @@
 -- How long the text of a recording can be, and that a text that is cut off behind so many bytes has the first fault of the whole.
-use Rattle.std.proofs.Common.{◌≡◌, ◌≤◌, ◌<◌, ◌+◌, ◌-◌, ◌*◌, ◌==◌, ◌∙◌, ℕ, zero, suc, cond, if◌then◌else◌, sym, subst, Bool, true, false, List, arith, refl, ap, ap₂, drop, length, take}
+use Rattle.std.proofs.Common.{◌≡◌, ◌≤◌, ◌<◌, ◌+◌, ◌-◌, ◌*◌, ◌==◌, ◌∙◌, ℕ, zero, suc, if◌then◌else◌, sym, subst, Bool, true, false, List, arith, refl, ap, ap₂, drop, length, take}
 use Rattle.std.proofs.lemmas.Bool.{eqb-true, leb-true, leb-false}
 use Rattle.std.proofs.lemmas.List.{drop-take, get_or-take, length-take, take-take}
 use Rattle.std.specs.Prelude.{nat_le, slice_range}
 use Rattle.oberon_format.specs.FirstFault.{first_broken}
 use Rattle.oberon_format.specs.declared.fields.CheckpointFields.{CheckpointFields}
-use Rattle.oberon_format.specs.declared.layout.TheConstants.{LONGEST_TEXT, MAGIC_AT, VERSION_AT, PAGES_AT, EVENTS_AT, CHECKPOINTS_AT, LAST_AT, KIND_AT, VALUE_AT, COUNTER_AT, FLAGS_AT, STOP_AT, SWITCHES_AT, LEDS_AT, MOUSE_AT, SERIAL_AT, WAITING_AT, KEYS_AT, SENT_AT, RATE_AT, PHASE_AT, CHANGE_COUNT_AT, NUMBER_AT, FIRST_VERSION, PLACES, CHECKPOINT_LEN, CHANGES_AT, CHANGE_LEN}
-use Rattle.oberon_format.specs.Changes.{changes, number_after}
-use Rattle.oberon_format.specs.CheckpointParts.{CheckpointParts}
+use Rattle.oberon_format.specs.declared.layout.TheConstants.{LONGEST_TEXT, MAGIC_AT, VERSION_AT, PAGES_AT, EVENTS_AT, CHECKPOINTS_AT, LAST_AT, KIND_AT, VALUE_AT, COUNTER_AT, FLAGS_AT, STOP_AT, SWITCHES_AT, LEDS_AT, MOUSE_AT, SERIAL_AT, WAITING_AT, KEYS_AT, SENT_AT, RATE_AT, PHASE_AT, CHANGE_COUNT_AT, NUMBER_AT, FIRST_VERSION, PLACES, CHANGES_AT, CHANGE_LEN}
+use Rattle.oberon_format.specs.Changes.{number_after}
 use Rattle.oberon_format.specs.Fields.{Fields, total}
-use Rattle.oberon_format.specs.Layout.{version, pages, events, checkpoints, event_place, event_start, long_at, page_number_place, change_place, checkpoint_size, change_count, later_word, start, word_at}
+use Rattle.oberon_format.specs.Layout.{version, pages, events, checkpoints, event_offset, event_start, long_at, page_number_offset, change_offset, checkpoint_size, change_count, later_word, start, word_at}
 use Rattle.oberon_format.specs.Rules.{named_len, rules}
 use Rattle.oberon_format.specs.TextFields.{change_at, change_of, checkpoint_of, event_of, fields_of, first_fault_of, number_before, page_number_of}
-use Rattle.oberon_format.specs.PartFields.{changes_laid, start_laid}
-use Rattle.oberon_format.specs.Recording.{RecordingParts, checkpoint_at, table_before}
+use Rattle.oberon_format.specs.Recording.{RecordingParts}
 use Rattle.oberon_format.specs.Text.{Text}
-use Rattle.oberon_format.proofs.ChangeLemmas.{after-same, changes-few}
+use Rattle.oberon_format.proofs.ChangeLemmas.{after-same}
+use Rattle.oberon_format.proofs.PartLemmas.{laid_within, size_few}
 use Rattle.oberon_format.proofs.Places.{start-laid}
 use Rattle.oberon_format.proofs.Room.{start_none, named_first}
+use Rattle.oberon_format.proofs.TextLemmas.{number_where, number_else}
 use Rattle.oberon_format.proofs.LongFields.{AreFew, AgreeBelow, AgreeAt, Agree, most, faults_same, fields}
 
 -- numbers in bytes that were not cut off
-word_at-take : (n : ℕ) (text : List ℕ) (place : ℕ) → place + 4 ≤ n → word_at (take n text) place ≡ word_at text place
+word_at-take : (n : ℕ) (text : List ℕ) (offset : ℕ) → offset + 4 ≤ n → word_at (take n text) offset ≡ word_at text offset
 unfolding word_at
-word_at-take n text place within =
-    let byte0 = get_or-take n text place 0 (omega arith) in
-    let byte1 = get_or-take n text (suc place) 0 (omega arith) in
-    let byte2 = get_or-take n text (suc (suc place)) 0 (omega arith) in
-    let byte3 = get_or-take n text (suc (suc (suc place))) 0 (omega arith) in
+word_at-take n text offset within =
+    let byte0 = get_or-take n text offset 0 (omega arith) in
+    let byte1 = get_or-take n text (suc offset) 0 (omega arith) in
+    let byte2 = get_or-take n text (suc (suc offset)) 0 (omega arith) in
+    let byte3 = get_or-take n text (suc (suc (suc offset))) 0 (omega arith) in
     rw (byte0, byte1, byte2, byte3) refl
 
-long_at-take : (n : ℕ) (text : List ℕ) (place : ℕ) → place + 8 ≤ n → long_at (take n text) place ≡ long_at text place
+long_at-take : (n : ℕ) (text : List ℕ) (offset : ℕ) → offset + 8 ≤ n → long_at (take n text) offset ≡ long_at text offset
 unfolding long_at
-long_at-take n text place within =
-    let byte0 = get_or-take n text place 0 (omega arith) in
-    let byte1 = get_or-take n text (suc place) 0 (omega arith) in
-    let byte2 = get_or-take n text (suc (suc place)) 0 (omega arith) in
-    let byte3 = get_or-take n text (suc (suc (suc place))) 0 (omega arith) in
-    let byte4 = get_or-take n text (suc (suc (suc (suc place)))) 0 (omega arith) in
-    let byte5 = get_or-take n text (suc (suc (suc (suc (suc place))))) 0 (omega arith) in
-    let byte6 = get_or-take n text (suc (suc (suc (suc (suc (suc place)))))) 0 (omega arith) in
-    let byte7 = get_or-take n text (suc (suc (suc (suc (suc (suc (suc place))))))) 0 (omega arith) in
+long_at-take n text offset within =
+    let byte0 = get_or-take n text offset 0 (omega arith) in
+    let byte1 = get_or-take n text (suc offset) 0 (omega arith) in
+    let byte2 = get_or-take n text (suc (suc offset)) 0 (omega arith) in
+    let byte3 = get_or-take n text (suc (suc (suc offset))) 0 (omega arith) in
+    let byte4 = get_or-take n text (suc (suc (suc (suc offset)))) 0 (omega arith) in
+    let byte5 = get_or-take n text (suc (suc (suc (suc (suc offset))))) 0 (omega arith) in
+    let byte6 = get_or-take n text (suc (suc (suc (suc (suc (suc offset)))))) 0 (omega arith) in
+    let byte7 = get_or-take n text (suc (suc (suc (suc (suc (suc (suc offset))))))) 0 (omega arith) in
     rw (byte0, byte1, byte2, byte3, byte4, byte5, byte6, byte7) refl
 
-event_of-take : (n : ℕ) (text : List ℕ) (place : ℕ) → place + 16 ≤ n → event_of (take n text) place ≡ event_of text place
-event_of-take n text place within =
-    let count = long_at-take n text place (omega arith) in
-    let kind = word_at-take n text (place + KIND_AT) (omega arith) in
-    let value = word_at-take n text (place + VALUE_AT) (omega arith) in
+event_of-take : (n : ℕ) (text : List ℕ) (offset : ℕ) → offset + 16 ≤ n → event_of (take n text) offset ≡ event_of text offset
+event_of-take n text offset within =
+    let count = long_at-take n text offset (omega arith) in
+    let kind = word_at-take n text (offset + KIND_AT) (omega arith) in
+    let value = word_at-take n text (offset + VALUE_AT) (omega arith) in
     rw (count, kind, value) refl
 
 slice_range-take : (n : ℕ) (text : List ℕ) (from to : ℕ) → to ≤ n → slice_range (take n text) from to ≡ slice_range text from to
@@ -69,26 +69,26 @@ slice_range-take n text from to within = go (nat_le from n) refl
 version-take : (n : ℕ) (text : List ℕ) → LONGEST_TEXT < n → version (take n text) ≡ version text
 version-take n text over = word_at-take n text VERSION_AT (omega arith)
 
-later_word-take : (n : ℕ) (text : List ℕ) (place : ℕ) → LONGEST_TEXT < n → place + 4 ≤ n → later_word (take n text) place ≡ later_word text place
-later_word-take n text place over within =
-    ap₂ (λ (v word : ℕ). if v == FIRST_VERSION then 0 else word) (version-take n text over) (word_at-take n text place within)
+later_word-take : (n : ℕ) (text : List ℕ) (offset : ℕ) → LONGEST_TEXT < n → offset + 4 ≤ n → later_word (take n text) offset ≡ later_word text offset
+later_word-take n text offset over within =
+    ap₂ (λ (v word : ℕ). if v == FIRST_VERSION then 0 else word) (version-take n text over) (word_at-take n text offset within)
 
-checkpoint_of-take : (n : ℕ) (text : List ℕ) (place : ℕ) → LONGEST_TEXT < n → place + CHANGES_AT ≤ n → checkpoint_of (take n text) place ≡ checkpoint_of text place
-checkpoint_of-take n text place over within =
-    let count = long_at-take n text place (omega arith) in
-    let pc = word_at-take n text (place + COUNTER_AT) (omega arith) in
-    let flags = word_at-take n text (place + FLAGS_AT) (omega arith) in
-    let stop = word_at-take n text (place + STOP_AT) (omega arith) in
-    let switches = word_at-take n text (place + SWITCHES_AT) (omega arith) in
-    let leds = word_at-take n text (place + LEDS_AT) (omega arith) in
-    let mouse = word_at-take n text (place + MOUSE_AT) (omega arith) in
-    let serial = word_at-take n text (place + SERIAL_AT) (omega arith) in
-    let waiting = word_at-take n text (place + WAITING_AT) (omega arith) in
-    let keys = slice_range-take n text (place + KEYS_AT) (place + SENT_AT) (omega arith) in
-    let output = word_at-take n text (place + SENT_AT) (omega arith) in
-    let rate = later_word-take n text (place + RATE_AT) over (omega arith) in
-    let phase = later_word-take n text (place + PHASE_AT) over (omega arith) in
-    let changes = later_word-take n text (place + CHANGE_COUNT_AT) over (omega arith) in
+checkpoint_of-take : (n : ℕ) (text : List ℕ) (offset : ℕ) → LONGEST_TEXT < n → offset + CHANGES_AT ≤ n → checkpoint_of (take n text) offset ≡ checkpoint_of text offset
+checkpoint_of-take n text offset over within =
+    let count = long_at-take n text offset (omega arith) in
+    let pc = word_at-take n text (offset + COUNTER_AT) (omega arith) in
+    let flags = word_at-take n text (offset + FLAGS_AT) (omega arith) in
+    let stop = word_at-take n text (offset + STOP_AT) (omega arith) in
+    let switches = word_at-take n text (offset + SWITCHES_AT) (omega arith) in
+    let leds = word_at-take n text (offset + LEDS_AT) (omega arith) in
+    let mouse = word_at-take n text (offset + MOUSE_AT) (omega arith) in
+    let serial = word_at-take n text (offset + SERIAL_AT) (omega arith) in
+    let waiting = word_at-take n text (offset + WAITING_AT) (omega arith) in
+    let keys = slice_range-take n text (offset + KEYS_AT) (offset + SENT_AT) (omega arith) in
+    let output = word_at-take n text (offset + SENT_AT) (omega arith) in
+    let rate = later_word-take n text (offset + RATE_AT) over (omega arith) in
+    let phase = later_word-take n text (offset + PHASE_AT) over (omega arith) in
+    let changes = later_word-take n text (offset + CHANGE_COUNT_AT) over (omega arith) in
     λ i. record {
       count = count i;
       pc = pc i;
@@ -106,19 +106,11 @@ checkpoint_of-take n text place over within =
       changes = changes i;
     }
 
-change_at-take : (n : ℕ) (text : List ℕ) (place : ℕ) → place + CHANGE_LEN ≤ n → change_at (take n text) place ≡ change_at text place
-change_at-take n text place within =
-    let at = word_at-take n text place (omega arith) in
-    let number = word_at-take n text (place + NUMBER_AT) (omega arith) in
+change_at-take : (n : ℕ) (text : List ℕ) (offset : ℕ) → offset + CHANGE_LEN ≤ n → change_at (take n text) offset ≡ change_at text offset
+change_at-take n text offset within =
+    let at = word_at-take n text offset (omega arith) in
+    let number = word_at-take n text (offset + NUMBER_AT) (omega arith) in
     λ i. record { place = at i; number = number i }
-
--- a checkpoint with few enough changes is no longer than the longest
-size_most : (version changes : ℕ) → changes ≤ PLACES → checkpoint_size version changes ≤ CHANGES_AT + CHANGE_LEN * PLACES
-size_most version changes few = go (version == FIRST_VERSION)
-  where
-    go : (b : Bool) → cond b CHECKPOINT_LEN (CHANGES_AT + CHANGE_LEN * changes) ≤ CHANGES_AT + CHANGE_LEN * PLACES
-    go true = omega arith
-    go false = omega arith
 
 -- how long a text is to be by its header
 named_most : (text : List ℕ) → AreFew (pages text) (events text) (checkpoints text) → named_len (fields_of text) ≤ LONGEST_TEXT
@@ -139,13 +131,6 @@ named_most text few = go (version text == FIRST_VERSION) refl
         let named : named_len (fields_of text) ≡ start text 0 = rw is refl in
         omega arith
 
--- a page number in each version
-page_first : (text : List ℕ) (k p : ℕ) → (version text == FIRST_VERSION) ≡ true → page_number_of text k p ≡ word_at text (page_number_place (start text k) p)
-page_first text k p first = rw first refl
-
-page_later : (text : List ℕ) (k p : ℕ) → (version text == FIRST_VERSION) ≡ false → page_number_of text k p ≡ number_before text (suc k) p
-page_later text k p later = rw later refl
-
 -- a text that is cut off, and the whole, by the numbers of the header of the whole
 module _ (n : ℕ) (text : List ℕ) (over : LONGEST_TEXT < n) where
   abbrev cut : List ℕ
@@ -154,18 +139,18 @@ module _ (n : ℕ) (text : List ℕ) (over : LONGEST_TEXT < n) where
   -- the texts agree up to checkpoint k, or in checkpoint k
   abbrev Below : ℕ → Type 0
   Below k = AgreeBelow (word_at text MAGIC_AT) (version text) (pages text) (events text) (checkpoints text) (word_at text LAST_AT)
-      (length cut) (length text) (λ i. event_of cut (event_place cut i)) (λ i. event_of text (event_place text i)) (start cut) (start text)
+      (length cut) (length text) (λ i. event_of cut (event_offset cut i)) (λ i. event_of text (event_offset text i)) (start cut) (start text)
       (λ k. checkpoint_of cut (start cut k)) (λ k. checkpoint_of text (start text k)) (λ k. change_of cut (start cut k)) (λ k. change_of text (start text k))
       (page_number_of cut) (page_number_of text) k
 
   abbrev Here : ℕ → Type 0
   Here k = AgreeAt (word_at text MAGIC_AT) (version text) (pages text) (events text) (checkpoints text) (word_at text LAST_AT)
-      (length cut) (length text) (λ i. event_of cut (event_place cut i)) (λ i. event_of text (event_place text i)) (start cut) (start text)
+      (length cut) (length text) (λ i. event_of cut (event_offset cut i)) (λ i. event_of text (event_offset text i)) (start cut) (start text)
       (λ k. checkpoint_of cut (start cut k)) (λ k. checkpoint_of text (start text k)) (λ k. change_of cut (start cut k)) (λ k. change_of text (start text k))
       (page_number_of cut) (page_number_of text) k
 
   -- where the checkpoints begin
-  events_begin : event_place cut (events cut) ≡ event_place text (events text)
+  events_begin : event_offset cut (events cut) ≡ event_offset text (events text)
   events_begin = ap₂ event_start (word_at-take n text PAGES_AT (omega arith)) (word_at-take n text EVENTS_AT (omega arith))
 
   -- all before checkpoint 0 agrees
@@ -192,7 +177,7 @@ module _ (n : ℕ) (text : List ℕ) (over : LONGEST_TEXT < n) where
   numbers_below : (k : ℕ) → Below k → (version text == FIRST_VERSION) ≡ false → (p : ℕ) → p < PLACES → number_before cut k p ≡ number_before text k p
   unfolding number_before
   numbers_below zero below later p inside = refl
-  numbers_below (suc k) below later p inside = sym (page_later cut k p (later_cut later)) ∙ below.of_numbers k p (omega arith) inside ∙ page_later text k p later
+  numbers_below (suc k) below later p inside = sym (number_else cut k p (later_cut later)) ∙ below.of_numbers k p (omega arith) inside ∙ number_else text k p later
 
   module _ (few : AreFew (pages text) (events text) (checkpoints text)) (k : ℕ) (less : k < checkpoints text) (below : Below k) where
     -- there is room for the longest checkpoint
@@ -201,7 +186,7 @@ module _ (n : ℕ) (text : List ℕ) (over : LONGEST_TEXT < n) where
         let few_pages = few.of_pages in
         let few_events = few.of_events in
         let few_checkpoints = few.of_checkpoints in
-        let place = below.place in
+        let offset = below.place in
         let near = below.near in
         omega arith
 
@@ -217,38 +202,38 @@ module _ (n : ℕ) (text : List ℕ) (over : LONGEST_TEXT < n) where
     change_here : (i : ℕ) → i < PLACES → change_of cut (start cut k) i ≡ change_of text (start text k) i
     change_here i inside =
         let space = room in
-        ap (λ (place : ℕ). change_of cut place i) below.place ∙ change_at-take n text (change_place (start text k) i) (omega arith)
+        ap (λ (offset : ℕ). change_of cut offset i) below.place ∙ change_at-take n text (change_offset (start text k) i) (omega arith)
 
     -- where the next checkpoint begins
-    place_next : start cut (suc k) ≡ start text (suc k)
+    offset_next : start cut (suc k) ≡ start text (suc k)
     unfolding start
-    place_next = ap₂ (λ (place size : ℕ). place + size) below.place (ap₂ checkpoint_size (version-take n text over) count_here)
+    offset_next = ap₂ (λ (offset size : ℕ). offset + size) below.place (ap₂ checkpoint_size (version-take n text over) count_here)
 
     near_next : change_count cut (start cut k) ≤ PLACES → start cut (suc k) ≤ most (pages text) (events text) (suc k)
     unfolding start
     near_next few_changes =
         let near = below.near in
-        let size = size_most (version cut) (change_count cut (start cut k)) few_changes in
+        let size = size_few (version cut) (change_count cut (start cut k)) few_changes in
         omega arith
 
     -- its page numbers
     number_first : (version text == FIRST_VERSION) ≡ true → (p : ℕ) → p < PLACES → page_number_of cut k p ≡ page_number_of text k p
     number_first first p inside =
         let space = room in
-        page_first cut k p (first_cut first)
-        ∙ ap (λ (place : ℕ). word_at cut (page_number_place place p)) below.place
-        ∙ word_at-take n text (page_number_place (start text k) p) (omega arith)
-        ∙ sym (page_first text k p first)
+        number_where cut k p (first_cut first)
+        ∙ ap (λ (offset : ℕ). word_at cut (page_number_offset offset p)) below.place
+        ∙ word_at-take n text (page_number_offset (start text k) p) (omega arith)
+        ∙ sym (number_where text k p first)
 
     number_later : (version text == FIRST_VERSION) ≡ false → change_count cut (start cut k) ≤ PLACES → (p : ℕ) → p < PLACES
         → page_number_of cut k p ≡ page_number_of text k p
     unfolding number_before
     number_later later few_changes p inside =
-        page_later cut k p (later_cut later)
+        number_else cut k p (later_cut later)
         ∙ after-same (change_of cut (start cut k)) (change_of text (start text k)) (number_before cut k) (number_before text k) (change_count cut (start cut k)) p
         (λ i under. change_here i (omega arith)) (numbers_below k below later p inside)
         ∙ ap (λ (m : ℕ). number_after (change_of text (start text k)) (number_before text k) m p) count_here
-        ∙ sym (page_later text k p later)
+        ∙ sym (number_else text k p later)
 
     number_here : change_count cut (start cut k) ≤ PLACES → (p : ℕ) → p < PLACES → page_number_of cut k p ≡ page_number_of text k p
     number_here few_changes p inside = go (version text == FIRST_VERSION) refl
@@ -261,7 +246,7 @@ module _ (n : ℕ) (text : List ℕ) (over : LONGEST_TEXT < n) where
     here : Here k
     here = record {
       of_checkpoint = fields_here;
-      place = λ few_changes. place_next;
+      place = λ few_changes. offset_next;
       near = near_next;
       of_changes = λ few_changes i under. change_here i (omega arith);
       of_numbers = number_here;
@@ -269,7 +254,7 @@ module _ (n : ℕ) (text : List ℕ) (over : LONGEST_TEXT < n) where
 
   -- the fields of the text that is cut off, with the header of the whole
   fields_cut : fields_of cut ≡ fields (word_at text MAGIC_AT) (version text) (pages text) (events text) (checkpoints text) (word_at text LAST_AT)
-      (length cut) (λ i. event_of cut (event_place cut i)) (start cut) (λ k. checkpoint_of cut (start cut k))
+      (length cut) (λ i. event_of cut (event_offset cut i)) (start cut) (λ k. checkpoint_of cut (start cut k))
       (λ k. change_of cut (start cut k)) (page_number_of cut)
   fields_cut =
       let first = word_at-take n text MAGIC_AT (omega arith) in
@@ -286,7 +271,7 @@ module _ (n : ℕ) (text : List ℕ) (over : LONGEST_TEXT < n) where
         events = of_events i;
         checkpoints = of_checkpoints i;
         last = last i;
-        event = λ j. event_of cut (event_place cut j);
+        event = λ j. event_of cut (event_offset cut j);
         start = start cut;
         checkpoint = λ k. checkpoint_of cut (start cut k);
         change = λ k. change_of cut (start cut k);
@@ -306,17 +291,17 @@ module _ (n : ℕ) (text : List ℕ) (over : LONGEST_TEXT < n) where
 
   -- an event
   event_same : AreFew (pages text) (events text) (checkpoints text) → (i : ℕ) → i < events text
-      → event_of cut (event_place cut i) ≡ event_of text (event_place text i)
+      → event_of cut (event_offset cut i) ≡ event_of text (event_offset text i)
   event_same few i less =
       let of_pages = word_at-take n text PAGES_AT (omega arith) in
       let few_pages = few.of_pages in
       let few_events = few.of_events in
-      event_of-take n text (event_place cut i) (omega arith) ∙ ap (λ (p : ℕ). event_of text (event_start p i)) of_pages
+      event_of-take n text (event_offset cut i) (omega arith) ∙ ap (λ (p : ℕ). event_of text (event_start p i)) of_pages
 
   -- what rules look at was not cut off
   agree_cut : AreFew (pages text) (events text) (checkpoints text)
       → Agree (word_at text MAGIC_AT) (version text) (pages text) (events text) (checkpoints text) (word_at text LAST_AT)
-      (length cut) (length text) (λ i. event_of cut (event_place cut i)) (λ i. event_of text (event_place text i)) (start cut) (start text)
+      (length cut) (length text) (λ i. event_of cut (event_offset cut i)) (λ i. event_of text (event_offset text i)) (start cut) (start text)
       (λ k. checkpoint_of cut (start cut k)) (λ k. checkpoint_of text (start text k)) (λ k. change_of cut (start cut k)) (λ k. change_of text (start text k))
       (page_number_of cut) (page_number_of text)
   agree_cut few = record {
@@ -333,28 +318,10 @@ first_fault_of-take n text over within =
     let cut : List ℕ = take n text in
     ap (λ (f : Fields). first_broken (rules f)) (fields_cut n text over)
     ∙ faults_same (word_at text MAGIC_AT) (version text) (pages text) (events text) (checkpoints text) (word_at text LAST_AT)
-    (length cut) (length text) (λ i. event_of cut (event_place cut i)) (λ i. event_of text (event_place text i)) (start cut) (start text)
+    (length cut) (length text) (λ i. event_of cut (event_offset cut i)) (λ i. event_of text (event_offset text i)) (start cut) (start text)
     (λ k. checkpoint_of cut (start cut k)) (λ k. checkpoint_of text (start text k)) (λ k. change_of cut (start cut k)) (λ k. change_of text (start text k))
     (page_number_of cut) (page_number_of text) (agree_cut n text over)
     (simp length-take (omega arith)) (omega arith)
-
--- there are at most as many changes as places
-changes_laid_few : (v : ℕ) (before : List ℕ) (c : CheckpointParts) → changes_laid v before c ≤ PLACES
-changes_laid_few v before c = go (v == FIRST_VERSION)
-  where
-    go : (b : Bool) → cond b 0 (length (changes before c.table)) ≤ PLACES
-    go true = omega arith
-    go false = changes-few before c.table
-
--- how far checkpoints reach at most where they are laid out
-laid_most : (v : ℕ) (r : RecordingParts) (k : ℕ) → start_laid v r k ≤ most (length r.pool) (length r.inputs) k
-unfolding start_laid
-laid_most v r zero = omega arith
-laid_most v r (suc k) =
-    let so_far = laid_most v r k in
-    let changes = changes_laid v (table_before r.checkpoints k) (checkpoint_at r k) in
-    let size = size_most v changes (changes_laid_few v (table_before r.checkpoints k) (checkpoint_at r k)) in
-    omega arith
 
 -- the longest text has 118,310,056 bytes: 24 of the header, 65,536 pages, 1,000,000 events, 4,097 checkpoints that change each place
 -- of the table, and the output
@@ -366,7 +333,7 @@ text_within text r some =
     let count = laid.checkpoint_count in
     let end = start-laid some.version text r laid (length r.checkpoints) (omega arith) in
     let same : start text (checkpoints text) ≡ start text (length r.checkpoints) = ap (start text) count in
-    let near = laid_most some.version r (length r.checkpoints) in
+    let near = laid_within some.version r (length r.checkpoints) in
     let few_pages = lawful.pages in
     let few_events = lawful.events in
     let few_checkpoints = lawful.few in

@@ -12,7 +12,7 @@ use Rattle.oberon_format.specs.Changes.{changes_below, no_change, number_after}
 use Rattle.oberon_format.specs.CheckpointParts.{no_checkpoint}
 use Rattle.oberon_format.specs.Fields.{Fields, total}
 use Rattle.oberon_format.specs.FirstFault.{first_broken, each}
-use Rattle.oberon_format.specs.Layout.{word_at, long_at, event_start, page_number_place, change_place, checkpoint_size, start}
+use Rattle.oberon_format.specs.Layout.{word_at, long_at, event_start, page_number_offset, change_offset, checkpoint_size, start}
 use Rattle.oberon_format.specs.PartFields.{checkpoint_fields, no_event, start_laid, fault_of_parts}
 use Rattle.oberon_format.specs.Ranges.{is_count, is_output, is_event, are_keys}
 use Rattle.oberon_format.specs.Rules.{rules, checkpoint_rules, page_number_rules, change_rules, end_rules}
@@ -277,13 +277,13 @@ sixteen-keys = refl
 second-checkpoint : event_start 1 0 + checkpoint_size 1 0 ≡ 5276
 second-checkpoint = refl
 
-first-number-of-the-second-checkpoint : page_number_place 5276 0 ≡ 5408
+first-number-of-the-second-checkpoint : page_number_offset 5276 0 ≡ 5408
 first-number-of-the-second-checkpoint = refl
 
 second-checkpoint-of-version-two : event_start 1 0 + checkpoint_size 2 3 ≡ 1216
 second-checkpoint-of-version-two = refl
 
-second-change : change_place 1048 1 ≡ 1200
+second-change : change_offset 1048 1 ≡ 1200
 second-change = refl
 
 longest-text : event_start 65536 1000000 + checkpoint_size 2 1024 * 4097 + 1048576 ≡ LONGEST_TEXT

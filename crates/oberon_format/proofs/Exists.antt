@@ -1,10 +1,9 @@
 -- A text without fault is that of a recording, which is built here of the text alone.
 use Rattle.std.proofs.Common.{◌≡◌, Option, Some, None, ◌<◌, ◌≤◌, ◌+◌, ◌-◌, ◌*◌, ◌/◌, ◌%◌, ◌^◌, ◌∙◌, ℕ, zero, suc, Bool, true, false, cond, List, [], ◌∷◌, ◌++◌, length, map, drop, get_or, refl, sym, ap, subst, inl, inr, arith, length-append}
-use Rattle.std.specs.Prelude.{All, MatchOption, slice_index, slice_range, ◌==◌, if◌then◌else◌}
+use Rattle.std.specs.Prelude.{All, MatchOption, slice_index, slice_range, ◌==◌}
 use Rattle.std.specs.List.{range_with_len}
 use Rattle.std.proofs.lemmas.Bool.{cases_lt, ltb-true, leb-true}
 use Rattle.std.proofs.lemmas.List.{get_or_past}
-use Rattle.std.proofs.lemmas.Bool.Decides.{nat_tests}
 use Rattle.std.proofs.lemmas.List.Elements.{All-nil, All-push, All-take, All-drop}
 use Rattle.std.proofs.lemmas.List.FromFn.{length-map-range_with_len, get_or-map-range_with_len}
 use Rattle.byteorder.specs.Numbers.{little_from-lt}
@@ -19,7 +18,7 @@ use Rattle.risc_pages.specs.Pages.{IsPage, ArePages}
 use Rattle.oberon_format.specs.declared.layout.TheConstants.{FIRST_VERSION, PLACES, REGISTERS_AT, AUXILIARY_AT, COUNTER_AT, FLAGS_AT, STOP_AT, TIMER_AT, SWITCHES_AT, LEDS_AT, MOUSE_AT, SERIAL_AT, WAITING_AT, KEYS_AT, SENT_AT, RATE_AT, PHASE_AT, CHANGES_AT, NUMBER_AT}
 use Rattle.oberon_format.specs.declared.fault.Fault.{Fault}
 use Rattle.oberon_format.specs.CheckpointParts.{CheckpointParts}
-use Rattle.oberon_format.specs.Layout.{word_at, long_at, version, pages, events, checkpoints, page_place, page_number_place, change_place, event_place, later_word, change_count, start, output_place}
+use Rattle.oberon_format.specs.Layout.{word_at, long_at, version, pages, events, checkpoints, page_offset, page_number_offset, change_offset, event_offset, later_word, change_count, start, output_offset}
 use Rattle.oberon_format.specs.Ranges.{in_ranges, are_keys}
 use Rattle.oberon_format.specs.Recording.{RecordingParts, output_of}
 use Rattle.oberon_format.specs.Formed.{IsFormed, AreFormed}
@@ -32,19 +31,20 @@ use Rattle.oberon_format.proofs.ChangeLemmas.{after-bounded}
 use Rattle.oberon_format.proofs.Each.{each_push}
 use Rattle.oberon_format.proofs.Keys.{keys-stand, length-range}
 use Rattle.oberon_format.proofs.LawfulLemmas.{lawful_formed, lawful_faultless}
+use Rattle.oberon_format.proofs.Numbers.{serial_whole}
 use Rattle.oberon_format.proofs.Output.{ranges_hold, keys_hold, output_fits, output_more, output_all, range-none}
 use Rattle.oberon_format.proofs.ReadLemmas.{events_ordered, stand_next, text_read, read_lawful}
 use Rattle.oberon_format.proofs.Room.{front_there}
 use Rattle.oberon_format.proofs.RuleLemmas.{none_meets, event_input, output_below, output_below_none, output_below_more, and_left, and_right}
 
 -- numbers of bytes fit
-word_fits : (text : List ℕ) (place : ℕ) → AreBytes text → word_at text place < 2 ^ 32
+word_fits : (text : List ℕ) (offset : ℕ) → AreBytes text → word_at text offset < 2 ^ 32
 unfolding word_at
-word_fits text place bytes = little_from-lt place 4 text (all_bytes text bytes)
+word_fits text offset bytes = little_from-lt offset 4 text (all_bytes text bytes)
 
-long_fits : (text : List ℕ) (place : ℕ) → AreBytes text → long_at text place < 2 ^ 64
+long_fits : (text : List ℕ) (offset : ℕ) → AreBytes text → long_at text offset < 2 ^ 64
 unfolding long_at
-long_fits text place bytes = little_from-lt place 8 text (all_bytes text bytes)
+long_fits text offset bytes = little_from-lt offset 8 text (all_bytes text bytes)
 
 -- the first n numbers of a function
 numbers_of : (ℕ → ℕ) → ℕ → List ℕ
@@ -65,39 +65,39 @@ numbers_fit number n each i d lt =
 
 -- the words from a place on
 abbrev words_from : List ℕ → ℕ → ℕ → List ℕ
-words_from text place n = numbers_of (λ i. word_at text (place + 4 * i)) n
+words_from text offset n = numbers_of (λ i. word_at text (offset + 4 * i)) n
 
-words_length : (text : List ℕ) (place n : ℕ) → length (words_from text place n) ≡ n
-words_length text place n = numbers_length (λ i. word_at text (place + 4 * i)) n
+words_length : (text : List ℕ) (offset n : ℕ) → length (words_from text offset n) ≡ n
+words_length text offset n = numbers_length (λ i. word_at text (offset + 4 * i)) n
 
-words_stand : (text : List ℕ) (place n : ℕ) → AreWords text place (words_from text place n)
-words_stand text place n i d lt =
-    let len = words_length text place n in
-    sym (numbers_are (λ k. word_at text (place + 4 * k)) n i d (omega arith))
+words_stand : (text : List ℕ) (offset n : ℕ) → AreWords text offset (words_from text offset n)
+words_stand text offset n i d lt =
+    let len = words_length text offset n in
+    sym (numbers_are (λ k. word_at text (offset + 4 * k)) n i d (omega arith))
 
-words_fit : (text : List ℕ) (place n : ℕ) → AreBytes text → All (λ x. x < 2 ^ 32) (words_from text place n)
-words_fit text place n bytes = numbers_fit (λ i. word_at text (place + 4 * i)) n (λ i. word_fits text (place + 4 * i) bytes)
+words_fit : (text : List ℕ) (offset n : ℕ) → AreBytes text → All (λ x. x < 2 ^ 32) (words_from text offset n)
+words_fit text offset n bytes = numbers_fit (λ i. word_at text (offset + 4 * i)) n (λ i. word_fits text (offset + 4 * i) bytes)
 
 -- the words that only version 2 has fit, and so do page numbers of either version
-later_fits : (text : List ℕ) (place : ℕ) → AreBytes text → later_word text place < 2 ^ 32
-later_fits text place bytes = go (version text == FIRST_VERSION)
+later_fits : (text : List ℕ) (offset : ℕ) → AreBytes text → later_word text offset < 2 ^ 32
+later_fits text offset bytes = go (version text == FIRST_VERSION)
   where
-    go : (b : Bool) → cond b 0 (word_at text place) < 2 ^ 32
+    go : (b : Bool) → cond b 0 (word_at text offset) < 2 ^ 32
     go true = omega arith
-    go false = word_fits text place bytes
+    go false = word_fits text offset bytes
 
 before_fits : (text : List ℕ) (k p : ℕ) → AreBytes text → number_before text k p ≤ 2 ^ 32 - 1
 unfolding number_before
 before_fits text zero p bytes = omega arith
 before_fits text (suc k) p bytes =
     after-bounded (change_of text (start text k)) (number_before text k) (change_count text (start text k)) p (2 ^ 32 - 1)
-    (λ i lt. let fits = word_fits text (change_place (start text k) i + NUMBER_AT) bytes in omega arith) (before_fits text k p bytes)
+    (λ i lt. let fits = word_fits text (change_offset (start text k) i + NUMBER_AT) bytes in omega arith) (before_fits text k p bytes)
 
 number_fits : (text : List ℕ) (k p : ℕ) → AreBytes text → page_number_of text k p < 2 ^ 32
 number_fits text k p bytes = go (version text == FIRST_VERSION)
   where
-    go : (b : Bool) → cond b (word_at text (page_number_place (start text k) p)) (number_before text (suc k) p) < 2 ^ 32
-    go true = word_fits text (page_number_place (start text k) p) bytes
+    go : (b : Bool) → cond b (word_at text (page_number_offset (start text k) p)) (number_before text (suc k) p) < 2 ^ 32
+    go true = word_fits text (page_number_offset (start text k) p) bytes
     go false = let fits = before_fits text (suc k) p bytes in omega arith
 
 -- the table of checkpoint k
@@ -122,12 +122,12 @@ pages_of text zero bytes = record { pool = []; count = refl; stand = λ i d lt. 
 pages_of text (suc n) bytes =
     let so_far = pages_of text n bytes in
     let count = so_far.count in
-    let page = words_from text (page_place n) 256 in
-    let is : IsPage page = record { whole = words_length text (page_place n) 256; fit = words_fit text (page_place n) 256 bytes } in
+    let page = words_from text (page_offset n) 256 in
+    let is : IsPage page = record { whole = words_length text (page_offset n) 256; fit = words_fit text (page_offset n) 256 bytes } in
     record {
       pool = so_far.pool ++ page ∷ [];
       count = omega (arith, length-append so_far.pool (page ∷ []));
-      stand = each_push (IsPageAt text) so_far.pool n page so_far.count so_far.stand (words_stand text (page_place n) 256);
+      stand = each_push (IsPageAt text) so_far.pool n page so_far.count so_far.stand (words_stand text (page_offset n) 256);
       whole = All-push IsPage so_far.pool page so_far.whole is;
     }
 
@@ -139,11 +139,11 @@ record Events (text : List ℕ) (n : ℕ) : Type 0 where
 
 event_made : (text : List ℕ) (i : ℕ) → AreBytes text → Meets text → i < events text → (e : Event) × IsEventAt text i e
 event_made text i bytes meets lt =
-    let place = event_place text i in
-    let kind = word_at text (place + 8) in
-    let value = word_at text (place + 12) in
+    let offset = event_offset text i in
+    let kind = word_at text (offset + 8) in
+    let value = word_at text (offset + 12) in
     let lawful = event_input text i meets lt in (
-      record { count = long_at text place; input = input_of kind value lawful; range = long_fits text place bytes },
+      record { count = long_at text offset; input = input_of kind value lawful; range = long_fits text offset bytes },
       record { count = refl; kind = sym (kind_of-input_of kind value lawful); value = sym (value_of-input_of kind value lawful) },
     )
 
@@ -161,55 +161,52 @@ events_of text (suc n) bytes meets le =
 
 -- the processor at a place
 cpu_at : List ℕ → ℕ → CpuState
-cpu_at text place = record {
-  r = words_from text (place + REGISTERS_AT) 16;
-  h = word_at text (place + AUXILIARY_AT);
-  pc = word_at text (place + COUNTER_AT);
-  flags = flags_of (word_at text (place + FLAGS_AT));
-  stop = word_at text (place + STOP_AT);
+cpu_at text offset = record {
+  r = words_from text (offset + REGISTERS_AT) 16;
+  h = word_at text (offset + AUXILIARY_AT);
+  pc = word_at text (offset + COUNTER_AT);
+  flags = flags_of (word_at text (offset + FLAGS_AT));
+  stop = word_at text (offset + STOP_AT);
 }
 
-cpu_stands : (text : List ℕ) (place : ℕ) → word_at text (place + FLAGS_AT) < 16 → IsCpu text place (cpu_at text place)
+cpu_stands : (text : List ℕ) (offset : ℕ) → word_at text (offset + FLAGS_AT) < 16 → IsCpu text offset (cpu_at text offset)
 unfolding cpu_at
-cpu_stands text place few = record {
-  registers = words_stand text (place + REGISTERS_AT) 16;
+cpu_stands text offset few = record {
+  registers = words_stand text (offset + REGISTERS_AT) 16;
   h = refl;
   pc = refl;
-  flags = sym (number_back (word_at text (place + FLAGS_AT)) few);
+  flags = sym (number_back (word_at text (offset + FLAGS_AT)) few);
   stop = refl;
 }
 
 -- the devices at a place
 devices_at : List ℕ → ℕ → DeviceState
-devices_at text place =
-    let serial = word_at text (place + SERIAL_AT) in
+devices_at text offset =
+    let serial = word_at text (offset + SERIAL_AT) in
     record {
-      timer = word_at text (place + TIMER_AT);
-      rate = later_word text (place + RATE_AT);
-      phase = later_word text (place + PHASE_AT);
-      switches = word_at text (place + SWITCHES_AT);
-      leds = word_at text (place + LEDS_AT);
-      mouse = word_at text (place + MOUSE_AT);
+      timer = word_at text (offset + TIMER_AT);
+      rate = later_word text (offset + RATE_AT);
+      phase = later_word text (offset + PHASE_AT);
+      switches = word_at text (offset + SWITCHES_AT);
+      leds = word_at text (offset + LEDS_AT);
+      mouse = word_at text (offset + MOUSE_AT);
       serial = serial % 2 ^ 8;
       received = serial / 2 ^ 8 == 1;
-      keys = slice_range text (place + KEYS_AT) (place + KEYS_AT + word_at text (place + WAITING_AT));
+      keys = slice_range text (offset + KEYS_AT) (offset + KEYS_AT + word_at text (offset + WAITING_AT));
     }
 
-serial_back : (x : ℕ) → x < 512 → x % 2 ^ 8 + (if x / 2 ^ 8 == 1 then 2 ^ 8 else 0) ≡ x
-serial_back x lt = grind (arith, nat_tests)
-
 -- what the ranges of a checkpoint's fields say
-record Small (text : List ℕ) (place : ℕ) : Type 0 where
-  flags : word_at text (place + FLAGS_AT) < 16
-  phase : is_phase (later_word text (place + RATE_AT)) (later_word text (place + PHASE_AT)) ≡ true
-  switches : word_at text (place + SWITCHES_AT) < 4096
-  leds : word_at text (place + LEDS_AT) < 256
-  mouse : is_mouse (word_at text (place + MOUSE_AT)) ≡ true
-  serial : word_at text (place + SERIAL_AT) < 512
-  keys : word_at text (place + WAITING_AT) ≤ 16
+record Small (text : List ℕ) (offset : ℕ) : Type 0 where
+  flags : word_at text (offset + FLAGS_AT) < 16
+  phase : is_phase (later_word text (offset + RATE_AT)) (later_word text (offset + PHASE_AT)) ≡ true
+  switches : word_at text (offset + SWITCHES_AT) < 4096
+  leds : word_at text (offset + LEDS_AT) < 256
+  mouse : is_mouse (word_at text (offset + MOUSE_AT)) ≡ true
+  serial : word_at text (offset + SERIAL_AT) < 512
+  keys : word_at text (offset + WAITING_AT) ≤ 16
 
-small : (text : List ℕ) (place : ℕ) → in_ranges (checkpoint_of text place) ≡ true → are_keys (checkpoint_of text place) ≡ true → Small text place
-small text place ranges keys =
+small : (text : List ℕ) (offset : ℕ) → in_ranges (checkpoint_of text offset) ≡ true → are_keys (checkpoint_of text offset) ≡ true → Small text offset
+small text offset ranges keys =
     let of_serial = and_left _ _ ranges in
     let of_mouse = and_left _ _ of_serial in
     let of_leds = and_left _ _ of_mouse in
@@ -228,46 +225,46 @@ small text place ranges keys =
     }
 
 -- as many key codes as wait
-codes_length : (text : List ℕ) (place : ℕ) → place + CHANGES_AT ≤ length text → word_at text (place + WAITING_AT) ≤ 16
-    → length (slice_range text (place + KEYS_AT) (place + KEYS_AT + word_at text (place + WAITING_AT))) ≡ word_at text (place + WAITING_AT)
-codes_length text place room few =
-    let end = place + KEYS_AT + word_at text (place + WAITING_AT) in
-    omega (arith, length-range text (place + KEYS_AT) end (omega arith) (omega arith))
+codes_length : (text : List ℕ) (offset : ℕ) → offset + CHANGES_AT ≤ length text → word_at text (offset + WAITING_AT) ≤ 16
+    → length (slice_range text (offset + KEYS_AT) (offset + KEYS_AT + word_at text (offset + WAITING_AT))) ≡ word_at text (offset + WAITING_AT)
+codes_length text offset room few =
+    let end = offset + KEYS_AT + word_at text (offset + WAITING_AT) in
+    omega (arith, length-range text (offset + KEYS_AT) end (omega arith) (omega arith))
 
-devices_stand : (text : List ℕ) (place : ℕ) → place + CHANGES_AT ≤ length text → Small text place → are_keys (checkpoint_of text place) ≡ true
-    → IsDevices text place (devices_at text place)
+devices_stand : (text : List ℕ) (offset : ℕ) → offset + CHANGES_AT ≤ length text → Small text offset → are_keys (checkpoint_of text offset) ≡ true
+    → IsDevices text offset (devices_at text offset)
 unfolding devices_at
-devices_stand text place room fits keys =
-    let n = word_at text (place + WAITING_AT) in
+devices_stand text offset room fits keys =
+    let n = word_at text (offset + WAITING_AT) in
     let few = fits.keys in
-    let len = codes_length text place room few in
+    let len = codes_length text offset room few in
     record {
       timer = refl;
       switches = refl;
       leds = refl;
       mouse = refl;
-      serial = sym (serial_back (word_at text (place + SERIAL_AT)) fits.serial);
+      serial = sym (serial_whole (word_at text (offset + SERIAL_AT)) fits.serial);
       waiting = sym len;
-      keys = rw len (keys-stand text place room keys);
+      keys = rw len (keys-stand text offset room keys);
     }
 
-devices_fit : (text : List ℕ) (place : ℕ) → place + CHANGES_AT ≤ length text → AreBytes text → Small text place → IsDeviceState (devices_at text place)
+devices_fit : (text : List ℕ) (offset : ℕ) → offset + CHANGES_AT ≤ length text → AreBytes text → Small text offset → IsDeviceState (devices_at text offset)
 unfolding devices_at
-devices_fit text place room bytes fits =
-    let n = word_at text (place + WAITING_AT) in
+devices_fit text offset room bytes fits =
+    let n = word_at text (offset + WAITING_AT) in
     let few = fits.keys in
-    let len = codes_length text place room few in
+    let len = codes_length text offset room few in
     record {
-      timer = word_fits text (place + TIMER_AT) bytes;
-      rate = later_fits text (place + RATE_AT) bytes;
+      timer = word_fits text (offset + TIMER_AT) bytes;
+      rate = later_fits text (offset + RATE_AT) bytes;
       phase = fits.phase;
       switches = fits.switches;
       leds = fits.leds;
       mouse = fits.mouse;
       serial = omega arith;
       keys = omega arith;
-      codes = All-take (λ code. code < 2 ^ 8) (place + KEYS_AT + n - (place + KEYS_AT)) (drop (place + KEYS_AT) text)
-          (All-drop (λ code. code < 2 ^ 8) (place + KEYS_AT) text bytes);
+      codes = All-take (λ code. code < 2 ^ 8) (offset + KEYS_AT + n - (offset + KEYS_AT)) (drop (offset + KEYS_AT) text)
+          (All-drop (λ code. code < 2 ^ 8) (offset + KEYS_AT) text bytes);
     }
 
 -- so many checkpoints, and their output up to there
@@ -276,7 +273,7 @@ record Checkpoints (text : List ℕ) (n : ℕ) : Type 0 where
   count : length list ≡ n
   stand : StandIn text list
   formed : AreFormed list
-  output : slice_range text (output_place text) (output_place text + output_below text n) ≡ output_of list
+  output : slice_range text (output_offset text) (output_offset text + output_below text n) ≡ output_of list
 
 -- checkpoint k, whose output is told from a place on
 checkpoint_made : (text : List ℕ) (k from : ℕ) → CheckpointParts
@@ -293,12 +290,12 @@ front_stands : (text : List ℕ) (k from : ℕ) → start text k + CHANGES_AT �
     → Small text (start text k) → are_keys (checkpoint_of text (start text k)) ≡ true → IsFront text (start text k) (checkpoint_made text k from)
 unfolding checkpoint_made
 front_stands text k from room fits few keys =
-    let place = start text k in
+    let offset = start text k in
     record {
       count = refl;
-      cpu = cpu_stands text place few.flags;
-      devices = devices_stand text place room few keys;
-      sent = omega (arith, length-range text from (from + word_at text (place + SENT_AT)) (omega arith) fits);
+      cpu = cpu_stands text offset few.flags;
+      devices = devices_stand text offset room few keys;
+      sent = omega (arith, length-range text from (from + word_at text (offset + SENT_AT)) (omega arith) fits);
     }
 
 -- what the checkpoint has of the text
@@ -329,12 +326,12 @@ checkpoint_stands text k from cs meets lt fits count stand =
     (ap (λ (t : List ℕ). length t) (table_is text k from) ∙ table_length text k)
     (λ p less. ap (λ (t : List ℕ). slice_index t p) (table_is text k from) ∙ table_has text k p less)
 
-each_word : (text : List ℕ) (place n a : ℕ) → AreBytes text → slice_index (words_from text place n) a < 2 ^ 32
-each_word text place n a bytes =
-    let len = words_length text place n in
+each_word : (text : List ℕ) (offset n a : ℕ) → AreBytes text → slice_index (words_from text offset n) a < 2 ^ 32
+each_word text offset n a bytes =
+    let len = words_length text offset n in
     elim (cases_lt a n) [
-      | inl less ↦ words_fit text place n bytes a 0 (omega arith)
-      | inr more ↦ rw (get_or_past (words_from text place n) a 0 (omega arith)) (omega arith)
+      | inl less ↦ words_fit text offset n bytes a 0 (omega arith)
+      | inr more ↦ rw (get_or_past (words_from text offset n) a 0 (omega arith)) (omega arith)
     ]
 
 -- and it is formed
@@ -342,14 +339,14 @@ checkpoint_formed : (text : List ℕ) (k from : ℕ) → start text k + CHANGES_
     → IsFormed (checkpoint_made text k from)
 unfolding checkpoint_made cpu_at
 checkpoint_formed text k from room bytes few =
-    let place = start text k in
+    let offset = start text k in
     record {
-      registers = words_length text (place + REGISTERS_AT) 16;
-      words = λ a. each_word text (place + REGISTERS_AT) 16 a bytes;
-      auxiliary = word_fits text (place + AUXILIARY_AT) bytes;
-      devices = devices_fit text place room bytes few;
+      registers = words_length text (offset + REGISTERS_AT) 16;
+      words = λ a. each_word text (offset + REGISTERS_AT) 16 a bytes;
+      auxiliary = word_fits text (offset + AUXILIARY_AT) bytes;
+      devices = devices_fit text offset room bytes few;
       table = record { count = table_length text k; fit = numbers_fit (page_number_of text k) PLACES (λ p. number_fits text k p bytes) };
-      bytes = All-take (λ byte. byte < 2 ^ 8) (from + word_at text (place + SENT_AT) - from) (drop from text) (All-drop (λ byte. byte < 2 ^ 8) from text bytes);
+      bytes = All-take (λ byte. byte < 2 ^ 8) (from + word_at text (offset + SENT_AT) - from) (drop from text) (All-drop (λ byte. byte < 2 ^ 8) from text bytes);
     }
 
 checkpoints_of : (text : List ℕ) (n : ℕ) → AreBytes text → Meets text → n ≤ checkpoints text → Checkpoints text n
@@ -360,28 +357,28 @@ checkpoints_of text zero bytes meets le =
       count = refl;
       stand = λ i d lt. absurd (omega arith);
       formed = All-nil IsFormed;
-      output = range-none text (output_place text) (output_place text + output_below text 0) (omega arith);
+      output = range-none text (output_offset text) (output_offset text + output_below text 0) (omega arith);
     }
 checkpoints_of text (suc n) bytes meets le =
     let so_far = checkpoints_of text n bytes meets (omega arith) in
     let lt : n < checkpoints text = omega arith in
-    let place = start text n in
-    let from = output_place text + output_below text n in
+    let offset = start text n in
+    let from = output_offset text + output_below text n in
     let room = front_there text n meets lt in
     let fits = output_fits text n meets lt in
-    let few = small text place (ranges_hold text n meets lt) (keys_hold text n meets lt) in
+    let few = small text offset (ranges_hold text n meets lt) (keys_hold text n meets lt) in
     let made = checkpoint_made text n from in
     let count = so_far.count in
     let more = output_below_more text n in
     let next : suc n ≡ n + 1 = omega arith in
-    let below : output_below text (suc n) ≡ output_below text n + word_at text (place + SENT_AT) = ap (output_below text) next ∙ more in
-    let end : output_place text + output_below text (suc n) ≡ from + word_at text (place + SENT_AT) = omega arith in
+    let below : output_below text (suc n) ≡ output_below text n + word_at text (offset + SENT_AT) = ap (output_below text) next ∙ more in
+    let end : output_offset text + output_below text (suc n) ≡ from + word_at text (offset + SENT_AT) = omega arith in
     record {
       list = so_far.list ++ made ∷ [];
       count = omega (arith, length-append so_far.list (made ∷ []));
       stand = checkpoint_stands text n from so_far.list meets lt fits so_far.count so_far.stand;
       formed = All-push IsFormed so_far.list made so_far.formed (checkpoint_formed text n from room bytes few);
-      output = ap (slice_range text (output_place text)) end ∙ output_more text n from so_far.list made meets lt refl so_far.output (sent_is text n from);
+      output = ap (slice_range text (output_offset text)) end ∙ output_more text n from so_far.list made meets lt refl so_far.output (sent_is text n from);
     }
 
 -- a text without fault has a recording
@@ -390,7 +387,7 @@ has_recording text bytes meets =
     let ps = pages_of text (pages text) bytes in
     let es = events_of text (events text) bytes meets (omega arith) in
     let cs = checkpoints_of text (checkpoints text) bytes meets (omega arith) in
-    let output = output_all text (checkpoints text) (output_place text + output_below text (checkpoints text)) cs.list meets refl refl cs.output in
+    let output = output_all text (checkpoints text) (output_offset text + output_below text (checkpoints text)) cs.list meets refl refl cs.output in
     let r : RecordingParts = record { pool = ps.pool; inputs = es.list; checkpoints = cs.list } in
     let laid : IsLaidOut (version text) text r = text_read text ps.pool es.list cs.list meets ps.count ps.stand es.count es.stand cs.count cs.stand output in
     let ordered = events_ordered text es.list meets es.count es.stand in

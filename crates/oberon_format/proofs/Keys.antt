@@ -39,13 +39,13 @@ range-drop xs a n c le =
 pub length-range : (xs : List ℕ) (a b : ℕ) → a ≤ b → b ≤ length xs → length (slice_range xs a b) ≡ b - a
 length-range xs a b ab fits = omega (arith, length-take (b - a) (drop a xs), length-drop a xs)
 
-pub keys-stand : (text : List ℕ) (place : ℕ) → place + CHANGES_AT ≤ length text → are_keys (checkpoint_of text place) ≡ true
-    → slice_range text (place + KEYS_AT) (place + SENT_AT) ≡ slice_range text (place + KEYS_AT) (place + KEYS_AT + word_at text (place + WAITING_AT)) ++ replicate (16 - word_at text (place + WAITING_AT)) 0
-keys-stand text place room h =
-    let n = word_at text (place + WAITING_AT) in
+pub keys-stand : (text : List ℕ) (offset : ℕ) → offset + CHANGES_AT ≤ length text → are_keys (checkpoint_of text offset) ≡ true
+    → slice_range text (offset + KEYS_AT) (offset + SENT_AT) ≡ slice_range text (offset + KEYS_AT) (offset + KEYS_AT + word_at text (offset + WAITING_AT)) ++ replicate (16 - word_at text (offset + WAITING_AT)) 0
+keys-stand text offset room h =
+    let n = word_at text (offset + WAITING_AT) in
     let few : n ≤ 16 = leb-true n 16 (and_left _ _ h) in
-    let rest : drop n (slice_range text (place + KEYS_AT) (place + SENT_AT)) ≡ slice_range text (place + KEYS_AT + n) (place + SENT_AT) = range-drop text (place + KEYS_AT) n (place + SENT_AT) (omega arith) in
-    let zeros = zeros-are (slice_range text (place + KEYS_AT + n) (place + SENT_AT)) (subst (λ (l : List ℕ). list_all (λ b. eqb b 0) l ≡ true) rest (and_right (nat_le n 16) _ h)) in
-    let len : length (slice_range text (place + KEYS_AT + n) (place + SENT_AT)) ≡ 16 - n = omega (arith, length-range text (place + KEYS_AT + n) (place + SENT_AT) (omega arith) (omega arith)) in
-    range-split text (place + KEYS_AT) (place + KEYS_AT + n) (place + SENT_AT) (omega arith) (omega arith) (omega arith)
-    ∙ ap (λ (r : List ℕ). slice_range text (place + KEYS_AT) (place + KEYS_AT + n) ++ r) (zeros ∙ ap (λ (m : ℕ). replicate m 0) len)
+    let rest : drop n (slice_range text (offset + KEYS_AT) (offset + SENT_AT)) ≡ slice_range text (offset + KEYS_AT + n) (offset + SENT_AT) = range-drop text (offset + KEYS_AT) n (offset + SENT_AT) (omega arith) in
+    let zeros = zeros-are (slice_range text (offset + KEYS_AT + n) (offset + SENT_AT)) (subst (λ (l : List ℕ). list_all (λ b. eqb b 0) l ≡ true) rest (and_right (nat_le n 16) _ h)) in
+    let len : length (slice_range text (offset + KEYS_AT + n) (offset + SENT_AT)) ≡ 16 - n = omega (arith, length-range text (offset + KEYS_AT + n) (offset + SENT_AT) (omega arith) (omega arith)) in
+    range-split text (offset + KEYS_AT) (offset + KEYS_AT + n) (offset + SENT_AT) (omega arith) (omega arith) (omega arith)
+    ∙ ap (λ (r : List ℕ). slice_range text (offset + KEYS_AT) (offset + KEYS_AT + n) ++ r) (zeros ∙ ap (λ (m : ℕ). replicate m 0) len)

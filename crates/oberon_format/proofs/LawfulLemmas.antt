@@ -1,15 +1,16 @@
 -- Parts are lawful exactly where the text laid out of them has no fault, in either version.
 use Rattle.std.proofs.Common.{◌≡◌, ◌<◌, ◌≤◌, ◌+◌, ◌-◌, ◌∙◌, ℕ, zero, suc, Bool, true, ◌&&◌, eqb, List, [], ◌∷◌, ◌++◌, map, get_or, length, None, refl, sym, ap, subst, arith, add-one, eq-eqb, false, Option, Some, inl, inr}
-use Rattle.std.specs.Prelude.{slice_index, replicate, nat_le, nat_lt, not, if◌then◌else◌, ◌==◌}
+use Rattle.std.specs.Prelude.{slice_index, replicate, nat_le, nat_lt, if◌then◌else◌, ◌==◌}
 use Rattle.std.specs.List.{list_all}
 use Rattle.std.specs.Option.{IfNone}
-use Rattle.std.proofs.lemmas.Bool.{le-leb, lt-ltb, leb-true, ltb-true, ne_eqb}
-use Rattle.std.proofs.lemmas.List.{drop_at, get_or_default}
+use Rattle.std.proofs.lemmas.Bool.{le-leb, lt-ltb, leb-true, ltb-true}
+use Rattle.std.proofs.lemmas.List.{drop_at, get_or_default, nil_from_length}
 use Rattle.std.proofs.lemmas.Bool.Decides.{nat_tests}
 use Rattle.risc_core.specs.declared.branch.TheConstants.{COUNTER_END}
 use Rattle.risc_core.specs.Flags.{flags_number}
 use Rattle.risc_core.proofs.FlagsLemmas.{number_below}
 use Rattle.risc_devices.specs.DeviceState.{DeviceState, IsDeviceState, is_phase, serial_number}
+use Rattle.risc_pages.proofs.PoolLemmas.{zero_number}
 use Rattle.risc_devices.specs.InputKind.{is_input, is_mouse}
 use Rattle.risc_machine.specs.declared.event.Event.{Event}
 use Rattle.risc_machine.specs.InputOrder.{AreOrdered}
@@ -31,9 +32,10 @@ use Rattle.oberon_format.specs.Ranges.{is_version, is_count, is_output, in_range
 use Rattle.oberon_format.specs.Recording.{RecordingParts, IsLawful, checkpoint_at, count_at, table_before, output_of}
 use Rattle.oberon_format.specs.Rules.{header_rules, limit_rules, named_len, event_rules, event_floor, place_floor, stood, count_before, checkpoint_rules, rules}
 use Rattle.oberon_format.proofs.ChangeLemmas.{change_in, after-bounded, changes-lawful, changes-make, changes-new}
-use Rattle.oberon_format.proofs.PartLemmas.{member, event_here, before_more, sent_none, sent_more, sent_all, stood_laid, table_next, zero_number, total_le, laid_few, laid_first, laid_le, changed_room, ends_met}
+use Rattle.oberon_format.proofs.PartLemmas.{member, event_here, before_more, sent_none, sent_more, sent_all, stood_laid, table_next, total_rises, laid_few, laid_first, laid_rises, changed_room, ends_met}
 use Rattle.oberon_format.proofs.RuleLemmas.{any_in_end, any_in_checkpoints, AreMet, met_parts, parts_met, each_holds, each_all, and_left, and_right, version_cases, ChangedMet, whole_met, whole_meets, changed_met, changed_meets}
-use Rattle.oberon_format.proofs.Tables.{change_named}
+use Rattle.oberon_format.proofs.Tables.{change_named, change_same}
+use Rattle.oberon_format.proofs.Walk.{number_tested}
 
 -- zeros are zeros
 zeros_met : (n : ℕ) → list_all (λ byte. eqb byte 0) (replicate n 0) ≡ true
@@ -83,7 +85,7 @@ header_within f h = record {
 }
 
 -- rules that hold behind others
-end_met : (xs rest : List Rule) → first_broken rest ≡ None → first_broken (xs ++ rest) ≡ first_broken xs
+end_met : (xs rest : List (Rule Fault)) → first_broken rest ≡ None → first_broken (xs ++ rest) ≡ first_broken xs
 end_met [] rest h = h
 end_met ((true, f) ∷ xs) rest h = end_met xs rest h
 end_met ((false, f) ∷ xs) rest h = refl
@@ -93,7 +95,7 @@ named_there : (v : ℕ) (r : RecordingParts) → nat_le (named_len (fields_laid 
 named_there v r = le-leb _ _ (go (v == FIRST_VERSION)) where
   go : (b : Bool) → (if b then start_laid v r (length r.checkpoints) else start_laid v r 0) ≤ start_laid v r (length r.checkpoints) + length (output_of r.checkpoints)
   go true = omega arith
-  go false = let up = laid_le v r 0 (length r.checkpoints) (omega arith) in omega arith
+  go false = let up = laid_rises v r 0 (length r.checkpoints) (omega arith) in omega arith
 
 -- the header of parts has the fault of its limits
 pub parts_limits : (v : ℕ) (r : RecordingParts) → is_version v ≡ true
@@ -101,11 +103,11 @@ pub parts_limits : (v : ℕ) (r : RecordingParts) → is_version v ≡ true
 parts_limits v r known =
     let f = fields_laid v r in
     let first = laid_first v r in
-    let up = laid_le v r 0 (length r.checkpoints) (omega arith) in
+    let up = laid_rises v r 0 (length r.checkpoints) (omega arith) in
     let a : nat_le HEADER_LEN f.long ≡ true = le-leb _ _ (omega arith) in
     let b : nat_le (named_len f) f.long ≡ true = named_there v r in
     let limits = limit_rules (length r.pool) (length r.inputs) (length r.checkpoints) in
-    let rest = λ (holds : Bool). (let xs : List Rule = (true, fault.Limit LAST_AT) ∷ (holds, fault.Short f.long) ∷ [] in xs) in
+    let rest = λ (holds : Bool). (let xs : List (Rule Fault) = (true, fault.Limit LAST_AT) ∷ (holds, fault.Short f.long) ∷ [] in xs) in
     let ends : first_broken (rest (nat_le (named_len f) f.long)) ≡ None = ap (λ (holds : Bool). first_broken (rest holds)) b in
     rw (a, known) (end_met limits (rest (nat_le (named_len f) f.long)) ends)
 
@@ -135,10 +137,6 @@ bounded_output k sent own h = grind (arith, nat_tests)
 
 next_output : (k sent own : ℕ) → sent + own ≤ MAX_OUTPUT → is_output (k + 1) sent own ≡ true
 next_output k sent own h = grind (arith, nat_tests)
-
-length_nil : (xs : List ℕ) → length xs ≡ 0 → xs ≡ []
-length_nil [] h = refl
-length_nil (x ∷ xs) h = absurd (omega arith)
 
 -- a checkpoint whose fields are in their ranges
 record FieldsMet (v : ℕ) (r : RecordingParts) (k : ℕ) : Type 0 where
@@ -186,7 +184,7 @@ changed_numbers v r k p later met lt old =
 -- and so the numbers of all tables name pages
 all_numbers : (v : ℕ) (r : RecordingParts) (n : ℕ) → v ≡ VERSION → ((k : ℕ) → k < n → ChangedMet (fields_laid v r) k) → (k p : ℕ) → k ≤ n → p < PLACES
     → slice_index (table_before r.checkpoints k) p ≤ length r.pool
-all_numbers v r n later met zero p le lt = let none = zero_number p lt in omega arith
+all_numbers v r n later met zero p le lt = let none = zero_number p in omega arith
 all_numbers v r n later met (suc k) p le lt =
     let so_far = all_numbers v r n later met k p (omega arith) lt in
     subst (λ (table : List ℕ). slice_index table p ≤ length r.pool) (sym (table_next r.checkpoints k))
@@ -230,7 +228,7 @@ met_lawful v r known pages ordered formed met =
       begins = first_count (count_before f 0) (count_at r 0) zero_met.count;
       rises = λ k lt.
           subst (λ (m : ℕ). m < count_at r (k + 1)) (before_more f k) (next_count k (count_before f (k + 1)) (count_at r (k + 1)) (each_met (k + 1) lt).count);
-      silent = length_nil (checkpoint_at r 0).sent (first_output (sent_below f 0) (length (checkpoint_at r 0).sent) zero_met.output);
+      silent = nil_from_length (checkpoint_at r 0).sent (first_output (sent_below f 0) (length (checkpoint_at r 0).sent) zero_met.output);
       output = omega arith;
       fit = λ k lt.
           let m = each_met k lt in
@@ -295,7 +293,7 @@ output_met v r (suc k) lawful lt =
     let n = length r.checkpoints in
     let next : suc k ≡ k + 1 = sym (add-one k) in
     let more = sent_more f (k + 1) in
-    let up = total_le (λ i. (f.checkpoint i).output) (k + 1 + 1) n (omega arith) in
+    let up = total_rises (λ i. (f.checkpoint i).output) (k + 1 + 1) n (omega arith) in
     let all = sent_all v r in
     let limit = lawful.output in
     let fits : sent_below f (k + 1) + length (checkpoint_at r (k + 1)).sent ≤ MAX_OUTPUT = omega arith in
@@ -308,9 +306,6 @@ numbers_met r k p lawful lt less =
     let fit = lawful.fit k lt in
     fit.named p 0 (subst (λ (m : ℕ). p < m) (sym fit.table.count) less)
 
-all_four : (a b c d : Bool) → a ≡ true → b ≡ true → c ≡ true → d ≡ true → (a && b && c && d) ≡ true
-all_four a b c d ha hb hc hd = rw (ha, hb, hc, hd) refl
-
 -- the changes of a lawful recording
 change_met : (v : ℕ) (r : RecordingParts) (k i : ℕ) → IsLawful r → k < length r.checkpoints
     → i < length (changes (table_before r.checkpoints k) (checkpoint_at r k).table)
@@ -320,15 +315,17 @@ change_met v r k i lawful lt less =
     let before = table_before r.checkpoints k in
     let table = (checkpoint_at r k).table in
     let c = change_in before table i in
-    let are = changes-lawful before table in
-    let inside : c.place < PLACES = are.inside i less in
+    let inside : c.place < PLACES = (changes-lawful before table).inside i less in
     let named : c.number ≤ length r.pool = subst (λ (n : ℕ). n ≤ length r.pool) (sym (changes-new before table i less)) (numbers_met r k c.place lawful lt inside) in
-    let differs : (c.number == stood (fields_laid v r) k c.place) ≡ false = ne_eqb _ _ (λ e. are.differs i less (e ∙ stood_laid v r k c.place inside)) in
-    all_four _ _ _ _ (le-leb _ _ (are.rises i less)) (lt-ltb _ _ inside) (le-leb _ _ named) (ap not differs)
+    change_same (length r.pool) (place_floor (change_in before table) i) (stood (fields_laid v r) k) (slice_index before) c (λ p above lt. stood_laid v r k p lt)
+    ∙ number_tested (length r.pool) i before table less ∙ le-leb _ _ named
 
 -- each checkpoint is there
 laid_there : (v : ℕ) (r : RecordingParts) (k : ℕ) → k < length r.checkpoints → start_laid v r (suc k) ≤ (fields_laid v r).long
-laid_there v r k lt = let up = laid_le v r (suc k) (length r.checkpoints) (omega arith) in omega arith
+laid_there v r k lt = let up = laid_rises v r (suc k) (length r.checkpoints) (omega arith) in omega arith
+
+all_four : (a b c d : Bool) → a ≡ true → b ≡ true → c ≡ true → d ≡ true → (a && b && c && d) ≡ true
+all_four a b c d ha hb hc hd = rw (ha, hb, hc, hd) refl
 
 checkpoint_rules_met : (v : ℕ) (r : RecordingParts) (k : ℕ) → is_version v ≡ true → AreFormed r.checkpoints → IsLawful r → k < length r.checkpoints
     → first_broken (checkpoint_rules (fields_laid v r) k) ≡ None

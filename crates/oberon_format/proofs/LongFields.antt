@@ -5,17 +5,18 @@ use Rattle.std.proofs.Common.{◌≡◌, ◌≤◌, ◌<◌, ◌+◌, ◌-◌, �
 use Rattle.std.specs.Prelude.{nat_le}
 use Rattle.std.proofs.lemmas.Bool.{and_parts, cases_lt, le-leb, leb-true}
 use Rattle.oberon_format.specs.declared.change.Change.{Change}
+use Rattle.oberon_format.specs.declared.fault.Fault.{Fault}
 use Rattle.oberon_format.specs.declared.fault.Fault.TheVariants as fault
 use Rattle.oberon_format.specs.declared.fields.CheckpointFields.{CheckpointFields}
 use Rattle.oberon_format.specs.declared.layout.TheConstants.{LONGEST_TEXT, MAGIC, FIRST_VERSION, HEADER_LEN, PLACES, CHANGES_AT, CHANGE_LEN, MAGIC_AT, VERSION_AT, PAGES_AT, EVENTS_AT, CHECKPOINTS_AT, LAST_AT}
 use Rattle.oberon_format.specs.declared.ranges.TheConstants.{MAX_OUTPUT, MAX_PAGES, MAX_EVENTS, MAX_CHECKPOINTS}
 use Rattle.oberon_format.specs.Fields.{EventFields, Fields, sent_below, total}
 use Rattle.oberon_format.specs.FirstFault.{Rule, each, first_broken}
-use Rattle.oberon_format.specs.Layout.{event_start, page_number_place, change_place}
+use Rattle.oberon_format.specs.Layout.{event_start, page_number_offset, change_offset}
 use Rattle.oberon_format.specs.Ranges.{is_change, is_checkpoint, is_event, is_version}
-use Rattle.oberon_format.specs.Rules.{change_rules, changed_rules, checkpoint_rules, count_before, end_rules, event_floor, event_rules, header_rules, named_len, page_number_rules, place_floor, place_of_event, rules, stood, whole, whole_rules}
+use Rattle.oberon_format.specs.Rules.{change_rules, changed_rules, checkpoint_rules, count_before, end_rules, event_floor, event_rules, header_rules, named_len, page_number_rules, place_floor, offset_of_event, rules, stood, whole, whole_rules}
 use Rattle.oberon_format.proofs.RuleLemmas.{and_left, and_right, met_left, met_right, rule_holds}
-use Rattle.oberon_format.proofs.SameFields.{total_same}
+use Rattle.oberon_format.proofs.SameFields.{before_same, sent_same, stood_same}
 use Rattle.oberon_format.proofs.SameRules.{both_pass, each_same, same_after, same_behind, same_rule, too_long}
 use Rattle.oberon_format.proofs.Tables.{change_same}
 
@@ -30,7 +31,7 @@ abbrev pub most : ℕ → ℕ → ℕ → ℕ
 most pages events k = event_start pages events + (CHANGES_AT + CHANGE_LEN * PLACES) * k
 
 -- four parts of rules, joined from the right
-regrouped : (a b c d : List Rule) → a ++ b ++ c ++ d ≡ a ++ (b ++ (c ++ d))
+regrouped : (a b c d : List (Rule Fault)) → a ++ b ++ c ++ d ≡ a ++ (b ++ (c ++ d))
 regrouped a b c d = append_assoc (a ++ b) c d ∙ append_assoc a b (c ++ d)
 
 -- what the ranges of a checkpoint say of its output and its changes
@@ -84,22 +85,10 @@ module _ (first version pages events checkpoints last : ℕ) where
       pub of_changes : (checkpoint k).changes ≤ PLACES → (i : ℕ) → i < (checkpoint k).changes → change k i ≡ change' k i
       pub of_numbers : (checkpoint k).changes ≤ PLACES → (p : ℕ) → p < PLACES → number k p ≡ number' k p
 
-    -- what the rules of a checkpoint look at before it
-    before_same : (k : ℕ) → AgreeBelow k → count_before f k ≡ count_before g k
-    before_same zero below = refl
-    before_same (suc k) below = ap (λ (c : CheckpointFields). if suc k == 0 then 0 else c.count) (below.of_checkpoints (suc k - 1) (omega arith))
-
-    sent_same : (k : ℕ) → ((j : ℕ) → j < k → checkpoint j ≡ checkpoint' j) → sent_below f k ≡ sent_below g k
-    sent_same k same = total_same _ _ k (λ i under. ap (λ (c : CheckpointFields). c.output) (same i under))
-
-    stood_same : (k : ℕ) → AgreeBelow k → (p : ℕ) → p < PLACES → stood f k p ≡ stood g k p
-    stood_same zero below p less = refl
-    stood_same (suc k) below p less = ap (λ (n : ℕ). if suc k == 0 then 0 else n) (below.of_numbers (suc k - 1) p (omega arith) less)
-
     fields_same : (k : ℕ) → AgreeBelow k → AgreeAt k
         → is_checkpoint k (count_before f k) (sent_below f k) (checkpoint k) ≡ is_checkpoint k (count_before g k) (sent_below g k) (checkpoint' k)
     fields_same k below here =
-        ap₂ (λ (x y : ℕ). is_checkpoint k x y (checkpoint k)) (before_same k below) (sent_same k below.of_checkpoints)
+        ap₂ (λ (x y : ℕ). is_checkpoint k x y (checkpoint k)) (before_same f g k below.of_checkpoints) (sent_same f g k below.of_checkpoints)
         ∙ ap (λ (c : CheckpointFields). is_checkpoint k (count_before g k) (sent_below g k) c) here.of_checkpoint
 
     -- the rules of a checkpoint of version 1
@@ -109,7 +98,7 @@ module _ (first version pages events checkpoints last : ℕ) where
         (fields_same k below here) (ap (λ (n : ℕ). fault.Checkpoint n) below.place) (λ met.
         let few = changes_within k (count_before f k) (sent_below f k) (checkpoint k) met in
         ap first_broken (each_same PLACES (page_number_rules pages (start k) (number k)) (page_number_rules pages (start' k) (number' k))
-        (λ j less. ap₂ (λ (n place : ℕ). (nat_le n pages, fault.Page (page_number_place place j)) ∷ []) (here.of_numbers few j less) below.place)))
+        (λ j less. ap₂ (λ (n offset : ℕ). (nat_le n pages, fault.Page (page_number_offset offset j)) ∷ []) (here.of_numbers few j less) below.place)))
 
     -- the rules of the changes of one of version 2
     changes_same : (k : ℕ) → AgreeBelow k → AgreeAt k → (checkpoint k).changes ≤ PLACES
@@ -122,9 +111,9 @@ module _ (first version pages events checkpoints last : ℕ) where
         let floor : place_floor (change k) i ≡ place_floor (change' k) i =
         ap (λ (c : Change). if i == 0 then 0 else c.place + 1) (here.of_changes few (i - 1) (omega arith)) in
         let lawful : is_change pages (place_floor (change k) i) (stood f k) (change k i) ≡ is_change pages (place_floor (change' k) i) (stood g k) (change' k i) =
-        change_same pages (place_floor (change k) i) (stood f k) (stood g k) (change k i) (λ p low inside. stood_same k below p inside)
+        change_same pages (place_floor (change k) i) (stood f k) (stood g k) (change k i) (λ p low inside. stood_same f g k p (λ j under. below.of_numbers j p under inside))
         ∙ ap₂ (λ (n : ℕ) (c : Change). is_change pages n (stood g k) c) floor one in
-        ap₂ (λ (holds : Bool) (place : ℕ). (holds, fault.Page (change_place place i)) ∷ []) lawful below.place)
+        ap₂ (λ (holds : Bool) (offset : ℕ). (holds, fault.Page (change_offset offset i)) ∷ []) lawful below.place)
         ∙ ap (λ (c : CheckpointFields). each c.changes (change_rules pages (start' k) (stood g k) (change' k))) here.of_checkpoint
 
     module _ (few : AreFew pages events checkpoints) (over : LONGEST_TEXT < long) (over' : LONGEST_TEXT < long') where
@@ -134,7 +123,7 @@ module _ (first version pages events checkpoints last : ℕ) where
           let few_pages = few.of_pages in
           let few_events = few.of_events in
           let few_checkpoints = few.of_checkpoints in
-          let place = below.place in
+          let offset = below.place in
           let near = below.near in
           let rows = each (checkpoint k).changes (change_rules pages (start k) (stood f k) (change k)) in
           let rows' = each (checkpoint' k).changes (change_rules pages (start' k) (stood g k) (change' k)) in
@@ -236,14 +225,14 @@ module _ (first version pages events checkpoints last : ℕ) where
             let few_checkpoints = few.of_checkpoints in
             let near = below.near in
             let sent = below.sent in
-            let whole_is : whole f ≡ whole g = ap₂ (λ (a b : ℕ). a + b) below.place (sent_same checkpoints below.of_checkpoints) in
+            let whole_is : whole f ≡ whole g = ap₂ (λ (a b : ℕ). a + b) below.place (sent_same f g checkpoints below.of_checkpoints) in
             too_long (whole f) long (omega arith) ∙ ap (λ (n : ℕ). Some (fault.Trailing n)) whole_is ∙ sym (too_long (whole g) long' (omega arith))
 
         -- the rules of one event
         event_same : (i : ℕ) → i < events → ((j : ℕ) → j < events → event j ≡ event' j) → event_rules f i ≡ event_rules g i
         event_same i below same =
             let floor_same : event_floor f i ≡ event_floor g i = ap (λ (e : EventFields). if i == 0 then 0 else e.count) (same (i - 1) (omega arith)) in
-            ap₂ (λ (floor : ℕ) (e : EventFields). (is_event floor e, fault.Event (place_of_event f i)) ∷ []) floor_same (same i below)
+            ap₂ (λ (floor : ℕ) (e : EventFields). (is_event floor e, fault.Event (offset_of_event f i)) ∷ []) floor_same (same i below)
 
         -- the rules after the header
         tail_same : ((j : ℕ) → j < events → event j ≡ event' j)
@@ -267,29 +256,29 @@ module _ (first version pages events checkpoints last : ℕ) where
 
     module _ (agree : AreFew pages events checkpoints → Agree) (over : LONGEST_TEXT < long) (over' : LONGEST_TEXT < long') where
       -- the rules from each of the header on
-      abbrev from_size : ℕ → ℕ → List Rule → List Rule
+      abbrev from_size : ℕ → ℕ → List (Rule Fault) → List (Rule Fault)
       from_size named n rest = (nat_le named n, fault.Short n) ∷ rest
 
-      abbrev from_last : ℕ → ℕ → List Rule → List Rule
+      abbrev from_last : ℕ → ℕ → List (Rule Fault) → List (Rule Fault)
       from_last named n rest = (last == 0, fault.Limit LAST_AT) ∷ from_size named n rest
 
-      abbrev from_checkpoints : ℕ → ℕ → List Rule → List Rule
+      abbrev from_checkpoints : ℕ → ℕ → List (Rule Fault) → List (Rule Fault)
       from_checkpoints named n rest = (nat_le 1 checkpoints && nat_le checkpoints MAX_CHECKPOINTS, fault.Limit CHECKPOINTS_AT) ∷ from_last named n rest
 
-      abbrev from_events : ℕ → ℕ → List Rule → List Rule
+      abbrev from_events : ℕ → ℕ → List (Rule Fault) → List (Rule Fault)
       from_events named n rest = (nat_le events MAX_EVENTS, fault.Limit EVENTS_AT) ∷ from_checkpoints named n rest
 
-      abbrev from_pages : ℕ → ℕ → List Rule → List Rule
+      abbrev from_pages : ℕ → ℕ → List (Rule Fault) → List (Rule Fault)
       from_pages named n rest = (nat_le pages MAX_PAGES, fault.Limit PAGES_AT) ∷ from_events named n rest
 
-      abbrev from_version : ℕ → ℕ → List Rule → List Rule
+      abbrev from_version : ℕ → ℕ → List (Rule Fault) → List (Rule Fault)
       from_version named n rest = (is_version version, fault.Version VERSION_AT) ∷ from_pages named n rest
 
-      abbrev from_magic : ℕ → ℕ → List Rule → List Rule
+      abbrev from_magic : ℕ → ℕ → List (Rule Fault) → List (Rule Fault)
       from_magic named n rest = (first == MAGIC, fault.Magic MAGIC_AT) ∷ from_version named n rest
 
       -- rules behind the header, which speak only of texts that name few enough parts
-      header_same : (p q : List Rule) → (AreFew pages events checkpoints → first_broken p ≡ first_broken q)
+      header_same : (p q : List (Rule Fault)) → (AreFew pages events checkpoints → first_broken p ≡ first_broken q)
           → first_broken (header_rules f ++ p) ≡ first_broken (header_rules g ++ q)
       header_same p q same =
           let a = named_len f in

@@ -12,25 +12,25 @@ use Rattle.oberon_format.specs.Rules.{changed_rules, checkpoint_rules, end_rules
 use Rattle.oberon_format.specs.TextFields.{fields_of, first_fault_of}
 
 -- the first broken rule names a fault
-AreNamed : List Rule → Type 0
+AreNamed : List (Rule Fault) → Type 0
 AreNamed rs = IfSome (first_broken rs) IsNamedFault
 
 named_nil : AreNamed []
 unfolding AreNamed
 named_nil = tt
 
-named_cons : (holds : Bool) (fault : Fault) (rs : List Rule) → IsNamedFault fault → AreNamed rs → AreNamed ((holds, fault) ∷ rs)
+named_cons : (holds : Bool) (fault : Fault) (rs : List (Rule Fault)) → IsNamedFault fault → AreNamed rs → AreNamed ((holds, fault) ∷ rs)
 unfolding AreNamed
 named_cons true fault rs named rest = rest
 named_cons false fault rs named rest = named
 
-named_append : (rs more : List Rule) → AreNamed rs → AreNamed more → AreNamed (rs ++ more)
+named_append : (rs more : List (Rule Fault)) → AreNamed rs → AreNamed more → AreNamed (rs ++ more)
 unfolding AreNamed
 named_append [] more first rest = rest
 named_append ((true, fault) ∷ rs) more first rest = named_append rs more first rest
 named_append ((false, fault) ∷ rs) more first rest = first
 
-named_each : (n : ℕ) (of : ℕ → List Rule) → ((k : ℕ) → AreNamed (of k)) → AreNamed (each n of)
+named_each : (n : ℕ) (of : ℕ → List (Rule Fault)) → ((k : ℕ) → AreNamed (of k)) → AreNamed (each n of)
 unfolding each
 named_each zero of named = named_nil
 named_each (suc n) of named = named_append (each n of) (of n) (named_each n of named) (named n)

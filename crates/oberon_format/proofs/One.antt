@@ -1,9 +1,9 @@
 -- A text is that of at most one recording.
-use Rattle.std.proofs.Common.{◌≡◌, ◌<◌, ◌+◌, ◌-◌, ◌/◌, ◌%◌, ◌^◌, ◌∙◌, ℕ, zero, suc, Bool, true, false, List, [], ◌∷◌, length, take, drop, get_or, refl, sym, ap, subst, inl, inr, arith}
+use Rattle.std.proofs.Common.{◌≡◌, ◌<◌, ◌+◌, ◌-◌, ◌^◌, ◌∙◌, ℕ, zero, suc, true, false, List, [], ◌∷◌, length, take, drop, get_or, refl, sym, ap, subst, inl, inr, arith}
 use Rattle.std.proofs.Props.{props}
 use Rattle.std.specs.Prelude.{replicate, slice_index, ◌==◌}
 use Rattle.std.proofs.lemmas.Bool.{ne_eqb}
-use Rattle.std.proofs.lemmas.List.{take_at, drop_at, get_or_default}
+use Rattle.std.proofs.lemmas.List.{take_at, drop_at, get_or_default, same_lists}
 use Rattle.risc_core.specs.Flags.{flags_number, flags_of}
 use Rattle.risc_core.specs.declared.flags.Flags.{Flags}
 use Rattle.risc_core.proofs.FlagsLemmas.{flags_back}
@@ -18,26 +18,16 @@ use Rattle.oberon_format.specs.declared.change.Change.{Change}
 use Rattle.oberon_format.specs.declared.layout.TheConstants.{PLACES, TABLE_AT}
 use Rattle.oberon_format.specs.Changes.{changes, no_change, number_after}
 use Rattle.oberon_format.specs.CheckpointParts.{CheckpointParts, no_checkpoint}
-use Rattle.oberon_format.specs.Layout.{version, page_place, event_place, change_place, start}
+use Rattle.oberon_format.specs.Layout.{version, page_offset, event_offset, change_offset, start}
 use Rattle.oberon_format.specs.Ranges.{is_version}
 use Rattle.oberon_format.specs.Recording.{RecordingParts, IsFit, checkpoint_at, table_before, output_of}
 use Rattle.oberon_format.specs.Text.{AreWords, IsEvent, IsCpu, IsDevices, IsWhole, IsChange, IsChanged, IsCheckpoint, TextIn, Text}
 use Rattle.oberon_format.proofs.ChangeLemmas.{changes-make}
 use Rattle.oberon_format.proofs.RuleLemmas.{version_cases}
 
--- lists of one length with the same members
-same_members : {X : Type 0} (xs ys : List X) → length xs ≡ length ys → ((i : ℕ) (d : X) → i < length xs → get_or xs i d ≡ get_or ys i d) → xs ≡ ys
-same_members {X} [] [] len each = refl
-same_members {X} [] (y ∷ ys) len each = absurd (omega arith)
-same_members {X} (x ∷ xs) [] len each = absurd (omega arith)
-same_members {X} (x ∷ xs) (y ∷ ys) len each =
-    let first : x ≡ y = each 0 x (omega arith) in
-    let rest : xs ≡ ys = same_members xs ys (omega arith) (λ i d lt. each (suc i) d (omega arith)) in
-    λ i. first i ∷ rest i
-
 -- words that stand at one place
-same_words : (text : List ℕ) (place : ℕ) (xs ys : List ℕ) → length xs ≡ length ys → AreWords text place xs → AreWords text place ys → xs ≡ ys
-same_words text place xs ys len a b = same_members xs ys len (λ i d lt. sym (a i d lt) ∙ b i d (omega arith))
+same_words : (text : List ℕ) (offset : ℕ) (xs ys : List ℕ) → length xs ≡ length ys → AreWords text offset xs → AreWords text offset ys → xs ≡ ys
+same_words text offset xs ys len a b = same_lists xs ys len (λ i d lt. sym (a i d lt) ∙ b i d (omega arith))
 
 -- events of one count and one input
 event_of_parts : (count : ℕ) (input : Input) → count < 2 ^ 64 → Event
@@ -52,25 +42,25 @@ same_event e f counts inputs =
     let P : Input → Type 0 = λ i. event_of_parts e.count e.input e.range ≡ event_of_parts f.count i f.range in
     subst P inputs (subst Q counts base f.range)
 
-same_event_at : (text : List ℕ) (place : ℕ) (e f : Event) → IsEvent text place e → IsEvent text place f → e ≡ f
-same_event_at text place e f a b =
+same_event_at : (text : List ℕ) (offset : ℕ) (e f : Event) → IsEvent text offset e → IsEvent text offset f → e ≡ f
+same_event_at text offset e f a b =
     same_event e f (sym a.count ∙ b.count) (same_input e.input f.input (sym a.kind ∙ b.kind) (sym a.value ∙ b.value))
 
 -- flags of one number
 same_flags : (f g : Flags) → flags_number f ≡ flags_number g → f ≡ g
 same_flags f g number = sym (flags_back f) ∙ ap flags_of number ∙ flags_back g
 
-same_cpu : (text : List ℕ) (place : ℕ) (a b : CpuState) → IsCpuState a → IsCpuState b → IsCpu text place a → IsCpu text place b → a ≡ b
-same_cpu text place a b fit_a fit_b x y =
-    let registers : a.r ≡ b.r = same_words text (place + 8) a.r b.r (fit_a.count ∙ sym fit_b.count) x.registers y.registers in
+same_cpu : (text : List ℕ) (offset : ℕ) (a b : CpuState) → IsCpuState a → IsCpuState b → IsCpu text offset a → IsCpu text offset b → a ≡ b
+same_cpu text offset a b fit_a fit_b x y =
+    let registers : a.r ≡ b.r = same_words text (offset + 8) a.r b.r (fit_a.count ∙ sym fit_b.count) x.registers y.registers in
     let flags : a.flags ≡ b.flags = same_flags a.flags b.flags (sym x.flags ∙ y.flags) in
     let h : a.h ≡ b.h = sym x.h ∙ y.h in
     let pc : a.pc ≡ b.pc = sym x.pc ∙ y.pc in
     let stop : a.stop ≡ b.stop = sym x.stop ∙ y.stop in
     λ i. record { r = registers i; h = h i; pc = pc i; flags = flags i; stop = stop i }
 
-same_devices_at : (text : List ℕ) (place : ℕ) (a b : DeviceState) → IsDeviceState a → IsDeviceState b → a.rate ≡ b.rate → a.phase ≡ b.phase → IsDevices text place a → IsDevices text place b → a ≡ b
-same_devices_at text place a b fit_a fit_b rate phase x y =
+same_devices_at : (text : List ℕ) (offset : ℕ) (a b : DeviceState) → IsDeviceState a → IsDeviceState b → a.rate ≡ b.rate → a.phase ≡ b.phase → IsDevices text offset a → IsDevices text offset b → a ≡ b
+same_devices_at text offset a b fit_a fit_b rate phase x y =
     let len : length a.keys ≡ length b.keys = sym x.waiting ∙ y.waiting in
     let keys : a.keys ≡ b.keys =
     sym (take_at a.keys (replicate (16 - length a.keys) 0) (length b.keys) len) ∙ ap (take (length b.keys)) (sym x.keys ∙ y.keys) ∙ take_at b.keys (replicate (16 - length b.keys) 0) (length b.keys) refl in
@@ -96,16 +86,16 @@ record SameRest (c d : CheckpointParts) : Type 0 where
   table : c.table ≡ d.table
 
 -- in version 1, where it stands at one place
-whole_same : (text : List ℕ) (place : ℕ) (c d : CheckpointParts) → IsTable c.table → IsTable d.table → IsWhole text place c → IsWhole text place d → SameRest c d
-whole_same text place c d fit_c fit_d x y = record {
+whole_same : (text : List ℕ) (offset : ℕ) (c d : CheckpointParts) → IsTable c.table → IsTable d.table → IsWhole text offset c → IsWhole text offset d → SameRest c d
+whole_same text offset c d fit_c fit_d x y = record {
   rate = x.rate ∙ sym y.rate;
   phase = x.phase ∙ sym y.phase;
-  table = same_words text (place + TABLE_AT) c.table d.table (fit_c.count ∙ sym fit_d.count) x.table y.table;
+  table = same_words text (offset + TABLE_AT) c.table d.table (fit_c.count ∙ sym fit_d.count) x.table y.table;
 }
 
 -- changes that stand at one place
-same_change : (text : List ℕ) (place : ℕ) (a b : Change) → IsChange text place a → IsChange text place b → a ≡ b
-same_change text place a b x y =
+same_change : (text : List ℕ) (offset : ℕ) (a b : Change) → IsChange text offset a → IsChange text offset b → a ≡ b
+same_change text offset a b x y =
     let places : a.place ≡ b.place = sym x.place ∙ y.place in
     let numbers : a.number ≡ b.number = sym x.number ∙ y.number in
     λ i. record { place = places i; number = numbers i }
@@ -118,34 +108,34 @@ same_made before xs ys fit_x fit_y same =
     let made : List Change → ℕ → ℕ = λ cs p. number_after (λ i. get_or cs i no_change) (slice_index before) (length cs) p in
     let at : (p : ℕ) → p < PLACES → slice_index xs p ≡ slice_index ys p =
     λ p lt. sym (changes-make before xs p lt) ∙ ap (λ (cs : List Change). made cs p) same ∙ changes-make before ys p lt in
-    same_members xs ys (count_x ∙ sym count_y) (λ p d lt. get_or_default xs p d 0 lt ∙ at p (omega arith) ∙ get_or_default ys p 0 d (omega arith))
+    same_lists xs ys (count_x ∙ sym count_y) (λ p d lt. get_or_default xs p d 0 lt ∙ at p (omega arith) ∙ get_or_default ys p 0 d (omega arith))
 
 -- in version 2, where it stands at one place after one table
-changed_same : (text : List ℕ) (place : ℕ) (before : List ℕ) (c d : CheckpointParts) → IsTable c.table → IsTable d.table → IsChanged text place before c → IsChanged text place before d → SameRest c d
-changed_same text place before c d fit_c fit_d x y =
+changed_same : (text : List ℕ) (offset : ℕ) (before : List ℕ) (c d : CheckpointParts) → IsTable c.table → IsTable d.table → IsChanged text offset before c → IsChanged text offset before d → SameRest c d
+changed_same text offset before c d fit_c fit_d x y =
     let xs = changes before c.table in
     let ys = changes before d.table in
     let len : length xs ≡ length ys = sym x.count ∙ y.count in
-    let same : xs ≡ ys = same_members xs ys len (λ i e lt. same_change text (change_place place i) (get_or xs i e) (get_or ys i e) (x.changes i e lt) (y.changes i e (omega arith))) in
+    let same : xs ≡ ys = same_lists xs ys len (λ i e lt. same_change text (change_offset offset i) (get_or xs i e) (get_or ys i e) (x.changes i e lt) (y.changes i e (omega arith))) in
     record { rate = sym x.rate ∙ y.rate; phase = sym x.phase ∙ y.phase; table = same_made before c.table d.table fit_c fit_d same }
 
 -- so in each version that is known
-rest_same : (v : ℕ) (text : List ℕ) (place : ℕ) (before : List ℕ) (c d : CheckpointParts) → is_version v ≡ true → IsTable c.table → IsTable d.table
-    → IsCheckpoint v text place before c → IsCheckpoint v text place before d → SameRest c d
-rest_same v text place before c d known fit_c fit_d x y =
+rest_same : (v : ℕ) (text : List ℕ) (offset : ℕ) (before : List ℕ) (c d : CheckpointParts) → is_version v ≡ true → IsTable c.table → IsTable d.table
+    → IsCheckpoint v text offset before c → IsCheckpoint v text offset before d → SameRest c d
+rest_same v text offset before c d known fit_c fit_d x y =
     elim (version_cases v known) [
-      | inl first ↦ whole_same text place c d fit_c fit_d (x.in_first first) (y.in_first first)
-      | inr later ↦ changed_same text place before c d fit_c fit_d (x.in_second later) (y.in_second later)
+      | inl first ↦ whole_same text offset c d fit_c fit_d (x.in_first first) (y.in_first first)
+      | inr later ↦ changed_same text offset before c d fit_c fit_d (x.in_second later) (y.in_second later)
     ]
 
 -- checkpoints that stand at one place after one table, and sent the same
-same_checkpoint : (v : ℕ) (text : List ℕ) (place : ℕ) (before : List ℕ) (p q : List (List ℕ)) (c d : CheckpointParts) → is_version v ≡ true → IsFit p c → IsFit q d → c.sent ≡ d.sent
-    → IsCheckpoint v text place before c → IsCheckpoint v text place before d → c ≡ d
-same_checkpoint v text place before p q c d known fit_c fit_d sent x y =
-    let rest = rest_same v text place before c d known fit_c.table fit_d.table x y in
+same_checkpoint : (v : ℕ) (text : List ℕ) (offset : ℕ) (before : List ℕ) (p q : List (List ℕ)) (c d : CheckpointParts) → is_version v ≡ true → IsFit p c → IsFit q d → c.sent ≡ d.sent
+    → IsCheckpoint v text offset before c → IsCheckpoint v text offset before d → c ≡ d
+same_checkpoint v text offset before p q c d known fit_c fit_d sent x y =
+    let rest = rest_same v text offset before c d known fit_c.table fit_d.table x y in
     let count : c.count ≡ d.count = sym x.front.count ∙ y.front.count in
-    let cpu = same_cpu text place c.cpu d.cpu fit_c.cpu fit_d.cpu x.front.cpu y.front.cpu in
-    let devices = same_devices_at text place c.devices d.devices fit_c.devices fit_d.devices rest.rate rest.phase x.front.devices y.front.devices in
+    let cpu = same_cpu text offset c.cpu d.cpu fit_c.cpu fit_d.cpu x.front.cpu y.front.cpu in
+    let devices = same_devices_at text offset c.devices d.devices fit_c.devices fit_d.devices rest.rate rest.phase x.front.devices y.front.devices in
     let table = rest.table in
     λ i. record { count = count i; cpu = cpu i; devices = devices i; sent = sent i; table = table i }
 
@@ -185,17 +175,17 @@ checkpoints_same v text r s a b =
     λ i lt. sym (stands_r i no_checkpoint lt).front.sent ∙ (stands_s i no_checkpoint (omega arith)).front.sent in
     let sent = same_sent r.checkpoints s.checkpoints len lengths (sym a.laid.output ∙ b.laid.output) in
     let each = checkpoint_same v text r s a b sent in
-    same_members r.checkpoints s.checkpoints len (λ i d lt. get_or_default r.checkpoints i d no_checkpoint lt ∙ each i lt ∙ get_or_default s.checkpoints i no_checkpoint d (omega arith))
+    same_lists r.checkpoints s.checkpoints len (λ i d lt. get_or_default r.checkpoints i d no_checkpoint lt ∙ each i lt ∙ get_or_default s.checkpoints i no_checkpoint d (omega arith))
 
 -- a text is that of one recording in a version
 same_in : (v : ℕ) (text : List ℕ) (r s : RecordingParts) → TextIn v text r → TextIn v text s → r ≡ s
 same_in v text r s a b =
     let pages_len : length r.pool ≡ length s.pool = sym a.laid.page_count ∙ b.laid.page_count in
-    let pool : r.pool ≡ s.pool = same_members r.pool s.pool pages_len (λ i d lt.
-    same_words text (page_place i) (get_or r.pool i d) (get_or s.pool i d) ((a.lawful.pool i d lt).whole ∙ sym (b.lawful.pool i d (omega arith)).whole) (a.laid.pages_stand i d lt) (b.laid.pages_stand i d (omega arith))) in
+    let pool : r.pool ≡ s.pool = same_lists r.pool s.pool pages_len (λ i d lt.
+    same_words text (page_offset i) (get_or r.pool i d) (get_or s.pool i d) ((a.lawful.pool i d lt).whole ∙ sym (b.lawful.pool i d (omega arith)).whole) (a.laid.pages_stand i d lt) (b.laid.pages_stand i d (omega arith))) in
     let events_len : length r.inputs ≡ length s.inputs = sym a.laid.event_count ∙ b.laid.event_count in
-    let inputs : r.inputs ≡ s.inputs = same_members r.inputs s.inputs events_len (λ i d lt.
-    same_event_at text (event_place text i) (get_or r.inputs i d) (get_or s.inputs i d) (a.laid.events_stand i d lt) (b.laid.events_stand i d (omega arith))) in
+    let inputs : r.inputs ≡ s.inputs = same_lists r.inputs s.inputs events_len (λ i d lt.
+    same_event_at text (event_offset text i) (get_or r.inputs i d) (get_or s.inputs i d) (a.laid.events_stand i d lt) (b.laid.events_stand i d (omega arith))) in
     let checkpoints = checkpoints_same v text r s a b in
     λ i. record { pool = pool i; inputs = inputs i; checkpoints = checkpoints i }
 

@@ -9,7 +9,7 @@ use Rattle.oberon_format.proofs.RuleLemmas.{output_below, output_below_more, che
 use Rattle.oberon_format.proofs.Keys.{range-split}
 use Rattle.oberon_format.specs.CheckpointParts.{CheckpointParts}
 use Rattle.oberon_format.specs.Fields.{total}
-use Rattle.oberon_format.specs.Layout.{change_count, checkpoints, output_place, start, word_at}
+use Rattle.oberon_format.specs.Layout.{change_count, checkpoints, output_offset, start, word_at}
 use Rattle.oberon_format.specs.Ranges.{are_keys, in_ranges}
 use Rattle.oberon_format.specs.Recording.{output_of}
 use Rattle.oberon_format.specs.inner.Tested.{Meets}
@@ -36,20 +36,20 @@ changes_few text k meets lt = leb-true _ _ (and_right _ _ (ranges_hold text k me
 pub keys_hold : (text : List ℕ) (k : ℕ) → Meets text → k < checkpoints text → are_keys (checkpoint_of text (start text k)) ≡ true
 keys_hold text k meets lt = and_right _ _ (and_left _ _ (checkpoint_holds text k meets lt))
 
-pub output_fits : (text : List ℕ) (k : ℕ) → Meets text → k < checkpoints text → output_place text + output_below text k + word_at text (start text k + SENT_AT) ≤ length text
+pub output_fits : (text : List ℕ) (k : ℕ) → Meets text → k < checkpoints text → output_offset text + output_below text k + word_at text (start text k + SENT_AT) ≤ length text
 output_fits text k meets lt =
     let more = output_below_more text k in
     let le = output_below_le text (k + 1) (checkpoints text) (omega arith) in
     let whole = meets.whole_is in
     omega arith
 
-pub output_more : (text : List ℕ) (k from : ℕ) (cs : List CheckpointParts) (c : CheckpointParts) → Meets text → k < checkpoints text → from ≡ output_place text + output_below text k
-    → slice_range text (output_place text) from ≡ output_of cs → c.sent ≡ slice_range text from (from + word_at text (start text k + SENT_AT))
-    → slice_range text (output_place text) (from + word_at text (start text k + SENT_AT)) ≡ output_of (cs ++ c ∷ [])
+pub output_more : (text : List ℕ) (k from : ℕ) (cs : List CheckpointParts) (c : CheckpointParts) → Meets text → k < checkpoints text → from ≡ output_offset text + output_below text k
+    → slice_range text (output_offset text) from ≡ output_of cs → c.sent ≡ slice_range text from (from + word_at text (start text k + SENT_AT))
+    → slice_range text (output_offset text) (from + word_at text (start text k + SENT_AT)) ≡ output_of (cs ++ c ∷ [])
 output_more text k from cs c meets lt is so_far sent =
     let fits = output_fits text k meets lt in
     let n = word_at text (start text k + SENT_AT) in
-    range-split text (output_place text) from (from + n) (omega arith) (omega arith) (omega arith)
+    range-split text (output_offset text) from (from + n) (omega arith) (omega arith) (omega arith)
     ∙ ap (λ (l : List ℕ). l ++ slice_range text from (from + n)) so_far
     ∙ ap (λ (l : List ℕ). output_of cs ++ l) (sym sent)
     ∙ sym (output_of_push cs c)
@@ -58,9 +58,9 @@ pub range-none : (xs : List ℕ) (a b : ℕ) → b ≡ a → slice_range xs a b 
 range-none xs a b e = let none : b - a ≡ 0 = omega arith in rw none refl
 
 -- all output, once every checkpoint is read
-pub output_all : (text : List ℕ) (k from : ℕ) (cs : List CheckpointParts) → Meets text → k ≡ checkpoints text → from ≡ output_place text + output_below text k
-    → slice_range text (output_place text) from ≡ output_of cs → drop (output_place text) text ≡ output_of cs
+pub output_all : (text : List ℕ) (k from : ℕ) (cs : List CheckpointParts) → Meets text → k ≡ checkpoints text → from ≡ output_offset text + output_below text k
+    → slice_range text (output_offset text) from ≡ output_of cs → drop (output_offset text) text ≡ output_of cs
 output_all text k from cs meets is at so_far =
     let whole = meets.whole_is in
     let same : output_below text k ≡ output_below text (checkpoints text) = ap (output_below text) is in
-    sym (between_to_end text (output_place text) from (omega arith)) ∙ so_far
+    sym (between_to_end text (output_offset text) from (omega arith)) ∙ so_far

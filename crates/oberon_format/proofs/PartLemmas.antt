@@ -1,11 +1,11 @@
 -- The fields of parts, member by member, where their checkpoints are laid out, and the sums of their outputs.
 use Rattle.std.proofs.Common.{◌≡◌, ◌<◌, ◌≤◌, ◌+◌, ◌-◌, ◌*◌, ◌∙◌, ℕ, Bool, true, false, List, [], ◌∷◌, get_or, length, refl, sym, ap, arith, add-one, zero, suc, inl, inr, eq-eqb, length-append}
 use Rattle.std.specs.Prelude.{None, slice_index, slice_index_or, nat_le, ◌==◌, if◌then◌else◌}
-use Rattle.std.proofs.lemmas.List.{get_or-map, get_or-replicate}
+use Rattle.std.proofs.lemmas.List.{get_or-map}
 use Rattle.std.proofs.lemmas.Bool.{le-leb, ne_eqb, cases_lt}
 use Rattle.std.proofs.lemmas.Bool.Decides.{nat_tests}
 use Rattle.risc_machine.specs.declared.event.Event.{Event}
-use Rattle.risc_pages.specs.Tables.{zero_numbers}
+use Rattle.risc_pages.proofs.PoolLemmas.{zero_number}
 use Rattle.oberon_format.specs.declared.layout.TheConstants.{FIRST_VERSION, VERSION, CHECKPOINT_LEN, CHANGE_LEN, CHANGES_AT, PLACES}
 use Rattle.oberon_format.specs.Changes.{changes}
 use Rattle.oberon_format.specs.CheckpointParts.{CheckpointParts, no_checkpoint}
@@ -34,7 +34,7 @@ floor_more f i = grind (arith, nat_tests)
 pub before_more : (f : Fields) (k : ℕ) → count_before f (k + 1) ≡ (f.checkpoint k).count
 before_more f k = grind (arith, nat_tests)
 
-pub stood_more : (f : Fields) (k p : ℕ) → stood f (k + 1) p ≡ f.page_number k p
+pub stood_more : (f : Fields) (k p : ℕ) → stood f (suc k) p ≡ f.page_number k p
 stood_more f k p = grind (arith, nat_tests)
 
 -- the table before each checkpoint but the first is that of the one before
@@ -45,15 +45,10 @@ table_next cs k =
     rw (later, back) refl
 
 -- the numbers that stood before a checkpoint of parts are those of the table before it
-pub zero_number : (p : ℕ) → p < PLACES → slice_index zero_numbers p ≡ 0
-unfolding zero_numbers
-zero_number p lt = get_or-replicate PLACES p 0 0 lt
-
 pub stood_laid : (v : ℕ) (r : RecordingParts) (k p : ℕ) → p < PLACES → stood (fields_laid v r) k p ≡ slice_index (table_before r.checkpoints k) p
-stood_laid v r zero p lt = sym (zero_number p lt)
+stood_laid v r zero p lt = sym (zero_number p)
 stood_laid v r (suc k) p lt =
-    ap (λ (n : ℕ). stood (fields_laid v r) n p) (sym (add-one k)) ∙ stood_more (fields_laid v r) k p
-    ∙ ap (λ (table : List ℕ). slice_index table p) (sym (table_next r.checkpoints k))
+    stood_more (fields_laid v r) k p ∙ ap (λ (table : List ℕ). slice_index table p) (sym (table_next r.checkpoints k))
 
 -- what is sent before a checkpoint
 pub sent_none : (f : Fields) → sent_below f 0 ≡ 0
@@ -65,12 +60,12 @@ unfolding total
 sent_more f k = rw (add-one k) refl
 
 -- a sum grows with its length
-pub total_le : (f : ℕ → ℕ) (k n : ℕ) → k ≤ n → total f k ≤ total f n
+pub total_rises : (f : ℕ → ℕ) (k n : ℕ) → k ≤ n → total f k ≤ total f n
 unfolding total
-total_le f k zero le = let e : k ≡ 0 = omega arith in rw e (omega arith)
-total_le f k (suc n) le =
+total_rises f k zero le = let e : k ≡ 0 = omega arith in rw e (omega arith)
+total_rises f k (suc n) le =
     elim (cases_lt k (suc n)) [
-      | inl less ↦ let ih = total_le f k n (omega arith) in omega arith
+      | inl less ↦ let ih = total_rises f k n (omega arith) in omega arith
       | inr more ↦ let e : k ≡ suc n = omega arith in rw e (omega arith)
     ]
 
@@ -99,11 +94,11 @@ unfolding start_laid
 laid_next v r k = refl
 
 -- the places of checkpoints rise
-pub laid_le : (v : ℕ) (r : RecordingParts) (k n : ℕ) → k ≤ n → start_laid v r k ≤ start_laid v r n
-laid_le v r k zero le = let e : k ≡ 0 = omega arith in rw e (omega arith)
-laid_le v r k (suc n) le =
+pub laid_rises : (v : ℕ) (r : RecordingParts) (k n : ℕ) → k ≤ n → start_laid v r k ≤ start_laid v r n
+laid_rises v r k zero le = let e : k ≡ 0 = omega arith in rw e (omega arith)
+laid_rises v r k (suc n) le =
     elim (cases_lt k (suc n)) [
-      | inl less ↦ let ih = laid_le v r k n (omega arith) in let next = laid_next v r n in omega arith
+      | inl less ↦ let ih = laid_rises v r k n (omega arith) in let next = laid_next v r n in omega arith
       | inr more ↦ let e : k ≡ suc n = omega arith in rw e (omega arith)
     ]
 

@@ -4,6 +4,7 @@ use Rattle.std.specs.Prelude.{slice_index, nat_le}
 use Rattle.std.proofs.lemmas.Bool.{le-leb}
 use Rattle.risc_machine.specs.declared.event.Event.{Event}
 use Rattle.oberon_format.specs.declared.checkpoint.Checkpoint.{Checkpoint}
+use Rattle.oberon_format.specs.declared.fault.Fault.{Fault}
 use Rattle.oberon_format.specs.declared.fault.Fault.TheVariants as fault
 use Rattle.oberon_format.specs.declared.fields.CheckpointFields.{CheckpointFields}
 use Rattle.oberon_format.specs.declared.layout.TheConstants.{VERSION, LONGEST_TEXT, CHANGES_AT}
@@ -18,14 +19,14 @@ use Rattle.oberon_format.specs.Recording.{parts_of, RecordingParts, checkpoint_a
 use Rattle.oberon_format.specs.Rules.{field_rules, change_rules, stood, count_before, checkpoint_rules}
 use Rattle.oberon_format.proofs.ChangeLemmas.{change_in}
 use Rattle.oberon_format.proofs.CheckpointLemmas.{checkpoint_at-is}
-use Rattle.oberon_format.proofs.PartLemmas.{laid_le, laid_next, laid_within, changed_room, stood_laid}
+use Rattle.oberon_format.proofs.PartLemmas.{laid_rises, laid_next, laid_within, changed_room, stood_laid}
 use Rattle.oberon_format.proofs.RuleLemmas.{rule_met, rules_changed}
 use Rattle.oberon_format.proofs.SameFields.{same_append, changes_same}
 
 -- the rules of fields at a place, and of the changes from a table to another
-abbrev pub laid_rules : ℕ → ℕ → ℕ → ℕ → ℕ → CheckpointFields → List ℕ → List ℕ → List Rule
-laid_rules pages place k before sent fields old new =
-    field_rules place k before sent fields ++ each (length (changes old new)) (change_rules pages place (slice_index old) (change_in old new))
+abbrev pub laid_rules : ℕ → ℕ → ℕ → ℕ → ℕ → CheckpointFields → List ℕ → List ℕ → List (Rule Fault)
+laid_rules pages offset k before sent fields old new =
+    field_rules offset k before sent fields ++ each (length (changes old new)) (change_rules pages offset (slice_index old) (change_in old new))
 
 -- a checkpoint of parts has these rules: its bytes are there
 pub rules_laid : (r : RecordingParts) (k : ℕ) → k < length r.checkpoints
@@ -37,24 +38,24 @@ rules_laid r k lt =
     let old = table_before r.checkpoints k in
     let new = (checkpoint_at r k).table in
     let n = length (changes old new) in
-    let place = start_laid VERSION r k in
+    let offset = start_laid VERSION r k in
     let room = changed_room r k in
-    let up = laid_le VERSION r (suc k) (length r.checkpoints) (omega arith) in
-    let fields = field_rules place k (count_before f k) (sent_below f k) (f.checkpoint k) in
-    let tested = each n (change_rules (length r.pool) place (stood f k) (change_in old new)) in
-    let left = each n (change_rules (length r.pool) place (slice_index old) (change_in old new)) in
+    let up = laid_rises VERSION r (suc k) (length r.checkpoints) (omega arith) in
+    let fields = field_rules offset k (count_before f k) (sent_below f k) (f.checkpoint k) in
+    let tested = each n (change_rules (length r.pool) offset (stood f k) (change_in old new)) in
+    let left = each n (change_rules (length r.pool) offset (slice_index old) (change_in old new)) in
     let ends = (nat_le (start_laid VERSION r (suc k)) f.long, fault.Short f.long) ∷ tested in
     let same : first_broken ends ≡ first_broken left =
     rule_met (nat_le (start_laid VERSION r (suc k)) f.long) (fault.Short f.long) tested (le-leb _ _ (omega arith))
-    ∙ changes_same (length r.pool) place n (stood f k) (slice_index old) (change_in old new) (change_in old new) (λ p less. stood_laid VERSION r k p less) (λ i less. refl) in
-    ap (λ (xs : List Rule). first_broken xs) (rules_changed f k refl)
-    ∙ rule_met (nat_le (place + CHANGES_AT) f.long) (fault.Short f.long) (fields ++ ends) (le-leb _ _ (omega arith))
+    ∙ changes_same (length r.pool) offset n (stood f k) (slice_index old) (change_in old new) (change_in old new) (λ p less. stood_laid VERSION r k p less) (λ i less. refl) in
+    ap (λ (xs : List (Rule Fault)). first_broken xs) (rules_changed f k refl)
+    ∙ rule_met (nat_le (offset + CHANGES_AT) f.long) (fault.Short f.long) (fields ++ ends) (le-leb _ _ (omega arith))
     ∙ same_append fields fields ends left refl same
 
 -- what the code knows of checkpoint k
-pub record StandsAt (r : RecordingParts) (k pages place before sent : ℕ) (fields : CheckpointFields) (old new : List ℕ) : Type 0 where
+pub record StandsAt (r : RecordingParts) (k pages offset before sent : ℕ) (fields : CheckpointFields) (old new : List ℕ) : Type 0 where
   pub pages_are : pages ≡ length r.pool
-  pub place_is : place ≡ start_laid VERSION r k
+  pub offset_is : offset ≡ start_laid VERSION r k
   pub before_is : before ≡ count_before (fields_laid VERSION r) k
   pub sent_is : sent ≡ sent_below (fields_laid VERSION r) k
   pub fields_are : fields ≡ (fields_laid VERSION r).checkpoint k
@@ -62,10 +63,10 @@ pub record StandsAt (r : RecordingParts) (k pages place before sent : ℕ) (fiel
   pub new_is : new ≡ (checkpoint_at r k).table
 
 -- and so what it tests are the rules of checkpoint k
-pub rules_here : (r : RecordingParts) (k pages place before sent : ℕ) (fields : CheckpointFields) (old new : List ℕ) → k < length r.checkpoints
-    → StandsAt r k pages place before sent fields old new
-    → first_broken (checkpoint_rules (fields_laid VERSION r) k) ≡ first_broken (laid_rules pages place k before sent fields old new)
-rules_here r k pages place before sent fields old new lt are =
+pub rules_here : (r : RecordingParts) (k pages offset before sent : ℕ) (fields : CheckpointFields) (old new : List ℕ) → k < length r.checkpoints
+    → StandsAt r k pages offset before sent fields old new
+    → first_broken (checkpoint_rules (fields_laid VERSION r) k) ≡ first_broken (laid_rules pages offset k before sent fields old new)
+rules_here r k pages offset before sent fields old new lt are =
     let f = fields_laid VERSION r in
     let at = start_laid VERSION r k in
     let floor = count_before f k in
@@ -74,8 +75,8 @@ rules_here r k pages place before sent fields old new lt are =
     let was = table_before r.checkpoints k in
     let is = (checkpoint_at r k).table in
     rules_laid r k lt
-    ∙ sym (ap (λ (n : ℕ). first_broken (laid_rules n place k before sent fields old new)) are.pages_are
-    ∙ ap (λ (n : ℕ). first_broken (laid_rules (length r.pool) n k before sent fields old new)) are.place_is
+    ∙ sym (ap (λ (n : ℕ). first_broken (laid_rules n offset k before sent fields old new)) are.pages_are
+    ∙ ap (λ (n : ℕ). first_broken (laid_rules (length r.pool) n k before sent fields old new)) are.offset_is
     ∙ ap (λ (n : ℕ). first_broken (laid_rules (length r.pool) at k n sent fields old new)) are.before_is
     ∙ ap (λ (n : ℕ). first_broken (laid_rules (length r.pool) at k floor n fields old new)) are.sent_is
     ∙ ap (λ (x : CheckpointFields). first_broken (laid_rules (length r.pool) at k floor below x old new)) are.fields_are
@@ -84,20 +85,20 @@ rules_here r k pages place before sent fields old new lt are =
 
 -- it is known of the checkpoint that Rust has at this number
 pub stands_at : (pool : List (List ℕ)) (inputs : List Event) (checkpoints : List Checkpoint) (k : ℕ) (x : Checkpoint)
-    (pages place before sent : ℕ) (fields : CheckpointFields) (old : List ℕ)
+    (pages offset before sent : ℕ) (fields : CheckpointFields) (old : List ℕ)
     → k < length checkpoints → x ≡ get_or checkpoints k x → pages ≡ length pool
-    → place ≡ start_laid VERSION (parts_of pool inputs checkpoints) k
+    → offset ≡ start_laid VERSION (parts_of pool inputs checkpoints) k
     → before ≡ count_before (fields_laid VERSION (parts_of pool inputs checkpoints)) k
     → sent ≡ sent_below (fields_laid VERSION (parts_of pool inputs checkpoints)) k
     → old ≡ table_before (map checkpoint_parts checkpoints) k
     → fields ≡ checkpoint_fields VERSION old (checkpoint_parts x)
-    → StandsAt (parts_of pool inputs checkpoints) k pages place before sent fields old x.table
-stands_at pool inputs checkpoints k x pages place before sent fields old lt is count at floor below table made =
+    → StandsAt (parts_of pool inputs checkpoints) k pages offset before sent fields old x.table
+stands_at pool inputs checkpoints k x pages offset before sent fields old lt is count at floor below table made =
     let r = parts_of pool inputs checkpoints in
     let here : checkpoint_at r k ≡ checkpoint_parts x = checkpoint_at-is checkpoints k x lt is in
     record {
       pages_are = count;
-      place_is = at;
+      offset_is = at;
       before_is = floor;
       sent_is = below;
       fields_are = made
@@ -108,10 +109,10 @@ stands_at pool inputs checkpoints k x pages place before sent fields old lt is c
     }
 
 -- where the next checkpoint begins
-pub next_place : (r : RecordingParts) (k place size : ℕ) (fields : CheckpointFields) → place ≡ start_laid VERSION r k
+pub next_offset : (r : RecordingParts) (k offset size : ℕ) (fields : CheckpointFields) → offset ≡ start_laid VERSION r k
     → fields ≡ (fields_laid VERSION r).checkpoint k → size ≡ checkpoint_size VERSION fields.changes
-    → place + size ≡ start_laid VERSION r (k + 1)
-next_place r k place size fields at are long =
+    → offset + size ≡ start_laid VERSION r (k + 1)
+next_offset r k offset size fields at are long =
     ap (λ (n : ℕ). n + size) at
     ∙ ap (λ (n : ℕ). start_laid VERSION r k + n) (long ∙ ap (λ (y : CheckpointFields). checkpoint_size VERSION y.changes) are)
     ∙ sym (laid_next VERSION r k)

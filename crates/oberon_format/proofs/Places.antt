@@ -1,7 +1,7 @@
 -- Where checkpoints stand: the running sum that a text's own numbers tell is that of the recording it is laid out of.
-use Rattle.std.proofs.Common.{◌≡◌, ◌<◌, ◌≤◌, ◌+◌, ◌-◌, ◌∙◌, ℕ, zero, suc, true, false, List, ◌∷◌, length, refl, sym, ap, subst, inl, inr, ⊎_elim, arith}
+use Rattle.std.proofs.Common.{◌≡◌, ◌<◌, ◌≤◌, ◌+◌, ◌-◌, ◌∙◌, ℕ, zero, suc, true, false, List, ◌∷◌, length, refl, sym, ap, subst, ⊎_elim, arith}
 use Rattle.std.specs.Prelude.{◌==◌, if◌then◌else◌, slice_index_or}
-use Rattle.std.proofs.lemmas.Bool.{ne_eqb, cases_lt}
+use Rattle.std.proofs.lemmas.Bool.{ne_eqb}
 use Rattle.oberon_format.specs.declared.layout.TheConstants.{FIRST_VERSION, VERSION}
 use Rattle.oberon_format.specs.CheckpointParts.{CheckpointParts, no_checkpoint}
 use Rattle.oberon_format.specs.Layout.{version, pages, events, start, checkpoint_size, change_count}
@@ -35,9 +35,9 @@ pub bytes_at-next : (v : ℕ) (before : List ℕ) (c : CheckpointParts) (cs : Li
 bytes_at-next v before c cs k = ap (λ (t : List ℕ). checkpoint_bytes v t (slice_index_or cs k no_checkpoint)) (table_from-next before c cs k)
 
 -- the number of changes that stands in a text is that of its checkpoint
-pub count_laid : (v : ℕ) (text : List ℕ) (place : ℕ) (before : List ℕ) (c : CheckpointParts) → is_version v ≡ true → version text ≡ v → IsCheckpoint v text place before c
-    → change_count text place ≡ changes_laid v before c
-count_laid v text place before c known is stands =
+pub count_laid : (v : ℕ) (text : List ℕ) (offset : ℕ) (before : List ℕ) (c : CheckpointParts) → is_version v ≡ true → version text ≡ v → IsCheckpoint v text offset before c
+    → change_count text offset ≡ changes_laid v before c
+count_laid v text offset before c known is stands =
     ⊎_elim (λ (first : v ≡ FIRST_VERSION). rw (is, first) refl) (λ (second : v ≡ VERSION). let count = (stands.in_second second).count in rw (is, second) count) (version_cases v known)
 
 -- the sum goes on where the numbers of changes are those laid out
@@ -68,13 +68,3 @@ start-found v text r known is page_count event_count stand =
     start-sum v text r is page_count event_count (λ k lt at.
     count_laid v text (start text k) (table_before r.checkpoints k) (checkpoint_at r k) known is
     (subst (λ (p : ℕ). IsCheckpoint v text p (table_before r.checkpoints k) (checkpoint_at r k)) (sym at) (stand k lt)))
-
--- places rise
-pub laid_rises : (v : ℕ) (r : RecordingParts) (k n : ℕ) → k ≤ n → start_laid v r k ≤ start_laid v r n
-unfolding start_laid
-laid_rises v r k zero le = let e : k ≡ 0 = omega arith in let same = ap (start_laid v r) e in omega arith
-laid_rises v r k (suc n) le =
-    elim (cases_lt k (suc n)) [
-      | inl less ↦ let so = laid_rises v r k n (omega arith) in omega arith
-      | inr more ↦ let e : k ≡ suc n = omega arith in let same = ap (start_laid v r) e in omega arith
-    ]

@@ -3,7 +3,6 @@ use Rattle.std.proofs.Common.{◌≡◌, ◌<◌, ◌≤◌, ◌+◌, ◌-◌, �
 use Rattle.std.specs.Prelude.{slice_index, slice_index_or, nat_le, ◌==◌, if◌then◌else◌}
 use Rattle.std.proofs.lemmas.List.{get_or-map, get_or_append_left, get_or_default, length-drop}
 use Rattle.std.proofs.lemmas.Bool.{leb-true}
-use Rattle.std.proofs.lemmas.Bool.Decides.{nat_tests}
 use Rattle.risc_machine.specs.declared.event.Event.{Event}
 use Rattle.risc_machine.specs.InputOrder.{AreOrdered, count_at, count_before}
 use Rattle.risc_machine.specs.declared.inputs.TheConstants.{MAX_COUNT}
@@ -13,7 +12,7 @@ use Rattle.oberon_format.specs.declared.fault.Fault.TheVariants as fault
 use Rattle.oberon_format.specs.declared.layout.TheConstants.{FIRST_VERSION, VERSION, RATE_AT, PHASE_AT, CHANGE_COUNT_AT, PLACES}
 use Rattle.oberon_format.specs.Changes.{changes, no_change, number_after}
 use Rattle.oberon_format.specs.CheckpointParts.{CheckpointParts, no_checkpoint}
-use Rattle.oberon_format.specs.Layout.{long_at, version, pages, events, checkpoints, event_place, change_count, later_word, start, output_place}
+use Rattle.oberon_format.specs.Layout.{long_at, version, pages, events, checkpoints, event_offset, change_count, later_word, start, output_offset}
 use Rattle.oberon_format.specs.Ranges.{is_event}
 use Rattle.oberon_format.specs.Recording.{RecordingParts, IsLawful, output_of, table_before}
 use Rattle.oberon_format.specs.Rules.{event_rules, event_floor, place_floor, stood}
@@ -21,39 +20,35 @@ use Rattle.oberon_format.specs.Formed.{AreFormed}
 use Rattle.oberon_format.specs.inner.Tested.{HasNumbers, Meets, StandIn}
 use Rattle.oberon_format.specs.Text.{EachAt, IsPageAt, IsEventAt, IsFront, IsWhole, IsChanged, IsCheckpoint, IsLaidOut}
 use Rattle.oberon_format.specs.TextFields.{fields_of, event_of, change_of, number_before, page_number_of}
-use Rattle.oberon_format.proofs.Agree.{text_agrees}
-use Rattle.oberon_format.proofs.ChangeLemmas.{AreLawful, change_in, changes-make, lawful-are, after-same}
+use Rattle.oberon_format.proofs.Agree.{tables_stand, text_agrees}
+use Rattle.oberon_format.proofs.ChangeLemmas.{AreLawful, lawful-are, after-same}
 use Rattle.oberon_format.proofs.Each.{each_push}
 use Rattle.oberon_format.proofs.LawfulLemmas.{faultless_lawful}
-use Rattle.oberon_format.proofs.PartLemmas.{member}
+use Rattle.oberon_format.proofs.PartLemmas.{member, table_next}
 use Rattle.oberon_format.proofs.Room.{output_there}
 use Rattle.oberon_format.proofs.RuleLemmas.{each_holds, rule_holds, and_left, and_right}
 use Rattle.oberon_format.proofs.Tables.{change_rises, change_inside, change_differs}
-use Rattle.oberon_format.proofs.TextLemmas.{later_first, later_second, number_first, number_second, numbers_none, stood_is, checkpoint_changed}
+use Rattle.oberon_format.proofs.TextLemmas.{later_first, later_second, number_first, number_second, stood_is, checkpoint_changed}
 
 -- the events of a text without fault are in order
-count_stands : (text : List ℕ) (es : List Event) (i : ℕ) → EachAt (IsEventAt text) es → i < length es → count_at es i ≡ long_at text (event_place text i)
+count_stands : (text : List ℕ) (es : List Event) (i : ℕ) → EachAt (IsEventAt text) es → i < length es → count_at es i ≡ long_at text (event_offset text i)
 count_stands text es i each lt =
     let d = member es i lt in
     get_or-map (λ (e : Event). e.count) es i d 0 lt ∙ sym (each i d lt).count
 
 pub events_ordered : (text : List ℕ) (es : List Event) → Meets text → length es ≡ events text → EachAt (IsEventAt text) es → AreOrdered es
-events_ordered text es meets len each place lt =
+events_ordered text es meets len each offset lt =
     let f = fields_of text in
-    let here = count_stands text es place each lt in
-    let before : count_before es place ≡ event_floor f place =
-    ap (λ (n : ℕ). if place == 0 then 0 else n) (count_stands text es (place - 1) each (omega arith)) in
-    let one = each_holds (event_rules f) (events text) place (omega arith) meets.events_meet in
-    let holds = (rule_holds (is_event (event_floor f place) (event_of text (event_place text place))) (fault.Event (event_place text place)) [] one).0 in
-    let count = long_at text (event_place text place) in
+    let here = count_stands text es offset each lt in
+    let before : count_before es offset ≡ event_floor f offset =
+    ap (λ (n : ℕ). if offset == 0 then 0 else n) (count_stands text es (offset - 1) each (omega arith)) in
+    let one = each_holds (event_rules f) (events text) offset (omega arith) meets.events_meet in
+    let holds = (rule_holds (is_event (event_floor f offset) (event_of text (event_offset text offset))) (fault.Event (event_offset text offset)) [] one).0 in
+    let count = long_at text (event_offset text offset) in
     let counts = and_left _ _ holds in
-    let low = leb-true (event_floor f place) count (and_left (nat_le (event_floor f place) count) (nat_le count MAX_COUNT) counts) in
-    let high = leb-true count MAX_COUNT (and_right (nat_le (event_floor f place) count) (nat_le count MAX_COUNT) counts) in
+    let low = leb-true (event_floor f offset) count (and_left (nat_le (event_floor f offset) count) (nat_le count MAX_COUNT) counts) in
+    let high = leb-true count MAX_COUNT (and_right (nat_le (event_floor f offset) count) (nat_le count MAX_COUNT) counts) in
     (omega arith, omega arith)
-
--- the table before a checkpoint that is not the first
-table_next : (cs : List CheckpointParts) (k : ℕ) → table_before cs (suc k) ≡ (slice_index_or cs k no_checkpoint).table
-table_next cs k = grind (arith, nat_tests)
 
 -- the tables before are the same as checkpoints come
 before_pushed : (cs : List CheckpointParts) (c : CheckpointParts) (k : ℕ) → k ≤ length cs → table_before (cs ++ c ∷ []) k ≡ table_before cs k
@@ -62,23 +57,6 @@ before_pushed cs c (suc k) le =
     table_next (cs ++ c ∷ []) k
     ∙ ap (λ (x : CheckpointParts). x.table) (get_or_append_left cs (c ∷ []) no_checkpoint k (omega arith))
     ∙ sym (table_next cs k)
-
--- of checkpoints that stand in a text of version 2, the table before each has the numbers that the text tells
-pub tables_stand : (text : List ℕ) (cs : List CheckpointParts) (k : ℕ) → version text ≡ VERSION → StandIn text cs → k ≤ length cs → HasNumbers (table_before cs k) (number_before text k)
-unfolding number_before
-tables_stand text cs zero is stand le p lt = numbers_none text p lt
-tables_stand text cs (suc k) is stand le p lt =
-    let before = table_before cs k in
-    let table = (slice_index_or cs k no_checkpoint).table in
-    let place = start text k in
-    let changed = (stand k no_checkpoint (omega arith)).in_second is in
-    let many : change_count text place ≡ length (changes before table) = later_second text (place + CHANGE_COUNT_AT) is ∙ changed.count in
-    let same : (i : ℕ) → i < length (changes before table) → change_in before table i ≡ change_of text place i =
-    λ i less. λ j. record { place = sym (changed.changes i no_change less).place j; number = sym (changed.changes i no_change less).number j } in
-    ap (λ (t : List ℕ). slice_index t p) (table_next cs k)
-    ∙ sym (changes-make before table p lt)
-    ∙ after-same (change_in before table) (change_of text place) (slice_index before) (number_before text k) (length (changes before table)) p same (tables_stand text cs k is stand (omega arith) p lt)
-    ∙ ap (λ (n : ℕ). number_after (change_of text place) (number_before text k) n p) (sym many)
 
 -- the changes of a checkpoint that breaks no rule are lawful after the table before it
 changes_lawful : (text : List ℕ) (k : ℕ) (before : List ℕ) → Meets text → k < checkpoints text → version text ≡ VERSION → HasNumbers before (number_before text k)
@@ -110,17 +88,17 @@ changed_stands : (text : List ℕ) (k : ℕ) (before : List ℕ) (c : Checkpoint
     → IsChanged text (start text k) before c
 unfolding number_before
 changed_stands text k before c meets lt is stood rate phase has =
-    let place = start text k in
-    let change = change_of text place in
-    let n = change_count text place in
+    let offset = start text k in
+    let change = change_of text offset in
+    let n = change_count text offset in
     let made : (p : ℕ) → p < PLACES → slice_index c.table p ≡ number_after change (slice_index before) n p =
     λ p less. has p less ∙ number_second text k p is ∙ after-same change change (number_before text k) (slice_index before) n p (λ i few. refl) (sym (stood p less)) in
     let are = lawful-are change n before c.table (changes_lawful text k before meets lt is stood) made in
     let many = are.0 in
     record {
-      rate = sym (later_second text (place + RATE_AT) is) ∙ sym rate;
-      phase = sym (later_second text (place + PHASE_AT) is) ∙ sym phase;
-      count = sym (later_second text (place + CHANGE_COUNT_AT) is) ∙ sym are.0;
+      rate = sym (later_second text (offset + RATE_AT) is) ∙ sym rate;
+      phase = sym (later_second text (offset + PHASE_AT) is) ∙ sym phase;
+      count = sym (later_second text (offset + CHANGE_COUNT_AT) is) ∙ sym are.0;
       changes = λ i d less.
           let same : slice_index_or (changes before c.table) i d ≡ change i = get_or_default (changes before c.table) i d no_change less ∙ are.1 i (omega arith) in
           record { place = ap (λ (x : Change). x.place) (sym same); number = ap (λ (x : Change). x.number) (sym same) };
@@ -143,12 +121,12 @@ stand_next text cs c k meets lt count stand front rate phase len has i d less =
 -- the parts that were read are those of the text
 pub text_read : (text : List ℕ) (pool : List (List ℕ)) (inputs : List Event) (cs : List CheckpointParts) → Meets text
     → length pool ≡ pages text → EachAt (IsPageAt text) pool → length inputs ≡ events text → EachAt (IsEventAt text) inputs
-    → length cs ≡ checkpoints text → StandIn text cs → drop (output_place text) text ≡ output_of cs
+    → length cs ≡ checkpoints text → StandIn text cs → drop (output_offset text) text ≡ output_of cs
     → IsLaidOut (version text) text (record { pool = pool; inputs = inputs; checkpoints = cs })
 text_read text pool inputs cs meets np each_page ne each_event nk stand output =
     let there = output_there text meets in
-    let rest = length-drop (output_place text) text in
-    let same : length (drop (output_place text) text) ≡ length (output_of cs) = ap (λ (l : List ℕ). length l) output in
+    let rest = length-drop (output_offset text) text in
+    let same : length (drop (output_offset text) text) ≡ length (output_of cs) = ap (λ (l : List ℕ). length l) output in
     record {
       long = omega arith;
       magic = meets.magic_is;

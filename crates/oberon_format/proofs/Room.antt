@@ -3,7 +3,7 @@ use Rattle.std.proofs.Common.{◌≡◌, ◌<◌, ◌≤◌, ◌+◌, ◌*◌, �
 use Rattle.std.proofs.lemmas.Bool.{cases_lt}
 use Rattle.std.proofs.lemmas.Bool.Decides.{nat_tests}
 use Rattle.oberon_format.specs.declared.layout.TheConstants.{FIRST_VERSION, VERSION, CHECKPOINT_LEN, CHANGE_LEN, CHANGES_AT}
-use Rattle.oberon_format.specs.Layout.{version, events, checkpoints, event_place, change_place, checkpoint_size, change_count, start, output_place}
+use Rattle.oberon_format.specs.Layout.{version, events, checkpoints, event_offset, change_offset, checkpoint_size, change_count, start, output_offset}
 use Rattle.oberon_format.specs.Rules.{named_len}
 use Rattle.oberon_format.specs.inner.Tested.{IsSized, Meets}
 use Rattle.oberon_format.specs.TextFields.{fields_of}
@@ -20,7 +20,7 @@ size_first v n is = rw (is_first v is) refl
 size_later : (v n : ℕ) → v ≡ VERSION → checkpoint_size v n ≡ CHANGES_AT + CHANGE_LEN * n
 size_later v n is = rw (is_later v is) refl
 
-pub start_none : (text : List ℕ) → start text 0 ≡ event_place text (events text)
+pub start_none : (text : List ℕ) → start text 0 ≡ event_offset text (events text)
 unfolding start
 start_none text = refl
 
@@ -50,15 +50,15 @@ start_first text (suc k) is =
     omega arith
 
 -- where the next one begins, by the length of this one
-pub place_next : (text : List ℕ) (k place n size : ℕ) → place ≡ start text k → n ≡ change_count text place → size ≡ checkpoint_size (version text) n → place + size ≡ start text (k + 1)
-place_next text k place n size at many is =
+pub offset_next : (text : List ℕ) (k offset n size : ℕ) → offset ≡ start text k → n ≡ change_count text offset → size ≡ checkpoint_size (version text) n → offset + size ≡ start text (k + 1)
+offset_next text k offset n size at many is =
     let more = start_more text k in
     let same : size ≡ checkpoint_size (version text) (change_count text (start text k)) = is ∙ ap (checkpoint_size (version text)) (many ∙ ap (change_count text) at) in
     omega arith
 
 -- in version 2, by the number of changes
-pub start_later : (text : List ℕ) (k place n : ℕ) → version text ≡ VERSION → place ≡ start text k → n ≡ change_count text place → start text (suc k) ≡ change_place place n
-start_later text k place n is at many =
+pub start_later : (text : List ℕ) (k offset n : ℕ) → version text ≡ VERSION → offset ≡ start text k → n ≡ change_count text offset → start text (suc k) ≡ change_offset offset n
+start_later text k offset n is at many =
     let next = start_next text k in
     let size = size_later (version text) (change_count text (start text k)) is in
     let same : n ≡ change_count text (start text k) = many ∙ ap (change_count text) at in
@@ -72,7 +72,7 @@ named_later : (text : List ℕ) → version text ≡ VERSION → named_len (fiel
 named_later text is = let test = is_later (version text) is in rw test refl
 
 -- the events are there
-pub events_there : (text : List ℕ) → IsSized text → event_place text (events text) ≤ length text
+pub events_there : (text : List ℕ) → IsSized text → event_offset text (events text) ≤ length text
 events_there text sized =
     let none = start_none text in
     let long = sized.long in
@@ -93,7 +93,7 @@ whole_room text k sized lt is =
     omega arith
 
 -- the output is there too, of a text that breaks no rule
-pub output_there : (text : List ℕ) → Meets text → output_place text ≤ length text
+pub output_there : (text : List ℕ) → Meets text → output_offset text ≤ length text
 output_there text meets = let whole_is = meets.whole_is in omega arith
 
 -- and each checkpoint of either version
@@ -112,13 +112,10 @@ front_there text k meets lt =
 
 -- the whole of a checkpoint of version 1
 pub whole_there : (text : List ℕ) (k : ℕ) → Meets text → k < checkpoints text → version text ≡ FIRST_VERSION → start text k + CHECKPOINT_LEN ≤ length text
-whole_there text k meets lt is =
-    let all = checkpoint_there text k meets lt in
-    let size = size_first (version text) (change_count text (start text k)) is in
-    omega arith
+whole_there text k meets lt is = whole_room text k meets.sized lt is
 
 -- the changes of one of version 2
-pub changes_there : (text : List ℕ) (k : ℕ) → Meets text → k < checkpoints text → version text ≡ VERSION → change_place (start text k) (change_count text (start text k)) ≤ length text
+pub changes_there : (text : List ℕ) (k : ℕ) → Meets text → k < checkpoints text → version text ≡ VERSION → change_offset (start text k) (change_count text (start text k)) ≤ length text
 changes_there text k meets lt is =
     let all = checkpoint_there text k meets lt in
     let size = size_later (version text) (change_count text (start text k)) is in

@@ -1,44 +1,44 @@
 -- The first broken rule of lists of rules, and what a text has of which some rules are met.
-use Rattle.std.proofs.Common.{◌≡◌, ◌<◌, ◌≤◌, ◌+◌, ◌-◌, ℕ, zero, suc, Bool, true, false, ◌&&◌, ◌||◌, List, [], ◌∷◌, ◌++◌, length, Some, None, refl, ap, sym, ◌∙◌, arith, add-suc, add-zero, add-one, inl, inr, ◌⊎◌, eq-eqb}
+use Rattle.std.proofs.Common.{◌≡◌, ◌<◌, ◌≤◌, ◌+◌, ◌-◌, ℕ, zero, suc, Bool, true, false, ◌&&◌, List, [], ◌∷◌, ◌++◌, length, Some, None, refl, ap, sym, ◌∙◌, arith, add-suc, add-zero, add-one, inl, inr, ◌⊎◌, eq-eqb}
 use Rattle.std.specs.Prelude.{nat_le, ◌==◌}
-use Rattle.std.proofs.lemmas.Bool.{cases_lt, leb-true, le-leb, eqb-true}
+use Rattle.std.proofs.lemmas.Bool.{cases_lt, or_cases, leb-true, le-leb, eqb-true}
 use Rattle.oberon_format.specs.declared.fault.Fault.{Fault}
 use Rattle.oberon_format.specs.declared.fault.Fault.TheVariants as fault
 use Rattle.oberon_format.specs.declared.layout.TheConstants.{MAGIC, FIRST_VERSION, VERSION, MAGIC_AT, LAST_AT, KIND_AT, VALUE_AT, SENT_AT, CHANGES_AT, PLACES}
 use Rattle.std.proofs.lemmas.Bool.Decides.{nat_tests}
 use Rattle.oberon_format.specs.Fields.{Fields, sent_below, total}
 use Rattle.oberon_format.specs.FirstFault.{Rule, each, first_broken}
-use Rattle.oberon_format.specs.Layout.{page_number_place, change_place, checkpoints, event_place, events, long_at, pages, start, version, word_at}
+use Rattle.oberon_format.specs.Layout.{page_number_offset, change_offset, checkpoints, event_offset, events, long_at, start, version, word_at}
 use Rattle.oberon_format.specs.Ranges.{is_version, is_change, is_checkpoint, is_event}
 use Rattle.oberon_format.specs.Rules.{checkpoint_rules, whole_rules, changed_rules, change_rules, place_floor, stood, count_before, end_rules, event_floor, event_rules, header_rules, page_number_rules, rules, whole}
 use Rattle.oberon_format.specs.inner.Tested.{IsSized, Meets}
 use Rattle.oberon_format.specs.TextFields.{checkpoint_of, event_of, fields_of, first_fault_of}
 use Rattle.risc_devices.specs.InputKind.{is_input}
 
-pub met-append : (xs ys : List Rule) → first_broken xs ≡ None → first_broken (xs ++ ys) ≡ first_broken ys
+pub met-append : (xs ys : List (Rule Fault)) → first_broken xs ≡ None → first_broken (xs ++ ys) ≡ first_broken ys
 met-append [] ys h = refl
 met-append ((true, f) ∷ xs) ys h = met-append xs ys h
 met-append ((false, f) ∷ xs) ys h = absurd cc
 
-pub broken-append : (xs ys : List Rule) (g : Fault) → first_broken xs ≡ Some g → first_broken (xs ++ ys) ≡ Some g
+pub broken-append : (xs ys : List (Rule Fault)) (g : Fault) → first_broken xs ≡ Some g → first_broken (xs ++ ys) ≡ Some g
 broken-append [] ys g h = absurd cc
 broken-append ((true, f) ∷ xs) ys g h = broken-append xs ys g h
 broken-append ((false, f) ∷ xs) ys g h = h
 
-pub each_none : (rules : ℕ → List Rule) → first_broken (each 0 rules) ≡ None
+pub each_none : (rules : ℕ → List (Rule Fault)) → first_broken (each 0 rules) ≡ None
 unfolding each
 each_none rules = refl
 
-pub each_more : (rules : ℕ → List Rule) (i : ℕ) → first_broken (each i rules) ≡ None → first_broken (rules i) ≡ None → first_broken (each (i + 1) rules) ≡ None
+pub each_more : (rules : ℕ → List (Rule Fault)) (i : ℕ) → first_broken (each i rules) ≡ None → first_broken (rules i) ≡ None → first_broken (each (i + 1) rules) ≡ None
 unfolding each
 each_more rules i h e = rw (add-one i) (met-append (each i rules) (rules i) h ∙ e)
 
-each_stays : (rules : ℕ → List Rule) (i k : ℕ) (g : Fault) → first_broken (each i rules) ≡ Some g → first_broken (each (i + k) rules) ≡ Some g
+each_stays : (rules : ℕ → List (Rule Fault)) (i k : ℕ) (g : Fault) → first_broken (each i rules) ≡ Some g → first_broken (each (i + k) rules) ≡ Some g
 unfolding each
 each_stays rules i zero g h = rw (add-zero i) h
 each_stays rules i (suc k) g h = rw (add-suc i k) (broken-append (each (i + k) rules) (rules (i + k)) g (each_stays rules i k g h))
 
-pub each_broken : (rules : ℕ → List Rule) (i n : ℕ) (g : Fault) → i < n → first_broken (each i rules) ≡ None → first_broken (rules i) ≡ Some g → first_broken (each n rules) ≡ Some g
+pub each_broken : (rules : ℕ → List (Rule Fault)) (i n : ℕ) (g : Fault) → i < n → first_broken (each i rules) ≡ None → first_broken (rules i) ≡ Some g → first_broken (each n rules) ≡ Some g
 unfolding each
 each_broken rules i n g lt h e =
     let k : n ≡ suc i + (n - suc i) = omega arith in
@@ -113,15 +113,15 @@ pub in_end : (text : List ℕ) → first_broken (header_rules (fields_of text)) 
 in_end text = any_in_end (fields_of text)
 
 -- a rule of a list that is met
-pub met_left : (xs ys : List Rule) → first_broken (xs ++ ys) ≡ None → first_broken xs ≡ None
+pub met_left : (xs ys : List (Rule Fault)) → first_broken (xs ++ ys) ≡ None → first_broken xs ≡ None
 met_left [] ys h = refl
 met_left ((true, f) ∷ xs) ys h = met_left xs ys h
 met_left ((false, f) ∷ xs) ys h = absurd cc
 
-pub met_right : (xs ys : List Rule) → first_broken (xs ++ ys) ≡ None → first_broken ys ≡ None
+pub met_right : (xs ys : List (Rule Fault)) → first_broken (xs ++ ys) ≡ None → first_broken ys ≡ None
 met_right xs ys h = sym (met-append xs ys (met_left xs ys h)) ∙ h
 
-pub each_holds : (rules : ℕ → List Rule) (n i : ℕ) → i < n → first_broken (each n rules) ≡ None → first_broken (rules i) ≡ None
+pub each_holds : (rules : ℕ → List (Rule Fault)) (n i : ℕ) → i < n → first_broken (each n rules) ≡ None → first_broken (rules i) ≡ None
 unfolding each
 each_holds rules zero i lt h = absurd (omega arith)
 each_holds rules (suc n) i lt h =
@@ -133,7 +133,7 @@ each_holds rules (suc n) i lt h =
     ]
 
 -- a first rule that is met
-pub rule_holds : (b : Bool) (f : Fault) (xs : List Rule) → first_broken ((b, f) ∷ xs) ≡ None → (b ≡ true) × (first_broken xs ≡ None)
+pub rule_holds : (b : Bool) (f : Fault) (xs : List (Rule Fault)) → first_broken ((b, f) ∷ xs) ≡ None → (b ≡ true) × (first_broken xs ≡ None)
 rule_holds true f xs h = (refl, h)
 rule_holds false f xs h = absurd cc
 
@@ -179,7 +179,7 @@ pub parts_met : (f : Fields) → AreMet f → first_broken (rules f) ≡ None
 parts_met f are = any_in_end f are.header are.events are.checkpoints ∙ are.ends
 
 -- each of the rules of all numbers below n is met
-pub each_all : (rules : ℕ → List Rule) (n : ℕ) → ((i : ℕ) → i < n → first_broken (rules i) ≡ None) → first_broken (each n rules) ≡ None
+pub each_all : (rules : ℕ → List (Rule Fault)) (n : ℕ) → ((i : ℕ) → i < n → first_broken (rules i) ≡ None) → first_broken (each n rules) ≡ None
 unfolding each
 each_all rules zero h = refl
 each_all rules (suc n) h = met-append (each n rules) (rules n) (each_all rules n (λ i lt. h i (omega arith))) ∙ h n (omega arith)
@@ -208,20 +208,19 @@ pub and_right : (a b : Bool) → (a && b) ≡ true → b ≡ true
 and_right true b h = h
 and_right false b h = absurd cc
 
-pub event_input : (text : List ℕ) (i : ℕ) → Meets text → i < events text → is_input (word_at text (event_place text i + KIND_AT)) (word_at text (event_place text i + VALUE_AT)) ≡ true
+pub event_input : (text : List ℕ) (i : ℕ) → Meets text → i < events text → is_input (word_at text (event_offset text i + KIND_AT)) (word_at text (event_offset text i + VALUE_AT)) ≡ true
 event_input text i meets lt =
     let one = each_holds (event_rules (fields_of text)) (events text) i lt meets.events_meet in
-    let holds = rule_holds (is_event (event_floor (fields_of text) i) (event_of text (event_place text i))) (fault.Event (event_place text i)) [] one in
+    let holds = rule_holds (is_event (event_floor (fields_of text) i) (event_of text (event_offset text i))) (fault.Event (event_offset text i)) [] one in
     and_right _ _ holds.0
 
 -- which versions there are
-version_of : (v : ℕ) (a b : Bool) → (v == FIRST_VERSION) ≡ a → (v == VERSION) ≡ b → (a || b) ≡ true → (v ≡ FIRST_VERSION) ⊎ (v ≡ VERSION)
-version_of v true b first later h = inl (eqb-true v FIRST_VERSION first)
-version_of v false true first later h = inr (eqb-true v VERSION later)
-version_of v false false first later h = absurd cc
-
 pub version_cases : (v : ℕ) → is_version v ≡ true → (v ≡ FIRST_VERSION) ⊎ (v ≡ VERSION)
-version_cases v known = version_of v (v == FIRST_VERSION) (v == VERSION) refl refl known
+version_cases v known =
+    elim (or_cases (v == FIRST_VERSION) (v == VERSION) known) [
+      | inl first ↦ inl (eqb-true v FIRST_VERSION first)
+      | inr later ↦ inr (eqb-true v VERSION later)
+    ]
 
 pub is_first : (v : ℕ) → v ≡ FIRST_VERSION → (v == FIRST_VERSION) ≡ true
 is_first v is = eq-eqb v FIRST_VERSION is
@@ -259,38 +258,38 @@ pub record ChangedMet (f : Fields) (k : ℕ) : Type 0 where
   pub each_change : (i : ℕ) → i < (f.checkpoint k).changes → is_change f.pages (place_floor (f.change k) i) (stood f k) (f.change k i) ≡ true
 
 -- a list of rules whose first one is met has the first fault of the rest
-pub rule_met : (b : Bool) (f : Fault) (xs : List Rule) → b ≡ true → first_broken ((b, f) ∷ xs) ≡ first_broken xs
+pub rule_met : (b : Bool) (f : Fault) (xs : List (Rule Fault)) → b ≡ true → first_broken ((b, f) ∷ xs) ≡ first_broken xs
 rule_met b f xs is = rw is refl
 
 -- and one whose first rule is not met has its fault
-pub rule_unmet : (b : Bool) (f : Fault) (xs : List Rule) → b ≡ false → first_broken ((b, f) ∷ xs) ≡ Some f
+pub rule_unmet : (b : Bool) (f : Fault) (xs : List (Rule Fault)) → b ≡ false → first_broken ((b, f) ∷ xs) ≡ Some f
 rule_unmet b f xs is = rw is refl
 
 pub whole_met : (f : Fields) (k : ℕ) → f.version ≡ FIRST_VERSION → first_broken (checkpoint_rules f k) ≡ None → WholeMet f k
 whole_met f k is met =
     let numbers = page_number_rules f.pages (f.start k) (f.page_number k) in
-    let all : first_broken (whole_rules f k) ≡ None = ap (λ (xs : List Rule). first_broken xs) (sym (rules_whole f k is)) ∙ met in
+    let all : first_broken (whole_rules f k) ≡ None = ap (λ (xs : List (Rule Fault)). first_broken xs) (sym (rules_whole f k is)) ∙ met in
     let one = rule_holds (is_checkpoint k (count_before f k) (sent_below f k) (f.checkpoint k)) (fault.Checkpoint (f.start k)) (each PLACES numbers) all in
     record {
       fields = one.0;
       numbers = λ j lt.
-          let holds = rule_holds (nat_le (f.page_number k j) f.pages) (fault.Page (page_number_place (f.start k) j)) [] (each_holds numbers PLACES j lt one.1) in
+          let holds = rule_holds (nat_le (f.page_number k j) f.pages) (fault.Page (page_number_offset (f.start k) j)) [] (each_holds numbers PLACES j lt one.1) in
           leb-true (f.page_number k j) f.pages holds.0;
     }
 
 pub whole_meets : (f : Fields) (k : ℕ) → f.version ≡ FIRST_VERSION → WholeMet f k → first_broken (checkpoint_rules f k) ≡ None
 whole_meets f k is met =
     let numbers = page_number_rules f.pages (f.start k) (f.page_number k) in
-    ap (λ (xs : List Rule). first_broken xs) (rules_whole f k is)
+    ap (λ (xs : List (Rule Fault)). first_broken xs) (rules_whole f k is)
     ∙ rule_met (is_checkpoint k (count_before f k) (sent_below f k) (f.checkpoint k)) (fault.Checkpoint (f.start k)) (each PLACES numbers) met.fields
-    ∙ each_all numbers PLACES (λ j lt. rule_met (nat_le (f.page_number k j) f.pages) (fault.Page (page_number_place (f.start k) j)) [] (le-leb _ _ (met.numbers j lt)))
+    ∙ each_all numbers PLACES (λ j lt. rule_met (nat_le (f.page_number k j) f.pages) (fault.Page (page_number_offset (f.start k) j)) [] (le-leb _ _ (met.numbers j lt)))
 
 pub changed_met : (f : Fields) (k : ℕ) → f.version ≡ VERSION → first_broken (checkpoint_rules f k) ≡ None → ChangedMet f k
 changed_met f k is met =
     let n = (f.checkpoint k).changes in
     let changes = change_rules f.pages (f.start k) (stood f k) (f.change k) in
     let ends = (nat_le (f.start (suc k)) f.long, fault.Short f.long) ∷ each n changes in
-    let all : first_broken (changed_rules f k) ≡ None = ap (λ (xs : List Rule). first_broken xs) (sym (rules_changed f k is)) ∙ met in
+    let all : first_broken (changed_rules f k) ≡ None = ap (λ (xs : List (Rule Fault)). first_broken xs) (sym (rules_changed f k is)) ∙ met in
     let room = rule_holds (nat_le (f.start k + CHANGES_AT) f.long) (fault.Short f.long) ((is_checkpoint k (count_before f k) (sent_below f k) (f.checkpoint k), fault.Checkpoint (f.start k)) ∷ ends) all in
     let fields = rule_holds (is_checkpoint k (count_before f k) (sent_below f k) (f.checkpoint k)) (fault.Checkpoint (f.start k)) ends room.1 in
     let end = rule_holds (nat_le (f.start (suc k)) f.long) (fault.Short f.long) (each n changes) fields.1 in
@@ -299,7 +298,7 @@ changed_met f k is met =
       fields = fields.0;
       ends = leb-true _ _ end.0;
       each_change = λ i lt.
-          (rule_holds (is_change f.pages (place_floor (f.change k) i) (stood f k) (f.change k i)) (fault.Page (change_place (f.start k) i)) [] (each_holds changes n i lt end.1)).0;
+          (rule_holds (is_change f.pages (place_floor (f.change k) i) (stood f k) (f.change k i)) (fault.Page (change_offset (f.start k) i)) [] (each_holds changes n i lt end.1)).0;
     }
 
 pub changed_meets : (f : Fields) (k : ℕ) → f.version ≡ VERSION → ChangedMet f k → first_broken (checkpoint_rules f k) ≡ None
@@ -307,11 +306,11 @@ changed_meets f k is met =
     let n = (f.checkpoint k).changes in
     let changes = change_rules f.pages (f.start k) (stood f k) (f.change k) in
     let ends = (nat_le (f.start (suc k)) f.long, fault.Short f.long) ∷ each n changes in
-    ap (λ (xs : List Rule). first_broken xs) (rules_changed f k is)
+    ap (λ (xs : List (Rule Fault)). first_broken xs) (rules_changed f k is)
     ∙ rule_met (nat_le (f.start k + CHANGES_AT) f.long) (fault.Short f.long) ((is_checkpoint k (count_before f k) (sent_below f k) (f.checkpoint k), fault.Checkpoint (f.start k)) ∷ ends) (le-leb _ _ met.room)
     ∙ rule_met (is_checkpoint k (count_before f k) (sent_below f k) (f.checkpoint k)) (fault.Checkpoint (f.start k)) ends met.fields
     ∙ rule_met (nat_le (f.start (suc k)) f.long) (fault.Short f.long) (each n changes) (le-leb _ _ met.ends)
-    ∙ each_all changes n (λ i lt. rule_met (is_change f.pages (place_floor (f.change k) i) (stood f k) (f.change k i)) (fault.Page (change_place (f.start k) i)) [] (met.each_change i lt))
+    ∙ each_all changes n (λ i lt. rule_met (is_change f.pages (place_floor (f.change k) i) (stood f k) (f.change k i)) (fault.Page (change_offset (f.start k) i)) [] (met.each_change i lt))
 
 -- the fields of a checkpoint of a text that breaks no rule are in their ranges
 pub checkpoint_holds : (text : List ℕ) (k : ℕ) → Meets text → k < checkpoints text → is_checkpoint k (count_before (fields_of text) k) (output_below text k) (checkpoint_of text (start text k)) ≡ true

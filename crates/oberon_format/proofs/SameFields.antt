@@ -1,5 +1,5 @@
 -- Texts and parts with the same fields have the same first fault.
-use Rattle.std.proofs.Common.{◌≡◌, ◌<◌, ◌≤◌, ◌+◌, ◌∙◌, ℕ, zero, suc, Bool, true, false, eqb, List, [], ◌∷◌, ◌++◌, Option, Some, None, sym, ap, arith, add-one, refl}
+use Rattle.std.proofs.Common.{◌≡◌, ◌<◌, ◌≤◌, ◌+◌, ◌∙◌, ℕ, zero, suc, Bool, true, false, eqb, List, [], ◌∷◌, ◌++◌, sym, ap, arith, add-one, refl}
 use Rattle.std.specs.Prelude.{nat_le, ◌==◌, if◌then◌else◌}
 use Rattle.oberon_format.specs.declared.change.Change.{Change}
 use Rattle.oberon_format.specs.declared.fault.Fault.{Fault}
@@ -8,12 +8,12 @@ use Rattle.oberon_format.specs.declared.fields.CheckpointFields.{CheckpointField
 use Rattle.oberon_format.specs.declared.layout.TheConstants.{FIRST_VERSION, PLACES, CHANGES_AT, LAST_AT, MAGIC, HEADER_LEN, MAGIC_AT, VERSION_AT}
 use Rattle.oberon_format.specs.Fields.{Fields, EventFields, total, sent_below}
 use Rattle.oberon_format.specs.FirstFault.{Rule, first_broken, each}
-use Rattle.oberon_format.specs.Layout.{page_number_place, change_place}
+use Rattle.oberon_format.specs.Layout.{page_number_offset, change_offset}
 use Rattle.oberon_format.specs.Ranges.{is_event, is_change, is_version}
-use Rattle.oberon_format.specs.Rules.{limit_rules, header_rules, named_len, event_rules, event_floor, place_of_event, page_number_rules, place_floor, change_rules, stood, field_rules, whole_rules, changed_rules, count_before, checkpoint_rules, end_rules, rules}
+use Rattle.oberon_format.specs.Rules.{limit_rules, header_rules, named_len, event_rules, event_floor, offset_of_event, page_number_rules, place_floor, change_rules, stood, field_rules, whole_rules, changed_rules, count_before, checkpoint_rules, end_rules, rules}
 use Rattle.oberon_format.proofs.ChangeLemmas.{floor_same}
 use Rattle.oberon_format.proofs.PartLemmas.{floor_more, before_more, stood_more}
-use Rattle.oberon_format.proofs.RuleLemmas.{met-append, broken-append}
+use Rattle.oberon_format.proofs.SameRules.{same_behind}
 use Rattle.oberon_format.proofs.Tables.{change_same}
 
 -- the same numbers, and the same members as far as these go
@@ -31,16 +31,11 @@ pub record SameFields (f g : Fields) : Type 0 where
   pub change : (k i : ℕ) → k < g.checkpoints → i < (g.checkpoint k).changes → f.change k i ≡ g.change k i
   pub page_number : (k j : ℕ) → k < g.checkpoints → j < PLACES → f.page_number k j ≡ g.page_number k j
 
-by_case : (o : Option Fault) (xs xs' ys ys' : List Rule) → first_broken xs ≡ o → first_broken xs' ≡ o → first_broken ys ≡ first_broken ys'
+pub same_append : (xs xs' ys ys' : List (Rule Fault)) → first_broken xs ≡ first_broken xs' → first_broken ys ≡ first_broken ys'
     → first_broken (xs ++ ys) ≡ first_broken (xs' ++ ys')
-by_case None xs xs' ys ys' a b e = met-append xs ys a ∙ e ∙ sym (met-append xs' ys' b)
-by_case (Some g) xs xs' ys ys' a b e = broken-append xs ys g a ∙ sym (broken-append xs' ys' g b)
+same_append xs xs' ys ys' a b = same_behind xs xs' ys ys' a (λ _. b)
 
-pub same_append : (xs xs' ys ys' : List Rule) → first_broken xs ≡ first_broken xs' → first_broken ys ≡ first_broken ys'
-    → first_broken (xs ++ ys) ≡ first_broken (xs' ++ ys')
-same_append xs xs' ys ys' a b = by_case (first_broken xs') xs xs' ys ys' a refl b
-
-pub same_each : (n : ℕ) (f g : ℕ → List Rule) → ((i : ℕ) → i < n → first_broken (f i) ≡ first_broken (g i)) → first_broken (each n f) ≡ first_broken (each n g)
+pub same_each : (n : ℕ) (f g : ℕ → List (Rule Fault)) → ((i : ℕ) → i < n → first_broken (f i) ≡ first_broken (g i)) → first_broken (each n f) ≡ first_broken (each n g)
 unfolding each
 same_each zero f g h = refl
 same_each (suc n) f g h = same_append (each n f) (each n g) (f n) (g n) (same_each n f g (λ i lt. h i (omega arith))) (h n (omega arith))
@@ -60,9 +55,7 @@ before_same f g (suc k) h =
 
 pub stood_same : (f g : Fields) (k p : ℕ) → ((i : ℕ) → i < k → f.page_number i p ≡ g.page_number i p) → stood f k p ≡ stood g k p
 stood_same f g zero p h = refl
-stood_same f g (suc k) p h =
-    let e : suc k ≡ k + 1 = sym (add-one k) in
-    ap (λ (n : ℕ). stood f n p) e ∙ stood_more f k p ∙ h k (omega arith) ∙ sym (stood_more g k p) ∙ ap (λ (n : ℕ). stood g n p) (sym e)
+stood_same f g (suc k) p h = stood_more f k p ∙ h k (omega arith) ∙ sym (stood_more g k p)
 
 pub total_same : (a b : ℕ → ℕ) (n : ℕ) → ((i : ℕ) → i < n → a i ≡ b i) → total a n ≡ total b n
 unfolding total
@@ -76,30 +69,30 @@ pub sent_same : (f g : Fields) (k : ℕ) → ((i : ℕ) → i < k → f.checkpoi
 sent_same f g k h = total_same _ _ k (λ i less. ap (λ (x : CheckpointFields). x.output) (h i less))
 
 -- the page numbers of a checkpoint of version 1
-pub numbers_same : (pages place : ℕ) (m n : ℕ → ℕ) → ((j : ℕ) → j < PLACES → m j ≡ n j)
-    → first_broken (each PLACES (page_number_rules pages place m)) ≡ first_broken (each PLACES (page_number_rules pages place n))
-numbers_same pages place m n h =
-    same_each PLACES (page_number_rules pages place m) (page_number_rules pages place n)
-    (λ j lt. ap (λ (v : ℕ). first_broken ((nat_le v pages, fault.Page (page_number_place place j)) ∷ [])) (h j lt))
+pub numbers_same : (pages offset : ℕ) (m n : ℕ → ℕ) → ((j : ℕ) → j < PLACES → m j ≡ n j)
+    → first_broken (each PLACES (page_number_rules pages offset m)) ≡ first_broken (each PLACES (page_number_rules pages offset n))
+numbers_same pages offset m n h =
+    same_each PLACES (page_number_rules pages offset m) (page_number_rules pages offset n)
+    (λ j lt. ap (λ (v : ℕ). first_broken ((nat_le v pages, fault.Page (page_number_offset offset j)) ∷ [])) (h j lt))
 
 -- the changes of a checkpoint of version 2
-pub changes_same : (pages place n : ℕ) (s t : ℕ → ℕ) (a b : ℕ → Change) → ((p : ℕ) → p < PLACES → s p ≡ t p) → ((i : ℕ) → i < n → a i ≡ b i)
-    → first_broken (each n (change_rules pages place s a)) ≡ first_broken (each n (change_rules pages place t b))
-changes_same pages place n s t a b stands same =
-    same_each n (change_rules pages place s a) (change_rules pages place t b) (λ i lt.
+pub changes_same : (pages offset n : ℕ) (s t : ℕ → ℕ) (a b : ℕ → Change) → ((p : ℕ) → p < PLACES → s p ≡ t p) → ((i : ℕ) → i < n → a i ≡ b i)
+    → first_broken (each n (change_rules pages offset s a)) ≡ first_broken (each n (change_rules pages offset t b))
+changes_same pages offset n s t a b stands same =
+    same_each n (change_rules pages offset s a) (change_rules pages offset t b) (λ i lt.
     let floor : place_floor a i ≡ place_floor b i = floor_same a b i (λ j less. same j (omega arith)) in
     let test : is_change pages (place_floor a i) s (a i) ≡ is_change pages (place_floor b i) t (b i) =
     ap (λ (m : ℕ). is_change pages m s (a i)) floor
     ∙ ap (λ (c : Change). is_change pages (place_floor b i) s c) (same i lt)
     ∙ change_same pages (place_floor b i) s t (b i) (λ p above less. stands p less) in
-    ap (λ (holds : Bool). first_broken ((holds, fault.Page (change_place place i)) ∷ [])) test)
+    ap (λ (holds : Bool). first_broken ((holds, fault.Page (change_offset offset i)) ∷ [])) test)
 
 -- fields with the numbers of one and the members of the other
 mixed : Fields → Fields → Fields
 mixed f g = record g { event = f.event; start = f.start; checkpoint = f.checkpoint; change = f.change; page_number = f.page_number }
 
 -- the header looks at two places
-header_at : Fields → ℕ → List Rule
+header_at : Fields → ℕ → List (Rule Fault)
 header_at g long =
     ((nat_le HEADER_LEN g.long, fault.Short g.long)
     ∷ (g.first == MAGIC, fault.Magic MAGIC_AT)
@@ -122,8 +115,8 @@ events_same : (f g : Fields) → SameFields f g → first_broken (each g.events 
 unfolding mixed
 events_same f g same =
     same_each g.events (event_rules (mixed f g)) (event_rules g) (λ i lt.
-    ap (λ (x : ℕ). first_broken ((is_event x (f.event i), fault.Event (place_of_event g i)) ∷ [])) (event_floor_same (mixed f g) g g.events i lt same.event)
-    ∙ ap (λ (e : EventFields). first_broken ((is_event (event_floor g i) e, fault.Event (place_of_event g i)) ∷ [])) (same.event i lt))
+    ap (λ (x : ℕ). first_broken ((is_event x (f.event i), fault.Event (offset_of_event g i)) ∷ [])) (event_floor_same (mixed f g) g g.events i lt same.event)
+    ∙ ap (λ (e : EventFields). first_broken ((is_event (event_floor g i) e, fault.Event (offset_of_event g i)) ∷ [])) (same.event i lt))
 
 -- the fields of a checkpoint
 fields_same : (f g : Fields) (k : ℕ) → k < g.checkpoints → SameFields f g
@@ -142,7 +135,7 @@ whole_same f g k lt same =
     let m = mixed f g in
     same_append (field_rules (f.start k) k (count_before m k) (sent_below m k) (f.checkpoint k)) (field_rules (g.start k) k (count_before g k) (sent_below g k) (g.checkpoint k))
     (each PLACES (page_number_rules g.pages (f.start k) (f.page_number k))) (each PLACES (page_number_rules g.pages (g.start k) (g.page_number k)))
-    (ap (λ (xs : List Rule). first_broken xs) (fields_same f g k lt same))
+    (ap (λ (xs : List (Rule Fault)). first_broken xs) (fields_same f g k lt same))
     (ap (λ (n : ℕ). first_broken (each PLACES (page_number_rules g.pages n (f.page_number k)))) (same.start k (omega arith))
     ∙ numbers_same g.pages (g.start k) (f.page_number k) (g.page_number k) (λ j less. same.page_number k j lt less))
 
@@ -151,8 +144,8 @@ changed_same : (f g : Fields) (k : ℕ) → k < g.checkpoints → SameFields f g
 unfolding mixed
 changed_same f g k lt same =
     let m = mixed f g in
-    let room = λ (n : ℕ). (let xs : List Rule = (nat_le (n + CHANGES_AT) g.long, fault.Short g.long) ∷ [] in xs) in
-    let ends = λ (n : ℕ). (let xs : List Rule = (nat_le n g.long, fault.Short g.long) ∷ [] in xs) in
+    let room = λ (n : ℕ). (let xs : List (Rule Fault) = (nat_le (n + CHANGES_AT) g.long, fault.Short g.long) ∷ [] in xs) in
+    let ends = λ (n : ℕ). (let xs : List (Rule Fault) = (nat_le n g.long, fault.Short g.long) ∷ [] in xs) in
     let fields = field_rules (f.start k) k (count_before m k) (sent_below m k) (f.checkpoint k) in
     let fields' = field_rules (g.start k) k (count_before g k) (sent_below g k) (g.checkpoint k) in
     let changes = each (f.checkpoint k).changes (change_rules g.pages (f.start k) (stood m k) (f.change k)) in
@@ -165,7 +158,7 @@ changed_same f g k lt same =
     ∙ changes_same g.pages (g.start k) (g.checkpoint k).changes (stood m k) (stood g k) (f.change k) (g.change k)
     (λ p less. stood_same m g k p (λ i before. same.page_number i p (omega arith) less)) (λ i less. same.change k i lt less) in
     let rest = same_append (ends (f.start (suc k))) (ends (g.start (suc k))) changes changes' (ap (λ (n : ℕ). first_broken (ends n)) next) of_changes in
-    let body = same_append fields fields' (ends (f.start (suc k)) ++ changes) (ends (g.start (suc k)) ++ changes') (ap (λ (xs : List Rule). first_broken xs) (fields_same f g k lt same)) rest in
+    let body = same_append fields fields' (ends (f.start (suc k)) ++ changes) (ends (g.start (suc k)) ++ changes') (ap (λ (xs : List (Rule Fault)). first_broken xs) (fields_same f g k lt same)) rest in
     same_append (room (f.start k)) (room (g.start k)) (fields ++ (ends (f.start (suc k)) ++ changes)) (fields' ++ (ends (g.start (suc k)) ++ changes')) (ap (λ (n : ℕ). first_broken (room n)) at) body
 
 checkpoint_same : (f g : Fields) (k : ℕ) → k < g.checkpoints → SameFields f g
@@ -183,7 +176,7 @@ checkpoints_same f g same = same_each g.checkpoints (checkpoint_rules (mixed f g
 ends_same : (f g : Fields) → SameFields f g → first_broken (end_rules (mixed f g)) ≡ first_broken (end_rules g)
 unfolding mixed
 ends_same f g same =
-    let ends = λ (at sent : ℕ). (let xs : List Rule = (nat_le (at + sent) g.long, fault.Short g.long) ∷ (eqb g.long (at + sent), fault.Trailing (at + sent)) ∷ [] in xs) in
+    let ends = λ (at sent : ℕ). (let xs : List (Rule Fault) = (nat_le (at + sent) g.long, fault.Short g.long) ∷ (eqb g.long (at + sent), fault.Trailing (at + sent)) ∷ [] in xs) in
     ap (λ (n : ℕ). first_broken (ends n (sent_below f g.checkpoints))) (same.start g.checkpoints (omega arith))
     ∙ ap (λ (n : ℕ). first_broken (ends (g.start g.checkpoints) n)) (sent_same f g g.checkpoints same.checkpoint)
 

@@ -8,19 +8,19 @@ use Rattle.oberon_format.specs.FirstFault.{Rule, each, first_broken}
 use Rattle.oberon_format.proofs.RuleLemmas.{met-append, broken-append}
 
 -- the rules after one that both lists begin with
-pub same_after : (holds : Bool) (fault : Fault) (p q : List Rule) → (holds ≡ true → first_broken p ≡ first_broken q)
+pub same_after : (holds : Bool) (fault : Fault) (p q : List (Rule Fault)) → (holds ≡ true → first_broken p ≡ first_broken q)
     → first_broken ((holds, fault) ∷ p) ≡ first_broken ((holds, fault) ∷ q)
 same_after true fault p q same = same refl
 same_after false fault p q same = refl
 
 -- the rules after two that are the same
-pub same_rule : (holds holds' : Bool) (fault fault' : Fault) (p q : List Rule) → holds ≡ holds' → fault ≡ fault' → (holds ≡ true → first_broken p ≡ first_broken q)
+pub same_rule : (holds holds' : Bool) (fault fault' : Fault) (p q : List (Rule Fault)) → holds ≡ holds' → fault ≡ fault' → (holds ≡ true → first_broken p ≡ first_broken q)
     → first_broken ((holds, fault) ∷ p) ≡ first_broken ((holds', fault') ∷ q)
 same_rule holds holds' fault fault' p q is names same =
     same_after holds fault p q same ∙ ap₂ (λ (b : Bool) (f : Fault). first_broken ((b, f) ∷ q)) is names
 
 -- the rules behind some that have one first fault
-pub same_behind : (front front' p q : List Rule) → first_broken front ≡ first_broken front' → (first_broken front ≡ None → first_broken p ≡ first_broken q)
+pub same_behind : (front front' p q : List (Rule Fault)) → first_broken front ≡ first_broken front' → (first_broken front ≡ None → first_broken p ≡ first_broken q)
     → first_broken (front ++ p) ≡ first_broken (front' ++ q)
 same_behind front front' p q same rest = go (first_broken front) refl (sym same)
   where
@@ -29,7 +29,7 @@ same_behind front front' p q same rest = go (first_broken front) refl (sym same)
     go (Some fault) a b = broken-append front p fault a ∙ sym (broken-append front' q fault (b ∙ a))
 
 -- rules after two that hold
-pub both_pass : (holds holds' : Bool) (fault fault' : Fault) (p q : List Rule) → holds ≡ true → holds' ≡ true → first_broken p ≡ first_broken q
+pub both_pass : (holds holds' : Bool) (fault fault' : Fault) (p q : List (Rule Fault)) → holds ≡ true → holds' ≡ true → first_broken p ≡ first_broken q
     → first_broken ((holds, fault) ∷ p) ≡ first_broken ((holds', fault') ∷ q)
 both_pass holds holds' fault fault' p q is is' same = rw (is, is') same
 
@@ -41,7 +41,7 @@ too_long end long over =
     rw (there, more) refl
 
 -- rules that are the same number by number
-pub each_same : (n : ℕ) (p q : ℕ → List Rule) → ((i : ℕ) → i < n → p i ≡ q i) → each n p ≡ each n q
+pub each_same : (n : ℕ) (p q : ℕ → List (Rule Fault)) → ((i : ℕ) → i < n → p i ≡ q i) → each n p ≡ each n q
 unfolding each
 each_same zero p q same = refl
 each_same (suc n) p q same = ap₂ (λ x y. x ++ y) (each_same n p q (λ i below. same i (omega arith))) (same n (omega arith))

@@ -1,7 +1,7 @@
 -- The bytes of a recording are laid out as its text.
-use Rattle.std.proofs.Common.{◌≡◌, ◌<◌, ◌≤◌, ◌+◌, ◌-◌, ◌*◌, ◌^◌, ◌∙◌, ℕ, List, ◌++◌, length, drop, get_or, refl, sym, ap, subst, arith, length-append}
+use Rattle.std.proofs.Common.{◌≡◌, ◌<◌, ◌≤◌, ◌+◌, ◌-◌, ◌^◌, ◌∙◌, ℕ, List, ◌++◌, length, drop, get_or, refl, sym, ap, subst, arith, length-append}
 use Rattle.std.proofs.lemmas.List.{length-replicate, drop_at, get_or_default}
-use Rattle.std.specs.Prelude.{slice_index, slice_range, replicate}
+use Rattle.std.specs.Prelude.{slice_index, replicate}
 use Rattle.std.specs.List.{flat_map}
 use Rattle.std.proofs.lemmas.Bool.Decides.{nat_tests}
 use Rattle.risc_core.specs.Flags.{flags_number}
@@ -13,11 +13,11 @@ use Rattle.risc_machine.specs.MachineState.{CpuState, IsCpuState}
 use Rattle.risc_pages.specs.Pages.{IsPage}
 use Rattle.risc_pages.specs.Tables.{zero_numbers, IsTable}
 use Rattle.oberon_format.specs.declared.change.Change.{Change}
-use Rattle.oberon_format.specs.declared.layout.TheConstants.{MAGIC, VERSION, MAGIC_AT}
-use Rattle.oberon_format.specs.declared.ranges.TheConstants.{MAX_OUTPUT}
+use Rattle.oberon_format.specs.declared.layout.TheConstants.{MAGIC, VERSION, HEADER_LEN, PAGE_LEN, EVENT_LEN, CHANGE_LEN, FRONT_LEN, MAGIC_AT, VERSION_AT, PAGES_AT, EVENTS_AT, CHECKPOINTS_AT, LAST_AT, KIND_AT, VALUE_AT, REGISTERS_AT, AUXILIARY_AT, COUNTER_AT, FLAGS_AT, STOP_AT, TIMER_AT, SWITCHES_AT, LEDS_AT, MOUSE_AT, SERIAL_AT, WAITING_AT, KEYS_AT, SENT_AT, RATE_AT, PHASE_AT, CHANGE_COUNT_AT, CHANGES_AT, NUMBER_AT}
+use Rattle.oberon_format.specs.declared.ranges.TheConstants.{MAX_OUTPUT, MAX_KEYS}
 use Rattle.oberon_format.specs.Changes.{changes, no_change}
 use Rattle.oberon_format.specs.CheckpointParts.{CheckpointParts, no_checkpoint}
-use Rattle.oberon_format.specs.Layout.{word_at, page_place, event_place, checkpoint_size, start, output_place}
+use Rattle.oberon_format.specs.Layout.{word_at, version, pages, events, checkpoints, page_offset, event_start, event_offset, change_offset, checkpoint_size, start, output_offset}
 use Rattle.oberon_format.specs.PartFields.{changes_laid, start_laid}
 use Rattle.oberon_format.specs.Recording.{RecordingParts, IsLawful, IsFit, checkpoint_at, table_before, output_of}
 use Rattle.oberon_format.specs.inner.Spelling.{word_bytes, long_bytes, words_bytes, event_bytes, cpu_bytes, device_bytes, front_bytes, change_bytes, changes_bytes, changed_bytes, tail_bytes, checkpoint_bytes, checkpoints_bytes, header_bytes, spelling}
@@ -25,7 +25,7 @@ use Rattle.oberon_format.specs.Text.{IsEvent, IsCpu, IsDevices, IsFront, IsChang
 use Rattle.oberon_format.proofs.ChangeLemmas.{change_in, changes-few, changes-lawful, changes-new}
 use Rattle.oberon_format.proofs.LawfulLemmas.{flags_fit, serial_fits}
 use Rattle.oberon_format.proofs.Places.{start-found}
-use Rattle.oberon_format.proofs.Stands.{AreWide, Stands, AreSpaced, stands_whole, stands_left, stands_right, stands_from, stands_range, word_stands, long_stands, words_stand, each_stands, blocks_stand, length-blocks, length-word_bytes, length-long_bytes, length-words_bytes, length-flat_map}
+use Rattle.oberon_format.proofs.Stands.{AreWide, Stands, AreSpaced, stands_whole, stands_left, stands_right, stands_behind, stands_from, stands_range, word_stands, long_stands, words_stand, each_stands, blocks_stand, length-blocks, length-word_bytes, length-long_bytes, length-words_bytes, length-flat_map}
 use Rattle.oberon_format.proofs.WriteLemmas.{sent_le}
 
 -- words are numbers of four bytes
@@ -35,27 +35,27 @@ wide xs h i d lt = rw (get_or_default xs i d 0 lt) (h i)
 flags_wide : (cpu : CpuState) → flags_number cpu.flags < 2 ^ 32
 flags_wide cpu = let f = flags_fit cpu in omega arith
 
-pub event_stands : (text : List ℕ) (place : ℕ) (e : Event) → Stands text place (event_bytes e) → IsEvent text place e
+pub event_stands : (text : List ℕ) (offset : ℕ) (e : Event) → Stands text offset (event_bytes e) → IsEvent text offset e
 unfolding event_bytes
-event_stands text place e s =
+event_stands text offset e s =
     let c = long_bytes e.count in
     let k = word_bytes (kind_of e.input) in
     let v = word_bytes (value_of e.input) in
     let small : kind_of e.input < 6 = kind_fits (kind_of e.input) (value_of e.input) e.input.lawful in
-    let ck = stands_left text place (c ++ k) v s in
+    let ck = stands_left text offset (c ++ k) v s in
     record {
-      count = long_stands text place e.count (stands_left text place c k ck) e.range;
-      kind = word_stands text (place + 8) (kind_of e.input) (stands_right text place 8 c k ck (length-long_bytes e.count)) (omega arith);
-      value = word_stands text (place + 12) (value_of e.input) (stands_right text place 12 (c ++ k) v s (omega (arith, length-append c k, length-long_bytes e.count, length-word_bytes (kind_of e.input)))) (value_fits (kind_of e.input) (value_of e.input) e.input.lawful);
+      count = long_stands text offset e.count (stands_left text offset c k ck) e.range;
+      kind = word_stands text (offset + KIND_AT) (kind_of e.input) (stands_right text offset KIND_AT c k ck (length-long_bytes e.count)) (omega arith);
+      value = word_stands text (offset + VALUE_AT) (value_of e.input) (stands_right text offset VALUE_AT (c ++ k) v s (omega (arith, length-append c k, length-long_bytes e.count, length-word_bytes (kind_of e.input)))) (value_fits (kind_of e.input) (value_of e.input) e.input.lawful);
     }
 
-pub length-event_bytes : (e : Event) → length (event_bytes e) ≡ 16
+pub length-event_bytes : (e : Event) → length (event_bytes e) ≡ EVENT_LEN
 unfolding event_bytes
 length-event_bytes e = simp (length-append, length-long_bytes, length-word_bytes)
 
-pub cpu_stands : (text : List ℕ) (place : ℕ) (cpu : CpuState) → IsCpuState cpu → Stands text (place + 8) (cpu_bytes cpu) → IsCpu text place cpu
+pub cpu_stands : (text : List ℕ) (offset : ℕ) (cpu : CpuState) → IsCpuState cpu → Stands text (offset + REGISTERS_AT) (cpu_bytes cpu) → IsCpu text offset cpu
 unfolding cpu_bytes
-cpu_stands text place cpu p s =
+cpu_stands text offset cpu p s =
     let r = words_bytes cpu.r in
     let h = word_bytes cpu.h in
     let pc = word_bytes cpu.pc in
@@ -68,20 +68,19 @@ cpu_stands text place cpu p s =
     let below = p.counter in
     let stops = p.stops in
     let len = p.count in
-    let s4 = stands_left text (place + 8) (r ++ h ++ pc ++ f) st s in
-    let s3 = stands_left text (place + 8) (r ++ h ++ pc) f s4 in
-    let s2 = stands_left text (place + 8) (r ++ h) pc s3 in
-    let l1 : length r ≡ 64 = omega arith in
-    let l2 : length (r ++ h) ≡ 68 = omega (arith, length-append r h) in
-    let l3 : length (r ++ h ++ pc) ≡ 72 = omega (arith, length-append (r ++ h) pc) in
-    let l4 : length (r ++ h ++ pc ++ f) ≡ 76 = omega (arith, length-append (r ++ h ++ pc) f) in
-    let at : (n : ℕ) → place + 8 + n ≡ place + (8 + n) = λ n. omega arith in
+    let s4 = stands_left text (offset + REGISTERS_AT) (r ++ h ++ pc ++ f) st s in
+    let s3 = stands_left text (offset + REGISTERS_AT) (r ++ h ++ pc) f s4 in
+    let s2 = stands_left text (offset + REGISTERS_AT) (r ++ h) pc s3 in
+    let l1 : REGISTERS_AT + length r ≡ AUXILIARY_AT = omega arith in
+    let l2 : REGISTERS_AT + length (r ++ h) ≡ COUNTER_AT = omega (arith, length-append r h) in
+    let l3 : REGISTERS_AT + length (r ++ h ++ pc) ≡ FLAGS_AT = omega (arith, length-append (r ++ h) pc) in
+    let l4 : REGISTERS_AT + length (r ++ h ++ pc ++ f) ≡ STOP_AT = omega (arith, length-append (r ++ h ++ pc) f) in
     record {
-      registers = words_stand text (place + 8) cpu.r (wide cpu.r p.registers) (stands_left text (place + 8) r h s2);
-      h = rw (← at 64) (word_stands text (place + 8 + 64) cpu.h (stands_right text (place + 8) 64 r h s2 l1) p.auxiliary);
-      pc = rw (← at 68) (word_stands text (place + 8 + 68) cpu.pc (stands_right text (place + 8) 68 (r ++ h) pc s3 l2) (omega arith));
-      flags = rw (← at 72) (word_stands text (place + 8 + 72) (flags_number cpu.flags) (stands_right text (place + 8) 72 (r ++ h ++ pc) f s4 l3) (flags_wide cpu));
-      stop = rw (← at 76) (word_stands text (place + 8 + 76) cpu.stop (stands_right text (place + 8) 76 (r ++ h ++ pc ++ f) st s l4) (omega arith));
+      registers = words_stand text (offset + REGISTERS_AT) cpu.r (wide cpu.r p.registers) (stands_left text (offset + REGISTERS_AT) r h s2);
+      h = word_stands text (offset + AUXILIARY_AT) cpu.h (stands_behind text offset REGISTERS_AT AUXILIARY_AT r h s2 l1) p.auxiliary;
+      pc = word_stands text (offset + COUNTER_AT) cpu.pc (stands_behind text offset REGISTERS_AT COUNTER_AT (r ++ h) pc s3 l2) (omega arith);
+      flags = word_stands text (offset + FLAGS_AT) (flags_number cpu.flags) (stands_behind text offset REGISTERS_AT FLAGS_AT (r ++ h ++ pc) f s4 l3) (flags_wide cpu);
+      stop = word_stands text (offset + STOP_AT) cpu.stop (stands_behind text offset REGISTERS_AT STOP_AT (r ++ h ++ pc ++ f) st s l4) (omega arith);
     }
 
 -- a phase is a number of four bytes, as its rate is
@@ -89,9 +88,9 @@ phase_fits : (rate phase : ℕ) → rate < 2 ^ 32 → IsPhase rate phase → pha
 unfolding is_phase
 phase_fits rate phase small fits = grind (arith, nat_tests)
 
-pub device_stands : (text : List ℕ) (place : ℕ) (d : DeviceState) → IsDeviceState d → Stands text (place + 88) (device_bytes d) → IsDevices text place d
+pub device_stands : (text : List ℕ) (offset : ℕ) (d : DeviceState) → IsDeviceState d → Stands text (offset + TIMER_AT) (device_bytes d) → IsDevices text offset d
 unfolding device_bytes
-device_stands text place d p all =
+device_stands text offset d p all =
     let a = word_bytes d.timer in
     let b = word_bytes d.switches in
     let e = word_bytes d.leds in
@@ -99,79 +98,77 @@ device_stands text place d p all =
     let g = word_bytes (serial_number d) in
     let h = word_bytes (length d.keys) in
     let ks : List ℕ = d.keys in
-    let zs : List ℕ = replicate (16 - length d.keys) 0 in
-    let s6 = stands_left text (place + 88) (a ++ b ++ e ++ m ++ g ++ h) (ks ++ zs) all in
-    let s5 = stands_left text (place + 88) (a ++ b ++ e ++ m ++ g) h s6 in
-    let s4 = stands_left text (place + 88) (a ++ b ++ e ++ m) g s5 in
-    let s3 = stands_left text (place + 88) (a ++ b ++ e) m s4 in
-    let s2 = stands_left text (place + 88) (a ++ b) e s3 in
-    let s1 = stands_left text (place + 88) (a) b s2 in
+    let zs : List ℕ = replicate (MAX_KEYS - length d.keys) 0 in
+    let s6 = stands_left text (offset + TIMER_AT) (a ++ b ++ e ++ m ++ g ++ h) (ks ++ zs) all in
+    let s5 = stands_left text (offset + TIMER_AT) (a ++ b ++ e ++ m ++ g) h s6 in
+    let s4 = stands_left text (offset + TIMER_AT) (a ++ b ++ e ++ m) g s5 in
+    let s3 = stands_left text (offset + TIMER_AT) (a ++ b ++ e) m s4 in
+    let s2 = stands_left text (offset + TIMER_AT) (a ++ b) e s3 in
+    let s1 = stands_left text (offset + TIMER_AT) a b s2 in
     let z1 = length-word_bytes d.timer in
-    let l1 : length a ≡ 4 = omega arith in
+    let l1 : TIMER_AT + length a ≡ SWITCHES_AT = omega arith in
     let z2 = length-word_bytes d.switches in
-    let l2 : length (a ++ b) ≡ 8 = omega (arith, length-append (a) b) in
+    let l2 : TIMER_AT + length (a ++ b) ≡ LEDS_AT = omega (arith, length-append a b) in
     let z3 = length-word_bytes d.leds in
-    let l3 : length (a ++ b ++ e) ≡ 12 = omega (arith, length-append (a ++ b) e) in
+    let l3 : TIMER_AT + length (a ++ b ++ e) ≡ MOUSE_AT = omega (arith, length-append (a ++ b) e) in
     let z4 = length-word_bytes d.mouse in
-    let l4 : length (a ++ b ++ e ++ m) ≡ 16 = omega (arith, length-append (a ++ b ++ e) m) in
+    let l4 : TIMER_AT + length (a ++ b ++ e ++ m) ≡ SERIAL_AT = omega (arith, length-append (a ++ b ++ e) m) in
     let z5 = length-word_bytes (serial_number d) in
-    let l5 : length (a ++ b ++ e ++ m ++ g) ≡ 20 = omega (arith, length-append (a ++ b ++ e ++ m) g) in
+    let l5 : TIMER_AT + length (a ++ b ++ e ++ m ++ g) ≡ WAITING_AT = omega (arith, length-append (a ++ b ++ e ++ m) g) in
     let z6 = length-word_bytes (length d.keys) in
-    let l6 : length (a ++ b ++ e ++ m ++ g ++ h) ≡ 24 = omega (arith, length-append (a ++ b ++ e ++ m ++ g) h) in
-    let at : (n : ℕ) → place + 88 + n ≡ place + (88 + n) = λ n. omega arith in
+    let l6 : TIMER_AT + length (a ++ b ++ e ++ m ++ g ++ h) ≡ KEYS_AT = omega (arith, length-append (a ++ b ++ e ++ m ++ g) h) in
     let few = p.keys in
     let small_switches = p.switches in
     let small_leds = p.leds in
     let small_mouse = mouse_word_fits d.mouse p.mouse in
     let small_serial = serial_fits d p in
-    let kz : Stands text (place + 88 + 24) (ks ++ zs) = stands_right text (place + 88) 24 (a ++ b ++ e ++ m ++ g ++ h) (ks ++ zs) all l6 in
-    let full : length (ks ++ zs) ≡ 16 = omega (arith, length-append ks zs, length-replicate {A = ℕ} (16 - length d.keys) 0) in
-    let from : place + 88 + 24 ≡ place + 112 = omega arith in
-    let to : place + 128 ≡ place + 88 + 24 + length (ks ++ zs) = omega arith in
+    let kz : Stands text (offset + KEYS_AT) (ks ++ zs) = stands_behind text offset TIMER_AT KEYS_AT (a ++ b ++ e ++ m ++ g ++ h) (ks ++ zs) all l6 in
+    let full : length (ks ++ zs) ≡ MAX_KEYS = omega (arith, length-append ks zs, length-replicate {A = ℕ} (MAX_KEYS - length d.keys) 0) in
+    let to : offset + SENT_AT ≡ offset + KEYS_AT + length (ks ++ zs) = omega arith in
     record {
-      timer = word_stands text (place + 88) d.timer (stands_left text (place + 88) a b s2) p.timer;
-      switches = rw (← at 4) (word_stands text (place + 88 + 4) d.switches (stands_right text (place + 88) 4 (a) b s2 l1) (omega arith));
-      leds = rw (← at 8) (word_stands text (place + 88 + 8) d.leds (stands_right text (place + 88) 8 (a ++ b) e s3 l2) (omega arith));
-      mouse = rw (← at 12) (word_stands text (place + 88 + 12) d.mouse (stands_right text (place + 88) 12 (a ++ b ++ e) m s4 l3) (omega arith));
-      serial = rw (← at 16) (word_stands text (place + 88 + 16) (serial_number d) (stands_right text (place + 88) 16 (a ++ b ++ e ++ m) g s5 l4) (omega arith));
-      waiting = rw (← at 20) (word_stands text (place + 88 + 20) (length d.keys) (stands_right text (place + 88) 20 (a ++ b ++ e ++ m ++ g) h s6 l5) (omega arith));
-      keys = subst (λ (k : ℕ). slice_range text k (place + 128) ≡ ks ++ zs) from (stands_range text (place + 88 + 24) (place + 128) (ks ++ zs) kz to);
+      timer = word_stands text (offset + TIMER_AT) d.timer (stands_left text (offset + TIMER_AT) a b s2) p.timer;
+      switches = word_stands text (offset + SWITCHES_AT) d.switches (stands_behind text offset TIMER_AT SWITCHES_AT a b s2 l1) (omega arith);
+      leds = word_stands text (offset + LEDS_AT) d.leds (stands_behind text offset TIMER_AT LEDS_AT (a ++ b) e s3 l2) (omega arith);
+      mouse = word_stands text (offset + MOUSE_AT) d.mouse (stands_behind text offset TIMER_AT MOUSE_AT (a ++ b ++ e) m s4 l3) (omega arith);
+      serial = word_stands text (offset + SERIAL_AT) (serial_number d) (stands_behind text offset TIMER_AT SERIAL_AT (a ++ b ++ e ++ m) g s5 l4) (omega arith);
+      waiting = word_stands text (offset + WAITING_AT) (length d.keys) (stands_behind text offset TIMER_AT WAITING_AT (a ++ b ++ e ++ m ++ g) h s6 l5) (omega arith);
+      keys = stands_range text (offset + KEYS_AT) (offset + SENT_AT) (ks ++ zs) kz to;
     }
 
-pub length-device_bytes : (d : DeviceState) → length d.keys ≤ 16 → length (device_bytes d) ≡ 40
+pub length-device_bytes : (d : DeviceState) → length d.keys ≤ MAX_KEYS → TIMER_AT + length (device_bytes d) ≡ SENT_AT
 unfolding device_bytes
 length-device_bytes d few = simp (length-append, length-word_bytes, length-replicate) (omega arith)
 
-pub length-cpu_bytes : (cpu : CpuState) → length cpu.r ≡ 16 → length (cpu_bytes cpu) ≡ 80
+pub length-cpu_bytes : (cpu : CpuState) → length cpu.r ≡ 16 → REGISTERS_AT + length (cpu_bytes cpu) ≡ TIMER_AT
 unfolding cpu_bytes
 length-cpu_bytes cpu len = simp (length-append, length-word_bytes, length-words_bytes) (omega arith)
 
 -- what a checkpoint begins with
-front_stands : (text : List ℕ) (place : ℕ) (pool : List (List ℕ)) (c : CheckpointParts) → IsFit pool c → length c.sent ≤ MAX_OUTPUT → Stands text place (front_bytes c) → IsFront text place c
+front_stands : (text : List ℕ) (offset : ℕ) (pool : List (List ℕ)) (c : CheckpointParts) → IsFit pool c → length c.sent ≤ MAX_OUTPUT → Stands text offset (front_bytes c) → IsFront text offset c
 unfolding front_bytes
-front_stands text place pool c p few s =
+front_stands text offset pool c p few s =
     let bounded = p.bounded in
     let a = long_bytes c.count in
     let b = cpu_bytes c.cpu in
     let d = device_bytes c.devices in
     let e = word_bytes (length c.sent) in
-    let s3 = stands_left text (place) (a ++ b ++ d) e s in
-    let s2 = stands_left text (place) (a ++ b) d s3 in
+    let s3 = stands_left text offset (a ++ b ++ d) e s in
+    let s2 = stands_left text offset (a ++ b) d s3 in
     let z1 = length-long_bytes c.count in
-    let l1 : length a ≡ 8 = omega arith in
+    let l1 : length a ≡ REGISTERS_AT = omega arith in
     let z2 = length-cpu_bytes c.cpu p.cpu.count in
-    let l2 : length (a ++ b) ≡ 88 = omega (arith, length-append (a) b) in
+    let l2 : length (a ++ b) ≡ TIMER_AT = omega (arith, length-append a b) in
     let z3 = length-device_bytes c.devices p.devices.keys in
-    let l3 : length (a ++ b ++ d) ≡ 128 = omega (arith, length-append (a ++ b) d) in
+    let l3 : length (a ++ b ++ d) ≡ SENT_AT = omega (arith, length-append (a ++ b) d) in
     record {
-      count = long_stands text place c.count (stands_left text place a b s2) (omega arith);
-      cpu = cpu_stands text place c.cpu p.cpu (stands_right text (place) 8 (a) b s2 l1);
-      devices = device_stands text place c.devices p.devices (stands_right text (place) 88 (a ++ b) d s3 l2);
-      sent = word_stands text (place + 128) (length c.sent) (stands_right text (place) 128 (a ++ b ++ d) e s l3) (omega arith);
+      count = long_stands text offset c.count (stands_left text offset a b s2) (omega arith);
+      cpu = cpu_stands text offset c.cpu p.cpu (stands_right text offset REGISTERS_AT a b s2 l1);
+      devices = device_stands text offset c.devices p.devices (stands_right text offset TIMER_AT (a ++ b) d s3 l2);
+      sent = word_stands text (offset + SENT_AT) (length c.sent) (stands_right text offset SENT_AT (a ++ b ++ d) e s l3) (omega arith);
     }
 
 -- which is as long in each version
-length-front_bytes : (pool : List (List ℕ)) (c : CheckpointParts) → IsFit pool c → length (front_bytes c) ≡ 132
+length-front_bytes : (pool : List (List ℕ)) (c : CheckpointParts) → IsFit pool c → length (front_bytes c) ≡ FRONT_LEN
 unfolding front_bytes
 length-front_bytes pool c p =
     let z2 = length-cpu_bytes c.cpu p.cpu.count in
@@ -179,18 +176,18 @@ length-front_bytes pool c p =
     simp (length-append, length-word_bytes, length-long_bytes) (omega arith)
 
 -- a change
-change_stands : (text : List ℕ) (place : ℕ) (change : Change) → change.place < 2 ^ 32 → change.number < 2 ^ 32 → Stands text place (change_bytes change) → IsChange text place change
+change_stands : (text : List ℕ) (offset : ℕ) (change : Change) → change.place < 2 ^ 32 → change.number < 2 ^ 32 → Stands text offset (change_bytes change) → IsChange text offset change
 unfolding change_bytes
-change_stands text place change low small s =
+change_stands text offset change low small s =
     let a = word_bytes change.place in
     let b = word_bytes change.number in
     record {
-      place = word_stands text place change.place (stands_left text place a b s) low;
-      number = word_stands text (place + 4) change.number (stands_right text place 4 a b s (length-word_bytes change.place)) small;
+      place = word_stands text offset change.place (stands_left text offset a b s) low;
+      number = word_stands text (offset + NUMBER_AT) change.number (stands_right text offset NUMBER_AT a b s (length-word_bytes change.place)) small;
     }
 
--- which has eight bytes
-length-change_bytes : (change : Change) → length (change_bytes change) ≡ 8
+-- and its length
+length-change_bytes : (change : Change) → length (change_bytes change) ≡ CHANGE_LEN
 unfolding change_bytes
 length-change_bytes change = simp (length-append, length-word_bytes)
 
@@ -210,43 +207,41 @@ change_small before table fits i d lt =
     rw (get_or_default (changes before table) i d no_change lt) (omega arith)
 
 -- what follows in version 2
-changed_stands : (text : List ℕ) (place : ℕ) (before : List ℕ) (c : CheckpointParts) → IsDeviceState c.devices → IsTable c.table → Stands text (place + 132) (changed_bytes before c)
-    → IsChanged text place before c
+changed_stands : (text : List ℕ) (offset : ℕ) (before : List ℕ) (c : CheckpointParts) → IsDeviceState c.devices → IsTable c.table → Stands text (offset + RATE_AT) (changed_bytes before c)
+    → IsChanged text offset before c
 unfolding changed_bytes changes_bytes
-changed_stands text place before c devices table s =
+changed_stands text offset before c devices table s =
     let cs = changes before c.table in
     let a = word_bytes c.devices.rate in
     let b = word_bytes c.devices.phase in
     let n = word_bytes (length cs) in
     let m = flat_map change_bytes cs in
     let few = changes-few before c.table in
-    let s2 = stands_left text (place + 132) (a ++ b) (n ++ m) s in
-    let l1 : length a ≡ 4 = length-word_bytes c.devices.rate in
-    let l2 : length (a ++ b) ≡ 8 = omega (arith, length-append a b, length-word_bytes c.devices.phase) in
-    let s3 : Stands text (place + 132 + 8) (n ++ m) = stands_right text (place + 132) 8 (a ++ b) (n ++ m) s l2 in
-    let s4 : Stands text (place + 132 + 8 + 4) m = stands_right text (place + 132 + 8) 4 n m s3 (length-word_bytes (length cs)) in
-    let e1 : place + 132 + 4 ≡ place + 136 = omega arith in
-    let e2 : place + 132 + 8 ≡ place + 140 = omega arith in
-    let e3 : place + 132 + 8 + 4 ≡ place + 144 = omega arith in
-    let each = each_stands change_bytes 8 text (place + 144) cs (λ i d h. length-change_bytes (get_or cs i d)) (subst (λ (p : ℕ). Stands text p m) e3 s4) in
+    let s2 = stands_left text (offset + RATE_AT) (a ++ b) (n ++ m) s in
+    let l1 : RATE_AT + length a ≡ PHASE_AT = omega (arith, length-word_bytes c.devices.rate) in
+    let l2 : RATE_AT + length (a ++ b) ≡ CHANGE_COUNT_AT = omega (arith, length-append a b, length-word_bytes c.devices.phase) in
+    let l3 : CHANGE_COUNT_AT + length n ≡ CHANGES_AT = omega (arith, length-word_bytes (length cs)) in
+    let s3 : Stands text (offset + CHANGE_COUNT_AT) (n ++ m) = stands_behind text offset RATE_AT CHANGE_COUNT_AT (a ++ b) (n ++ m) s l2 in
+    let s4 : Stands text (offset + CHANGES_AT) m = stands_behind text offset CHANGE_COUNT_AT CHANGES_AT n m s3 l3 in
+    let each = each_stands change_bytes CHANGE_LEN text (offset + CHANGES_AT) cs (λ i d h. length-change_bytes (get_or cs i d)) s4 in
     record {
-      rate = word_stands text (place + 132) c.devices.rate (stands_left text (place + 132) a b s2) devices.rate;
-      phase = rw (← e1) (word_stands text (place + 132 + 4) c.devices.phase (stands_right text (place + 132) 4 a b s2 l1) (phase_fits c.devices.rate c.devices.phase devices.rate devices.phase));
-      count = rw (← e2) (word_stands text (place + 132 + 8) (length cs) (stands_left text (place + 132 + 8) n m s3) (omega arith));
-      changes = λ i d h. change_stands text (place + 144 + 8 * i) (get_or cs i d) (change_low before c.table i d h) (change_small before c.table table i d h) (each i d h);
+      rate = word_stands text (offset + RATE_AT) c.devices.rate (stands_left text (offset + RATE_AT) a b s2) devices.rate;
+      phase = word_stands text (offset + PHASE_AT) c.devices.phase (stands_behind text offset RATE_AT PHASE_AT a b s2 l1) (phase_fits c.devices.rate c.devices.phase devices.rate devices.phase);
+      count = word_stands text (offset + CHANGE_COUNT_AT) (length cs) (stands_left text (offset + CHANGE_COUNT_AT) n m s3) (omega arith);
+      changes = λ i d h. change_stands text (change_offset offset i) (get_or cs i d) (change_low before c.table i d h) (change_small before c.table table i d h) (each i d h);
     }
 
 -- a checkpoint of version 2
-checkpoint_stands : (text : List ℕ) (place : ℕ) (pool : List (List ℕ)) (before : List ℕ) (c : CheckpointParts) → IsFit pool c → length c.sent ≤ MAX_OUTPUT
-    → Stands text place (checkpoint_bytes VERSION before c) → IsCheckpoint VERSION text place before c
+checkpoint_stands : (text : List ℕ) (offset : ℕ) (pool : List (List ℕ)) (before : List ℕ) (c : CheckpointParts) → IsFit pool c → length c.sent ≤ MAX_OUTPUT
+    → Stands text offset (checkpoint_bytes VERSION before c) → IsCheckpoint VERSION text offset before c
 unfolding checkpoint_bytes tail_bytes
-checkpoint_stands text place pool before c p few s =
+checkpoint_stands text offset pool before c p few s =
     let f = front_bytes c in
     let t = tail_bytes VERSION before c in
     record {
-      front = front_stands text place pool c p few (stands_left text place f t s);
+      front = front_stands text offset pool c p few (stands_left text offset f t s);
       in_first = λ is. absurd (omega arith);
-      in_second = λ is. changed_stands text place before c p.devices p.table (stands_right text place 132 f t s (length-front_bytes pool c p));
+      in_second = λ is. changed_stands text offset before c p.devices p.table (stands_right text offset FRONT_LEN f t s (length-front_bytes pool c p));
     }
 
 -- whose length its changes tell
@@ -254,21 +249,21 @@ length-checkpoint_bytes : (pool : List (List ℕ)) (before : List ℕ) (c : Chec
 unfolding checkpoint_bytes tail_bytes changed_bytes changes_bytes
 length-checkpoint_bytes pool before c p =
     let front = length-front_bytes pool c p in
-    let all = length-flat_map change_bytes 8 (changes before c.table) (λ i d h. length-change_bytes (get_or (changes before c.table) i d)) in
+    let all = length-flat_map change_bytes CHANGE_LEN (changes before c.table) (λ i d h. length-change_bytes (get_or (changes before c.table) i d)) in
     simp (length-append, length-word_bytes) (omega arith)
 
-pub length-page_bytes : (page : List ℕ) → IsPage page → length (words_bytes page) ≡ 1024
+pub length-page_bytes : (page : List ℕ) → IsPage page → length (words_bytes page) ≡ PAGE_LEN
 length-page_bytes page h = let l = h.whole in omega (arith, length-words_bytes page)
 
 record Header (text : List ℕ) (r : RecordingParts) : Type 0 where
   m : word_at text MAGIC_AT ≡ MAGIC
-  v : word_at text 4 ≡ VERSION
-  p : word_at text 8 ≡ length r.pool
-  e : word_at text 12 ≡ length r.inputs
-  k : word_at text 16 ≡ length r.checkpoints
-  z : word_at text 20 ≡ 0
+  v : version text ≡ VERSION
+  p : pages text ≡ length r.pool
+  e : events text ≡ length r.inputs
+  k : checkpoints text ≡ length r.checkpoints
+  z : word_at text LAST_AT ≡ 0
 
-length-header_bytes : (r : RecordingParts) → length (header_bytes VERSION r) ≡ 24
+length-header_bytes : (r : RecordingParts) → length (header_bytes VERSION r) ≡ HEADER_LEN
 unfolding header_bytes
 length-header_bytes r = simp (length-append, length-word_bytes)
 
@@ -288,18 +283,18 @@ header_stands text r p s =
     let s4 = stands_left text 0 (a ++ b ++ d ++ e) f s5 in
     let s3 = stands_left text 0 (a ++ b ++ d) e s4 in
     let s2 = stands_left text 0 (a ++ b) d s3 in
-    let l1 : length a ≡ 4 = length-word_bytes MAGIC in
-    let l2 : length (a ++ b) ≡ 8 = omega (arith, length-append a b, length-word_bytes VERSION) in
-    let l3 : length (a ++ b ++ d) ≡ 12 = omega (arith, length-append (a ++ b) d, length-word_bytes (length r.pool)) in
-    let l4 : length (a ++ b ++ d ++ e) ≡ 16 = omega (arith, length-append (a ++ b ++ d) e, length-word_bytes (length r.inputs)) in
-    let l5 : length (a ++ b ++ d ++ e ++ f) ≡ 20 = omega (arith, length-append (a ++ b ++ d ++ e) f, length-word_bytes (length r.checkpoints)) in
+    let l1 : length a ≡ VERSION_AT = length-word_bytes MAGIC in
+    let l2 : length (a ++ b) ≡ PAGES_AT = omega (arith, length-append a b, length-word_bytes VERSION) in
+    let l3 : length (a ++ b ++ d) ≡ EVENTS_AT = omega (arith, length-append (a ++ b) d, length-word_bytes (length r.pool)) in
+    let l4 : length (a ++ b ++ d ++ e) ≡ CHECKPOINTS_AT = omega (arith, length-append (a ++ b ++ d) e, length-word_bytes (length r.inputs)) in
+    let l5 : length (a ++ b ++ d ++ e ++ f) ≡ LAST_AT = omega (arith, length-append (a ++ b ++ d ++ e) f, length-word_bytes (length r.checkpoints)) in
     record {
       m = word_stands text MAGIC_AT MAGIC (stands_left text 0 a b s2) (omega arith);
-      v = word_stands text 4 VERSION (stands_right text 0 4 a b s2 l1) (omega arith);
-      p = word_stands text 8 (length r.pool) (stands_right text 0 8 (a ++ b) d s3 l2) (omega arith);
-      e = word_stands text 12 (length r.inputs) (stands_right text 0 12 (a ++ b ++ d) e s4 l3) (omega arith);
-      k = word_stands text 16 (length r.checkpoints) (stands_right text 0 16 (a ++ b ++ d ++ e) f s5 l4) (omega arith);
-      z = word_stands text 20 0 (stands_right text 0 20 (a ++ b ++ d ++ e ++ f) g s l5) (omega arith);
+      v = word_stands text VERSION_AT VERSION (stands_from text VERSION_AT a b s2 l1) (omega arith);
+      p = word_stands text PAGES_AT (length r.pool) (stands_from text PAGES_AT (a ++ b) d s3 l2) (omega arith);
+      e = word_stands text EVENTS_AT (length r.inputs) (stands_from text EVENTS_AT (a ++ b ++ d) e s4 l3) (omega arith);
+      k = word_stands text CHECKPOINTS_AT (length r.checkpoints) (stands_from text CHECKPOINTS_AT (a ++ b ++ d ++ e) f s5 l4) (omega arith);
+      z = word_stands text LAST_AT 0 (stands_from text LAST_AT (a ++ b ++ d ++ e ++ f) g s l5) (omega arith);
     }
 
 -- the bytes of a lawful recording are laid out as its text
@@ -315,7 +310,7 @@ laid_out r p =
     let C = checkpoints_bytes VERSION zero_numbers cs in
     let O = output_of cs in
     let text = H ++ P ++ E ++ C ++ O in
-    let place = start_laid VERSION r in
+    let offset = start_laid VERSION r in
     let s5 = stands_whole text in
     let s4 = stands_left text 0 (H ++ P ++ E ++ C) O s5 in
     let s3 = stands_left text 0 (H ++ P ++ E) C s4 in
@@ -323,25 +318,24 @@ laid_out r p =
     let header = header_stands text r p (stands_left text 0 H P s2) in
     let np = length r.pool in
     let ne = length r.inputs in
-    let page_len : (i : ℕ) (d : List ℕ) → i < length r.pool → length (words_bytes (get_or r.pool i d)) ≡ 1024 = λ i d h. length-page_bytes (get_or r.pool i d) (p.pool i d h) in
-    let event_len : (i : ℕ) (d : Event) → i < length r.inputs → length (event_bytes (get_or r.inputs i d)) ≡ 16 = λ i d h. length-event_bytes (get_or r.inputs i d) in
-    let spaced : AreSpaced place VERSION zero_numbers cs = λ k h. ap (λ (n : ℕ). place k + n) (sym (length-checkpoint_bytes r.pool (table_before cs k) (checkpoint_at r k) (fits k h))) in
-    let l1 : length H ≡ 24 = length-header_bytes r in
-    let lp = length-flat_map words_bytes 1024 r.pool page_len in
-    let le = length-flat_map event_bytes 16 r.inputs event_len in
-    let lc : place (length cs) ≡ place 0 + length C = length-blocks VERSION place zero_numbers cs spaced in
-    let l2 : length (H ++ P) ≡ 24 + 1024 * np = omega (arith, length-append H P) in
-    let first : place 0 ≡ 24 + 1024 * np + 16 * ne = refl in
-    let l3 : length (H ++ P ++ E) ≡ place 0 = omega (arith, length-append (H ++ P) E) in
-    let l4 : length (H ++ P ++ E ++ C) ≡ place (length cs) = omega (arith, length-append (H ++ P ++ E) C) in
-    let e2 : 24 + 1024 * np ≡ event_place text 0 = rw header.p (omega arith) in
-    let pages_at = each_stands words_bytes 1024 text 24 r.pool page_len (stands_right text 0 24 H P s2 l1) in
-    let events_at = each_stands event_bytes 16 text (24 + 1024 * np) r.inputs event_len (stands_from text (24 + 1024 * np) (H ++ P) E s3 l2) in
-    let blocks = blocks_stand VERSION text place zero_numbers cs spaced (stands_from text (place 0) (H ++ P ++ E) C s4 l3) in
-    let stand : (k : ℕ) → k < length cs → IsCheckpoint VERSION text (place k) (table_before cs k) (checkpoint_at r k) =
-    λ k h. checkpoint_stands text (place k) r.pool (table_before cs k) (checkpoint_at r k) (fits k h) (sent k h) (blocks k h) in
-    let found : (k : ℕ) → k ≤ length cs → start text k ≡ place k = start-found VERSION text r refl header.v header.p header.e stand in
-    let end : output_place text ≡ place (length cs) = ap (start text) header.k ∙ found (length cs) (omega arith) in
+    let page_len : (i : ℕ) (d : List ℕ) → i < length r.pool → length (words_bytes (get_or r.pool i d)) ≡ PAGE_LEN = λ i d h. length-page_bytes (get_or r.pool i d) (p.pool i d h) in
+    let event_len : (i : ℕ) (d : Event) → i < length r.inputs → length (event_bytes (get_or r.inputs i d)) ≡ EVENT_LEN = λ i d h. length-event_bytes (get_or r.inputs i d) in
+    let spaced : AreSpaced offset VERSION zero_numbers cs = λ k h. ap (λ (n : ℕ). offset k + n) (sym (length-checkpoint_bytes r.pool (table_before cs k) (checkpoint_at r k) (fits k h))) in
+    let l1 : length H ≡ HEADER_LEN = length-header_bytes r in
+    let lp = length-flat_map words_bytes PAGE_LEN r.pool page_len in
+    let le = length-flat_map event_bytes EVENT_LEN r.inputs event_len in
+    let lc : offset (length cs) ≡ offset 0 + length C = length-blocks VERSION offset zero_numbers cs spaced in
+    let l2 : length (H ++ P) ≡ page_offset np = omega (arith, length-append H P) in
+    let first : offset 0 ≡ event_start np ne = refl in
+    let l3 : length (H ++ P ++ E) ≡ offset 0 = omega (arith, length-append (H ++ P) E) in
+    let l4 : length (H ++ P ++ E ++ C) ≡ offset (length cs) = omega (arith, length-append (H ++ P ++ E) C) in
+    let pages_at = each_stands words_bytes PAGE_LEN text HEADER_LEN r.pool page_len (stands_from text HEADER_LEN H P s2 l1) in
+    let events_at = each_stands event_bytes EVENT_LEN text (page_offset np) r.inputs event_len (stands_from text (page_offset np) (H ++ P) E s3 l2) in
+    let blocks = blocks_stand VERSION text offset zero_numbers cs spaced (stands_from text (offset 0) (H ++ P ++ E) C s4 l3) in
+    let stand : (k : ℕ) → k < length cs → IsCheckpoint VERSION text (offset k) (table_before cs k) (checkpoint_at r k) =
+    λ k h. checkpoint_stands text (offset k) r.pool (table_before cs k) (checkpoint_at r k) (fits k h) (sent k h) (blocks k h) in
+    let found : (k : ℕ) → k ≤ length cs → start text k ≡ offset k = start-found VERSION text r refl header.v header.p header.e stand in
+    let end : output_offset text ≡ offset (length cs) = ap (start text) header.k ∙ found (length cs) (omega arith) in
     record {
       long = omega (arith, length-append (H ++ P ++ E ++ C) O);
       magic = header.m;
@@ -351,12 +345,12 @@ laid_out r p =
       event_count = header.e;
       checkpoint_count = header.k;
       zero = header.z;
-      pages_stand = λ i d h. words_stand text (page_place i) (get_or r.pool i d) (p.pool i d h).fit (pages_at i d h);
-      events_stand = λ i d h. event_stands text (event_place text i) (get_or r.inputs i d) (rw header.p (events_at i d h));
+      pages_stand = λ i d h. words_stand text (page_offset i) (get_or r.pool i d) (p.pool i d h).fit (pages_at i d h);
+      events_stand = λ i d h. event_stands text (event_offset text i) (get_or r.inputs i d) (rw header.p (events_at i d h));
       checkpoints_stand = λ k d h.
           subst (λ (c : CheckpointParts). IsCheckpoint VERSION text (start text k) (table_before cs k) c) (get_or_default cs k no_checkpoint d h)
           (subst (λ (n : ℕ). IsCheckpoint VERSION text n (table_before cs k) (checkpoint_at r k)) (sym (found k (omega arith))) (stand k h));
-      output = ap (λ (k : ℕ). drop k text) end ∙ drop_at (H ++ P ++ E ++ C) O (place (length cs)) l4;
+      output = ap (λ (k : ℕ). drop k text) end ∙ drop_at (H ++ P ++ E ++ C) O (offset (length cs)) l4;
     }
 
 -- and so they are its text

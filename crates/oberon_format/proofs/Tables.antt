@@ -1,5 +1,5 @@
 -- Tables as their changes are made in place.
-use Rattle.std.proofs.Common.{◌≡◌, ◌≢◌, ◌<◌, ◌≤◌, ◌+◌, ◌∙◌, ℕ, suc, Bool, true, false, ◌&&◌, List, length, refl, sym, ap, arith, add-one, get_or, set, get_or-set_same, get_or-set_other, eq-eqb}
+use Rattle.std.proofs.Common.{◌≡◌, ◌≢◌, ◌<◌, ◌≤◌, ◌+◌, ◌∙◌, ℕ, Bool, true, false, ◌&&◌, List, length, refl, sym, ap, arith, get_or, set, get_or-set_same, get_or-set_other, eq-eqb}
 use Rattle.std.specs.Prelude.{◌==◌, nat_le, nat_lt, not, slice_index, slice_set}
 use Rattle.std.proofs.lemmas.Bool.{eqb-true, leb-true, ltb-true}
 use Rattle.oberon_format.specs.declared.change.Change.{Change}
@@ -8,12 +8,8 @@ use Rattle.oberon_format.specs.Changes.{number_after}
 use Rattle.oberon_format.specs.Ranges.{is_change}
 use Rattle.oberon_format.specs.Rules.{place_floor}
 use Rattle.oberon_format.specs.inner.Tested.{HasNumbers}
-use Rattle.oberon_format.proofs.ChangeLemmas.{after_here, after_other}
+use Rattle.oberon_format.proofs.ChangeLemmas.{after_here, after_next, after_other}
 use Rattle.oberon_format.proofs.RuleLemmas.{and_left, and_right}
-
--- the number of changes, as code counts it
-after_next : (change : ℕ → Change) (stood : ℕ → ℕ) (n p : ℕ) → number_after change stood (n + 1) p ≡ number_after change stood (suc n) p
-after_next change stood n p = ap (λ (m : ℕ). number_after change stood m p) (add-one n)
 
 -- a change that is made in a table
 change_made_at : (change : ℕ → Change) (stood : ℕ → ℕ) (n : ℕ) (table : List ℕ) (p : ℕ) → length table ≡ PLACES → (change n).place < PLACES

@@ -8,7 +8,7 @@ use Rattle.oberon_format.specs.declared.fault.Fault.TheVariants as fault
 use Rattle.oberon_format.specs.declared.layout.TheConstants.{PLACES}
 use Rattle.oberon_format.specs.Changes.{changes, changes_below, no_change}
 use Rattle.oberon_format.specs.FirstFault.{first_broken}
-use Rattle.oberon_format.specs.Layout.{change_place}
+use Rattle.oberon_format.specs.Layout.{change_offset}
 use Rattle.oberon_format.specs.Ranges.{is_change}
 use Rattle.oberon_format.specs.Rules.{place_floor, change_rules}
 use Rattle.oberon_format.proofs.ChangeLemmas.{member_of, change_in, change_to, are_below, below_same, below_more, changes-lawful}
@@ -82,21 +82,21 @@ third_left : (a b c d : Bool) → a ≡ true → b ≡ true → d ≡ true → (
 third_left a b true d ha hb hd = rw (ha, hb, hd) refl
 third_left a b false d ha hb hd = rw (ha, hb) refl
 
-pub change_tested : (pages i : ℕ) (before table : List ℕ) → i < length (changes before table)
+pub number_tested : (pages i : ℕ) (before table : List ℕ) → i < length (changes before table)
     → is_change pages (place_floor (change_in before table) i) (slice_index before) (change_in before table i) ≡ nat_le (change_in before table i).number pages
-change_tested pages i before table lt =
+number_tested pages i before table lt =
     let c = change_in before table i in
     let are = changes-lawful before table in
     let differs : (c.number == slice_index before c.place) ≡ false = ne_eqb _ _ (are.differs i lt) in
     third_left _ _ (nat_le c.number pages) _ (le-leb _ _ (are.rises i lt)) (lt-ltb _ _ (are.inside i lt)) (ap not differs)
 
 -- the rule of the change of a place in which the tables differ
-pub next_rule : (pages place p : ℕ) (before table : List ℕ) → p < PLACES → slice_index before p ≢ slice_index table p
+pub next_rule : (pages offset p : ℕ) (before table : List ℕ) → p < PLACES → slice_index before p ≢ slice_index table p
     → (length (changes_below p before table) < length (changes before table))
-    × (first_broken (change_rules pages place (slice_index before) (change_in before table) (length (changes_below p before table)))
-    ≡ first_broken ((nat_le (slice_index table p) pages, fault.Page (change_place place (length (changes_below p before table)))) ∷ []))
-next_rule pages place p before table lt ne =
+    × (first_broken (change_rules pages offset (slice_index before) (change_in before table) (length (changes_below p before table)))
+    ≡ first_broken ((nat_le (slice_index table p) pages, fault.Page (change_offset offset (length (changes_below p before table)))) ∷ []))
+next_rule pages offset p before table lt ne =
     let m = length (changes_below p before table) in
     let next = next_change p before table lt ne in
-    let test = change_tested pages m before table next.inside ∙ ap (λ (c : Change). nat_le c.number pages) next.is in
-    (next.inside, ap (λ (holds : Bool). first_broken ((holds, fault.Page (change_place place m)) ∷ [])) test)
+    let test = number_tested pages m before table next.inside ∙ ap (λ (c : Change). nat_le c.number pages) next.is in
+    (next.inside, ap (λ (holds : Bool). first_broken ((holds, fault.Page (change_offset offset m)) ∷ [])) test)

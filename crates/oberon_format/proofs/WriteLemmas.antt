@@ -15,9 +15,10 @@ use Rattle.oberon_format.specs.Layout.{checkpoint_size}
 use Rattle.oberon_format.specs.PartFields.{start_laid}
 use Rattle.oberon_format.specs.Recording.{RecordingParts, checkpoint_at, table_before, output_of}
 use Rattle.oberon_format.specs.inner.Spelling.{change_bytes, checkpoint_bytes, checkpoints_bytes}
-use Rattle.oberon_format.proofs.ChangeLemmas.{below_more, below_same, changes-few}
 use Rattle.oberon_format.proofs.CheckpointLemmas.{checkpoint_at-is}
+use Rattle.oberon_format.proofs.PartLemmas.{laid_next, laid_within}
 use Rattle.oberon_format.proofs.Places.{bytes_at, bytes_at-next}
+use Rattle.oberon_format.proofs.Walk.{below_stays, below_grows}
 
 -- the bytes of one member more
 pub written_next : {X : Type 0} (f : X → List ℕ) (xs : List X) (k : ℕ) (d : X) (start out more : List ℕ) → k < length xs → out ≡ start ++ flat_map f (take k xs) → more ≡ out ++ f (get_or xs k d)
@@ -43,7 +44,7 @@ checkpoints_more v before (c ∷ cs) (suc k) lt =
 pub changes_skipped : (before table start out : List ℕ) (p : ℕ) → slice_index before p ≡ slice_index table p → out ≡ start ++ flat_map change_bytes (changes_below p before table)
     → out ≡ start ++ flat_map change_bytes (changes_below (p + 1) before table)
 changes_skipped before table start out p same so_far =
-    so_far ∙ ap (λ (cs : List Change). start ++ flat_map change_bytes cs) (sym (ap (λ (n : ℕ). changes_below n before table) (add-one p) ∙ below_same p before table same))
+    so_far ∙ ap (λ (cs : List Change). start ++ flat_map change_bytes cs) (sym (below_stays p before table same))
 
 pub changes_next : (before table start out more : List ℕ) (p : ℕ) → slice_index before p ≢ slice_index table p → out ≡ start ++ flat_map change_bytes (changes_below p before table)
     → more ≡ out ++ change_bytes (record { place = p; number = slice_index table p }) → more ≡ start ++ flat_map change_bytes (changes_below (p + 1) before table)
@@ -51,32 +52,26 @@ changes_next before table start out more p other so_far now =
     let here : Change = record { place = p; number = slice_index table p } in
     let below = changes_below p before table in
     now ∙ ap (λ (l : List ℕ). l ++ change_bytes here) so_far ∙ flat_map_more change_bytes start below here
-    ∙ ap (λ (cs : List Change). start ++ flat_map change_bytes cs) (sym (ap (λ (n : ℕ). changes_below n before table) (add-one p) ∙ below_more p before table other))
+    ∙ ap (λ (cs : List Change). start ++ flat_map change_bytes cs) (sym (below_grows p before table other))
 
 -- checkpoint k, as Rust has it and as parts
 written_at : (r : RecordingParts) (cs : List Checkpoint) (k : ℕ) (c : Checkpoint) → map checkpoint_parts cs ≡ r.checkpoints → k < length cs → c ≡ get_or cs k c → checkpoint_parts c ≡ checkpoint_at r k
 written_at r cs k c same lt is = sym (checkpoint_at-is cs k c lt is) ∙ ap (λ (l : List CheckpointParts). get_or l k no_checkpoint) same
 
 -- the length of one checkpoint more
-pub laid_next : (r : RecordingParts) (cs : List Checkpoint) (k : ℕ) (c : Checkpoint) (before : List ℕ) → map checkpoint_parts cs ≡ r.checkpoints → k < length cs → c ≡ get_or cs k c
+pub written_laid : (r : RecordingParts) (cs : List Checkpoint) (k : ℕ) (c : Checkpoint) (before : List ℕ) → map checkpoint_parts cs ≡ r.checkpoints → k < length cs → c ≡ get_or cs k c
     → before ≡ table_before (map checkpoint_parts cs) k → start_laid VERSION r (k + 1) ≡ start_laid VERSION r k + checkpoint_size VERSION (length (changes before c.table))
-unfolding start_laid
-laid_next r cs k c before same lt is b =
+written_laid r cs k c before same lt is b =
     let at : checkpoint_parts c ≡ checkpoint_at r k = written_at r cs k c same lt is in
     let table : c.table ≡ (checkpoint_at r k).table = ap (λ (x : CheckpointParts). x.table) at in
     let before_is : before ≡ table_before r.checkpoints k = b ∙ ap (λ (l : List CheckpointParts). table_before l k) same in
-    ap (start_laid VERSION r) (add-one k)
+    ap (start_laid VERSION r) (add-one k) ∙ laid_next VERSION r k
     ∙ ap (λ (t : List ℕ). start_laid VERSION r k + checkpoint_size VERSION (length (changes t (checkpoint_at r k).table))) (sym before_is)
     ∙ ap (λ (t : List ℕ). start_laid VERSION r k + checkpoint_size VERSION (length (changes before t))) (sym table)
 
 -- where a checkpoint is laid out is within a limit
 pub laid_bounded : (r : RecordingParts) (k : ℕ) → length r.pool ≤ MAX_PAGES → length r.inputs ≤ MAX_EVENTS → start_laid VERSION r k ≤ 83108888 + 8336 * k
-unfolding start_laid
-laid_bounded r zero pages events = omega arith
-laid_bounded r (suc k) pages events =
-    let so_far = laid_bounded r k pages events in
-    let few = changes-few (table_before r.checkpoints k) (checkpoint_at r k).table in
-    omega arith
+laid_bounded r k pages events = let within = laid_within VERSION r k in omega arith
 
 -- page number p + 1 is page p of the pool
 pub next_page : (pool : List (List ℕ)) (p : ℕ) → page_of pool (p + 1) ≡ get_or pool p zero_page

@@ -2,29 +2,30 @@
 -- before the output have lengths that the header tells; in version 2 each checkpoint tells its own.
 use Rattle.std.specs.Prelude.{ℕ, suc, ◌+◌, ◌-◌, ◌&&◌, ◌==◌, nat_le, if◌then◌else◌, List, [], ◌∷◌, ◌++◌}
 use Rattle.oberon_format.specs.declared.change.Change.{Change}
+use Rattle.oberon_format.specs.declared.fault.Fault.{Fault}
 use Rattle.oberon_format.specs.declared.fault.Fault.TheVariants as fault
 use Rattle.oberon_format.specs.declared.fields.CheckpointFields.{CheckpointFields}
 use Rattle.oberon_format.specs.declared.layout.TheConstants.{MAGIC, FIRST_VERSION, HEADER_LEN, PLACES, MAGIC_AT, VERSION_AT, PAGES_AT, EVENTS_AT, CHECKPOINTS_AT, LAST_AT, CHANGES_AT}
 use Rattle.oberon_format.specs.declared.ranges.TheConstants.{MAX_PAGES, MAX_EVENTS, MAX_CHECKPOINTS}
 use Rattle.oberon_format.specs.Fields.{Fields, sent_below}
 use Rattle.oberon_format.specs.FirstFault.{Rule, each}
-use Rattle.oberon_format.specs.Layout.{event_start, page_number_place, change_place}
+use Rattle.oberon_format.specs.Layout.{event_start, page_number_offset, change_offset}
 use Rattle.oberon_format.specs.Ranges.{is_version, is_event, is_checkpoint, is_change}
 
 -- where event i begins
-abbrev pub place_of_event : Fields → ℕ → ℕ
-place_of_event f i = event_start f.pages i
+abbrev pub offset_of_event : Fields → ℕ → ℕ
+offset_of_event f i = event_start f.pages i
 
 -- where the output begins
-abbrev pub place_of_output : Fields → ℕ
-place_of_output f = f.start f.checkpoints
+abbrev pub offset_of_output : Fields → ℕ
+offset_of_output f = f.start f.checkpoints
 
 -- how long the text is to be by its header: in version 1 up to the output, in version 2 up to checkpoint 0
 abbrev pub named_len : Fields → ℕ
-named_len f = if f.version == FIRST_VERSION then place_of_output f else f.start 0
+named_len f = if f.version == FIRST_VERSION then offset_of_output f else f.start 0
 
 -- the numbers of pages, events and checkpoints that a header names
-abbrev pub limit_rules : ℕ → ℕ → ℕ → List Rule
+abbrev pub limit_rules : ℕ → ℕ → ℕ → List (Rule Fault)
 limit_rules pages events checkpoints =
     (nat_le pages MAX_PAGES, fault.Limit PAGES_AT)
     ∷ (nat_le events MAX_EVENTS, fault.Limit EVENTS_AT)
@@ -32,7 +33,7 @@ limit_rules pages events checkpoints =
     ∷ []
 
 -- the header: it is there, its six numbers are in their ranges, and what it names is there
-abbrev pub header_rules : Fields → List Rule
+abbrev pub header_rules : Fields → List (Rule Fault)
 header_rules f =
     ((nat_le HEADER_LEN f.long, fault.Short f.long)
     ∷ (f.first == MAGIC, fault.Magic MAGIC_AT)
@@ -48,43 +49,43 @@ abbrev pub event_floor : Fields → ℕ → ℕ
 event_floor f i = if i == 0 then 0 else (f.event (i - 1)).count
 
 -- event i is in its ranges
-abbrev pub event_rules : Fields → ℕ → List Rule
-event_rules f i = (is_event (event_floor f i) (f.event i), fault.Event (place_of_event f i)) ∷ []
+abbrev pub event_rules : Fields → ℕ → List (Rule Fault)
+event_rules f i = (is_event (event_floor f i) (f.event i), fault.Event (offset_of_event f i)) ∷ []
 
 -- the count of the checkpoint before checkpoint k
 abbrev pub count_before : Fields → ℕ → ℕ
 count_before f k = if k == 0 then 0 else (f.checkpoint (k - 1)).count
 
--- the fields of checkpoint k, which begins at a place, are in their ranges
-abbrev pub field_rules : ℕ → ℕ → ℕ → ℕ → CheckpointFields → List Rule
-field_rules place k before sent c = (is_checkpoint k before sent c, fault.Checkpoint place) ∷ []
+-- the fields of checkpoint k, which begins at an offset, are in their ranges
+abbrev pub field_rules : ℕ → ℕ → ℕ → ℕ → CheckpointFields → List (Rule Fault)
+field_rules offset k before sent c = (is_checkpoint k before sent c, fault.Checkpoint offset) ∷ []
 
--- page number j of a checkpoint that begins at a place is at most the number of pages
-abbrev pub page_number_rules : ℕ → ℕ → (ℕ → ℕ) → ℕ → List Rule
-page_number_rules pages place number j = (nat_le (number j) pages, fault.Page (page_number_place place j)) ∷ []
+-- page number j of a checkpoint that begins at an offset is at most the number of pages
+abbrev pub page_number_rules : ℕ → ℕ → (ℕ → ℕ) → ℕ → List (Rule Fault)
+page_number_rules pages offset number j = (nat_le (number j) pages, fault.Page (page_number_offset offset j)) ∷ []
 
 -- the least place that change i may have: places rise
 abbrev pub place_floor : (ℕ → Change) → ℕ → ℕ
 place_floor change i = if i == 0 then 0 else (change (i - 1)).place + 1
 
--- change i of a checkpoint that begins at a place is lawful, where numbers stood before the checkpoint
-abbrev pub change_rules : ℕ → ℕ → (ℕ → ℕ) → (ℕ → Change) → ℕ → List Rule
-change_rules pages place stood change i =
-    (is_change pages (place_floor change i) stood (change i), fault.Page (change_place place i)) ∷ []
+-- change i of a checkpoint that begins at an offset is lawful, where numbers stood before the checkpoint
+abbrev pub change_rules : ℕ → ℕ → (ℕ → ℕ) → (ℕ → Change) → ℕ → List (Rule Fault)
+change_rules pages offset stood change i =
+    (is_change pages (place_floor change i) stood (change i), fault.Page (change_offset offset i)) ∷ []
 
 -- the page number at a place before checkpoint k: at first 0
 abbrev pub stood : Fields → ℕ → ℕ → ℕ
 stood f k p = if k == 0 then 0 else f.page_number (k - 1) p
 
 -- checkpoint k of version 1: its fields, and then each of its page numbers
-abbrev pub whole_rules : Fields → ℕ → List Rule
+abbrev pub whole_rules : Fields → ℕ → List (Rule Fault)
 whole_rules f k =
     field_rules (f.start k) k (count_before f k) (sent_below f k) (f.checkpoint k)
     ++ each PLACES (page_number_rules f.pages (f.start k) (f.page_number k))
 
 -- checkpoint k of version 2: the bytes before its changes are there, its fields, the bytes of its changes are there, and then each
 -- of these
-abbrev pub changed_rules : Fields → ℕ → List Rule
+abbrev pub changed_rules : Fields → ℕ → List (Rule Fault)
 changed_rules f k =
     (nat_le (f.start k + CHANGES_AT) f.long, fault.Short f.long)
     ∷ (field_rules (f.start k) k (count_before f k) (sent_below f k) (f.checkpoint k)
@@ -92,22 +93,22 @@ changed_rules f k =
     ∷ each (f.checkpoint k).changes (change_rules f.pages (f.start k) (stood f k) (f.change k))))
 
 -- checkpoint k
-unfoldable pub checkpoint_rules : Fields → ℕ → List Rule
+unfoldable pub checkpoint_rules : Fields → ℕ → List (Rule Fault)
 checkpoint_rules f k = if f.version == FIRST_VERSION then whole_rules f k else changed_rules f k
 
 -- how long the text is to be
 abbrev pub whole : Fields → ℕ
-whole f = place_of_output f + sent_below f f.checkpoints
+whole f = offset_of_output f + sent_below f f.checkpoints
 
 -- the output is there, and nothing after it
-abbrev pub end_rules : Fields → List Rule
+abbrev pub end_rules : Fields → List (Rule Fault)
 end_rules f =
     (nat_le (whole f) f.long, fault.Short f.long)
     ∷ (f.long == whole f, fault.Trailing (whole f))
     ∷ []
 
 -- all rules
-unfoldable pub rules : Fields → List Rule
+unfoldable pub rules : Fields → List (Rule Fault)
 rules f =
     header_rules f
     ++ each f.events (event_rules f)

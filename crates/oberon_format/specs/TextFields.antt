@@ -7,43 +7,43 @@ use Rattle.oberon_format.specs.declared.layout.TheConstants.{FIRST_VERSION, MAGI
 use Rattle.oberon_format.specs.Changes.{number_after}
 use Rattle.oberon_format.specs.Fields.{EventFields, Fields}
 use Rattle.oberon_format.specs.FirstFault.{first_broken}
-use Rattle.oberon_format.specs.Layout.{word_at, long_at, version, pages, events, checkpoints, page_number_place, change_place, event_place, later_word, change_count, start}
+use Rattle.oberon_format.specs.Layout.{word_at, long_at, version, pages, events, checkpoints, page_number_offset, change_offset, event_offset, later_word, change_count, start}
 use Rattle.oberon_format.specs.Rules.{rules}
 
--- the event that stands at a place
+-- the event that stands at an offset
 abbrev pub event_of : List ℕ → ℕ → EventFields
-event_of text place = record {
-  count = long_at text place;
-  kind = word_at text (place + KIND_AT);
-  value = word_at text (place + VALUE_AT);
+event_of text offset = record {
+  count = long_at text offset;
+  kind = word_at text (offset + KIND_AT);
+  value = word_at text (offset + VALUE_AT);
 }
 
--- the fields of the checkpoint that stands at a place. In version 1 its timer doesn't count by itself, and it has no changes
+-- the fields of the checkpoint that stands at an offset. In version 1 its timer doesn't count by itself, and it has no changes
 abbrev pub checkpoint_of : List ℕ → ℕ → CheckpointFields
-checkpoint_of text place = record {
-  count = long_at text place;
-  pc = word_at text (place + COUNTER_AT);
-  flags = word_at text (place + FLAGS_AT);
-  stop = word_at text (place + STOP_AT);
-  switches = word_at text (place + SWITCHES_AT);
-  leds = word_at text (place + LEDS_AT);
-  mouse = word_at text (place + MOUSE_AT);
-  serial = word_at text (place + SERIAL_AT);
-  waiting = word_at text (place + WAITING_AT);
-  keys = slice_range text (place + KEYS_AT) (place + SENT_AT);
-  output = word_at text (place + SENT_AT);
-  rate = later_word text (place + RATE_AT);
-  phase = later_word text (place + PHASE_AT);
-  changes = change_count text place;
+checkpoint_of text offset = record {
+  count = long_at text offset;
+  pc = word_at text (offset + COUNTER_AT);
+  flags = word_at text (offset + FLAGS_AT);
+  stop = word_at text (offset + STOP_AT);
+  switches = word_at text (offset + SWITCHES_AT);
+  leds = word_at text (offset + LEDS_AT);
+  mouse = word_at text (offset + MOUSE_AT);
+  serial = word_at text (offset + SERIAL_AT);
+  waiting = word_at text (offset + WAITING_AT);
+  keys = slice_range text (offset + KEYS_AT) (offset + SENT_AT);
+  output = word_at text (offset + SENT_AT);
+  rate = later_word text (offset + RATE_AT);
+  phase = later_word text (offset + PHASE_AT);
+  changes = change_count text offset;
 }
 
--- the change that stands at a place
+-- the change that stands at an offset
 abbrev pub change_at : List ℕ → ℕ → Change
-change_at text place = record { place = word_at text place; number = word_at text (place + NUMBER_AT) }
+change_at text offset = record { place = word_at text offset; number = word_at text (offset + NUMBER_AT) }
 
--- change i of the checkpoint of version 2 that stands at a place
+-- change i of the checkpoint of version 2 that stands at an offset
 abbrev pub change_of : List ℕ → ℕ → ℕ → Change
-change_of text place i = change_at text (change_place place i)
+change_of text offset i = change_at text (change_offset offset i)
 
 -- page number p before checkpoint k of a text of version 2: at first 0, then what the changes of the checkpoint before left
 unfoldable pub number_before : List ℕ → ℕ → ℕ → ℕ
@@ -53,7 +53,7 @@ number_before text (suc k) p = number_after (change_of text (start text k)) (num
 -- page number p of checkpoint k
 abbrev pub page_number_of : List ℕ → ℕ → ℕ → ℕ
 page_number_of text k p =
-    if version text == FIRST_VERSION then word_at text (page_number_place (start text k) p) else number_before text (suc k) p
+    if version text == FIRST_VERSION then word_at text (page_number_offset (start text k) p) else number_before text (suc k) p
 
 -- the fields of a text
 abbrev pub fields_of : List ℕ → Fields
@@ -65,7 +65,7 @@ fields_of text = record {
   events = events text;
   checkpoints = checkpoints text;
   last = word_at text LAST_AT;
-  event = λ i. event_of text (event_place text i);
+  event = λ i. event_of text (event_offset text i);
   start = start text;
   checkpoint = λ k. checkpoint_of text (start text k);
   change = λ k. change_of text (start text k);

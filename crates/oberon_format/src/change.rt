@@ -23,14 +23,14 @@ impl Change {
     ghost use Rattle.oberon_format.specs.Ranges.{is_change};
     ghost use Rattle.oberon_format.specs.TextFields.{change_at};
 
-    /// The change at a place of a text.
-    pub(crate) fn of_text(text: &[u8], place: usize) -> Change
-        requires { place + CHANGE_LEN ≤ length text.now }
-        ensures { result ≡ change_at text.now place }
+    /// The change at an offset of a text.
+    pub(crate) fn of_text(text: &[u8], offset: usize) -> Change
+        requires { offset + CHANGE_LEN ≤ length text.now }
+        ensures { result ≡ change_at text.now offset }
     {
         Change {
-            place: u32_at(text, place),
-            number: u32_at(text, place + NUMBER_AT),
+            place: u32_at(text, offset),
+            number: u32_at(text, offset + NUMBER_AT),
         }
     }
 

@@ -16,7 +16,7 @@ pub enum Fault {
     /// 3: the version is neither 1 nor 2. The byte is 4.
     #[error("the version is not known, at byte {0}")]
     Version(u64),
-    /// 4: a number of the header is out of its range. The byte is that number's place.
+    /// 4: a number of the header is out of its range. The byte is that number's offset.
     #[error("a number of the header is out of its range, at byte {0}")]
     Limit(u64),
     /// 5: an event is out of its ranges. The byte is the event's start.
@@ -25,7 +25,7 @@ pub enum Fault {
     /// 6: a field of a checkpoint is out of its range. The byte is the checkpoint's start.
     #[error("a checkpoint is out of its ranges, at byte {0}")]
     Checkpoint(u64),
-    /// 7: a page number of version 1 names a page that isn't there: the byte is its place. Or a change of version 2 is not lawful: the
+    /// 7: a page number of version 1 names a page that isn't there: the byte is its offset. Or a change of version 2 is not lawful: the
     /// byte is its start.
     #[error("a page number is out of its range, at byte {0}")]
     Page(u64),

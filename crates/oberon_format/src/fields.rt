@@ -65,28 +65,28 @@ impl CheckpointFields {
     ghost use Rattle.oberon_format.specs.Ranges.{in_ranges, are_keys, is_checkpoint};
     ghost use Rattle.oberon_format.specs.TextFields.{checkpoint_of};
 
-    /// The fields of the checkpoint at a place of a text. In either version there are 144 bytes, if not all of these are looked at.
-    pub(crate) fn of_text(text: &[u8], place: usize) -> CheckpointFields
-        requires { place + CHANGES_AT ≤ length text.now }
-        ensures { result ≡ checkpoint_of text.now place }
+    /// The fields of the checkpoint at an offset of a text. In either version there are 144 bytes, if not all of these are looked at.
+    pub(crate) fn of_text(text: &[u8], offset: usize) -> CheckpointFields
+        requires { offset + CHANGES_AT ≤ length text.now }
+        ensures { result ≡ checkpoint_of text.now offset }
     {
         let mut keys = [0; MAX_KEYS];
-        keys.copy_from_slice(&text[place + KEYS_AT..place + SENT_AT]);
+        keys.copy_from_slice(&text[offset + KEYS_AT..offset + SENT_AT]);
         CheckpointFields {
-            count: u64_at(text, place),
-            pc: u32_at(text, place + COUNTER_AT),
-            flags: u32_at(text, place + FLAGS_AT),
-            stop: u32_at(text, place + STOP_AT),
-            switches: u32_at(text, place + SWITCHES_AT),
-            leds: u32_at(text, place + LEDS_AT),
-            mouse: u32_at(text, place + MOUSE_AT),
-            serial: u32_at(text, place + SERIAL_AT),
-            waiting: u32_at(text, place + WAITING_AT),
+            count: u64_at(text, offset),
+            pc: u32_at(text, offset + COUNTER_AT),
+            flags: u32_at(text, offset + FLAGS_AT),
+            stop: u32_at(text, offset + STOP_AT),
+            switches: u32_at(text, offset + SWITCHES_AT),
+            leds: u32_at(text, offset + LEDS_AT),
+            mouse: u32_at(text, offset + MOUSE_AT),
+            serial: u32_at(text, offset + SERIAL_AT),
+            waiting: u32_at(text, offset + WAITING_AT),
             keys,
-            output: u32_at(text, place + SENT_AT) as u64,
-            rate: later_word(text, place + RATE_AT),
-            phase: later_word(text, place + PHASE_AT),
-            changes: later_word(text, place + CHANGE_COUNT_AT),
+            output: u32_at(text, offset + SENT_AT) as u64,
+            rate: later_word(text, offset + RATE_AT),
+            phase: later_word(text, offset + PHASE_AT),
+            changes: later_word(text, offset + CHANGE_COUNT_AT),
         }
     }
 
@@ -164,22 +164,22 @@ fn are_zeros(bytes: &[u8]) -> bool
     bytes.iter().all(|byte| *byte == 0)
 }
 
-/// The first fault of the fields of checkpoint k, which begins at a place.
+/// The first fault of the fields of checkpoint k, which begins at an offset.
 pub(crate) fn fields_fault(
-    place: usize,
+    offset: usize,
     k: usize,
     before: u64,
     sent: u64,
     fields: &CheckpointFields,
 ) -> Option<Fault>
     requires { sent ≤ MAX_OUTPUT }
-    ensures fault { result ≡ first_broken (field_rules place k before sent fields.now) }
+    ensures fault { result ≡ first_broken (field_rules offset k before sent fields.now) }
     ensures small { IfNone result (sent + fields.now.output ≤ MAX_OUTPUT) }
     ensures few { IfNone result (fields.now.changes ≤ PLACES) }
 {
     if fields.is_checkpoint(k, before, sent) {
         None
     } else {
-        Some(Fault::Checkpoint(place as u64))
+        Some(Fault::Checkpoint(offset as u64))
     }
 }

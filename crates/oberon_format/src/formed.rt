@@ -7,7 +7,7 @@ ghost use Rattle.oberon_format.specs.Formed.{IsFormed, AreFormed};
 use crate::checkpoint::Checkpoint;
 
 /// The parts of a checkpoint are as their types say.
-pub(crate) fn formed(checkpoint: &Checkpoint)
+pub(crate) fn formed_law(checkpoint: &Checkpoint)
     ensures { IsFormed (checkpoint_parts checkpoint.now) }
 {
     let _cpu = &checkpoint.cpu;
@@ -17,10 +17,10 @@ pub(crate) fn formed(checkpoint: &Checkpoint)
 }
 
 /// The parts of all checkpoints are as their types say.
-pub(crate) fn all_formed(checkpoints: &[Checkpoint])
+pub(crate) fn all_formed_law(checkpoints: &[Checkpoint])
     ensures { AreFormed (map checkpoint_parts checkpoints.now) }
 {
     for checkpoint in checkpoints {
-        formed(checkpoint);
+        formed_law(checkpoint);
     }
 }

@@ -1,9 +1,9 @@
 //! Where the parts of a text begin, where their fields stand, and how many of each its header names.
 //!
-//! Each place and each length has its one name here, which definitions, contracts and code cite. All count bytes.
+//! Each offset and each length has its one name here, which definitions, contracts and code cite. All count bytes.
 
 ghost use Rattle.std.specs.Prelude.{◌≡◌, ◌≤◌, ◌+◌, ◌==◌, length};
-ghost use Rattle.oberon_format.specs.Layout.{page_place, event_start, checkpoint_size, version, pages, events, checkpoints, start, later_word};
+ghost use Rattle.oberon_format.specs.Layout.{page_offset, event_start, checkpoint_size, version, pages, events, checkpoints, start, later_word};
 
 use crate::number::u32_at;
 use crate::ranges::{MAX_EVENTS, MAX_PAGES};
@@ -140,7 +140,7 @@ pub(crate) const NUMBER_AT: usize = 4;
 #[inline]
 pub(crate) fn page_start(p: usize) -> usize
     requires { p ≤ MAX_PAGES }
-    ensures { result ≡ page_place p }
+    ensures { result ≡ page_offset p }
 {
     HEADER_LEN + PAGE_LEN * p
 }
@@ -225,16 +225,16 @@ pub(crate) fn checkpoint_len(text: &[u8], changes: u32) -> usize
     }
 }
 
-/// The word at a place behind the front of a checkpoint of version 2. A text of version 1 has no such word: it counts as 0.
+/// The word at an offset behind the front of a checkpoint of version 2. A text of version 1 has no such word: it counts as 0.
 #[inline]
-pub(crate) fn later_word(text: &[u8], place: usize) -> u32
+pub(crate) fn later_word(text: &[u8], offset: usize) -> u32
     requires header { HEADER_LEN ≤ length text.now }
-    requires room { place + 4 ≤ length text.now }
-    ensures { result ≡ later_word text.now place }
+    requires room { offset + 4 ≤ length text.now }
+    ensures { result ≡ later_word text.now offset }
 {
     if is_first_version(text) {
         0
     } else {
-        u32_at(text, place)
+        u32_at(text, offset)
     }
 }

@@ -28,13 +28,13 @@ mod writing;
 pub use checkpoint::Checkpoint;
 pub use fault::Fault;
 pub use laws::{
-    cut_text, fault_of_parts, lawful_parts, longest_text, named_fault, one_recording, one_text,
-    one_text_at_most, read_back, text_or_fault, written_back,
+    cut_text_law, fault_of_parts_law, lawful_parts_law, longest_text_law, named_fault_law, one_recording_law, one_text_law,
+    one_text_at_most_law, read_back_law, text_or_fault_law, written_back_law,
 };
 pub use layout::{LONGEST_TEXT, VERSION};
 pub use line::refusal;
 pub use migration::migrate;
-pub use ranges::{LAST_CHECKPOINT, MAX_CHECKPOINTS, MAX_EVENTS, MAX_OUTPUT, MAX_PAGES};
+pub use ranges::{LAST_CHECKPOINT, MAX_EVENTS, MAX_OUTPUT, MAX_PAGES};
 pub use reading::read;
 pub use recording::Recording;
 pub use risc_machine::MAX_COUNT;

@@ -1,24 +1,24 @@
-//! The numbers of a text, by their places.
+//! The numbers of a text, by their offsets.
 
 ghost use Rattle.std.specs.Prelude.{◌≡◌, ◌≤◌, ◌+◌, length};
 ghost use Rattle.oberon_format.specs.Layout.{word_at, long_at};
 
 use byteorder::{ByteOrder, LittleEndian};
 
-/// The number of the four bytes at a place.
+/// The number of the four bytes at an offset.
 #[inline]
-pub(crate) fn u32_at(text: &[u8], place: usize) -> u32
-    requires { place + 4 ≤ length text.now }
-    ensures { result ≡ word_at text.now place }
+pub(crate) fn u32_at(text: &[u8], offset: usize) -> u32
+    requires { offset + 4 ≤ length text.now }
+    ensures { result ≡ word_at text.now offset }
 {
-    LittleEndian::read_u32(&text[place..])
+    LittleEndian::read_u32(&text[offset..])
 }
 
-/// The number of the eight bytes at a place.
+/// The number of the eight bytes at an offset.
 #[inline]
-pub(crate) fn u64_at(text: &[u8], place: usize) -> u64
-    requires { place + 8 ≤ length text.now }
-    ensures { result ≡ long_at text.now place }
+pub(crate) fn u64_at(text: &[u8], offset: usize) -> u64
+    requires { offset + 8 ≤ length text.now }
+    ensures { result ≡ long_at text.now offset }
 {
-    LittleEndian::read_u64(&text[place..])
+    LittleEndian::read_u64(&text[offset..])
 }

@@ -1,4 +1,4 @@
-//! A recording made of its parts, or refused with the first fault of the text that would be laid out of them.
+//! The first fault of the text that would be laid out of the parts of a recording.
 //!
 //! What the types of the parts keep isn't tested again: that registers are words, that inputs are in their ranges and in their order,
 //! that devices are lawful (`AreFormed`). Nothing here takes memory.
@@ -14,53 +14,22 @@ ghost use Rattle.oberon_format.specs.Rules.{header_rules, change_rules, checkpoi
 use crate::checkpoint::{Checkpoint, table_before};
 use crate::fault::Fault;
 use crate::fields::{CheckpointFields, fields_fault};
-use crate::formed::all_formed;
+use crate::formed::all_formed_law;
 use crate::layout::{
     CHANGE_LEN, CHANGES_AT, LONGEST_TEXT, PLACES, VERSION, changed_len, event_start,
 };
 use crate::limits::limits_fault;
 use crate::ranges::{MAX_CHECKPOINTS, MAX_EVENTS, MAX_PAGES};
-use crate::recording::Recording;
 use risc_machine::Inputs;
 use risc_pages::{Pool, Table};
 
-impl Recording {
-    ghost use Rattle.std.specs.Prelude.{◌≡◌, ◌↔◌, IfErr, IsOk, MatchOption};
-    ghost use Rattle.oberon_format.specs.Line.{IsNamedFault};
-    ghost use Rattle.oberon_format.specs.PartFields.{fault_of_parts};
-    ghost use Rattle.oberon_format.specs.Recording.{parts_of, IsLawful};
-
-    /// The recording of these parts.
-    ///
-    /// Refused exactly where the text laid out of them has a first fault, with that fault: a number too large for its field breaks
-    /// that field's rule. The parts are then given up. Never answers `Memory`.
-    pub fn from_parts(
-        pool: Pool,
-        inputs: Inputs,
-        checkpoints: Vec<Checkpoint>,
-    ) -> Result<Recording, Fault>
-        // The recording has these parts; where their text has a fault, the first one is the answer.
-        ensures parts { let parts = parts_of pool inputs checkpoints.items in
-            MatchOption (fault_of_parts parts) (result ≡ Ok parts) (λ f. result ≡ Err f) }
-        // It is made exactly where they are lawful.
-        ensures lawful { IsOk result ↔ IsLawful (parts_of pool inputs checkpoints.items) }
-        // No memory is taken, and none is wanting.
-        ensures named { IfErr result IsNamedFault }
-    {
-        if let Some(fault) = parts_fault(&pool, &inputs, &checkpoints) {
-            return Err(fault);
-        }
-        Ok(Recording::from_lawful(pool, inputs, checkpoints))
-    }
-}
-
 /// The first fault of the text of these parts.
-fn parts_fault(pool: &Pool, inputs: &Inputs, checkpoints: &[Checkpoint]) -> Option<Fault>
+pub(crate) fn parts_fault(pool: &Pool, inputs: &Inputs, checkpoints: &[Checkpoint]) -> Option<Fault>
     ensures fault { result ≡ fault_of_parts (parts_of pool.now inputs.now checkpoints.now) }
     ensures lawful { IfNone result (IsLawful (parts_of pool.now inputs.now checkpoints.now)) }
 {
     // What the types of the parts say of them.
-    all_formed(checkpoints);
+    all_formed_law(checkpoints);
     let _pages = pool.len();
     let _events = inputs.events();
     if let Some(fault) = counts_fault(pool, inputs, checkpoints) {
@@ -83,18 +52,18 @@ fn counts_fault(pool: &Pool, inputs: &Inputs, checkpoints: &[Checkpoint]) -> Opt
     )
 }
 
-/// The first fault of the changes from one table to another, in a checkpoint that begins at a place.
-fn changes_fault(pages: u32, place: usize, before: &Table, table: &Table) -> Option<Fault>
-    requires { place ≤ LONGEST_TEXT }
-    ensures { result ≡ first_broken (each (length (changes before.now table.now)) (change_rules pages place (slice_index before.now) (λ i. slice_index_or (changes before.now table.now) i no_change))) }
+/// The first fault of the changes from one table to another, in a checkpoint that begins at an offset.
+fn changes_fault(pages: u32, offset: usize, before: &Table, table: &Table) -> Option<Fault>
+    requires { offset ≤ LONGEST_TEXT }
+    ensures { result ≡ first_broken (each (length (changes before.now table.now)) (change_rules pages offset (slice_index before.now) (λ i. slice_index_or (changes before.now table.now) i no_change))) }
 {
-    let mut change_place = place + CHANGES_AT;
+    let mut change_offset = offset + CHANGES_AT;
     for p in 0..PLACES as u16 {
         if before.entry(p) != table.entry(p) {
             if table.entry(p) > pages {
-                return Some(Fault::Page(change_place as u64));
+                return Some(Fault::Page(change_offset as u64));
             }
-            change_place += CHANGE_LEN;
+            change_offset += CHANGE_LEN;
         }
     }
     None
@@ -109,22 +78,22 @@ fn checkpoints_fault(pool: &Pool, inputs: &Inputs, checkpoints: &[Checkpoint]) -
 {
     let pages = pool.len();
     let zeros = Table::zeros();
-    let mut place = event_start(pages, inputs.events().len());
+    let mut offset = event_start(pages, inputs.events().len());
     let mut before = 0;
     let mut sent = 0;
     for k in 0..checkpoints.len() {
         let checkpoint = &checkpoints[k];
         let table = table_before(checkpoints, k, &zeros);
         let fields = CheckpointFields::of_parts(table, checkpoint);
-        if let Some(fault) = fields_fault(place, k, before, sent, &fields) {
+        if let Some(fault) = fields_fault(offset, k, before, sent, &fields) {
             return Some(fault);
         }
-        if let Some(fault) = changes_fault(pages, place, table, &checkpoint.table) {
+        if let Some(fault) = changes_fault(pages, offset, table, &checkpoint.table) {
             return Some(fault);
         }
         before = fields.count;
         sent += fields.output;
-        place += changed_len(fields.changes);
+        offset += changed_len(fields.changes);
     }
     None
 }

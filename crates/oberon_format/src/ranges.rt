@@ -24,7 +24,7 @@ pub const MAX_EVENTS: u32 = 1_000_000;
 pub const LAST_CHECKPOINT: u32 = 4_096;
 
 /// The largest number of checkpoints, checkpoint 0 among them.
-pub const MAX_CHECKPOINTS: u32 = LAST_CHECKPOINT + 1;
+pub(crate) const MAX_CHECKPOINTS: u32 = LAST_CHECKPOINT + 1;
 
 /// The number of a processor's flags is below this.
 pub(crate) const FLAGS_END: u32 = 16;

@@ -3,7 +3,7 @@
 ghost use Rattle.std.specs.Prelude.{◌≡◌, ◌≤◌, ◌<◌, ◌+◌, ◌*◌, ◌^◌, ℕ, All, true, length, IfOk, slice_index, slice_range, drop, map, MatchOption, MatchResult};
 ghost use Rattle.oberon_format.specs.Changes.{number_after};
 ghost use Rattle.oberon_format.specs.CheckpointParts.{checkpoint_parts};
-ghost use Rattle.oberon_format.specs.Layout.{word_at, version, pages, events, checkpoints, page_number_place, change_place, later_word, change_count, start, output_place};
+ghost use Rattle.oberon_format.specs.Layout.{word_at, version, pages, events, checkpoints, page_number_offset, change_offset, later_word, change_count, start, output_offset};
 ghost use Rattle.oberon_format.specs.Recording.{parts_of, output_of};
 ghost use Rattle.oberon_format.specs.Ranges.{in_ranges, are_keys};
 ghost use Rattle.oberon_format.specs.Rules.{stood};
@@ -16,7 +16,7 @@ ghost use Rattle.risc_machine.specs.MachineState.{cpu_state};
 use crate::change::Change;
 use crate::checkpoint::Checkpoint;
 use crate::fault::Fault;
-use crate::formed::all_formed;
+use crate::formed::all_formed_law;
 use crate::layout::{
     AUXILIARY_AT, CHANGE_COUNT_AT, CHANGE_LEN, CHANGES_AT, CHECKPOINT_LEN, COUNTER_AT, EVENT_LEN,
     FLAGS_AT, HEADER_LEN, KEYS_AT, KIND_AT, LEDS_AT, MOUSE_AT, PHASE_AT, PLACES, RATE_AT,
@@ -26,7 +26,7 @@ use crate::layout::{
 };
 use crate::number::{u32_at, u64_at};
 use crate::recording::Recording;
-use crate::rules::tested;
+use crate::rules::test_text;
 use crate::sent::Sent;
 use risc_devices::{Devices, Input};
 use risc_machine::{Cpu, Event, Flags, Inputs};
@@ -41,7 +41,7 @@ pub fn read(alloc: Global, bytes: &[u8]) -> Result<Recording, Fault>
         (MatchResult result (λ r. Text bytes.now r) (λ f. f ≡ Fault.Memory))
         (λ f. result ≡ Err f) }
 {
-    let output = tested(bytes)?;
+    let output = test_text(bytes)?;
     match recording_of(alloc, bytes, output) {
         Ok(recording) => Ok(recording),
         Err(_) => Err(Fault::Memory),
@@ -51,27 +51,27 @@ pub fn read(alloc: Global, bytes: &[u8]) -> Result<Recording, Fault>
 /// The recording of a text without fault, whose output begins at `output`.
 fn recording_of(alloc: Global, text: &[u8], output: usize) -> Result<Recording, AllocError>
     requires meets { Meets text.now }
-    requires output { output ≡ output_place text.now }
+    requires output { output ≡ output_offset text.now }
     ensures { IfOk result (λ r. Text text.now r) }
 {
     let pool = pool_of(alloc, text)?;
     let inputs = inputs_of(alloc, text)?;
     let checkpoints = checkpoints_of(alloc, text, output)?;
     // What the types of the parts say of them.
-    all_formed(&checkpoints);
+    all_formed_law(&checkpoints);
     let _pages = pool.len();
     let _events = inputs.events();
     Ok(Recording::from_lawful(pool, inputs, checkpoints))
 }
 
-/// The words from a place on.
-fn words_at<const N: usize>(text: &[u8], place: usize) -> [u32; N]
-    requires { place + 4 * N ≤ length text.now }
-    ensures { AreWords text.now place result }
+/// The words from an offset on.
+fn words_at<const N: usize>(text: &[u8], offset: usize) -> [u32; N]
+    requires { offset + 4 * N ≤ length text.now }
+    ensures { AreWords text.now offset result }
 {
     let mut words = [0; N];
     for i in 0..N {
-        words[i] = u32_at(text, place + 4 * i);
+        words[i] = u32_at(text, offset + 4 * i);
     }
     words
 }
@@ -96,16 +96,16 @@ fn words_fit(words: &[u32])
     ensures each { (i : ℕ) → slice_index words.now i < 2 ^ 32 }
 {}
 
-/// The event at a place.
-fn event_of(text: &[u8], place: usize) -> Event
-    requires room { place + EVENT_LEN ≤ length text.now }
-    requires input { IsInput (word_at text.now (place + KIND_AT)) (word_at text.now (place + VALUE_AT)) }
-    ensures { IsEvent text.now place result }
+/// The event at an offset.
+fn event_of(text: &[u8], offset: usize) -> Event
+    requires room { offset + EVENT_LEN ≤ length text.now }
+    requires input { IsInput (word_at text.now (offset + KIND_AT)) (word_at text.now (offset + VALUE_AT)) }
+    ensures { IsEvent text.now offset result }
 {
-    let kind = u32_at(text, place + KIND_AT) as u8;
-    let input = Input::new(kind, u32_at(text, place + VALUE_AT)).unwrap();
+    let kind = u32_at(text, offset + KIND_AT) as u8;
+    let input = Input::new(kind, u32_at(text, offset + VALUE_AT)).unwrap();
     Event {
-        count: u64_at(text, place),
+        count: u64_at(text, offset),
         input,
     }
 }
@@ -135,115 +135,115 @@ fn inputs_of(alloc: Global, text: &[u8]) -> Result<Inputs, AllocError>
     }
 }
 
-/// The processor of the checkpoint at a place.
+/// The processor of the checkpoint at an offset.
 #[tactic(auto, using(risc_core::proofs::FlagsLemmas::number_back))]
-fn cpu_of(text: &[u8], place: usize) -> Cpu
-    requires room { place + CHANGES_AT ≤ length text.now }
-    requires ranges { in_ranges (checkpoint_of text.now place) ≡ true }
-    ensures { IsCpu text.now place (cpu_state result) }
+fn cpu_of(text: &[u8], offset: usize) -> Cpu
+    requires room { offset + CHANGES_AT ≤ length text.now }
+    requires ranges { in_ranges (checkpoint_of text.now offset) ≡ true }
+    ensures { IsCpu text.now offset (cpu_state result) }
 {
-    let r = words_at(text, place + REGISTERS_AT);
+    let r = words_at(text, offset + REGISTERS_AT);
     words_fit(&r);
     Cpu {
         r,
-        h: u32_at(text, place + AUXILIARY_AT),
-        pc: u32_at(text, place + COUNTER_AT),
-        flags: Flags::from_number(u32_at(text, place + FLAGS_AT)),
-        stop: u32_at(text, place + STOP_AT) as u8,
+        h: u32_at(text, offset + AUXILIARY_AT),
+        pc: u32_at(text, offset + COUNTER_AT),
+        flags: Flags::from_number(u32_at(text, offset + FLAGS_AT)),
+        stop: u32_at(text, offset + STOP_AT) as u8,
     }
 }
 
-/// The devices of the checkpoint at a place.
-fn devices_of(text: &[u8], place: usize) -> Devices
-    requires room { place + CHANGES_AT ≤ length text.now }
-    requires ranges { in_ranges (checkpoint_of text.now place) ≡ true }
-    requires keys { are_keys (checkpoint_of text.now place) ≡ true }
-    ensures devices { IsDevices text.now place result }
-    ensures rate { result.rate ≡ later_word text.now (place + RATE_AT) }
-    ensures phase { result.phase ≡ later_word text.now (place + PHASE_AT) }
+/// The devices of the checkpoint at an offset.
+fn devices_of(text: &[u8], offset: usize) -> Devices
+    requires room { offset + CHANGES_AT ≤ length text.now }
+    requires ranges { in_ranges (checkpoint_of text.now offset) ≡ true }
+    requires keys { are_keys (checkpoint_of text.now offset) ≡ true }
+    ensures devices { IsDevices text.now offset result }
+    ensures rate { result.rate ≡ later_word text.now (offset + RATE_AT) }
+    ensures phase { result.phase ≡ later_word text.now (offset + PHASE_AT) }
 {
-    let waiting = u32_at(text, place + WAITING_AT) as usize;
+    let waiting = u32_at(text, offset + WAITING_AT) as usize;
     Devices::new(
-        u32_at(text, place + TIMER_AT),
-        later_word(text, place + RATE_AT),
-        later_word(text, place + PHASE_AT),
-        u32_at(text, place + SWITCHES_AT) as u16,
-        u32_at(text, place + LEDS_AT) as u8,
-        u32_at(text, place + MOUSE_AT),
-        u32_at(text, place + SERIAL_AT) as u16,
-        &text[place + KEYS_AT..place + KEYS_AT + waiting],
+        u32_at(text, offset + TIMER_AT),
+        later_word(text, offset + RATE_AT),
+        later_word(text, offset + PHASE_AT),
+        u32_at(text, offset + SWITCHES_AT) as u16,
+        u32_at(text, offset + LEDS_AT) as u8,
+        u32_at(text, offset + MOUSE_AT),
+        u32_at(text, offset + SERIAL_AT) as u16,
+        &text[offset + KEYS_AT..offset + KEYS_AT + waiting],
     )
     .unwrap()
 }
 
-/// Makes a table that of checkpoint k, which stands at a place. In version 2 it was the table before.
-fn advance_table(text: &[u8], k: usize, place: usize, table: &mut Table)
+/// Makes a table that of checkpoint k, which stands at an offset. In version 2 it was the table before.
+fn advance_table(text: &[u8], k: usize, offset: usize, table: &mut Table)
     requires meets { Meets text.now }
     requires below { k < checkpoints text.now }
-    requires place { place ≡ start text.now k }
+    requires offset { offset ≡ start text.now k }
     requires table { HasNumbers table.old (stood (fields_of text.now) k) }
     ensures { HasNumbers table.new (page_number_of text.now k) }
 {
     if is_first_version(text) {
-        read_table(text, place, table);
+        read_table(text, offset, table);
     } else {
-        change_table(text, place, table);
+        change_table(text, offset, table);
     }
 }
 
-/// Makes a table that of the checkpoint of version 1 at a place.
-fn read_table(text: &[u8], place: usize, table: &mut Table)
-    requires { place + CHECKPOINT_LEN ≤ length text.now }
-    ensures { HasNumbers table.new (λ p. word_at text.now (page_number_place place p)) }
+/// Makes a table that of the checkpoint of version 1 at an offset.
+fn read_table(text: &[u8], offset: usize, table: &mut Table)
+    requires { offset + CHECKPOINT_LEN ≤ length text.now }
+    ensures { HasNumbers table.new (λ p. word_at text.now (page_number_offset offset p)) }
 {
     // A table has its places.
     let _numbers = table.numbers();
     for p in 0..PLACES as u16 {
-        table.set(p, u32_at(text, place + TABLE_AT + 4 * p as usize));
+        table.set(p, u32_at(text, offset + TABLE_AT + 4 * p as usize));
     }
 }
 
-/// Makes the changes of the checkpoint of version 2 at a place.
-fn change_table(text: &[u8], place: usize, table: &mut Table)
+/// Makes the changes of the checkpoint of version 2 at an offset.
+fn change_table(text: &[u8], offset: usize, table: &mut Table)
     requires header { HEADER_LEN ≤ length text.now }
     requires version { version text.now ≡ VERSION }
-    requires room { change_place place (change_count text.now place) ≤ length text.now }
-    requires places { (i : ℕ) → i < change_count text.now place → (change_of text.now place i).place < PLACES }
-    ensures { HasNumbers table.new (number_after (change_of text.now place) (slice_index table.old) (change_count text.now place)) }
+    requires room { change_offset offset (change_count text.now offset) ≤ length text.now }
+    requires places { (i : ℕ) → i < change_count text.now offset → (change_of text.now offset i).place < PLACES }
+    ensures { HasNumbers table.new (number_after (change_of text.now offset) (slice_index table.old) (change_count text.now offset)) }
 {
     // A table has its places.
     let _numbers = table.numbers();
-    let count = u32_at(text, place + CHANGE_COUNT_AT) as usize;
+    let count = u32_at(text, offset + CHANGE_COUNT_AT) as usize;
     for i in 0..count {
-        let change = Change::of_text(text, place + CHANGES_AT + CHANGE_LEN * i);
+        let change = Change::of_text(text, offset + CHANGES_AT + CHANGE_LEN * i);
         table.set(change.place as u16, change.number);
     }
 }
 
-/// The checkpoint at a place with its table. Its output begins at `from`.
+/// The checkpoint at an offset with its table. Its output begins at `from`.
 fn checkpoint_of(
     alloc: Global,
     text: &[u8],
-    place: usize,
+    offset: usize,
     from: usize,
     table: &Table,
 ) -> Result<Checkpoint, AllocError>
-    requires room { place + CHANGES_AT ≤ length text.now }
-    requires ranges { in_ranges (checkpoint_of text.now place) ≡ true }
-    requires keys { are_keys (checkpoint_of text.now place) ≡ true }
-    requires output { from + word_at text.now (place + SENT_AT) ≤ length text.now }
-    ensures front { IfOk result (λ c. IsFront text.now place (checkpoint_parts c)) }
-    ensures rate { IfOk result (λ c. c.devices.rate ≡ later_word text.now (place + RATE_AT)) }
-    ensures phase { IfOk result (λ c. c.devices.phase ≡ later_word text.now (place + PHASE_AT)) }
+    requires room { offset + CHANGES_AT ≤ length text.now }
+    requires ranges { in_ranges (checkpoint_of text.now offset) ≡ true }
+    requires keys { are_keys (checkpoint_of text.now offset) ≡ true }
+    requires output { from + word_at text.now (offset + SENT_AT) ≤ length text.now }
+    ensures front { IfOk result (λ c. IsFront text.now offset (checkpoint_parts c)) }
+    ensures rate { IfOk result (λ c. c.devices.rate ≡ later_word text.now (offset + RATE_AT)) }
+    ensures phase { IfOk result (λ c. c.devices.phase ≡ later_word text.now (offset + PHASE_AT)) }
     ensures table { IfOk result (λ c. c.table ≡ table.now) }
-    ensures sent { IfOk result (λ c. c.sent ≡ slice_range text.now from (from + word_at text.now (place + SENT_AT))) }
+    ensures sent { IfOk result (λ c. c.sent ≡ slice_range text.now from (from + word_at text.now (offset + SENT_AT))) }
 {
-    let len = u32_at(text, place + SENT_AT) as usize;
+    let len = u32_at(text, offset + SENT_AT) as usize;
     let sent = Vec::from_slice(alloc, &text[from..from + len])?;
     Ok(Checkpoint {
-        count: u64_at(text, place),
-        cpu: cpu_of(text, place),
-        devices: devices_of(text, place),
+        count: u64_at(text, offset),
+        cpu: cpu_of(text, offset),
+        devices: devices_of(text, offset),
         sent: Sent::new(sent),
         table: table.copy(),
     })
@@ -252,23 +252,23 @@ fn checkpoint_of(
 /// The checkpoints of a text, whose output begins at `output`.
 fn checkpoints_of(alloc: Global, text: &[u8], output: usize) -> Result<Vec<Checkpoint>, AllocError>
     requires meets { Meets text.now }
-    requires output { output ≡ output_place text.now }
+    requires output { output ≡ output_offset text.now }
     ensures count { IfOk result (λ list. length list.items ≡ checkpoints text.now) }
     ensures stand { IfOk result (λ list. StandIn text.now (map checkpoint_parts list.items)) }
-    ensures output { IfOk result (λ list. drop (output_place text.now) text.now ≡ output_of (map checkpoint_parts list.items)) }
+    ensures output { IfOk result (λ list. drop (output_offset text.now) text.now ≡ output_of (map checkpoint_parts list.items)) }
 {
     let count = checkpoint_count(text) as usize;
     let mut list = Vec::with_capacity(alloc, count)?;
-    let mut place = first_checkpoint(text);
+    let mut offset = first_checkpoint(text);
     let mut from = output;
     let mut table = Table::zeros();
     for k in 0..count {
-        advance_table(text, k, place, &mut table);
+        advance_table(text, k, offset, &mut table);
         // A table has its places.
         let _numbers = table.numbers();
-        list.push(checkpoint_of(alloc, text, place, from, &table)?)?;
-        from += u32_at(text, place + SENT_AT) as usize;
-        place += checkpoint_len(text, later_word(text, place + CHANGE_COUNT_AT));
+        list.push(checkpoint_of(alloc, text, offset, from, &table)?)?;
+        from += u32_at(text, offset + SENT_AT) as usize;
+        offset += checkpoint_len(text, later_word(text, offset + CHANGE_COUNT_AT));
     }
     Ok(list)
 }

@@ -1,11 +1,13 @@
-//! Recordings: pool, inputs and checkpoints that are lawful together. How they are read, made of parts and written stands in
-//! modules of its own.
+//! Recordings: pool, inputs and checkpoints that are lawful together. How they are read and written, and what fault parts have,
+//! stands in modules of its own.
 
 ghost use Rattle.std.specs.Prelude.{◌≡◌, ◌<◌, length, map};
 ghost use Rattle.oberon_format.specs.CheckpointParts.{checkpoint_parts};
 ghost use Rattle.oberon_format.specs.Recording.{IsLawful, IsFit, checkpoint_at, parts_of};
 
 use crate::checkpoint::Checkpoint;
+use crate::fault::Fault;
+use crate::parts::parts_fault;
 use risc_machine::Inputs;
 use risc_pages::Pool;
 use std::marker::Model;
@@ -39,6 +41,34 @@ impl Model for Recording {
 }
 
 impl Recording {
+    ghost use Rattle.std.specs.Prelude.{◌≡◌, ◌↔◌, IfErr, IsOk, MatchOption};
+    ghost use Rattle.oberon_format.specs.Line.{IsNamedFault};
+    ghost use Rattle.oberon_format.specs.PartFields.{fault_of_parts};
+    ghost use Rattle.oberon_format.specs.Recording.{parts_of, IsLawful};
+
+    /// The recording of these parts.
+    ///
+    /// Refused exactly where the text laid out of them has a first fault, with that fault: a number too large for its field breaks
+    /// that field's rule. The parts are then given up. Never answers `Memory`.
+    pub fn from_parts(
+        pool: Pool,
+        inputs: Inputs,
+        checkpoints: Vec<Checkpoint>,
+    ) -> Result<Recording, Fault>
+        // The recording has these parts; where their text has a fault, the first one is the answer.
+        ensures parts { let parts = parts_of pool inputs checkpoints.items in
+            MatchOption (fault_of_parts parts) (result ≡ Ok parts) (λ f. result ≡ Err f) }
+        // It is made exactly where they are lawful.
+        ensures lawful { IsOk result ↔ IsLawful (parts_of pool inputs checkpoints.items) }
+        // No memory is taken, and none is wanting.
+        ensures named { IfErr result IsNamedFault }
+    {
+        if let Some(fault) = parts_fault(&pool, &inputs, &checkpoints) {
+            return Err(fault);
+        }
+        Ok(Recording::from_lawful(pool, inputs, checkpoints))
+    }
+
     /// The recording of parts that are known to be lawful.
     pub(crate) fn from_lawful(pool: Pool, inputs: Inputs, checkpoints: Vec<Checkpoint>) -> Recording
         requires { IsLawful (parts_of pool inputs checkpoints.items) }

@@ -4,7 +4,7 @@ ghost use Rattle.std.specs.Prelude.{ℕ, suc, ◌≡◌, ◌≤◌, ◌<◌, ◌
 ghost use Rattle.std.specs.Option.{IfNone};
 ghost use Rattle.oberon_format.specs.Changes.{number_after};
 ghost use Rattle.oberon_format.specs.FirstFault.{first_broken, each};
-ghost use Rattle.oberon_format.specs.Layout.{word_at, page_number_place, version, pages, events, checkpoints, event_place, change_place, start, output_place};
+ghost use Rattle.oberon_format.specs.Layout.{word_at, page_number_offset, version, pages, events, checkpoints, event_offset, change_offset, start, output_offset};
 ghost use Rattle.oberon_format.specs.Fields.{sent_below};
 ghost use Rattle.oberon_format.specs.Ranges.{is_event};
 ghost use Rattle.oberon_format.specs.Rules.{named_len, header_rules, event_floor, event_rules, page_number_rules, change_rules, count_before, checkpoint_rules, end_rules};
@@ -77,7 +77,7 @@ fn header_fault(text: &[u8]) -> Option<Fault>
 fn event_floor(text: &[u8], i: usize) -> u64
     requires pages { pages text.now ≤ MAX_PAGES }
     requires events { i ≤ MAX_EVENTS }
-    requires room { event_place text.now i ≤ length text.now }
+    requires room { event_offset text.now i ≤ length text.now }
     ensures { result ≡ event_floor (fields_of text.now) i }
 {
     if i == 0 {
@@ -87,17 +87,17 @@ fn event_floor(text: &[u8], i: usize) -> u64
     }
 }
 
-/// Whether the event at a place is in its ranges.
-fn is_event(text: &[u8], place: usize, floor: u64) -> bool
-    requires { place + EVENT_LEN ≤ length text.now }
-    ensures { result ≡ is_event floor (event_of text.now place) }
+/// Whether the event at an offset is in its ranges.
+fn is_event(text: &[u8], offset: usize, floor: u64) -> bool
+    requires { offset + EVENT_LEN ≤ length text.now }
+    ensures { result ≡ is_event floor (event_of text.now offset) }
 {
-    let count = u64_at(text, place);
+    let count = u64_at(text, offset);
     floor <= count
         && count <= MAX_COUNT
         && is_input(
-            u32_at(text, place + KIND_AT),
-            u32_at(text, place + VALUE_AT),
+            u32_at(text, offset + KIND_AT),
+            u32_at(text, offset + VALUE_AT),
         )
 }
 
@@ -108,24 +108,24 @@ fn events_fault(text: &[u8]) -> Option<Fault>
 {
     let pages = page_count(text);
     for i in 0..event_count(text) as usize {
-        let place = event_start(pages, i);
+        let offset = event_start(pages, i);
         let floor = event_floor(text, i);
-        if !is_event(text, place, floor) {
-            return Some(Fault::Event(place as u64));
+        if !is_event(text, offset, floor) {
+            return Some(Fault::Event(offset as u64));
         }
     }
     None
 }
 
 /// The first fault of the page numbers of a checkpoint of version 1.
-fn page_numbers_fault(text: &[u8], place: usize, pages: u32) -> Option<Fault>
-    requires { place + CHECKPOINT_LEN ≤ length text.now }
-    ensures { result ≡ first_broken (each PLACES (page_number_rules pages place (λ j. word_at text.now (page_number_place place j)))) }
+fn page_numbers_fault(text: &[u8], offset: usize, pages: u32) -> Option<Fault>
+    requires { offset + CHECKPOINT_LEN ≤ length text.now }
+    ensures { result ≡ first_broken (each PLACES (page_number_rules pages offset (λ j. word_at text.now (page_number_offset offset j)))) }
 {
     for j in 0..PLACES {
-        let number_place = place + TABLE_AT + 4 * j;
-        if u32_at(text, number_place) > pages {
-            return Some(Fault::Page(number_place as u64));
+        let number_offset = offset + TABLE_AT + 4 * j;
+        if u32_at(text, number_offset) > pages {
+            return Some(Fault::Page(number_offset as u64));
         }
     }
     None
@@ -134,24 +134,24 @@ fn page_numbers_fault(text: &[u8], place: usize, pages: u32) -> Option<Fault>
 /// The first fault of the changes of a checkpoint of version 2. Without one, the table before it becomes its own.
 fn changes_fault(
     text: &[u8],
-    place: usize,
+    offset: usize,
     count: u32,
     pages: u32,
     table: &mut Table,
 ) -> Option<Fault>
-    requires room { change_place place count ≤ length text.now }
+    requires room { change_offset offset count ≤ length text.now }
     requires count { count ≤ PLACES }
-    ensures fault { result ≡ first_broken (each count (change_rules pages place (slice_index table.old) (change_of text.now place))) }
-    ensures table { IfNone result (HasNumbers table.new (number_after (change_of text.now place) (slice_index table.old) count)) }
+    ensures fault { result ≡ first_broken (each count (change_rules pages offset (slice_index table.old) (change_of text.now offset))) }
+    ensures table { IfNone result (HasNumbers table.new (number_after (change_of text.now offset) (slice_index table.old) count)) }
 {
     // A table has its places.
     let _numbers = table.numbers();
     let mut floor = 0;
     for i in 0..count {
-        let change_place = place + CHANGES_AT + CHANGE_LEN * i as usize;
-        let change = Change::of_text(text, change_place);
+        let change_offset = offset + CHANGES_AT + CHANGE_LEN * i as usize;
+        let change = Change::of_text(text, change_offset);
         if !change.is_lawful(pages, floor, table) {
-            return Some(Fault::Page(change_place as u64));
+            return Some(Fault::Page(change_offset as u64));
         }
         table.set(change.place as u16, change.number);
         floor = change.place + 1;
@@ -163,27 +163,27 @@ fn changes_fault(
 fn whole_checkpoint(
     text: &[u8],
     k: usize,
-    place: usize,
+    offset: usize,
     before: u64,
     sent: u64,
 ) -> Result<CheckpointFields, Fault>
     requires version { version text.now ≡ FIRST_VERSION }
-    requires place { place ≡ start text.now k }
-    requires room { place + CHECKPOINT_LEN ≤ length text.now }
+    requires offset { offset ≡ start text.now k }
+    requires room { offset + CHECKPOINT_LEN ≤ length text.now }
     requires before { before ≡ count_before (fields_of text.now) k }
     requires sent { sent ≡ sent_below (fields_of text.now) k }
     requires small { sent ≤ MAX_OUTPUT }
     ensures { MatchResult result
-        (λ fields. (fields ≡ checkpoint_of text.now place)
+        (λ fields. (fields ≡ checkpoint_of text.now offset)
         × (sent + fields.output ≤ MAX_OUTPUT)
         × (first_broken (checkpoint_rules (fields_of text.now) k) ≡ None))
         (λ f. first_broken (checkpoint_rules (fields_of text.now) k) ≡ Some f) }
 {
-    let fields = CheckpointFields::of_text(text, place);
-    if let Some(fault) = fields_fault(place, k, before, sent, &fields) {
+    let fields = CheckpointFields::of_text(text, offset);
+    if let Some(fault) = fields_fault(offset, k, before, sent, &fields) {
         return Err(fault);
     }
-    match page_numbers_fault(text, place, page_count(text)) {
+    match page_numbers_fault(text, offset, page_count(text)) {
         Some(fault) => Err(fault),
         None => Ok(fields),
     }
@@ -193,21 +193,21 @@ fn whole_checkpoint(
 fn changed_checkpoint(
     text: &[u8],
     k: usize,
-    place: usize,
+    offset: usize,
     before: u64,
     sent: u64,
     table: &mut Table,
 ) -> Result<CheckpointFields, Fault>
     requires version { version text.now ≡ VERSION }
-    requires place { place ≡ start text.now k }
-    requires room { place ≤ length text.now }
+    requires offset { offset ≡ start text.now k }
+    requires room { offset ≤ length text.now }
     requires header { HEADER_LEN ≤ length text.now }
     requires before { before ≡ count_before (fields_of text.now) k }
     requires sent { sent ≡ sent_below (fields_of text.now) k }
     requires small { sent ≤ MAX_OUTPUT }
     requires table { HasNumbers table.old (number_before text.now k) }
     ensures { MatchResult result
-        (λ fields. (fields ≡ checkpoint_of text.now place)
+        (λ fields. (fields ≡ checkpoint_of text.now offset)
         × (sent + fields.output ≤ MAX_OUTPUT)
         × (start text.now (suc k) ≤ length text.now)
         × (fields.changes ≤ PLACES)
@@ -215,18 +215,18 @@ fn changed_checkpoint(
         × (first_broken (checkpoint_rules (fields_of text.now) k) ≡ None))
         (λ f. first_broken (checkpoint_rules (fields_of text.now) k) ≡ Some f) }
 {
-    let room = text.len() - place;
+    let room = text.len() - offset;
     if room < CHANGES_AT {
         return Err(Fault::Short(text.len() as u64));
     }
-    let fields = CheckpointFields::of_text(text, place);
-    if let Some(fault) = fields_fault(place, k, before, sent, &fields) {
+    let fields = CheckpointFields::of_text(text, offset);
+    if let Some(fault) = fields_fault(offset, k, before, sent, &fields) {
         return Err(fault);
     }
     if room < changed_len(fields.changes) {
         return Err(Fault::Short(text.len() as u64));
     }
-    match changes_fault(text, place, fields.changes, page_count(text), table) {
+    match changes_fault(text, offset, fields.changes, page_count(text), table) {
         Some(fault) => Err(fault),
         None => Ok(fields),
     }
@@ -243,7 +243,7 @@ struct End {
 fn checkpoints_end(text: &[u8]) -> Result<End, Fault>
     requires { IsSized text.now }
     ensures { MatchResult result
-        (λ end. (end.output ≡ output_place text.now)
+        (λ end. (end.output ≡ output_offset text.now)
         × (end.output ≤ length text.now)
         × (end.sent ≡ sent_below (fields_of text.now) (checkpoints text.now))
         × (end.sent ≤ MAX_OUTPUT)
@@ -251,34 +251,34 @@ fn checkpoints_end(text: &[u8]) -> Result<End, Fault>
         (λ f. first_broken (each (checkpoints text.now) (checkpoint_rules (fields_of text.now))) ≡ Some f) }
 {
     let is_first = is_first_version(text);
-    let mut place = first_checkpoint(text);
+    let mut offset = first_checkpoint(text);
     let mut before: u64 = 0;
     let mut sent: u64 = 0;
     let mut table = Table::zeros();
     for k in 0..checkpoint_count(text) as usize {
         let tested = if is_first {
-            whole_checkpoint(text, k, place, before, sent)
+            whole_checkpoint(text, k, offset, before, sent)
         } else {
-            changed_checkpoint(text, k, place, before, sent, &mut table)
+            changed_checkpoint(text, k, offset, before, sent, &mut table)
         };
         match tested {
             Err(fault) => return Err(fault),
             Ok(fields) => {
                 before = fields.count;
                 sent += fields.output;
-                place += checkpoint_len(text, fields.changes);
+                offset += checkpoint_len(text, fields.changes);
             }
         }
     }
     Ok(End {
-        output: place,
+        output: offset,
         sent,
     })
 }
 
 /// The first fault of the length, where the checkpoints end so.
 fn end_fault(text: &[u8], end: &End) -> Option<Fault>
-    requires output { end.now.output ≡ output_place text.now }
+    requires output { end.now.output ≡ output_offset text.now }
     requires room { end.now.output ≤ length text.now }
     requires sent { end.now.sent ≡ sent_below (fields_of text.now) (checkpoints text.now) }
     ensures { result ≡ first_broken (end_rules (fields_of text.now)) }
@@ -296,9 +296,9 @@ fn end_fault(text: &[u8], end: &End) -> Option<Fault>
 
 /// Where the output of a text without fault begins, or the first fault of a text.
 #[tactic(auto, using(crate::proofs::RuleLemmas::in_header, crate::proofs::RuleLemmas::in_events, crate::proofs::RuleLemmas::in_checkpoints, crate::proofs::RuleLemmas::in_end))]
-pub(crate) fn tested(text: &[u8]) -> Result<usize, Fault>
+pub(crate) fn test_text(text: &[u8]) -> Result<usize, Fault>
     ensures { MatchResult result
-        (λ output. (first_fault_of text.now ≡ None) × (output ≡ output_place text.now))
+        (λ output. (first_fault_of text.now ≡ None) × (output ≡ output_offset text.now))
         (λ f. first_fault_of text.now ≡ Some f) }
 {
     if let Some(fault) = header_fault(text) {

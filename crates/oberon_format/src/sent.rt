@@ -35,11 +35,4 @@ impl Sent {
     {
         self.bytes.as_slice()
     }
-
-    /// Gives the bytes back. No memory.
-    pub fn into_vec(self) -> Vec<u8>
-        ensures { result.items ≡ self }
-    {
-        self.bytes
-    }
 }

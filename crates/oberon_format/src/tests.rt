@@ -50,9 +50,8 @@ fn shows_each_fault(rt: HostRuntime) -> Result<(), Fail> {
 }
 
 #[test]
-fn gives_sent_bytes_back(rt: HostRuntime) -> Result<(), Fail> {
+fn shows_sent_bytes(rt: HostRuntime) -> Result<(), Fail> {
     let sent = Sent::new(vec![in rt.alloc(); 0x41; 3]?);
     assert_eq!(rt; sent.bytes(), [0x41, 0x41, 0x41].as_slice());
-    assert_eq!(rt; sent.into_vec().len(), 3);
     Ok(())
 }

@@ -14,7 +14,7 @@ use Rattle.oberon_session.specs.Session.{Breaks}
 use Rattle.oberon_session.specs.declared.fault.SessionFault.{SessionFault}
 use Rattle.oberon_session.specs.declared.fault.SessionFault.TheVariants as fault
 use Rattle.oberon_replay.specs.Answer.{IsAnswer, limit_of}
-use Rattle.oberon_replay.specs.Asked.{IsHelp, asked, faults}
+use Rattle.oberon_replay.specs.Asked.{IsHelp, request_in, faults}
 use Rattle.oberon_replay.specs.Reply.{AnswersAll, IsReplyTo, IsSent, Outcome, answer, failure, help}
 use Rattle.oberon_replay.specs.Migrate.{IsMigration}
 use Rattle.oberon_replay.specs.Record.{IsRecord}
@@ -109,7 +109,7 @@ unfolding clap_on_literals faults
 no_help (inl same) = cc
 no_help (inr none) = absurd none
 
-help_asks_nothing : (words : List Text) → IsHelp words → (request : Request) → asked words ≡ Some request → ⊥
+help_asks_nothing : (words : List Text) → IsHelp words → (request : Request) → request_in words ≡ Some request → ⊥
 help_asks_nothing [] is request asks = no_help is
 help_asks_nothing (word ∷ words) is request asks =
     let none = asked_none (word ∷ words) DisplayHelp (omega arith) is in

@@ -15,7 +15,7 @@ use Rattle.oberon_replay.specs.Program.{program_app}
 use Rattle.oberon_replay.specs.declared.words.Request.{Request}
 use Rattle.oberon_replay.specs.declared.words.Refusal.{Refusal}
 use Rattle.oberon_replay.specs.declared.words.Refusal.TheVariants.{Words}
-use Rattle.oberon_replay.specs.Asked.{IsRefused, asked, faults, found, request_of}
+use Rattle.oberon_replay.specs.Asked.{IsRefused, request_in, faults, found, request_of}
 use Rattle.oberon_replay.specs.inner.Requests.{IsWithinLimits, RefusedBy, refusal_by}
 
 pub some_words : (n : ℕ) → false ≡ (n == 0) → 0 < n
@@ -37,7 +37,7 @@ unfolding found
 found_is a words e = ap (λ (x : App). subcommand_of x words) e
 
 -- where `clap` finds no fault, the words ask for what its subcommand does
-pub asked_found : (words : List Text) → 0 < length words → faults words ≡ [] → asked words ≡ option_and_then (λ p. request_of p.0 p.1) (found words)
+pub asked_found : (words : List Text) → 0 < length words → faults words ≡ [] → request_in words ≡ option_and_then (λ p. request_of p.0 p.1) (found words)
 asked_found [] some none = absurd (omega arith)
 asked_found (word ∷ words) some none = rw none refl
 
@@ -46,7 +46,7 @@ some_kind [] k among = absurd among
 some_kind (x ∷ rest) k among = ne_eqb _ _ (λ e. omega arith)
 
 -- where it finds one, for nothing
-pub asked_none : (words : List Text) (k : ErrorKind) → 0 < length words → IsAmong k (faults words) → asked words ≡ None
+pub asked_none : (words : List Text) (k : ErrorKind) → 0 < length words → IsAmong k (faults words) → request_in words ≡ None
 asked_none [] k some among = absurd (omega arith)
 asked_none (word ∷ words) k some among =
     let has_fault = some_kind (faults (word ∷ words)) k among in
@@ -88,23 +88,23 @@ refused words e some h = go (kind_of e) h
     go kind.Format h = refused_words words _ some (λ e. cc) (λ e. cc) h
 
 -- matches of no known command ask for nothing
-pub unread : (words : List Text) → faults words ≡ [] → asked words ≡ None → IsRefused words
+pub unread : (words : List Text) → faults words ≡ [] → request_in words ≡ None → IsRefused words
 unread words none nothing = (nothing, λ one. no_list (sym none ∙ one))
   where
     no_list : {X : Type 0} {x : X} → [] ≡ x ∷ [] → ⊥
     no_list e = cc
 
 -- matches answer with the command that the words ask for, or refuse them
-pub answered : (words : List Text) (o : Option Request) (r : Result Request Refusal) → r ≡ ok_or o Words → asked words ≡ o → faults words ≡ []
-    → IfOk r (λ request. asked words ≡ Some request) × IfErr r (RefusedBy words)
+pub answered : (words : List Text) (o : Option Request) (r : Result Request Refusal) → r ≡ ok_or o Words → request_in words ≡ o → faults words ≡ []
+    → IfOk r (λ request. request_in words ≡ Some request) × IfErr r (RefusedBy words)
 answered words o (Ok request) is asks none = (go o is asks, tt)
   where
-    go : (o : Option Request) → Ok request ≡ ok_or o Words → asked words ≡ o → asked words ≡ Some request
+    go : (o : Option Request) → Ok request ≡ ok_or o Words → request_in words ≡ o → request_in words ≡ Some request
     go None is asks = cc
     go (Some x) is asks = cc
 answered words o (Err refusal) is asks none = (tt, go o is asks)
   where
-    go : (o : Option Request) → Err refusal ≡ ok_or o Words → asked words ≡ o → RefusedBy words refusal
+    go : (o : Option Request) → Err refusal ≡ ok_or o Words → request_in words ≡ o → RefusedBy words refusal
     go None is asks =
         let same : refusal ≡ Words = cc in
         rw same (unread words none asks)

@@ -44,9 +44,9 @@ unfoldable pub found : List Text → Option (Text × List Row)
 found words = subcommand_of program_app words
 
 -- what the words ask for, no words at all for a check
-abbrev pub asked : List Text → Option Request
-asked [] = Some (Check 2 1)
-asked (word ∷ words) =
+abbrev pub request_in : List Text → Option Request
+request_in [] = Some (Check 2 1)
+request_in (word ∷ words) =
     if is_empty (faults (word ∷ words)) then option_and_then (λ p. request_of p.0 p.1) (found (word ∷ words))
     else None
 
@@ -57,4 +57,4 @@ IsHelp words = IsAmong DisplayHelp (faults words)
 
 -- the words ask for nothing, and not for help alone
 abbrev pub IsRefused : List Text → Type 0
-IsRefused words = (asked words ≡ None) × (faults words ≢ DisplayHelp ∷ [])
+IsRefused words = (request_in words ≡ None) × (faults words ≢ DisplayHelp ∷ [])

@@ -3,7 +3,7 @@ use Rattle.std.specs.Prelude.{◌≡◌, ◌≢◌, ◌⊎◌, ℕ, List, Some, 
 use Rattle.std.specs.Io.KnownBytes.{Appends}
 use Rattle.clap.specs.Walk.{Text}
 use Rattle.oberon_replay.specs.Answer.{IsAnswer, limit_of}
-use Rattle.oberon_replay.specs.Asked.{IsHelp, IsRefused, asked}
+use Rattle.oberon_replay.specs.Asked.{IsHelp, IsRefused, request_in}
 use Rattle.oberon_replay.specs.Transfer.{Known, Fails, GainsFront, GainsWhole, Goes, IsReadUpTo}
 use Rattle.oberon_replay.specs.declared.words.Request.{Request}
 use Rattle.oberon_replay.specs.declared.failure.Failure.{Failure}
@@ -42,13 +42,13 @@ outcome_status (failure why) = failure_status why
 -- for a command and a read failed. Want of memory may come at any time, but in place of no failed read
 abbrev pub MayFail : List Text → Known → Known → Failure → Type 0
 MayFail words old new Words = IsRefused words × Goes old new
-MayFail words old new Read = (request : Request) × (asked words ≡ Some request) × Fails new
+MayFail words old new Read = (request : Request) × (request_in words ≡ Some request) × Fails new
 MayFail words old new Memory = Goes old new
 
 -- the reply is one to the words, for the bytes that were taken from the reader. Where a read failed it is `read fault`
 abbrev pub IsReplyTo : List Text → Known → Known → Outcome → Type 0
 IsReplyTo words old new (answer request input text status) =
-    (asked words ≡ Some request) × IsReadUpTo (limit_of request) old new input × IsAnswer request input text status
+    (request_in words ≡ Some request) × IsReadUpTo (limit_of request) old new input × IsAnswer request input text status
 IsReplyTo words old new (help text) = IsHelp words × Goes old new
 IsReplyTo words old new (failure why) = MayFail words old new why
 
@@ -66,7 +66,7 @@ Replies words input input' output output' status = (outcome : Outcome) × IsRepl
 -- where the words ask for a command, the reader's bytes are known, and nothing failed, the command's answer to ALL of these bytes
 -- was written, however many they are
 abbrev pub AnswersAll : List Text → Known → Known → Known → ℕ → Type 0
-AnswersAll words input old new status = (request : Request) (bytes : List ℕ) → asked words ≡ Some request → input.bytes ≡ Some bytes
+AnswersAll words input old new status = (request : Request) (bytes : List ℕ) → request_in words ≡ Some request → input.bytes ≡ Some bytes
     → status ≢ 3 → (text : List ℕ) × IsAnswer request bytes text status × Appends old.bytes new.bytes text
 
 -- the status 3 stands for a read or a write that failed, or for want of memory, whose line was then written; and for each of the two

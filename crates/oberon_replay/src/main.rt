@@ -44,7 +44,7 @@ fn main(rt: HostRuntime) -> ExitCode {
     };
     match texts(rt.alloc(), &words) {
         Ok(words) => run(&rt, rt.alloc(), &words, &mut rt.stdin(), output),
-        Err(refused) => fail(output, Failure::from(refused)),
+        Err(wanting) => fail(output, Failure::from(wanting)),
     }
 }
 
@@ -52,13 +52,13 @@ fn main(rt: HostRuntime) -> ExitCode {
 fn process_words<H: AllocGlobal + Env>(rt: &H) -> Result<Vec<String>, Failure> {
     Ok(
         env::args(rt)
-            .map_err(|error| unread(error.kind()))?
+            .map_err(|error| failure_of(error.kind()))?
             .collect(rt.alloc())?,
     )
 }
 
 /// Why the words of the process can't be had: want of memory, or anything else, as where one is not UTF-8, which refuses the words.
-fn unread(kind: ErrorKind) -> Failure
+fn failure_of(kind: ErrorKind) -> Failure
     ensures memory { kind ≡ ErrorKind.OutOfMemory → result ≡ Failure.Memory }
     ensures words { kind ≢ ErrorKind.OutOfMemory → result ≡ Failure.Words }
 {

@@ -3,7 +3,7 @@
 ghost use Rattle.std.specs.Prelude.{IfOk};
 ghost use Rattle.oberon_replay.specs.Migrate.{IsMigration};
 
-use crate::refusal::{of_text, refused};
+use crate::refusal::{of_text, refusal_reply};
 use crate::reply::Reply;
 use std::alloc::{AllocError, Global};
 
@@ -16,6 +16,6 @@ pub fn migrate(alloc: Global, text: &[u8]) -> Result<Reply, AllocError>
             text: migrated,
             status: 0,
         }),
-        Err(fault) => refused(alloc, of_text(fault)?),
+        Err(fault) => refusal_reply(alloc, of_text(fault)?),
     }
 }

@@ -24,7 +24,7 @@ impl From<AllocError> for ReadFault {
 
     ghost from_gives = { λ _ fault. fault ≡ ReadFault.Memory };
 
-    fn from(_refused: AllocError) -> ReadFault {
+    fn from(_wanting: AllocError) -> ReadFault {
         ReadFault::Memory
     }
 }

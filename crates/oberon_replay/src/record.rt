@@ -15,7 +15,7 @@ pub fn record(alloc: Global, text: &[u8]) -> Result<Reply, AllocError>
 {
     match read_session(alloc, text) {
         Ok(session) => record_of(alloc, &session),
-        Err(fault) => refused(alloc, "session", fault.number(), fault.name()),
+        Err(fault) => fault_reply(alloc, "session", fault.number(), fault.name()),
     }
 }
 
@@ -29,16 +29,21 @@ fn record_of(alloc: Global, session: &Session) -> Result<Reply, AllocError>
             let text = write(alloc, &recording)?;
             Ok(Reply { text, status: 0 })
         }
-        Err(fault) => refused(alloc, "record", fault.number(), fault.name()),
+        Err(fault) => fault_reply(alloc, "record", fault.number(), fault.name()),
     }
 }
 
 /// The answer where there is a fault of this number and this name. One without a number is want of memory.
-fn refused(alloc: Global, what: &str, number: Option<u8>, name: &str) -> Result<Reply, AllocError>
+fn fault_reply(
+    alloc: Global,
+    what: &str,
+    number: Option<u8>,
+    name: &str,
+) -> Result<Reply, AllocError>
     ensures { IfOk result (λ reply.
         IsRefusal what.now number name.now reply.text.items reply.status) }
 {
-    let number = numbered(number)?;
+    let number = number_of(number)?;
     let line = format!(in alloc; "{what} refused {number} {name}\n")?;
     Ok(Reply {
         text: line.into_bytes(),
@@ -47,7 +52,7 @@ fn refused(alloc: Global, what: &str, number: Option<u8>, name: &str) -> Result<
 }
 
 /// The number of a fault. One without a number is want of memory.
-fn numbered(number: Option<u8>) -> Result<u8, AllocError>
+fn number_of(number: Option<u8>) -> Result<u8, AllocError>
     ensures ok { IfOk result (λ known. number ≡ Some known) }
     ensures err { OnErr result (number ≡ None) }
 {

@@ -18,7 +18,7 @@ pub fn of_text(fault: Fault) -> Result<Fault, AllocError>
 }
 
 /// The answer where the text has a fault.
-pub fn refused(alloc: Global, fault: Fault) -> Result<Reply, AllocError>
+pub fn refusal_reply(alloc: Global, fault: Fault) -> Result<Reply, AllocError>
     requires { fault ≢ Fault.Memory }
     ensures text { IfOk result (λ reply. reply.text.items ≡ fault_line fault) }
     ensures status { IfOk result (λ reply. reply.status ≡ 2) }

@@ -3,7 +3,7 @@ ghost use Rattle.std.specs.Prelude.{◌≡◌, ◌<◌, length, IfOk};
 ghost use Rattle.risc_devices.specs.Picture.{IsPicture};
 ghost use Rattle.oberon_replay.specs.Screen.{IsScreen, IsScreenOf, display_of, missing_line};
 
-use crate::refusal::{of_text, refused};
+use crate::refusal::{of_text, refusal_reply};
 use crate::reply::Reply;
 use oberon_format::{Recording, read};
 use risc_devices::picture;
@@ -23,7 +23,7 @@ pub fn screen(alloc: Global, text: &[u8], at: u32) -> Result<Reply, AllocError>
 {
     match read(alloc, text) {
         Ok(recording) => screen_of(alloc, &recording, at),
-        Err(fault) => refused(alloc, of_text(fault)?),
+        Err(fault) => refusal_reply(alloc, of_text(fault)?),
     }
 }
 
@@ -32,14 +32,14 @@ fn screen_of(alloc: Global, recording: &Recording, at: u32) -> Result<Reply, All
     ensures { IfOk result (λ reply. IsScreenOf recording.now at reply.text.items reply.status) }
 {
     if at < recording.count() {
-        claimed(alloc, recording, at)
+        claimed_picture(alloc, recording, at)
     } else {
-        missing(alloc, at)
+        no_checkpoint(alloc, at)
     }
 }
 
 /// The picture of the display that a checkpoint claims.
-fn claimed(alloc: Global, recording: &Recording, at: u32) -> Result<Reply, AllocError>
+fn claimed_picture(alloc: Global, recording: &Recording, at: u32) -> Result<Reply, AllocError>
     requires { at < length recording.now.checkpoints }
     ensures picture { IfOk result (λ reply. IsPicture (display_of recording.now at) reply.text.items) }
     ensures status { IfOk result (λ reply. reply.status ≡ 0) }
@@ -52,7 +52,7 @@ fn claimed(alloc: Global, recording: &Recording, at: u32) -> Result<Reply, Alloc
 }
 
 /// The answer where there is no such checkpoint.
-fn missing(alloc: Global, at: u32) -> Result<Reply, AllocError>
+fn no_checkpoint(alloc: Global, at: u32) -> Result<Reply, AllocError>
     ensures text { IfOk result (λ reply. reply.text.items ≡ missing_line at) }
     ensures status { IfOk result (λ reply. reply.status ≡ 2) }
 {

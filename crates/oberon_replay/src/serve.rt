@@ -1,7 +1,7 @@
 //! The program as a function: from words, a reader and a writer to a status.
 ghost use Rattle.std.specs.Prelude.{◌≡◌, map, IfOk, IfErr};
 ghost use Rattle.oberon_replay.specs.Answer.{limit_for};
-ghost use Rattle.oberon_replay.specs.Asked.{asked};
+ghost use Rattle.oberon_replay.specs.Asked.{request_in};
 ghost use Rattle.oberon_replay.specs.Reply.{AnswersAll, IsReplyTo, IsSentText, IsThreeForFaults, MayFail, Outcome, Replies, failure_line, failure_status, outcome_status, outcome_text};
 ghost use Rattle.oberon_replay.specs.Transfer.{TakesAtMost};
 
@@ -11,7 +11,7 @@ use crate::reading::read_up_to;
 use crate::reply::Reply;
 use crate::sink::{Sink, WriteFault};
 use crate::source::Source;
-use crate::words::{Refusal, asked};
+use crate::words::{Refusal, request_in};
 use crate::writing::write_whole;
 use std::alloc::Global;
 use std::sync::Wait;
@@ -48,7 +48,7 @@ pub fn serve<'a, H: Threads + Wait + Sync, R: Source, W: Sink>(
         (W.known output.new) result }
     ensures three { IsThreeForFaults (R.known input.old) (R.known input.new) (W.known output.old) (W.known output.new)
         result }
-    ensures reads { TakesAtMost (limit_for (asked (map (λ word. word.now) words.entry.now)))
+    ensures reads { TakesAtMost (limit_for (request_in (map (λ word. word.now) words.entry.now)))
         (R.known input.old) (R.known input.new) }
 {
     match reply(rt, alloc, words, input) {
@@ -87,10 +87,10 @@ fn reply<'a, H: Threads + Wait + Sync, R: Source>(
         × (reply.text.items ≡ outcome_text outcome) × (reply.status ≡ outcome_status outcome)) }
     ensures err { IfErr result (MayFail (map (λ word. word.now) words.entry.now) (R.known input.old)
         (R.known input.new)) }
-    ensures reads { TakesAtMost (limit_for (asked (map (λ word. word.now) words.entry.now)))
+    ensures reads { TakesAtMost (limit_for (request_in (map (λ word. word.now) words.entry.now)))
         (R.known input.old) (R.known input.new) }
 {
-    match asked(alloc, words) {
+    match request_in(alloc, words) {
         Ok(request) => {
             let bytes = read_up_to(alloc, input, request.limit())?;
             Ok(answer(rt, alloc, request, &bytes)?)

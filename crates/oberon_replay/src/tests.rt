@@ -1,7 +1,6 @@
 //! Worked examples through `serve`, over readers and writers in memory.
 
 mod checks;
-mod draft;
 mod ends;
 mod faults;
 mod helped;

@@ -2,13 +2,21 @@
 ghost use Rattle.std.specs.Prelude.{◌≡◌, ◌≤◌, Some, IfSome, map, IfOk, IfErr, option_and_then};
 ghost use Rattle.clap.specs.Words.{found_of, kind_of, rows_of, subcommand_rows_of};
 ghost use Rattle.oberon_replay.specs.inner.Requests.{IsWithinLimits, RefusedBy, refusal_by};
-ghost use Rattle.oberon_replay.specs.Asked.{asked, number_at, request_of};
+ghost use Rattle.oberon_replay.specs.Asked.{request_in, number_at, request_of};
 
 use crate::command::program;
 use clap::error::ErrorKind;
 use clap::{ArgMatches, Error};
-use oberon_format::LAST_CHECKPOINT;
+use oberon_format::{LAST_CHECKPOINT, LONGEST_TEXT};
+use oberon_session::LONGEST_SESSION;
 use std::alloc::{AllocError, Global};
+
+/// One byte more than the longest text of a recording has. A longer input has a fault within so many bytes, and none of them is
+/// looked at further on.
+const RECORDING_LIMIT: usize = LONGEST_TEXT + 1;
+
+/// One byte more than the longest text of a session has. A longer input is refused for its length alone.
+const SESSION_LIMIT: usize = LONGEST_SESSION + 1;
 
 /// What the program is to do.
 #[derive(Clone, Copy, Debug, PartialEq, Eq)]
@@ -21,6 +29,21 @@ pub enum Request {
     Screen { at: u32 },
     /// Print the recording that is read as a text of the version that is written.
     Migrate,
+}
+
+impl Request {
+    ghost use Rattle.std.specs.Prelude.{◌≡◌};
+    ghost use Rattle.oberon_replay.specs.Answer.{limit_of};
+
+    /// The most bytes that the command reads.
+    pub fn limit(self) -> usize
+        ensures { result ≡ limit_of self }
+    {
+        match self {
+            Request::Check { .. } | Request::Screen { .. } | Request::Migrate => RECORDING_LIMIT,
+            Request::Record => SESSION_LIMIT,
+        }
+    }
 }
 
 /// Why the words ask for none of these.
@@ -39,15 +62,15 @@ impl From<AllocError> for Refusal {
 
     ghost from_gives = { λ _ refusal. refusal ≡ Refusal.Memory };
 
-    fn from(_refused: AllocError) -> Refusal {
+    fn from(_wanting: AllocError) -> Refusal {
         Refusal::Memory
     }
 }
 
 /// What the words ask for, by what `clap` reads from them. No words at all ask for a check with 2 workers and cut 1.
-pub fn asked<'a>(alloc: Global, words: &'a [&'a str]) -> Result<Request, Refusal>
+pub fn request_in<'a>(alloc: Global, words: &'a [&'a str]) -> Result<Request, Refusal>
     ensures ok { IfOk result (λ request.
-        asked (map (λ word. word.now) words.entry.now) ≡ Some request) }
+        request_in (map (λ word. word.now) words.entry.now) ≡ Some request) }
     ensures limits { IfOk result IsWithinLimits }
     ensures err { IfErr result (RefusedBy (map (λ word. word.now) words.entry.now)) }
 {

@@ -1,6 +1,6 @@
 -- Checkpoint 0 of a session is recorded.
 use Rattle.std.proofs.Common.{◌≡◌, ◌<◌, ◌^◌, ℕ, true, zero, suc, ◌≤◌, List, [], ◌∷◌, ap, arith, get_or, length, length-set, refl, subst, sym, ◌∙◌}
-use Rattle.std.proofs.lemmas.List.{length-map, length-replicate}
+use Rattle.std.proofs.lemmas.List.{length-map, length-replicate, nil_from_length}
 use Rattle.std.proofs.lemmas.List.Elements.{All-map, All-replicate, All-set}
 use Rattle.std.specs.List.{All}
 use Rattle.std.proofs.lemmas.Bool.{and_parts, ltb-true}
@@ -50,10 +50,6 @@ first-pages pages contents = All-map IsPage (λ (page : PlacedWords). page.words
 first-few : (pages : List PlacedWords) → length (first_laid pages).pool ≡ length pages
 unfolding first_laid
 first-few pages = length-map pages (λ (page : PlacedWords). page.words)
-
-none-of : (xs : List ℕ) → length xs ≡ 0 → xs ≡ []
-none-of [] none = refl
-none-of (x ∷ xs) none = absurd (omega arith)
 
 -- ---- checkpoint 0
 
@@ -105,7 +101,7 @@ module _ (s : SessionParts) where
       let count = count_of-zero s in
       let cpu = ap (λ (t : State). t.cpu) state-first ∙ first-cpu in
       let devices = ap (λ (t : State). t.devices) state-first ∙ first-devices in
-      let sent = none-of (output_between s (count_of s 0) (count_of s 0)) (between-none s (count_of s 0)) in
+      let sent = nil_from_length (output_between s (count_of s 0) (count_of s 0)) (between-none s (count_of s 0)) in
       let table = ap (λ (l : Laid). l.table) (laid_of-zero s) in
       λ i. record { count = count i; cpu = cpu i; devices = devices i; sent = sent i; table = table i }
 
@@ -142,7 +138,7 @@ module _ (s : SessionParts) where
 
     pub recorded-first : Recorded s 0
     recorded-first =
-        let none = none-of (output_up_to s (count_of s 0)) (ap (λ (n : ℕ). length (output_up_to s n)) (count_of-zero s) ∙ output_up_to-zero s) in
+        let none = nil_from_length (output_up_to s (count_of s 0)) (ap (λ (n : ℕ). length (output_up_to s n)) (count_of-zero s) ∙ output_up_to-zero s) in
         record {
           laid_so = refl;
           recorded = refl;

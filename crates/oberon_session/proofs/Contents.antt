@@ -16,6 +16,7 @@ use Rattle.risc_pages.proofs.PoolLemmas.{page_at-table_words, page_of-shared, pa
 use Rattle.risc_pages.specs.Tables.{IsNamed, table_words}
 use Rattle.risc_pages.specs.Delta.{changed_below}
 use Rattle.risc_pages.specs.Pages.{ArePages, page_at, page_of, zero_page}
+use Rattle.oberon_session.proofs.Layouts.{with-page}
 use Rattle.oberon_session.specs.Laid.{Laid, changed_pages, is_blank, lay, lay_page, lay_pages}
 use Rattle.oberon_session.specs.Laws.{IsTableOf}
 
@@ -168,11 +169,8 @@ module _ (words : List ℕ) (old : Laid) (good : IsTableOf old) (place : ℕ) (i
       subst IsLaid (sym (other-is words old place other)) (set-leads (page ∷ []) (length old.pool + 1) fits last, here (page ∷ []) (length old.pool + 1) fits last)
 
 module _ (words : List ℕ) (whole : length words ≡ 262144) where
-  abbrev with-page : ℕ → ℕ × List ℕ
-  with-page place = (place, page_at words place)
-
   abbrev pages-of : List ℕ → List (ℕ × List ℕ)
-  pages-of places = map with-page places
+  pages-of places = map (with-page words) places
 
   -- pages were laid at these places
   abbrev AreLaid : Laid → List ℕ → Type 0

@@ -1,14 +1,14 @@
 -- The law of a session's first table.
-use Rattle.std.proofs.Common.{◌≡◌, ◌≢◌, ℕ, zero, suc, ◌+◌, ◌-◌, ◌<◌, ◌≤◌, inl, inr, List, ap, arith, get_or-set_other, length, refl, replicate, subst, sym, ◌∙◌}
+use Rattle.std.proofs.Common.{◌≡◌, ◌≢◌, ℕ, zero, suc, ◌+◌, ◌-◌, ◌<◌, ◌≤◌, inl, inr, List, ap, arith, get_or-set_other, length, subst, sym, ◌∙◌}
 use Rattle.std.proofs.lemmas.Bool.{cases_lt}
 use Rattle.std.proofs.lemmas.Grind.{get_or-set_at}
 use Rattle.std.proofs.lemmas.List.{length-map}
 use Rattle.std.specs.List.{All}
 use Rattle.std.specs.List.Sorted.{IsStrictlyIncreasing}
 use Rattle.std.specs.Prelude.{slice_index}
-use Rattle.risc_pages.specs.Tables.{zero_numbers}
+use Rattle.risc_pages.proofs.PoolLemmas.{zero_number}
 use Rattle.oberon_session.proofs.Begun.{length-numbered}
-use Rattle.oberon_session.proofs.Layouts.{numbered-none, numbered-suc}
+use Rattle.oberon_session.proofs.LaidPages.{numbered-none, numbered-suc}
 use Rattle.oberon_session.specs.Digits.{PlacedWords}
 use Rattle.oberon_session.specs.Laws.{FirstTableLaw}
 use Rattle.oberon_session.specs.Recorded.{numbered}
@@ -24,15 +24,6 @@ rises-to xs rising i (suc more) inside =
     let step : slice_index xs (i + suc more) < slice_index xs (i + suc more + 1) = rising (i + suc more) (omega arith) in
     let next : i + suc more + 1 ≡ i + suc (suc more) = omega arith in
     subst (λ (j : ℕ). slice_index xs i < slice_index xs j) next (omega arith)
-
-zeros-at : (n p : ℕ) → slice_index (replicate n 0) p ≡ 0
-zeros-at zero p = refl
-zeros-at (suc n) zero = refl
-zeros-at (suc n) (suc p) = zeros-at n p
-
-zero-there : (p : ℕ) → slice_index zero_numbers p ≡ 0
-unfolding zero_numbers
-zero-there p = zeros-at 1024 p
 
 module _ (pages : List PlacedWords) where
   -- the places of the first n pages have the numbers 1 to n
@@ -60,7 +51,7 @@ module _ (pages : List PlacedWords) where
 
   -- and all other places have number 0
   zeros-so : (p : ℕ) → All (λ place. place ≢ p) (places_in pages) → (n : ℕ) → n ≤ length (places_in pages) → slice_index (numbered pages n) p ≡ 0
-  zeros-so p none zero inside = ap (λ (t : List ℕ). slice_index t p) (numbered-none pages) ∙ zero-there p
+  zeros-so p none zero inside = ap (λ (t : List ℕ). slice_index t p) (numbered-none pages) ∙ zero_number p
   zeros-so p none (suc n) inside =
       let apart : p ≢ slice_index (places_in pages) n = λ same. none n 0 (omega arith) (sym same) in
       ap (λ (t : List ℕ). slice_index t p) (numbered-suc pages n)

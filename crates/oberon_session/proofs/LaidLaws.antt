@@ -10,13 +10,11 @@ use Rattle.risc_pages.proofs.DeltaLemmas.{AreDifferences-changed_below}
 use Rattle.risc_pages.specs.Delta.{changed_below}
 use Rattle.risc_pages.specs.Pages.{page_at}
 use Rattle.oberon_session.proofs.Contents.{blank-is, memory-laid, other-is}
+use Rattle.oberon_session.proofs.Layouts.{with-page}
 use Rattle.oberon_session.specs.Laid.{Laid, is_blank, lay, lay_page, lay_pages}
 use Rattle.oberon_session.specs.Laws.{LaidLaw}
 
 module _ (words : List ℕ) where
-  abbrev with-page : ℕ → ℕ × List ℕ
-  with-page place = (place, page_at words place)
-
   abbrev new-pages : List ℕ → List (List ℕ)
   new-pages places = filter (λ page. not (is_blank page)) (map (page_at words) places)
 
@@ -75,7 +73,7 @@ module _ (words : List ℕ) where
   not-there p (inr before) = before
 
   steps : (places : List ℕ) → All (λ p. p < 1024) places → (old : Laid) → length old.table ≡ 1024 → (n : ℕ) → n ≤ length old.pool
-      → Steps old (lay_pages old (map with-page places)) places n
+      → Steps old (lay_pages old (map (with-page words) places)) places n
   steps [] low old count n bound = record {
     pool = sym (append-nil old.pool);
     kept = λ p none. refl;

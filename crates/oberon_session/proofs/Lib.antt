@@ -4,7 +4,7 @@ mod Orders
 mod Lawful
 mod RuleLemmas
 mod Runs
-mod Layouts
+mod LaidPages
 mod Contents
 mod Steps
 mod LawfulMore

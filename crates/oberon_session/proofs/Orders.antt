@@ -6,6 +6,7 @@ use Rattle.std.specs.List.{All}
 use Rattle.risc_machine.specs.declared.event.Event.{Event}
 use Rattle.risc_machine.specs.InputOrder.{AreOrdered, IsFirstWrong, IsRightPlace, count_at, count_before}
 use Rattle.risc_machine.specs.declared.inputs.TheConstants.{MAX_COUNT}
+use Rattle.risc_machine.proofs.OrderLemmas.{count_before-next}
 use Rattle.oberon_session.specs.Draft.{InputNumbers}
 use Rattle.oberon_session.specs.Ranges.{input_counts}
 use Rattle.oberon_session.specs.Session.{numbers_of_event}
@@ -15,9 +16,6 @@ counts-same : (es : List Event) → input_counts (map numbers_of_event es) ≡ m
 counts-same [] = refl
 counts-same (e ∷ es) = ap (λ (l : List ℕ). e.count ∷ l) (counts-same es)
 
-before-next : (es : List Event) (k : ℕ) → count_before es (k + 1) ≡ count_at es k
-before-next es k = grind (arith, nat_tests)
-
 before-suc : (es : List Event) (k : ℕ) → count_before es (suc k) ≡ count_at es k
 before-suc es k = grind (arith, nat_tests)
 
@@ -25,7 +23,7 @@ falls-never : (es : List Event) → AreOrdered es → NeverFalls (map (λ (e : E
 falls-never es ordered = λ k lt.
     let inside : k + 1 < length es = simp length-map at lt in
     let right = ordered (k + 1) inside in
-    rw (before-next es k) at right.0
+    rw (count_before-next es k) at right.0
 
 -- the inputs are in order where their counts never fall and none is too high
 right-at : (es : List Event) → NeverFalls (map (λ (e : Event). e.count) es) → ((k : ℕ) → k < length es → count_at es k ≤ MAX_COUNT)

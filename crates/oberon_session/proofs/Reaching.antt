@@ -20,7 +20,7 @@ use Rattle.oberon_session.specs.Laid.{Laid, changed_pages, lay, lay_pages}
 use Rattle.oberon_session.specs.Recorded.{checkpoint_of, count_of, laid_of, output_between, output_up_to, record_fault_of, state_of}
 use Rattle.oberon_session.specs.SessionParts.{SessionParts, IsLawful}
 use Rattle.oberon_session.specs.inner.Progress.{IsReached, IsRecorded, checkpoints_to, page_view}
-use Rattle.oberon_session.specs.declared.segment.Reached.{Reached}
+use Rattle.oberon_session.specs.declared.way.Reached.{Reached}
 use Rattle.oberon_session.specs.declared.record_fault.RecordFault.TheVariants as fault
 
 -- what checkpoint k claims is the state there, where its table has that memory as its content

@@ -10,11 +10,12 @@ use Rattle.std.specs.Prelude.{IsUtf8, nat_le}
 use Rattle.std.specs.Str.{is_utf8}
 use Rattle.serde_json.specs.Data.{Data}
 use Rattle.serde_json.specs.Read.{read}
+use Rattle.oberon_format.specs.FirstFault.{Rule, first_broken}
 use Rattle.oberon_session.proofs.Deciding.{decides-order, decides-range}
 use Rattle.oberon_session.specs.Digits.{PlacedWords, all_placed_of}
 use Rattle.oberon_session.specs.Draft.{Draft, draft_of}
 use Rattle.oberon_session.specs.Ranges.{in_order, in_range}
-use Rattle.oberon_session.specs.Rules.{Rule, draft_in, first_broken, first_fault_of, in_digits, json_of, rules, says}
+use Rattle.oberon_session.specs.Rules.{draft_in, first_fault_of, in_digits, json_of, rules, says}
 use Rattle.oberon_session.specs.Session.{Breaks, Fits, IsSession}
 use Rattle.oberon_session.specs.SessionParts.{SessionParts}
 use Rattle.oberon_session.specs.Shape.{◌>>=◌}
@@ -129,7 +130,7 @@ module _ (bytes : List ℕ) (fits : Fits bytes) where
 
 -- ---- a text that breaks no rule
 
-all-hold : (rs : List Rule) → first_broken rs ≡ None → All (λ rule. rule.0 ≡ true) rs
+all-hold : (rs : List (Rule SessionFault)) → first_broken rs ≡ None → All (λ rule. rule.0 ≡ true) rs
 all-hold [] none = All-nil (λ rule. rule.0 ≡ true)
 all-hold ((true, fault) ∷ rs) none = All-cons (λ rule. rule.0 ≡ true) (true, fault) rs refl (all-hold rs none)
 all-hold ((false, fault) ∷ rs) none = absurd cc
@@ -151,7 +152,7 @@ pub faultless : (bytes : List ℕ) → first_fault_of bytes ≡ None → IsFault
 unfolding first_fault_of
 faultless bytes none =
     let hold = all-hold (rules bytes) none in
-    let rule : Rule = (true, Json) in
+    let rule : Rule SessionFault = (true, Json) in
     let shaped : is_some (draft_in bytes) ≡ true = hold 2 rule (omega arith) in
     let ranged : says in_range (draft_in bytes) ≡ true = hold 3 rule (omega arith) in
     let ordered : says in_order (draft_in bytes) ≡ true = hold 4 rule (omega arith) in

@@ -22,7 +22,7 @@ abbrev pub new_pages : List ℕ → List ℕ → List (List ℕ)
 new_pages earlier words = filter (λ page. not (is_blank page)) (map (page_at words) (changed_below 1024 earlier words))
 
 -- a memory was laid where an earlier one was laid last
-pub record IsLaidOut (earlier words : List ℕ) (old new : Laid) : Type 0 where
+pub record IsLaidAfter (earlier words : List ℕ) (old new : Laid) : Type 0 where
   -- the new pages join the pool, and nothing else changes there
   pub pool : new.pool ≡ old.pool ++ new_pages earlier words
   -- a place that did not change keeps its number
@@ -38,7 +38,7 @@ pub record IsLaidOut (earlier words : List ℕ) (old new : Laid) : Type 0 where
 abbrev pub LaidLaw : Type 0
 LaidLaw =
     (earlier words : List ℕ) (old : Laid) → IsTableOf old → ArePages old.pool → table_words old.pool old.table ≡ earlier
-    → length words ≡ 262144 → IsLaidOut earlier words old (lay earlier words old)
+    → length words ≡ 262144 → IsLaidAfter earlier words old (lay earlier words old)
 
 -- in a session's first table the place of page i has number i + 1, and each place where no page stands has number 0
 pub record IsFirstTable (pages : List PlacedWords) (table : List ℕ) : Type 0 where

@@ -4,6 +4,7 @@ use Rattle.std.specs.Option.{is_some}
 use Rattle.std.specs.Str.{is_utf8}
 use Rattle.serde_json.specs.Data.{Data}
 use Rattle.serde_json.specs.Read.{read}
+use Rattle.oberon_format.specs.FirstFault.{Rule, first_broken}
 use Rattle.oberon_session.specs.Digits.{all_placed_of}
 use Rattle.oberon_session.specs.Draft.{Draft, draft_of}
 use Rattle.oberon_session.specs.Ranges.{in_order, in_range}
@@ -11,15 +12,6 @@ use Rattle.oberon_session.specs.Shape.{◌>>=◌}
 use Rattle.oberon_session.specs.declared.fault.SessionFault.{SessionFault}
 use Rattle.oberon_session.specs.declared.fault.SessionFault.TheVariants as fault
 use Rattle.oberon_session.specs.declared.reading.TheConstants.{LONGEST_SESSION}
-
--- a rule: whether it holds, and the fault where it doesn't
-abbrev pub Rule : Type 0
-Rule = Bool × SessionFault
-
--- the fault of the first rule that is broken
-abbrev pub first_broken : List Rule → Option SessionFault
-first_broken [] = None
-first_broken ((holds, fault) ∷ rules) = if holds then first_broken rules else Some fault
 
 -- the JSON value of a text in UTF-8, as `serde_json` reads it
 abbrev pub json_of : List ℕ → Option Data
@@ -39,7 +31,7 @@ abbrev pub in_digits : Draft → Bool
 in_digits draft = is_some (all_placed_of draft.pages)
 
 -- all rules
-abbrev pub rules : List ℕ → List Rule
+abbrev pub rules : List ℕ → List (Rule SessionFault)
 rules bytes =
     (nat_le (length bytes) LONGEST_SESSION, fault.Range)
     ∷ (is_some (json_of bytes), fault.Json)

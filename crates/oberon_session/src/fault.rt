@@ -67,7 +67,7 @@ impl From<AllocError> for SessionFault {
 
     ghost from_gives = { λ _ fault. fault ≡ SessionFault.Memory };
 
-    fn from(_refused: AllocError) -> SessionFault {
+    fn from(_wanting: AllocError) -> SessionFault {
         SessionFault::Memory
     }
 }
@@ -78,7 +78,7 @@ impl<T: Drop> From<AllocFailed<T>> for SessionFault {
 
     ghost from_gives = { λ _ fault. fault ≡ SessionFault.Memory };
 
-    fn from(_refused: AllocFailed<T>) -> SessionFault {
+    fn from(_wanting: AllocFailed<T>) -> SessionFault {
         SessionFault::Memory
     }
 }

@@ -10,15 +10,15 @@ mod draft;
 mod events;
 mod fault;
 mod laws;
-mod layout;
+mod laying;
 mod range;
 mod reading;
 mod record_fault;
 mod recorder;
-mod segment;
 mod session;
 mod shape;
 mod walk;
+mod way;
 
 pub use fault::SessionFault;
 pub use laws::{answer_law, first_table_law, laid_law};

@@ -69,7 +69,7 @@ fn session_of(alloc: Global, draft: Draft<'_>) -> Result<Session, SessionFault>
     ensures says { IfOk result (Says (draft_view draft.entry)) }
     ensures err { IfErr result (BreaksDraft (draft_view draft.entry)) }
 {
-    let inputs = tested(alloc, &draft)?;
+    let inputs = test_draft(alloc, &draft)?;
     let pages = placed_pages(alloc, &draft.pages)?;
     Ok(Session {
         cpu: cpu_of(&draft.start),
@@ -82,7 +82,7 @@ fn session_of(alloc: Global, draft: Draft<'_>) -> Result<Session, SessionFault>
 }
 
 /// The inputs of a draft whose numbers are all in their ranges and in order.
-fn tested(alloc: Global, draft: &Draft<'_>) -> Result<Inputs, SessionFault>
+fn test_draft(alloc: Global, draft: &Draft<'_>) -> Result<Inputs, SessionFault>
     ensures ok { IfOk result (IsTested (draft_view draft.now)) }
     ensures err { IfErr result (BreaksDraft (draft_view draft.now)) }
 {

@@ -52,7 +52,7 @@ impl From<AllocError> for RecordFault {
 
     ghost from_gives = { λ _ fault. fault ≡ RecordFault.Memory };
 
-    fn from(_refused: AllocError) -> RecordFault {
+    fn from(_wanting: AllocError) -> RecordFault {
         RecordFault::Memory
     }
 }
@@ -63,7 +63,7 @@ impl<T: Drop> From<AllocFailed<T>> for RecordFault {
 
     ghost from_gives = { λ _ fault. fault ≡ RecordFault.Memory };
 
-    fn from(_refused: AllocFailed<T>) -> RecordFault {
+    fn from(_wanting: AllocFailed<T>) -> RecordFault {
         RecordFault::Memory
     }
 }

@@ -9,10 +9,10 @@ ghost use Rattle.oberon_format.specs.Recording.{parts_of, IsLawful};
 ghost use Rattle.oberon_session.specs.Recorded.{first_devices, record_fault_of, recording_of};
 ghost use Rattle.oberon_session.specs.inner.Progress.{IsRecorded, laid_view};
 
-use crate::layout::{Layout, first_layout, lay_pages};
+use crate::laying::{LaidPages, lay_first, lay_pages};
 use crate::record_fault::RecordFault;
-use crate::segment::reach;
 use crate::session::Session;
+use crate::way::reach;
 use oberon_format::{Checkpoint, MAX_OUTPUT, MAX_PAGES, Recording, Sent};
 use risc_devices::Devices;
 use risc_machine::Inputs;
@@ -22,7 +22,7 @@ use std::alloc::Global;
 /// What was recorded so far: pages and the last table, checkpoints from 0 on, and the number of bytes that they send.
 #[derive(Drop)]
 struct Recorder {
-    layout: Layout,
+    laid: LaidPages,
     checkpoints: Vec<Checkpoint>,
     sent: usize,
 }
@@ -50,21 +50,21 @@ pub fn make_recording(alloc: Global, session: &Session) -> Result<Recording, Rec
 
 /// Checkpoint 0 of a session.
 fn begin(alloc: Global, session: &Session) -> Result<Recorder, RecordFault>
-    ensures recorded { IfOk result (λ recorder. IsRecorded session.now 0 (laid_view recorder.layout) (map checkpoint_parts recorder.checkpoints.items) recorder.sent) }
-    ensures refused { IfErr result (λ fault. fault ≡ RecordFault.Memory) }
+    ensures recorded { IfOk result (λ recorder. IsRecorded session.now 0 (laid_view recorder.laid) (map checkpoint_parts recorder.checkpoints.items) recorder.sent) }
+    ensures wanting { IfErr result (λ fault. fault ≡ RecordFault.Memory) }
 {
-    let layout = first_layout(alloc, session.pages())?;
+    let laid = lay_first(alloc, session.pages())?;
     let first = Checkpoint {
         count: 0,
         cpu: session.cpu(),
         devices: first_devices(session.rate(), session.phase()),
         sent: Sent::new(Vec::new(alloc)),
-        table: layout.table.copy(),
+        table: laid.table.copy(),
     };
     let mut checkpoints = Vec::with_capacity(alloc, session.counts().len() + 1)?;
     checkpoints.push(first)?;
     Ok(Recorder {
-        layout,
+        laid,
         checkpoints,
         sent: 0,
     })
@@ -89,17 +89,17 @@ fn record_next(
     k: usize,
 ) -> Result<(), RecordFault>
     requires inside { k < length session.now.counts }
-    requires recorded { IsRecorded session.now k (laid_view recorder.old.layout) (map checkpoint_parts recorder.old.checkpoints.items) recorder.old.sent }
-    ensures recorded { OnOk result (IsRecorded session.now (k + 1) (laid_view recorder.new.layout) (map checkpoint_parts recorder.new.checkpoints.items) recorder.new.sent) }
+    requires recorded { IsRecorded session.now k (laid_view recorder.old.laid) (map checkpoint_parts recorder.old.checkpoints.items) recorder.old.sent }
+    ensures recorded { OnOk result (IsRecorded session.now (k + 1) (laid_view recorder.new.laid) (map checkpoint_parts recorder.new.checkpoints.items) recorder.new.sent) }
     ensures refused { IfErr result (λ fault. fault ≢ RecordFault.Memory → record_fault_of session.now ≡ Some fault) }
 {
     let last = &recorder.checkpoints[k];
     let count = session.counts()[k];
     let room = MAX_OUTPUT as usize - recorder.sent;
-    let pool = &recorder.layout.pool;
+    let pool = &recorder.laid.pool;
     let reached = reach(alloc, pool, session.inputs(), last, count, room)?;
-    lay_pages(&mut recorder.layout, &reached.changed)?;
-    if recorder.layout.pool.len() > MAX_PAGES {
+    lay_pages(&mut recorder.laid, &reached.changed)?;
+    if recorder.laid.pool.len() > MAX_PAGES {
         return Err(RecordFault::Pages);
     }
     recorder.sent += reached.sent.bytes().len();
@@ -110,28 +110,28 @@ fn record_next(
         cpu: reached.cpu,
         devices: reached.devices,
         sent: reached.sent,
-        table: recorder.layout.table.copy(),
+        table: recorder.laid.table.copy(),
     })?;
     Ok(())
 }
 
 /// The recording of all that was recorded.
 fn finish(alloc: Global, inputs: &Inputs, recorder: Recorder) -> Result<Recording, RecordFault>
-    requires { IsLawful (parts_of recorder.layout.pool inputs.now recorder.checkpoints.items) }
-    ensures recording { IfOk result (λ recording. recording ≡ parts_of recorder.layout.pool inputs.now recorder.checkpoints.items) }
-    ensures refused { IfErr result (λ fault. fault ≡ RecordFault.Memory) }
+    requires { IsLawful (parts_of recorder.laid.pool inputs.now recorder.checkpoints.items) }
+    ensures recording { IfOk result (λ recording. recording ≡ parts_of recorder.laid.pool inputs.now recorder.checkpoints.items) }
+    ensures wanting { IfErr result (λ fault. fault ≡ RecordFault.Memory) }
 {
-    let inputs = copied(alloc, inputs)?;
-    match Recording::from_parts(recorder.layout.pool, inputs, recorder.checkpoints) {
+    let inputs = copy_inputs(alloc, inputs)?;
+    match Recording::from_parts(recorder.laid.pool, inputs, recorder.checkpoints) {
         Ok(recording) => Ok(recording),
         Err(_) => unreachable!(),
     }
 }
 
 /// The same inputs again.
-fn copied(alloc: Global, inputs: &Inputs) -> Result<Inputs, RecordFault>
+fn copy_inputs(alloc: Global, inputs: &Inputs) -> Result<Inputs, RecordFault>
     ensures same { IfOk result (λ copy. copy ≡ inputs.now) }
-    ensures refused { IfErr result (λ fault. fault ≡ RecordFault.Memory) }
+    ensures wanting { IfErr result (λ fault. fault ≡ RecordFault.Memory) }
 {
     let events = inputs.events().to_vec(alloc)?;
     match Inputs::new(events) {

@@ -293,7 +293,7 @@ fn reads_rate_and_phase(rt: HostRuntime) -> Result<(), Fail> {
 }
 
 /// So many copies of a text.
-fn repeated(alloc: Global, text: &str, count: u32) -> Result<String, Fail> {
+fn copies_of(alloc: Global, text: &str, count: u32) -> Result<String, Fail> {
     let mut all = String::new(alloc);
     for _ in 0..count {
         all.push_str(text)?;
@@ -313,7 +313,7 @@ fn measures_digits_in_bytes(rt: HostRuntime) -> Result<(), Fail> {
         ("\u{e9}", 1_025, Some(SessionFault::Range)),
     ];
     for (digit, count, fault) in rows {
-        let digits = repeated(alloc, digit, count)?;
+        let digits = copies_of(alloc, digit, count)?;
         let text = format!(in alloc;
             "{START}\"pages\":[{{\"at\":0,\"hex\":\"{digits}\"}}],\"inputs\":[],\"checkpoints\":[]}}"
         )?;
@@ -332,8 +332,8 @@ fn takes_arrays_nested_127_deep(rt: HostRuntime) -> Result<(), Fail> {
         (200, SessionFault::Json),
     ];
     for (depth, fault) in rows {
-        let open = repeated(alloc, "[", depth)?;
-        let close = repeated(alloc, "]", depth)?;
+        let open = copies_of(alloc, "[", depth)?;
+        let close = copies_of(alloc, "]", depth)?;
         let text = format!(in alloc;
             "{START}\"pages\":{open}{close},\"inputs\":[],\"checkpoints\":[]}}"
         )?;

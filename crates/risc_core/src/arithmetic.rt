@@ -2,7 +2,7 @@
 //! Sums and differences are in `sums`, and which registers an operation reads and writes is with the machine.
 ghost use Rattle.std.specs.Prelude.{◌≡◌, ◌<◌, ◌≤◌, Ok, ◌-◌, ◌^◌, pos, ◌<ℤ◌, ◌↔◌, ◌≢◌};
 ghost use Rattle.risc_core.specs.Word.{signed, floor_div, floor_mod};
-ghost use Rattle.risc_core.specs.Arithmetic.{outcome_of, output_of, summed, moved_value, shifted_right, rotated, product, product_of, dividend, quotient_of, flags_word};
+ghost use Rattle.risc_core.specs.Arithmetic.{outcome_of, output_of, sum_output, moved_value, shifted_right, rotated, product, product_of, dividend, quotient_of, flags_word};
 
 use crate::flags::{Flags, written};
 use crate::operations::{ADD, AND, ANN, ASR, DIV, IOR, LSL, MUL, ROR, SUB, XOR};
@@ -50,8 +50,8 @@ pub const fn alu(
     ensures divisor { (result ≡ Err Stop.Divisor) ↔ ((op ≡ DIV) × (signed c <ℤ pos 1)) }
 {
     match op {
-        ADD => Ok(summed(add(u, b, c, flags.c), h, flags)),
-        SUB => Ok(summed(subtract(u, b, c, flags.c), h, flags)),
+        ADD => Ok(sum_output(add(u, b, c, flags.c), h, flags)),
+        SUB => Ok(sum_output(subtract(u, b, c, flags.c), h, flags)),
         _ => alu_beside_sums(op, u, imm, v, b, c, h, flags),
     }
 }
@@ -81,7 +81,7 @@ pub const fn alu_beside_sums(
         DIV => divide(u, b, c, flags),
         _ => {
             if op < ADD {
-                Ok(output(simple(op, u, imm, v, b, c, h, flags), h, flags))
+                Ok(output(simple_value(op, u, imm, v, b, c, h, flags), h, flags))
             } else {
                 Err(Stop::Float)
             }
@@ -92,7 +92,7 @@ pub const fn alu_beside_sums(
 /// What MOV, a shift or a logical operation gives, operations 0 to 7, which leave H, C and V.
 #[inline(always)]
 #[tactic(auto, using(crate::proofs::BitLemmas::bitwise), unfolding(crate::specs::Arithmetic::outcome_of))]
-pub const fn simple(
+pub const fn simple_value(
     op: u8,
     u: bool,
     imm: bool,
@@ -113,7 +113,7 @@ pub const fn simple(
         ANN => b & !c,
         IOR => b | c,
         XOR => b ^ c,
-        _ => moved(u, imm, v, c, h, flags),
+        _ => moved_value(u, imm, v, c, h, flags),
     }
 }
 
@@ -131,8 +131,8 @@ const fn output(value: u32, h: u32, flags: Flags) -> AluOut
 
 /// What ADD or SUB leaves.
 #[inline(always)]
-const fn summed(sum: Sum, h: u32, flags: Flags) -> AluOut
-    ensures { result ≡ summed sum h flags }
+const fn sum_output(sum: Sum, h: u32, flags: Flags) -> AluOut
+    ensures { result ≡ sum_output sum h flags }
 {
     let after = Flags {
         n: flags.n,
@@ -145,7 +145,7 @@ const fn summed(sum: Sum, h: u32, flags: Flags) -> AluOut
 
 /// What MOV moves. An immediate comes with its upper half filled in, so with u set its lower half is the field im.
 #[inline(always)]
-const fn moved(u: bool, imm: bool, v: bool, c: u32, h: u32, flags: Flags) -> u32
+const fn moved_value(u: bool, imm: bool, v: bool, c: u32, h: u32, flags: Flags) -> u32
     ensures { result ≡ moved_value u imm v c h flags }
 {
     if !u {
@@ -153,7 +153,7 @@ const fn moved(u: bool, imm: bool, v: bool, c: u32, h: u32, flags: Flags) -> u32
     } else if imm {
         c << 16
     } else if v {
-        packed(flags)
+        flags_word(flags)
     } else {
         h
     }
@@ -162,7 +162,7 @@ const fn moved(u: bool, imm: bool, v: bool, c: u32, h: u32, flags: Flags) -> u32
 /// The flags as a word.
 #[inline]
 #[tactic(auto, using(crate::proofs::WordLemmas::packed_is))]
-const fn packed(flags: Flags) -> u32
+const fn flags_word(flags: Flags) -> u32
     ensures { result ≡ flags_word flags }
 {
     (flags.n as u32) << 31
@@ -236,7 +236,7 @@ const fn divide_down(u: bool, b: u32, c: u32) -> (u32, u32)
 const fn divide(u: bool, b: u32, c: u32, flags: Flags) -> Result<AluOut, Stop>
     ensures value { result ≡ quotient_of u b c flags }
     ensures not_float { result ≢ Err Stop.Float }
-    ensures refused { (result ≡ Err Stop.Divisor) ↔ (signed c <ℤ pos 1) }
+    ensures stops { (result ≡ Err Stop.Divisor) ↔ (signed c <ℤ pos 1) }
 {
     if c.cast_signed() < 1 {
         return Err(Stop::Divisor);

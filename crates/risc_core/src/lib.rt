@@ -22,8 +22,8 @@ mod sums;
 mod word;
 
 pub use address::Place;
-pub use arithmetic::{AluOut, alu, alu_beside_sums, simple};
-pub use branch::{COUNTER_END, condition, link, reg_target, taken, target};
+pub use arithmetic::{AluOut, alu, alu_beside_sums, simple_value};
+pub use branch::{COUNTER_END, link, reg_target, taken, target};
 pub use decoding::decode;
 pub use flags::{Flags, written};
 pub use instruction::Instr;

@@ -16,7 +16,7 @@ const DOTS: usize = 98_304;
 ///
 /// The 98,316 bytes are a binary PBM (this project's own choice): the twelve bytes `P4`, line feed, `1024 768`, line feed,
 /// and then 768 rows from the top down, 128 bytes each, eight dots a byte, the leftmost in the highest bit; a set bit of the
-/// display is a set bit of the picture. Only want of memory is refused.
+/// display is a set bit of the picture. It fails only for want of memory.
 pub fn picture(alloc: Global, words: &[u32]) -> Result<Vec<u8>, AllocError>
     requires { length words.now ≡ 24576 }
     ensures { IfOk result (λ bytes. IsPicture words.now bytes.items) }

@@ -145,7 +145,7 @@ fn makes_devices_of_parts_in_range(rt: HostRuntime) {
 }
 
 /// Devices with this timer, rate and phase, and nothing else.
-fn timed(rt: &impl Abort, timer: u32, rate: u32, phase: u32) -> Devices {
+fn timer_devices(rt: &impl Abort, timer: u32, rate: u32, phase: u32) -> Devices {
     Devices::new(timer, rate, phase, 0, 0, 0, 0, &[]).expect(rt, "the phase is below the rate")
 }
 
@@ -160,11 +160,11 @@ fn counts_instructions_one_by_one_and_at_once(rt: HostRuntime) {
         (0xFFFF_FFFF, 0xFFFF_FFFF, 0xFFFF_FFFE, 1, 0, 0),
     ];
     for (timer, rate, phase, count, want_timer, want_phase) in rows {
-        let mut slow = timed(&rt, timer, rate, phase);
+        let mut slow = timer_devices(&rt, timer, rate, phase);
         for _ in 0..count {
             slow.tick();
         }
-        let mut fast = timed(&rt, timer, rate, phase);
+        let mut fast = timer_devices(&rt, timer, rate, phase);
         fast.tick_times(count);
         assert_eq!(rt;
             (slow.timer(), slow.rate(), slow.phase()),
@@ -175,14 +175,14 @@ fn counts_instructions_one_by_one_and_at_once(rt: HostRuntime) {
             (want_timer, rate, want_phase)
         );
     }
-    let mut devices = timed(&rt, 0, 10, 5);
+    let mut devices = timer_devices(&rt, 0, 10, 5);
     devices.tick_times(u64::MAX);
     assert_eq!(rt; (devices.timer(), devices.phase()), (0x9999_999A, 0));
 }
 
 #[test]
 fn keeps_the_phase_where_the_timer_is_set(rt: HostRuntime) {
-    let mut devices = timed(&rt, 7, 10, 9);
+    let mut devices = timer_devices(&rt, 7, 10, 9);
     feed(&rt, &mut devices, 1, 100);
     assert_eq!(rt;
         (devices.timer(), devices.rate(), devices.phase()),

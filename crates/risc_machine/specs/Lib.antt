@@ -5,6 +5,6 @@ pub mod Exec
 pub mod Replay
 pub mod OneRun
 pub mod InputOrder
-pub mod Refusal
+pub mod Wanting
 pub mod Laws
 pub mod inner

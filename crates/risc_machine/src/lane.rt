@@ -28,7 +28,7 @@ fn with_byte(lane: u8, value: u32, word: u32) -> u32
 
 /// What a load of `word`, or of the byte in its lane, gives.
 #[inline(always)]
-pub(crate) fn loaded(byte: bool, lane: u8, word: u32) -> u32
+pub(crate) fn loaded_value(byte: bool, lane: u8, word: u32) -> u32
     requires { lane < 4 }
     ensures { result ≡ loaded_value byte lane word }
 {
@@ -37,7 +37,7 @@ pub(crate) fn loaded(byte: bool, lane: u8, word: u32) -> u32
 
 /// What a store of `value`, or of its lowest byte, makes of `word`.
 #[inline(always)]
-pub(crate) fn stored(byte: bool, lane: u8, value: u32, word: u32) -> u32
+pub(crate) fn stored_word(byte: bool, lane: u8, value: u32, word: u32) -> u32
     requires { lane < 4 }
     ensures { result ≡ stored_word byte lane value word }
 {
@@ -50,7 +50,7 @@ pub(crate) fn stored(byte: bool, lane: u8, value: u32, word: u32) -> u32
 
 /// What a store of `value`, or of its lowest byte, hands to a device.
 #[inline(always)]
-pub(crate) fn handed(byte: bool, value: u32) -> u32
+pub(crate) fn stored_value(byte: bool, value: u32) -> u32
     ensures { result ≡ stored_value byte value }
 {
     if byte { value & BYTE_MASK } else { value }

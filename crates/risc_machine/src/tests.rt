@@ -278,14 +278,14 @@ fn stops_and_changes_nothing_else(rt: HostRuntime) {
 }
 
 /// The clock of these numbers.
-const fn timed(timer: u32, rate: u32, phase: u32) -> Clock {
+const fn timer_clock(timer: u32, rate: u32, phase: u32) -> Clock {
     Clock { timer, rate, phase }
 }
 
 /// The clock of a machine.
 fn clock_of(machine: &Machine) -> Clock {
     let devices = machine.devices();
-    timed(devices.timer(), devices.rate(), devices.phase())
+    timer_clock(devices.timer(), devices.rate(), devices.phase())
 }
 
 /// The clock of an example, and its R0, after one run of so many steps.
@@ -329,13 +329,13 @@ fn clock_by_steps(
 fn counts_each_instruction(rt: HostRuntime) {
     let jump = example_of([JUMP, 0, 0, 0], [0; 4]);
     let rows = [
-        (timed(0, 10, 0), 25, timed(2, 10, 5)),
-        (timed(7, 1, 0), 3, timed(10, 1, 0)),
-        (timed(7, 0, 0), 25, timed(7, 0, 0)),
+        (timer_clock(0, 10, 0), 25, timer_clock(2, 10, 5)),
+        (timer_clock(7, 1, 0), 3, timer_clock(10, 1, 0)),
+        (timer_clock(7, 0, 0), 25, timer_clock(7, 0, 0)),
         (
-            timed(0xFFFF_FFFF, 0xFFFF_FFFF, 0xFFFF_FFFE),
+            timer_clock(0xFFFF_FFFF, 0xFFFF_FFFF, 0xFFFF_FFFE),
             1,
-            timed(0, 0xFFFF_FFFF, 0),
+            timer_clock(0, 0xFFFF_FFFF, 0),
         ),
     ];
     for (begin, steps, want) in rows {
@@ -353,12 +353,12 @@ fn counts_each_instruction(rt: HostRuntime) {
 #[test]
 fn sets_the_timer_and_leaves_its_phase(rt: HostRuntime) {
     let jump = example_of([JUMP, 0, 0, 0], [0; 4]);
-    let begin = timed(0, 10, 0);
+    let begin = timer_clock(0, 10, 0);
     let rows = [(25, 1, 100)];
     let before = clock_after(&rt, rt.alloc(), jump, begin, &rows, 25);
-    assert_eq!(rt; before, (timed(2, 10, 5), 0));
+    assert_eq!(rt; before, (timer_clock(2, 10, 5), 0));
     let after = clock_after(&rt, rt.alloc(), jump, begin, &rows, 30);
-    assert_eq!(rt; after, (timed(101, 10, 0), 0));
+    assert_eq!(rt; after, (timer_clock(101, 10, 0), 0));
 }
 
 #[test]
@@ -373,9 +373,9 @@ fn counts_no_instruction_that_stops(rt: HostRuntime) {
     let r1 = [0, 0, 0x10_0000, 0x20_0000, 0x20_0000];
     for (word, r1) in words.into_iter().zip(r1) {
         let stopper = example_of([word, 0, 0, 0], [5, r1, 6, 0]);
-        let last = timed(4, 10, 9);
+        let last = timer_clock(4, 10, 9);
         let want = if r1 == 0x10_0000 {
-            timed(5, 10, 0)
+            timer_clock(5, 10, 0)
         } else {
             last
         };
@@ -394,10 +394,10 @@ fn counts_no_instruction_that_stops(rt: HostRuntime) {
 fn reads_the_timer_before_the_read_is_counted(rt: HostRuntime) {
     let reader = example_of([0x5100_FFC0, 0x8010_0000, 0xE7FF_FFFE, 0], [0; 4]);
     let rows = [
-        (timed(0, 1, 0), 2, (timed(2, 1, 0), 1)),
-        (timed(0, 1, 0), 4, (timed(4, 1, 0), 3)),
-        (timed(0, 2, 0), 4, (timed(2, 2, 0), 1)),
-        (timed(7, 0, 0), 4, (timed(7, 0, 0), 7)),
+        (timer_clock(0, 1, 0), 2, (timer_clock(2, 1, 0), 1)),
+        (timer_clock(0, 1, 0), 4, (timer_clock(4, 1, 0), 3)),
+        (timer_clock(0, 2, 0), 4, (timer_clock(2, 2, 0), 1)),
+        (timer_clock(7, 0, 0), 4, (timer_clock(7, 0, 0), 7)),
     ];
     for (begin, steps, want) in rows {
         assert_eq!(rt;
@@ -411,8 +411,8 @@ fn reads_the_timer_before_the_read_is_counted(rt: HostRuntime) {
 #[test]
 fn counts_an_instruction_that_sends(rt: HostRuntime) {
     let sender = example_of(SENDER, [0; 4]);
-    let begin = timed(0, 3, 0);
-    let want = (timed(1, 3, 0), 0x41);
+    let begin = timer_clock(0, 3, 0);
+    let want = (timer_clock(1, 3, 0), 0x41);
     assert_eq!(rt; clock_after(&rt, rt.alloc(), sender, begin, &[], 3), want);
     assert_eq!(rt; clock_by_steps(&rt, rt.alloc(), sender, begin, 3), want);
 }
@@ -674,7 +674,7 @@ fn next_that_has_run() -> Rewriting {
 const VISITOR: [u32; 4] = [0xA010_0000, 0xC700_0001, 0x0000_0002, 0xE7FF_FFFC];
 
 /// What it comes to, if what R2 held adds 7 to R15, which was 8, and stands below the word `pc`.
-const fn visited(r1: u32, pc: u32) -> Outcome {
+const fn visit_outcome(r1: u32, pc: u32) -> Outcome {
     Outcome {
         registers: [0x4FF8_0007, r1, 0x4FF8_0007, 15],
         pc,
@@ -688,7 +688,7 @@ const fn visits(r1: u32, pc: u32) -> Rewriting {
     (
         example_of(VISITOR, [0xC700_000F, r1, 0x4FF8_0007, 8]),
         8,
-        visited(r1, pc),
+        visit_outcome(r1, pc),
     )
 }
 

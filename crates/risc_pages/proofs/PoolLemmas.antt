@@ -1,10 +1,11 @@
 -- The pages of a pool, and the content of a table.
-use Rattle.std.proofs.Common.{◌≡◌, ℕ, ◌*◌, ◌-◌, ◌<◌, ◌≤◌, ◌^◌, List, length, get_or, map, refl, sym, subst, arith, true, false, inl, inr, ◌⊎◌, nat_eq, lit<}
+use Rattle.std.proofs.Common.{◌≡◌, ℕ, zero, suc, ◌*◌, ◌-◌, ◌<◌, ◌≤◌, ◌^◌, List, length, get_or, replicate, map, refl, sym, subst, arith, true, false, inl, inr, ◌⊎◌, nat_eq, lit<}
 use Rattle.std.proofs.lemmas.Bool.{eq-eqb}
 use Rattle.std.proofs.lemmas.Bool.Decides.{eqb_tells}
 use Rattle.std.proofs.lemmas.List.Elements.{All-map, All-replicate, All-same}
 use Rattle.risc_pages.proofs.Paging.{take-drop-pages}
-use Rattle.risc_pages.specs.Tables.{table_words, IsNamed}
+use Rattle.std.specs.Prelude.{slice_index}
+use Rattle.risc_pages.specs.Tables.{table_words, zero_numbers, IsNamed}
 use Rattle.risc_pages.specs.declared.page.Page.{Page}
 use Rattle.risc_pages.specs.Pages.{ArePages, IsPage, page_at, page_of, zero_page}
 use Rattle.risc_pages.specs.inner.Places.{words_of}
@@ -44,6 +45,17 @@ IsPage-page_of_by pool n all h (inr s) =
 -- each page number that is named is that of a page
 pub IsPage-page_of : (pool : List (List ℕ)) (n : ℕ) → ArePages pool → n ≤ length pool → IsPage (page_of pool n)
 IsPage-page_of pool n all h = IsPage-page_of_by pool n all h (eqb_tells n 0)
+
+-- a list of one value has it at each place, and past its end where it is what stands there
+pub replicate_anywhere : {X : Type 0} (n : ℕ) (x : X) (i : ℕ) → get_or (replicate n x) i x ≡ x
+replicate_anywhere zero x i = refl
+replicate_anywhere (suc n) x zero = refl
+replicate_anywhere (suc n) x (suc i) = replicate_anywhere n x i
+
+-- the first table has number 0 everywhere
+pub zero_number : (p : ℕ) → slice_index zero_numbers p ≡ 0
+unfolding zero_numbers
+zero_number p = replicate_anywhere 1024 0 p
 
 -- page p of the content is the page that the table names at place p
 pub page_at-table_words : (pool : List (List ℕ)) (numbers : List ℕ) (p e : ℕ) → ArePages pool → IsNamed pool numbers → p < length numbers → page_at (table_words pool numbers) p ≡ page_of pool (get_or numbers p e)

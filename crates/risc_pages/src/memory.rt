@@ -72,7 +72,7 @@ impl<'a> Memory<'a> {
     }
 
     /// Changes one word. The first write to a page that isn't owned makes a copy of it, which is owned from
-    /// then on, and is refused where there is no room for the copy; the memory is then unchanged. A write to an
+    /// then on, and fails where there is no room for the copy; the memory is then unchanged. A write to an
     /// owned page takes no memory.
     #[inline(always)]
     pub fn write(&mut self, word_no: u32, value: u32) -> Result<(), AllocError>
@@ -81,7 +81,7 @@ impl<'a> Memory<'a> {
         ensures owned { OnOk result (self.new.owned ≡ slice_set self.old.owned (word_no / 256) true) }
         ensures base { self.new.base ≡ self.old.base }
         ensures err { OnErr result (self.new ≡ self.old) }
-        ensures refused { OnErr result (slice_get self.old.owned (word_no / 256) ≡ Some false) }
+        ensures wanting { OnErr result (slice_get self.old.owned (word_no / 256) ≡ Some false) }
         ensures succeeds { slice_get self.old.owned (word_no / 256) ≡ Some true → IsOk result }
     {
         let place = (word_no / 256) as usize;

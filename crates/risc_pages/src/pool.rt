@@ -42,7 +42,7 @@ impl Pool {
         }
     }
 
-    /// The pool with no pages that has taken room for `pages` pages, refused where there is no such room.
+    /// The pool with no pages that has taken room for `pages` pages. It fails where there is no such room.
     pub fn with_capacity(alloc: Global, pages: u32) -> Result<Self, AllocError>
         ensures { IfOk result (λ pool. pool ≡ []) }
     {

@@ -1,5 +1,5 @@
 -- How the verdicts of a worker grow, job by job.
-use Rattle.std.specs.Prelude.{ℕ, ◌≡◌, ◌+◌, List, ◌++◌, All, Contains}
+use Rattle.std.specs.Prelude.{ℕ, ◌≡◌, List, ◌++◌, All, Contains}
 use Rattle.oberon_claims.specs.Pass.{PassRecord}
 use Rattle.oberon_format.specs.Recording.{RecordingParts, last_of}
 use Rattle.oberon_check.specs.Segment.{Finding, IsRun}

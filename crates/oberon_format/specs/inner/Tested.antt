@@ -36,6 +36,6 @@ pub record Meets (text : List ℕ) : Type 0 where
 abbrev pub HasNumbers : List ℕ → (ℕ → ℕ) → Type 0
 HasNumbers table number = (p : ℕ) → p < PLACES → slice_index table p ≡ number p
 
--- these checkpoints stand in a text, each in its place and after the table of the one before
+-- these checkpoints stand in a text, each at its offset and after the table of the one before
 abbrev pub StandIn : List ℕ → List CheckpointParts → Type 0
 StandIn text cs = EachAt (λ k c. IsCheckpoint (version text) text (start text k) (table_before cs k) c) cs

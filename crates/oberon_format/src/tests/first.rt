@@ -1,45 +1,60 @@
 //! Texts of version 1: each rule broken once, and what they are written as.
 
-use crate::tests::texts::{JUMP, MAGIC, put_byte, put_word, text_of};
+use crate::tests::texts::{put_byte, put_word};
 use crate::*;
+use recording_texts::{
+    Claim, EMPTY, EQUAL_PAGES, Event, FIRST_PAGE, JUMP, ONE_BYTE_SENT, STORED_RUN, Sketch, ZEROS,
+    header,
+};
 use std::alloc::{AllocError, Global};
 use std::test::Fail;
 
-/// One page with one instruction, and checkpoints at 0 and 100.
-pub(crate) fn stored_run(alloc: Global) -> Result<Vec<u8>, AllocError> {
-    text_of(
-        alloc,
-        9504,
-        &[
-            (0, MAGIC),
-            (4, 1),
-            (8, 1),
-            (16, 2),
-            (24, 0x4000_0005),
-            (1180, 1),
-            (5276, 100),
-            (5284, 5),
-            (5352, 100),
-            (5408, 1),
-        ],
-    )
-}
+/// Sets the timer to 0 before the first step.
+const TIMER_SET: Event = Event {
+    count: 0,
+    kind: 1,
+    value: 0,
+};
 
-/// One page, two events from byte 1048 on, and checkpoint 0.
+/// One page of zeros, two events from byte 1048 on, and checkpoint 0.
+const TWO_EVENTS: Sketch<'static> = Sketch {
+    pages: &[&[]],
+    events: &[TIMER_SET, TIMER_SET],
+    claims: &[ZEROS],
+};
+
+/// Two events, and a checkpoint with numbers in its flags, its stop and all its devices.
+const FULL: Sketch<'static> = Sketch {
+    pages: &[&[]],
+    events: &[
+        Event {
+            count: 3,
+            kind: 1,
+            value: 7,
+        },
+        Event {
+            count: 3,
+            kind: 3,
+            value: 0x073F_F3FF,
+        },
+    ],
+    claims: &[Claim {
+        registers: &[(0, 0x1234_5678)],
+        flags: 15,
+        stop: 4,
+        timer: 9,
+        switches: 4095,
+        leds: 255,
+        mouse: 0x0100_0001,
+        serial: 0x1FF,
+        keys: b"AB",
+        ..FIRST_PAGE
+    }],
+};
+
+/// The text of the two events with these words at their places.
 fn two_events(alloc: Global, words: &[(u16, u32)]) -> Result<Vec<u8>, AllocError> {
-    let mut text = text_of(
-        alloc,
-        5308,
-        &[
-            (0, MAGIC),
-            (4, 1),
-            (8, 1),
-            (12, 2),
-            (16, 1),
-            (1056, 1),
-            (1072, 1),
-        ],
-    )?;
+    let mut text = TWO_EVENTS.first_text(alloc, &[])?;
     for (place, word) in words {
         put_word(&mut text, *place, *word);
     }
@@ -49,77 +64,8 @@ fn two_events(alloc: Global, words: &[(u16, u32)]) -> Result<Vec<u8>, AllocError
 #[test]
 fn gives_the_same_recording_in_the_second_version(rt: HostRuntime) -> Result<(), Fail> {
     let alloc = rt.alloc();
-    let empty_recording = text_of(alloc, 4252, &[(0, MAGIC), (4, 1), (16, 1)])?;
-    let equal_pages = text_of(
-        alloc,
-        10_528,
-        &[
-            (0, MAGIC),
-            (4, 1),
-            (8, 2),
-            (16, 2),
-            (24, JUMP),
-            (1048, JUMP),
-            (2204, 1),
-            (6300, 10),
-            (6432, 2),
-        ],
-    )?;
-    let mut one_byte_sent = text_of(
-        alloc,
-        13_733,
-        &[
-            (0, MAGIC),
-            (4, 1),
-            (8, 1),
-            (16, 3),
-            (24, 0x5100_FFC8),
-            (28, 0x4000_0041),
-            (32, 0xA010_0000),
-            (36, JUMP),
-            (1180, 1),
-            (5276, 2),
-            (5284, 0x41),
-            (5288, 0xFFFF_FFC8),
-            (5352, 2),
-            (5408, 1),
-            (9504, 4),
-            (9512, 0x41),
-            (9516, 0xFFFF_FFC8),
-            (9580, 3),
-            (9632, 1),
-            (9636, 1),
-        ],
-    )?;
-    put_byte(&mut one_byte_sent, 13_732, 0x41);
-    let full = two_events(
-        alloc,
-        &[
-            (1048, 3),
-            (1060, 7),
-            (1064, 3),
-            (1072, 3),
-            (1076, 0x073F_F3FF),
-            (1088, 0x1234_5678),
-            (1160, 15),
-            (1164, 4),
-            (1168, 9),
-            (1172, 4095),
-            (1176, 255),
-            (1180, 0x0100_0001),
-            (1184, 0x1FF),
-            (1188, 2),
-            (1192, 0x4241),
-            (1212, 1),
-        ],
-    )?;
-    for text in [
-        stored_run(alloc)?,
-        empty_recording,
-        equal_pages,
-        one_byte_sent,
-        full,
-    ] {
+    for sketch in [STORED_RUN, EMPTY, EQUAL_PAGES, ONE_BYTE_SENT, FULL] {
+        let text = sketch.first_text(alloc, &[])?;
         let recording = read(alloc, &text)?;
         let second = write(alloc, &recording)?;
         assert_eq!(rt; second.as_slice()[4], 2);
@@ -144,7 +90,7 @@ fn gives_the_same_recording_in_the_second_version(rt: HostRuntime) -> Result<(),
 
 #[test]
 fn reads_the_parts_of_a_text(rt: HostRuntime) -> Result<(), Fail> {
-    let recording = read(rt.alloc(), &stored_run(rt.alloc())?)?;
+    let recording = read(rt.alloc(), &STORED_RUN.first_text(rt.alloc(), &[])?)?;
     assert_eq!(rt; recording.pool().len(), 1);
     assert_eq!(rt; recording.pool().page(1).words[0], 0x4000_0005);
     assert_eq!(rt; recording.inputs().events().len(), 0);
@@ -159,7 +105,7 @@ fn reads_the_parts_of_a_text(rt: HostRuntime) -> Result<(), Fail> {
     Ok(())
 }
 
-/// A word of the text of `stored_run` that breaks a rule, and the line of the fault.
+/// A word of the text of the stored run that breaks a rule, and the line of the fault.
 const BROKEN: [(u16, u32, Fault, &str); 28] = [
     (0, 0, Fault::Magic(0), "refused 2 magic at byte 0\n"),
     (4, 9, Fault::Version(4), "refused 3 version at byte 4\n"),
@@ -280,7 +226,7 @@ const BROKEN: [(u16, u32, Fault, &str); 28] = [
 #[test]
 fn refuses_each_broken_rule(rt: HostRuntime) -> Result<(), Fail> {
     for (place, word, fault, line) in BROKEN {
-        let mut text = stored_run(rt.alloc())?;
+        let mut text = STORED_RUN.first_text(rt.alloc(), &[])?;
         put_word(&mut text, place, word);
         let found = read(rt.alloc(), &text).err();
         assert_eq!(rt; found, Some(fault), "at {place}");
@@ -319,7 +265,7 @@ fn refuses_events_out_of_range(rt: HostRuntime) -> Result<(), Fail> {
 #[test]
 fn refuses_a_text_cut_or_with_bytes_after_it(rt: HostRuntime) -> Result<(), Fail> {
     let alloc = rt.alloc();
-    let mut text = stored_run(alloc)?;
+    let mut text = STORED_RUN.first_text(alloc, &[])?;
     text.push(0)?;
     assert_eq!(rt; read(alloc, &text).err(), Some(Fault::Trailing(9504)));
     let line = refusal(alloc, &Fault::Trailing(9504))?;
@@ -331,11 +277,15 @@ fn refuses_a_text_cut_or_with_bytes_after_it(rt: HostRuntime) -> Result<(), Fail
         text.truncate(len);
         assert_eq!(rt; read(alloc, &text).err(), Some(Fault::Short(len as u64)));
     }
-    let kind_six = text_of(
-        alloc,
-        5292,
-        &[(0, MAGIC), (4, 1), (8, 1), (12, 1), (16, 1), (1056, 6)],
-    )?;
+    let kind_six = Event {
+        kind: 6,
+        ..TIMER_SET
+    };
+    let one_event = Sketch {
+        events: &[kind_six],
+        ..TWO_EVENTS
+    };
+    let kind_six = one_event.first_text(alloc, &[])?;
     assert_eq!(rt; read(alloc, &kind_six).err(), Some(Fault::Event(1048)));
     Ok(())
 }
@@ -360,7 +310,7 @@ fn gives_the_first_of_two_faults(rt: HostRuntime) -> Result<(), Fail> {
         ([(4, 3), (0, 0)], Fault::Magic(0)),
     ];
     for (words, fault) in rows {
-        let mut text = stored_run(rt.alloc())?;
+        let mut text = STORED_RUN.first_text(rt.alloc(), &[])?;
         for (place, word) in words {
             put_word(&mut text, place, word);
         }
@@ -376,16 +326,11 @@ fn gives_the_first_of_two_faults(rt: HostRuntime) -> Result<(), Fail> {
 fn reads_as_many_pages_and_events_as_there_can_be(rt: HostRuntime) -> Result<(), Fail> {
     let alloc = rt.alloc();
     let mut text = vec![in alloc; 0; 83_113_116]?;
-    for (place, word) in [
-        (0, MAGIC),
-        (4, 1),
-        (8, 65_536),
-        (12, 1_000_000),
-        (16, 1),
-        (24, JUMP),
-    ] {
-        put_word(&mut text, place, word);
+    let header = header(alloc, 1, 65_536, 1_000_000, 1)?;
+    for (place, byte) in header.iter().enumerate() {
+        put_byte(&mut text, place, *byte);
     }
+    put_word(&mut text, 24, JUMP);
     // The last word of the last page, the kind and the value of each event, and the last number of the table.
     put_byte(&mut text, 67_108_884, 7);
     for i in 0..1_000_000usize {

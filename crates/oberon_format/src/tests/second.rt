@@ -1,72 +1,39 @@
 //! Texts of version 2: what is read is written, and each rule is broken once.
 
-use crate::tests::texts::{JUMP, MAGIC, put_byte, put_word, text_of};
+use crate::tests::texts::put_word;
 use crate::*;
-use std::alloc::{AllocError, Global};
+use recording_texts::{Claim, EMPTY, JUMP, STORED_RUN, Sketch, ZEROS};
 use std::test::Fail;
-
-/// One page with one instruction, and checkpoints at 0 and 100: the first has one change, from byte 1192 on, and the second, from
-/// byte 1200 on, has none.
-pub(crate) fn stored_run(alloc: Global) -> Result<Vec<u8>, AllocError> {
-    text_of(
-        alloc,
-        1344,
-        &[
-            (0, MAGIC),
-            (4, 2),
-            (8, 1),
-            (16, 2),
-            (24, 0x4000_0005),
-            (1188, 1),
-            (1196, 1),
-            (1200, 100),
-            (1208, 5),
-            (1276, 100),
-        ],
-    )
-}
 
 /// Two pages; checkpoint 0, from byte 2072 on, with changes of the places 0, 7 and 1023 from byte 2216 on; checkpoint 1, from byte
 /// 2240 on, with changes of the places 7 and 8 from byte 2384 on, a timer, and two bytes sent.
-fn five_changes(alloc: Global) -> Result<Vec<u8>, AllocError> {
-    let mut text = text_of(
-        alloc,
-        2402,
-        &[
-            (0, MAGIC),
-            (4, 2),
-            (8, 2),
-            (16, 2),
-            (24, JUMP),
-            (2204, 25_000),
-            (2208, 24_999),
-            (2212, 3),
-            (2220, 1),
-            (2224, 7),
-            (2228, 2),
-            (2232, 1023),
-            (2236, 1),
-            (2240, 10),
-            (2328, 9),
-            (2368, 2),
-            (2372, 25_000),
-            (2376, 9),
-            (2380, 2),
-            (2384, 7),
-            (2392, 8),
-            (2396, 2),
-        ],
-    )?;
-    put_byte(&mut text, 2400, 0x41);
-    put_byte(&mut text, 2401, 0x42);
-    Ok(text)
-}
+const FIVE_CHANGES: Sketch<'static> = Sketch {
+    pages: &[&[JUMP], &[]],
+    events: &[],
+    claims: &[
+        Claim {
+            rate: 25_000,
+            phase: 24_999,
+            table: &[(0, 1), (7, 2), (1023, 1)],
+            ..ZEROS
+        },
+        Claim {
+            count: 10,
+            timer: 9,
+            rate: 25_000,
+            phase: 9,
+            table: &[(0, 1), (8, 2), (1023, 1)],
+            sent: b"AB",
+            ..ZEROS
+        },
+    ],
+};
 
 #[test]
 fn writes_what_it_reads(rt: HostRuntime) -> Result<(), Fail> {
     let alloc = rt.alloc();
-    let empty_recording = text_of(alloc, 168, &[(0, MAGIC), (4, 2), (16, 1)])?;
-    for text in [stored_run(alloc)?, five_changes(alloc)?, empty_recording] {
+    for sketch in [STORED_RUN, FIVE_CHANGES, EMPTY] {
+        let text = sketch.second_text(alloc, &[])?;
         let recording = read(alloc, &text)?;
         let again = write(alloc, &recording)?;
         assert_eq!(rt; again.as_slice(), text.as_slice());
@@ -76,7 +43,7 @@ fn writes_what_it_reads(rt: HostRuntime) -> Result<(), Fail> {
 
 #[test]
 fn reads_tables_by_their_changes(rt: HostRuntime) -> Result<(), Fail> {
-    let recording = read(rt.alloc(), &five_changes(rt.alloc())?)?;
+    let recording = read(rt.alloc(), &FIVE_CHANGES.second_text(rt.alloc(), &[])?)?;
     assert_eq!(rt; recording.count(), 2);
     let first = recording.checkpoint(0);
     let last = recording.checkpoint(1);
@@ -92,7 +59,7 @@ fn reads_tables_by_their_changes(rt: HostRuntime) -> Result<(), Fail> {
     Ok(())
 }
 
-/// A word of the text of `five_changes` that breaks a rule, and the fault.
+/// A word of the text of the five changes that breaks a rule, and the fault.
 const BROKEN: [(u16, u32, Fault); 33] = [
     (0, 0, Fault::Magic(0)),
     (4, 3, Fault::Version(4)),
@@ -138,7 +105,7 @@ const BROKEN: [(u16, u32, Fault); 33] = [
 #[test]
 fn refuses_each_broken_rule(rt: HostRuntime) -> Result<(), Fail> {
     for (place, word, fault) in BROKEN {
-        let mut text = five_changes(rt.alloc())?;
+        let mut text = FIVE_CHANGES.second_text(rt.alloc(), &[])?;
         put_word(&mut text, place, word);
         let found = read(rt.alloc(), &text).err();
         assert_eq!(rt; found, Some(fault), "at {place}");
@@ -149,7 +116,7 @@ fn refuses_each_broken_rule(rt: HostRuntime) -> Result<(), Fail> {
 #[test]
 fn refuses_a_change_that_changes_nothing(rt: HostRuntime) -> Result<(), Fail> {
     let alloc = rt.alloc();
-    let mut text = stored_run(alloc)?;
+    let mut text = STORED_RUN.second_text(alloc, &[])?;
     put_word(&mut text, 1196, 0);
     let fault = Fault::Page(1192);
     assert_eq!(rt; read(alloc, &text).err(), Some(fault));
@@ -179,7 +146,7 @@ fn gives_the_first_of_two_faults(rt: HostRuntime) -> Result<(), Fail> {
         ([(8, 1), (12, 65)], Fault::Event(1048)),
     ];
     for (words, fault) in rows {
-        let mut text = five_changes(rt.alloc())?;
+        let mut text = FIVE_CHANGES.second_text(rt.alloc(), &[])?;
         for (place, word) in words {
             put_word(&mut text, place, word);
         }
@@ -188,7 +155,7 @@ fn gives_the_first_of_two_faults(rt: HostRuntime) -> Result<(), Fail> {
     Ok(())
 }
 
-/// The first fault of a text of `five_changes` whose checkpoint 0 has stop 5, cut to a length: short up to the end of the 144
+/// The first fault of a text of the five changes whose checkpoint 0 has stop 5, cut to a length: short up to the end of the 144
 /// bytes of this checkpoint, and then its field.
 fn fault_of_field_cut_at(len: usize) -> Fault {
     if len < 2216 {
@@ -210,10 +177,10 @@ fn fault_of_change_cut_at(len: usize) -> Fault {
 #[test]
 fn refuses_a_text_cut_at_each_byte(rt: HostRuntime) -> Result<(), Fail> {
     let alloc = rt.alloc();
-    let mut lawful = five_changes(alloc)?;
-    let mut field = five_changes(alloc)?;
+    let mut lawful = FIVE_CHANGES.second_text(alloc, &[])?;
+    let mut field = FIVE_CHANGES.second_text(alloc, &[])?;
     put_word(&mut field, 2156, 5);
-    let mut change = five_changes(alloc)?;
+    let mut change = FIVE_CHANGES.second_text(alloc, &[])?;
     put_word(&mut change, 2228, 3);
     for cut in 1..2403usize {
         let len = 2402 - cut;
@@ -233,7 +200,7 @@ fn refuses_a_text_cut_at_each_byte(rt: HostRuntime) -> Result<(), Fail> {
 #[test]
 fn refuses_bytes_after_the_end(rt: HostRuntime) -> Result<(), Fail> {
     let alloc = rt.alloc();
-    let mut text = stored_run(alloc)?;
+    let mut text = STORED_RUN.second_text(alloc, &[])?;
     text.push(0)?;
     assert_eq!(rt; read(alloc, &text).err(), Some(Fault::Trailing(1344)));
     Ok(())

@@ -1,9 +1,9 @@
 //! Readers and writers that fail, that never end, or that take one byte at a time.
 
-use super::draft::STORED_RUN;
 use super::served::served;
 use super::watched::Watched;
 use crate::serve::serve;
+use recording_texts::STORED_RUN;
 use std::io::{self, Error, ErrorKind, Read, Write};
 use std::test::Fail;
 
@@ -110,7 +110,7 @@ impl Write for Narrow {
 #[test]
 fn a_read_that_fails_leaves_its_line_alone(rt: HostRuntime) -> Result<(), Fail> {
     let alloc = rt.alloc();
-    let text = STORED_RUN.text(alloc, &[])?;
+    let text = STORED_RUN.first_text(alloc, &[])?;
     for words in [
         ["check", "--cut=1"].as_slice(),
         &["record"],
@@ -138,7 +138,7 @@ fn a_read_that_fails_leaves_its_line_alone(rt: HostRuntime) -> Result<(), Fail> 
 #[test]
 fn a_read_that_would_fail_behind_the_end_is_not_made(rt: HostRuntime) -> Result<(), Fail> {
     let alloc = rt.alloc();
-    let text = STORED_RUN.text(alloc, &[])?;
+    let text = STORED_RUN.first_text(alloc, &[])?;
     let mut input = Watched::new(Failing {
         rest: &text,
         calls: 11,
@@ -154,7 +154,7 @@ fn a_read_that_would_fail_behind_the_end_is_not_made(rt: HostRuntime) -> Result<
 #[test]
 fn a_reader_of_one_byte_a_call_is_read_to_its_end(rt: HostRuntime) -> Result<(), Fail> {
     let alloc = rt.alloc();
-    let text = STORED_RUN.text(alloc, &[])?;
+    let text = STORED_RUN.first_text(alloc, &[])?;
     let mut input = Dripping { rest: &text };
     let mut output = Vec::new(alloc);
     assert_eq!(rt; serve(&rt, alloc, &[], &mut input, &mut output), 0);
@@ -180,7 +180,7 @@ fn a_reader_without_end_is_read_up_to_the_limit(rt: HostRuntime) {
 #[test]
 fn a_write_that_fails_leaves_a_front_of_the_text(rt: HostRuntime) -> Result<(), Fail> {
     let alloc = rt.alloc();
-    let text = STORED_RUN.text(alloc, &[])?;
+    let text = STORED_RUN.first_text(alloc, &[])?;
     for calls in 0..LINE.len() {
         for refusal in [
             Refusal::TakesNone,
@@ -207,7 +207,7 @@ fn a_write_that_fails_leaves_a_front_of_the_text(rt: HostRuntime) -> Result<(), 
 #[test]
 fn a_write_that_fails_leaves_a_front_of_a_migrated_text(rt: HostRuntime) -> Result<(), Fail> {
     let alloc = rt.alloc();
-    let text = STORED_RUN.text(alloc, &[])?;
+    let text = STORED_RUN.first_text(alloc, &[])?;
     let (migrated, _) = served(&rt, &["migrate"], &text);
     for calls in [0, 1, 24, migrated.len().saturating_sub(1)] {
         for refusal in [
@@ -236,7 +236,7 @@ fn a_write_that_fails_leaves_a_front_of_a_migrated_text(rt: HostRuntime) -> Resu
 #[test]
 fn a_flush_that_fails_is_a_write_fault(rt: HostRuntime) -> Result<(), Fail> {
     let alloc = rt.alloc();
-    let text = STORED_RUN.text(alloc, &[])?;
+    let text = STORED_RUN.first_text(alloc, &[])?;
     for (flush, status) in [
         (Refusal::TakesNone, 0),
         (Refusal::Fails(ErrorKind::Other), 3),

@@ -1,8 +1,7 @@
 //! Texts that are refused: each with the line of its first fault.
 
-use super::draft::Spot::{EventKind, Word};
-use super::draft::{Draft, STORED_RUN};
 use super::served::served;
+use recording_texts::{Event, STORED_RUN, Sketch, ZEROS};
 use std::process::Abort;
 use std::sync::Wait;
 use std::test::Fail;
@@ -22,7 +21,7 @@ const CHANGED_BYTES: [(usize, u8, &str); 8] = [
 
 #[test]
 fn refuses_a_text_with_one_byte_changed(rt: HostRuntime) -> Result<(), Fail> {
-    let text = STORED_RUN.text(rt.alloc(), &[])?;
+    let text = STORED_RUN.first_text(rt.alloc(), &[])?;
     assert_eq!(rt; text.len(), 9504);
     refuse_each(&rt, text, &CHANGED_BYTES)
 }
@@ -57,7 +56,7 @@ fn refuse(rt: &(impl Abort + AllocGlobal + Threads + Wait + Sync), text: &[u8], 
 
 #[test]
 fn refuses_a_text_that_is_cut_or_goes_on(rt: HostRuntime) -> Result<(), Fail> {
-    let mut text = STORED_RUN.text(rt.alloc(), &[])?;
+    let mut text = STORED_RUN.first_text(rt.alloc(), &[])?;
     text.push(0)?;
     refuse(&rt, &text, "refused 8 trailing at byte 9504\n");
     text.truncate(9503);
@@ -67,17 +66,19 @@ fn refuses_a_text_that_is_cut_or_goes_on(rt: HostRuntime) -> Result<(), Fail> {
 }
 
 /// An input of no kind.
-const BAD_EVENT_KIND: Draft<'static> = Draft {
-    pages: 1,
-    events: 1,
-    checkpoints: 1,
-    numbers: &[(Word(0, 0), 0x4000_0005), (EventKind(0), 6)],
-    output: &[],
+const BAD_EVENT_KIND: Sketch<'static> = Sketch {
+    pages: &[&[0x4000_0005]],
+    events: &[Event {
+        count: 0,
+        kind: 6,
+        value: 0,
+    }],
+    claims: &[ZEROS],
 };
 
 #[test]
 fn refuses_an_event_of_no_kind(rt: HostRuntime) -> Result<(), Fail> {
-    let text = BAD_EVENT_KIND.text(rt.alloc(), &[])?;
+    let text = BAD_EVENT_KIND.first_text(rt.alloc(), &[])?;
     refuse(&rt, &text, "refused 5 event at byte 1048\n");
     Ok(())
 }

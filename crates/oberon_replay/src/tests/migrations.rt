@@ -1,16 +1,16 @@
 //! Recordings that are written in the version that is written now.
 
-use super::draft::STORED_RUN;
 use super::served::served;
+use recording_texts::STORED_RUN;
 use std::test::Fail;
 
 #[test]
 fn migrates_a_recording(rt: HostRuntime) -> Result<(), Fail> {
     let alloc = rt.alloc();
-    let text = STORED_RUN.text(alloc, &[])?;
+    let text = STORED_RUN.first_text(alloc, &[])?;
     let (migrated, ended) = served(&rt, &["migrate"], &text);
     assert_eq!(rt; ended, 0);
-    assert!(rt; migrated.as_slice() == STORED_RUN.second_text(alloc)?.as_slice());
+    assert!(rt; migrated.as_slice() == STORED_RUN.second_text(alloc, &[])?.as_slice());
     // Its check and its screens are those of the text, and migrated again it stays.
     for words in [
         ["check", "--cut=1"].as_slice(),
@@ -30,7 +30,7 @@ fn migrates_a_recording(rt: HostRuntime) -> Result<(), Fail> {
 
 #[test]
 fn migrates_no_text_with_a_fault(rt: HostRuntime) -> Result<(), Fail> {
-    let mut text = STORED_RUN.text(rt.alloc(), &[])?;
+    let mut text = STORED_RUN.first_text(rt.alloc(), &[])?;
     text.truncate(9503);
     let (written, ended) = served(&rt, &["migrate"], &text);
     assert_eq!(rt;

@@ -1,8 +1,7 @@
 //! Sessions that are recorded: each with its recording, or with the line of its fault.
 
-use super::draft::Spot::{Count, Flags, Pc, Place, Register, Word};
-use super::draft::{Draft, JUMP, STORED_RUN};
 use super::served::served;
+use recording_texts::{Claim, FIRST_PAGE, JUMP, STORED_RUN, Sketch, ZEROS};
 use std::alloc::{AllocError, Global};
 use std::process::Abort;
 use std::sync::Wait;
@@ -56,7 +55,7 @@ fn refuses(rt: &(impl Abort + AllocGlobal + Threads + Wait + Sync), session: &st
 #[test]
 fn records_the_stored_run(rt: HostRuntime) -> Result<(), Fail> {
     let text = session(rt.alloc(), "05000040", "100")?;
-    let recording = STORED_RUN.second_text(rt.alloc())?;
+    let recording = STORED_RUN.second_text(rt.alloc(), &[])?;
     assert_eq!(rt; recording.len(), 1344);
     gives(&rt, &text, &recording, "accepted 1 checkpoints 100 steps\n");
     Ok(())
@@ -104,42 +103,43 @@ fn refuse_each(
 const STORES: &str = "05000040000410a000000040000410a0ffffffe7";
 
 /// Its recording. The changed page is new in the pool at checkpoint 1; at checkpoint 2 it is all zeros again.
-const STORED: Draft<'static> = Draft {
-    pages: 2,
-    events: 0,
-    checkpoints: 4,
-    numbers: &[
-        (Word(0, 0), 0x4000_0005),
-        (Word(0, 1), 0xA010_0400),
-        (Word(0, 2), 0x4000_0000),
-        (Word(0, 3), 0xA010_0400),
-        (Word(0, 4), JUMP),
-        (Word(1, 0), 5),
-        (Place(0, 0), 1),
-        (Count(1), 2),
-        (Register(1, 0), 5),
-        (Pc(1), 2),
-        (Place(1, 0), 1),
-        (Place(1, 1), 2),
-        (Count(2), 4),
-        (Pc(2), 4),
-        (Flags(2), 4),
-        (Place(2, 0), 1),
-        (Count(3), 5),
-        (Pc(3), 4),
-        (Flags(3), 4),
-        (Place(3, 0), 1),
+const STORED: Sketch<'static> = Sketch {
+    pages: &[
+        &[0x4000_0005, 0xA010_0400, 0x4000_0000, 0xA010_0400, JUMP],
+        &[5],
     ],
-    output: &[],
+    events: &[],
+    claims: &[
+        FIRST_PAGE,
+        Claim {
+            count: 2,
+            registers: &[(0, 5)],
+            pc: 2,
+            table: &[(0, 1), (1, 2)],
+            ..ZEROS
+        },
+        Claim {
+            count: 4,
+            pc: 4,
+            flags: 4,
+            ..FIRST_PAGE
+        },
+        Claim {
+            count: 5,
+            pc: 4,
+            flags: 4,
+            ..FIRST_PAGE
+        },
+    ],
 };
 
 #[test]
 fn lays_only_pages_that_changed(rt: HostRuntime) -> Result<(), Fail> {
     let text = session(rt.alloc(), STORES, "2,4,5")?;
-    let recording = STORED.second_text(rt.alloc())?;
+    let recording = STORED.second_text(rt.alloc(), &[])?;
     assert_eq!(rt; recording.len(), 2_672);
     gives(&rt, &text, &recording, "accepted 3 checkpoints 5 steps\n");
-    let first = STORED.text(rt.alloc(), &[])?;
+    let first = STORED.first_text(rt.alloc(), &[])?;
     assert_eq!(rt; first.len(), 18_984);
     let (migrated, ended) = served(&rt, &["migrate"], &first);
     assert_eq!(rt; ended, 0);

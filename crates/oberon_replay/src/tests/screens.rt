@@ -1,36 +1,35 @@
 //! The screens of recordings.
 
-use super::draft::Spot::{Place, Word};
-use super::draft::{Draft, STORED_RUN};
 use super::served::served;
+use recording_texts::Spot::Word;
+use recording_texts::{Claim, STORED_RUN, Sketch, ZEROS};
+use std::alloc::{AllocError, Global};
 use std::process::Abort;
 use std::sync::Wait;
 use std::test::Fail;
 use std::thread::Threads;
 
-/// One dot at the bottom left, of word 237,504, which stands in page 927 of the memory.
-const FIRST_DOT: Draft<'static> = Draft {
-    pages: 1,
-    events: 0,
-    checkpoints: 1,
-    numbers: &[(Word(0, 192), 1), (Place(0, 927), 1)],
-    output: &[],
-};
-
-/// One dot at the top right, of word 262,079, the last.
-const LAST_DOT: Draft<'static> = Draft {
-    pages: 1,
-    events: 0,
-    checkpoints: 1,
-    numbers: &[(Word(0, 191), 0x8000_0000), (Place(0, 1023), 1)],
-    output: &[],
-};
+/// The text of a recording with one word that isn't 0: this one of the page at this place.
+fn one_word(alloc: Global, place: u16, word: u16, bits: u32) -> Result<Vec<u8>, AllocError> {
+    let claim = Claim {
+        table: &[(place, 1)],
+        ..ZEROS
+    };
+    let recording = Sketch {
+        pages: &[&[]],
+        events: &[],
+        claims: &[claim],
+    };
+    recording.first_text(alloc, &[(Word(0, word), bits)])
+}
 
 #[test]
 fn shows_one_dot(rt: HostRuntime) -> Result<(), Fail> {
-    let first = FIRST_DOT.text(rt.alloc(), &[])?;
+    // One dot at the bottom left, of word 237,504.
+    let first = one_word(rt.alloc(), 927, 192, 1)?;
     show(&rt, &first, 98_188, 0x80);
-    let last = LAST_DOT.text(rt.alloc(), &[])?;
+    // One dot at the top right, of word 262,079, the last.
+    let last = one_word(rt.alloc(), 1023, 191, 0x8000_0000)?;
     show(&rt, &last, 139, 0x01);
     Ok(())
 }
@@ -48,7 +47,7 @@ fn show(rt: &(impl Abort + AllocGlobal + Threads + Wait + Sync), text: &[u8], at
 
 #[test]
 fn shows_no_screen(rt: HostRuntime) -> Result<(), Fail> {
-    let text = STORED_RUN.text(rt.alloc(), &[])?;
+    let text = STORED_RUN.first_text(rt.alloc(), &[])?;
     refuse(&rt, &text, b"no checkpoint 2\n");
     // A fault of the text comes before a checkpoint that isn't there.
     refuse(&rt, &[], b"refused 1 short at byte 0\n");

@@ -9,11 +9,11 @@ use Rattle.oberon_format.specs.Recording.{IsLawful, output_of}
 use Rattle.oberon_session.specs.Laid.{Laid, changed_pages}
 use Rattle.oberon_session.specs.Recorded.{checkpoint_of, count_of, first_fault, laid_of, output_up_to, state_of}
 use Rattle.oberon_session.specs.SessionParts.{SessionParts}
-use Rattle.oberon_session.specs.declared.layout.Layout.{Layout}
-use Rattle.oberon_session.specs.declared.segment.Reached.{Reached}
+use Rattle.oberon_session.specs.declared.laying.LaidPages.{LaidPages}
+use Rattle.oberon_session.specs.declared.way.Reached.{Reached}
 
 -- a pool and a table, as Rust has them
-abbrev pub laid_view : Layout → Laid
+abbrev pub laid_view : LaidPages → Laid
 laid_view l = record { pool = l.pool; table = l.table }
 
 -- a changed page and its place

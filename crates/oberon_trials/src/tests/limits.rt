@@ -1,9 +1,9 @@
 //! Texts that are cut off, and texts that stand at a limit or past it.
 
 use super::checked::{Crew, checked};
-use super::texts::{Claim, JUMP, header, stored_run, text_of};
 use oberon_check::FreeGate;
 use oberon_format::{MAX_COUNT, Recording, read};
+use recording_texts::{Claim, FIRST_PAGE, ONE_BYTE_SENT, STORED_RUN, Sketch, ZEROS, header};
 use risc_machine::Machine;
 use std::alloc::Global;
 use std::test::Fail;
@@ -13,31 +13,25 @@ const TWO: Crew = Crew {
     cut: 64,
 };
 
-/// A byte is stored at the serial line's place, and stands at the text's end.
-fn one_byte_sent(alloc: Global) -> Result<Vec<u8>, Fail> {
-    let mut before = Claim::at(2);
-    before.r0 = 0x41;
-    before.r1 = 0xFFFF_FFC8;
-    before.pc = 2;
-    let mut after = before;
-    after.count = 4;
-    after.pc = 3;
-    after.sent = b"A";
-    let program = [0x5100_FFC8, 0x4000_0041, 0xA010_0000, JUMP];
-    text_of(alloc, &program, &[Claim::at(0), before, after])
-}
-
 /// A division by zero, which stops the machine, and a checkpoint at this count.
 fn divisor_stop(alloc: Global, count: u64) -> Result<Vec<u8>, Fail> {
-    let mut end = Claim::at(count);
-    end.stop = 2;
-    text_of(alloc, &[0x400B_0000], &[Claim::at(0), end])
+    let end = Claim {
+        count,
+        stop: 2,
+        ..FIRST_PAGE
+    };
+    let recording = Sketch {
+        pages: &[&[0x400B_0000]],
+        events: &[],
+        claims: &[FIRST_PAGE, end],
+    };
+    Ok(recording.first_text(alloc, &[])?)
 }
 
 #[test]
 fn a_text_cut_anywhere_is_short(rt: HostRuntime) -> Result<(), Fail> {
     let alloc = rt.alloc();
-    let text = stored_run(alloc, 5)?;
+    let text = STORED_RUN.first_text(alloc, &[])?;
     assert_eq!(rt; text.len(), 9504);
     for length in 0..text.len() {
         let (line, status) = checked(&rt, alloc, &text[..length], TWO, &FreeGate)?;
@@ -56,7 +50,7 @@ fn a_text_cut_anywhere_is_short(rt: HostRuntime) -> Result<(), Fail> {
 #[test]
 fn a_byte_of_output_too_few_or_one_too_many(rt: HostRuntime) -> Result<(), Fail> {
     let alloc = rt.alloc();
-    let mut text = one_byte_sent(alloc)?;
+    let mut text = ONE_BYTE_SENT.first_text(alloc, &[])?;
     assert_eq!(rt; text.len(), 13_733);
     let (line, _) = checked(&rt, alloc, text.as_slice(), TWO, &FreeGate)?;
     assert_eq!(rt;
@@ -87,7 +81,7 @@ fn headers_at_the_limits_and_past_them(rt: HostRuntime) -> Result<(), Fail> {
         (0, 0, 4_098, b"refused 4 limit at byte 16\n"),
         (65_536, 1_000_000, 4_097, b"refused 1 short at byte 24\n"),
     ] {
-        let text = header(alloc, pages, events, checkpoints)?;
+        let text = header(alloc, 1, pages, events, checkpoints)?;
         assert_eq!(rt; text.len(), 24);
         let (line, status) = checked(&rt, alloc, text.as_slice(), TWO, &FreeGate)?;
         assert_eq!(rt; line.as_slice(), expected);
@@ -98,14 +92,21 @@ fn headers_at_the_limits_and_past_them(rt: HostRuntime) -> Result<(), Fail> {
 
 /// As many checkpoints as there can be, one after each step. The memory is zeros alone, so each step moves R0 to itself, which sets Z.
 fn text_of_most_checkpoints(alloc: Global) -> Result<Vec<u8>, Fail> {
-    let mut claims = vec![in alloc; Claim::at(0)]?;
+    let mut claims = vec![in alloc; ZEROS]?;
     for count in 1..=4096u32 {
-        let mut claim = Claim::at(u64::from(count));
-        claim.pc = count;
-        claim.flags = 4;
-        claims.push(claim)?;
+        claims.push(Claim {
+            count: u64::from(count),
+            pc: count,
+            flags: 4,
+            ..ZEROS
+        })?;
     }
-    text_of(alloc, &[], claims.as_slice())
+    let recording = Sketch {
+        pages: &[],
+        events: &[],
+        claims: claims.as_slice(),
+    };
+    Ok(recording.first_text(alloc, &[])?)
 }
 
 const MOST_ACCEPTED: &[u8] = b"accepted 4096 checkpoints 4096 steps\n";

@@ -5,10 +5,11 @@ ghost use Rattle.oberon_claims.specs.Pass.{fresh_pass};
 ghost use Rattle.oberon_format.specs.Recording.{last_of};
 ghost use Rattle.oberon_check.specs.Work.{IsShareOf};
 
-use super::texts::jump_text;
 use oberon_check::{Done, FreeGate, Part, Verdict, gather, work};
 use oberon_claims::{Claims, Pass};
 use oberon_format::{Recording, read};
+use recording_texts::JUMPS;
+use recording_texts::Spot::Leds;
 use std::alloc::{AllocError, Global};
 use std::test::Fail;
 use std::thread::{Threads, map_vec};
@@ -61,7 +62,7 @@ fn all_done(
 #[test]
 fn eight_passes_on_threads_of_the_caller(rt: HostRuntime) -> Result<(), Fail> {
     let alloc = rt.alloc();
-    let text = jump_text(alloc, &[0, 0, 1, 0, 0, 0, 1, 0, 0, 0])?;
+    let text = JUMPS.first_text(alloc, &[(Leds(3), 1), (Leds(7), 1)])?;
     let r = read(alloc, text.as_slice())?;
     let jobs = (r.count() - 1).div_ceil(1);
     let (claims, passes) = Claims::new(alloc, jobs, 8)?;

@@ -2,9 +2,10 @@
 
 use super::checked::{Crew, checked};
 use super::gates::{Hold, HoldingGate, counters};
-use super::texts::{Claim, jump_text, stored_run, text_of};
 use oberon_check::{FreeGate, Part, Verdict, check_recording};
 use oberon_format::read;
+use recording_texts::Spot::{Leds, Register};
+use recording_texts::{EMPTY, JUMPS, STORED_RUN};
 use std::alloc::Global;
 use std::sync::Wait;
 use std::sync::atomic::{AtomicU64, Ordering};
@@ -50,7 +51,7 @@ fn the_stored_run_and_its_false_form(rt: HostRuntime) -> Result<(), Fail> {
     let accepted = b"accepted 1 checkpoints 100 steps\n".as_slice();
     let false_r0 = b"false checkpoint 1 at 100 part R0\n".as_slice();
     for (r0, expected) in [(5, (accepted, 0)), (6, (false_r0, 1))] {
-        let text = stored_run(alloc, r0)?;
+        let text = STORED_RUN.first_text(alloc, &[(Register(1, 0), r0)])?;
         let cuts = [1, 4, 100];
         assert_eq!(rt;
             dissenter(&rt, alloc, text.as_slice(), &cuts, expected)?,
@@ -63,12 +64,9 @@ fn the_stored_run_and_its_false_form(rt: HostRuntime) -> Result<(), Fail> {
 #[test]
 fn one_false_checkpoint_of_ten(rt: HostRuntime) -> Result<(), Fail> {
     let alloc = rt.alloc();
-    for segment in 0..10usize {
-        let mut leds = [0; 10];
-        leds[segment] = 1;
-        let checkpoint = segment + 1;
+    for checkpoint in 1..=10u16 {
         let line = format!(in alloc; "false checkpoint {checkpoint} at {checkpoint}0 part LEDs\n")?;
-        let text = jump_text(alloc, &leds)?;
+        let text = JUMPS.first_text(alloc, &[(Leds(checkpoint), 1)])?;
         let expected = (line.as_bytes(), 1);
         assert_eq!(rt;
             dissenter(&rt, alloc, text.as_slice(), &CUTS, expected)?,
@@ -81,9 +79,13 @@ fn one_false_checkpoint_of_ten(rt: HostRuntime) -> Result<(), Fail> {
 #[test]
 fn the_first_of_many_false_checkpoints(rt: HostRuntime) -> Result<(), Fail> {
     let alloc = rt.alloc();
-    let rising = [1, 2, 3, 4, 5, 6, 7, 8, 9, 10];
-    for leds in [[1; 10], rising] {
-        let text = jump_text(alloc, &leds)?;
+    for rising in [false, true] {
+        let mut lit = Vec::new(alloc);
+        for checkpoint in 1..=10u16 {
+            let leds = if rising { u32::from(checkpoint) } else { 1 };
+            lit.push((Leds(checkpoint), leds))?;
+        }
+        let text = JUMPS.first_text(alloc, lit.as_slice())?;
         let expected = (FALSE_AT_ONCE, 1);
         assert_eq!(rt;
             dissenter(&rt, alloc, text.as_slice(), &CUTS, expected)?,
@@ -135,7 +137,7 @@ fn held_verdict<R: Threads + Wait + Sync>(
 #[test]
 fn the_first_job_waits_for_all_others(rt: HostRuntime) -> Result<(), Fail> {
     let alloc = rt.alloc();
-    let text = jump_text(alloc, &[1, 0, 0, 0, 0, 0, 1, 0, 0, 0])?;
+    let text = JUMPS.first_text(alloc, &[(Leds(1), 1), (Leds(7), 1)])?;
     let holds = [Hold {
         job: 0,
         awaits: &[1, 2, 3, 4, 5, 6, 7, 8, 9],
@@ -152,7 +154,7 @@ fn the_first_job_waits_for_all_others(rt: HostRuntime) -> Result<(), Fail> {
 #[test]
 fn two_workers_meet(rt: HostRuntime) -> Result<(), Fail> {
     let alloc = rt.alloc();
-    let text = jump_text(alloc, &[0, 0])?;
+    let text = JUMPS.up_to(2).first_text(alloc, &[])?;
     let holds = [
         Hold {
             job: 0,
@@ -186,13 +188,13 @@ fn more_workers_than_jobs(rt: HostRuntime) -> Result<(), Fail> {
         workers: 64,
         cut: 100,
     };
-    let text = jump_text(alloc, &[0; 10])?;
+    let text = JUMPS.first_text(alloc, &[])?;
     let (line, _) = checked(&rt, alloc, text.as_slice(), crew, &FreeGate)?;
     assert_eq!(rt;
         line.as_slice(),
         b"accepted 10 checkpoints 100 steps\n".as_slice()
     );
-    let text = text_of(alloc, &[], &[Claim::at(0)])?;
+    let text = EMPTY.first_text(alloc, &[])?;
     let (line, _) = checked(&rt, alloc, text.as_slice(), crew, &FreeGate)?;
     assert_eq!(rt;
         line.as_slice(),

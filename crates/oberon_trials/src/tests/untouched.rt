@@ -3,22 +3,34 @@
 
 use super::checked::{Crew, checked};
 use super::gates::{Hold, HoldingGate, counters};
-use super::texts::{Claim, JUMP, text_of};
 use oberon_check::{Part, Verdict, check_recording};
 use oberon_format::{MAX_COUNT, read};
+use recording_texts::{Claim, FIRST_PAGE, JUMP, Sketch};
 use std::alloc::Global;
 use std::sync::atomic::{AtomicU64, Ordering};
 use std::test::Fail;
 
 /// Checkpoint 1 is false, and a long segment lies behind it.
 fn long_text(alloc: Global) -> Result<Vec<u8>, Fail> {
-    let claims = [
-        Claim::at(0),
-        Claim::lit(10, 1),
-        Claim::at(MAX_COUNT - 10),
-        Claim::at(MAX_COUNT),
-    ];
-    text_of(alloc, &[JUMP], &claims)
+    let lit = Claim {
+        count: 10,
+        leds: 1,
+        ..FIRST_PAGE
+    };
+    let before = Claim {
+        count: MAX_COUNT - 10,
+        ..FIRST_PAGE
+    };
+    let last = Claim {
+        count: MAX_COUNT,
+        ..FIRST_PAGE
+    };
+    let recording = Sketch {
+        pages: &[&[JUMP]],
+        events: &[],
+        claims: &[FIRST_PAGE, lit, before, last],
+    };
+    Ok(recording.first_text(alloc, &[])?)
 }
 
 /// The job of the long segment goes on when the last one has begun. Then the false checkpoint is known, whoever found it, so

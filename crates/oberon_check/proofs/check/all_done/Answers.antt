@@ -1,7 +1,8 @@
 use Rattle.std.proofs.Common.{◌<◌, ◌++◌, ◌∷◌, [], List, ℕ, length, get_or, sym, ap, ◌∙◌, subst, arith, length-append, append_assoc}
 use Rattle.std.specs.Prelude.{IfOk, Result}
 use Rattle.std.specs.declared.alloc.AllocError.{AllocError}
-use Rattle.oberon_check.proofs.Tops.{all_snoc, next_of}
+use Rattle.std.proofs.lemmas.List.Elements.{All-push}
+use Rattle.oberon_claims.proofs.Gathers.{next_of}
 use Rattle.oberon_check.specs.Work.{DoneRecord, IsShareOf}
 use Rattle.oberon_check.proofs.check.all_done.Goals as goal
 
@@ -21,7 +22,7 @@ loop-result-preserved c =
     let l' = length-append c.loop-result.yielded (c.in-Some.result ∷ []) in
     let l'' = ap length p in record {
       parts = subst (λ (ss : List DoneRecord). (k : ℕ) (d : DoneRecord) → k < length ss → IsShareOf c.args.r.now c.args.cut c.args.claims.now (get_or ss k d)) (sym p)
-          (all_snoc (IsShareOf c.args.r.now c.args.cut c.args.claims.now) _ _ i.parts one);
+          (All-push (IsShareOf c.args.r.now c.args.cut c.args.claims.now) _ _ i.parts one);
       count = omega arith;
       rest = append_assoc c.loop-result.yielded (c.in-Some.result ∷ []) _ ∙ at;
     }

@@ -9,7 +9,8 @@ use Rattle.oberon_check.specs.Segment.{Finding, IsTrueFinding}
 use Rattle.oberon_check.specs.Collecting.{IsCollectFault}
 use Rattle.oberon_check.specs.Work.{DoneRecord, IsDone}
 use Rattle.oberon_check.specs.Gathering.{passes_of, all_findings}
-use Rattle.oberon_check.proofs.Tops.{all_snoc, nil_if}
+use Rattle.std.proofs.lemmas.List.{nil_from_length}
+use Rattle.std.proofs.lemmas.List.Elements.{All-push}
 use Rattle.oberon_check.proofs.Shares.{findings_snoc, books, recordings, pieces, first_part}
 use Rattle.oberon_check.proofs.Gathered.{AllBack, no_fault}
 use Rattle.oberon_check.proofs.Answered.{answered}
@@ -27,7 +28,7 @@ loop-one-preserved c =
           ∙ ap (λ (l : List PassRecord). l ++ one.pass ∷ []) i.passes ∙ sym (map-append (λ (d : DoneRecord). d.pass) c.loop-one.yielded (one ∷ []));
       verdicts = c.in_ok-append.ensures.items ∙ ap (λ (d : DoneRecord). c.loop-one.verdicts.items ++ d.verdicts) is
           ∙ ap (λ (l : List Finding). l ++ one.verdicts) i.verdicts ∙ sym (findings_snoc c.loop-one.yielded one);
-      done = all_snoc IsDone c.loop-one.yielded one i.done c.into_parts-pass.ensures.done;
+      done = All-push IsDone c.loop-one.yielded one i.done c.into_parts-pass.ensures.done;
       rest = append_assoc c.loop-one.yielded (one ∷ []) _ ∙ at;
     }
 
@@ -35,7 +36,7 @@ loop-one-preserved c =
 whole : (c : After-drop-one-iterator-2) → c.loop-one.yielded ≡ c.args.done.items
 whole c =
     let i = c.loop-one.invariant in
-    let none = nil_if c.loop-one.one-iterator.rest.items (sym c.loop-one.one-iterator.rest.ok.0 ∙ c.in-None.ensures.steps.0) in
+    let none = nil_from_length c.loop-one.one-iterator.rest.items (sym c.loop-one.one-iterator.rest.ok.0 ∙ c.in-None.ensures.steps.0) in
     sym (append-nil c.loop-one.yielded) ∙ ap (λ (l : List DoneRecord). c.loop-one.yielded ++ l) (sym none) ∙ i.rest
 
 passes_are : (c : After-drop-one-iterator-2) → c.loop-one.passes.items ≡ passes_of c.args.done.items

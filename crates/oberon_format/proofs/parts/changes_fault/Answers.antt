@@ -5,7 +5,7 @@ use Rattle.oberon_format.specs.declared.change.Change.{Change}
 use Rattle.oberon_format.specs.declared.fault.Fault.TheVariants as fault
 use Rattle.oberon_format.specs.Changes.{changes, changes_below}
 use Rattle.oberon_format.specs.FirstFault.{first_broken, each}
-use Rattle.oberon_format.specs.Layout.{change_place}
+use Rattle.oberon_format.specs.Layout.{change_offset}
 use Rattle.oberon_format.specs.Rules.{change_rules}
 use Rattle.oberon_format.proofs.ChangeLemmas.{change_in, change_to}
 use Rattle.oberon_format.proofs.RuleLemmas.{each_none, each_more, each_broken}
@@ -15,17 +15,17 @@ use Rattle.oberon_format.proofs.parts.changes_fault.Goals.{then-entry+else-entry
 
 pub loop-p-init : goal.loop-p-init
 loop-p-init c =
-    let rules = change_rules c.args.pages c.args.place (slice_index c.args.before.now) (change_in c.args.before.now c.args.table.now) in
+    let rules = change_rules c.args.pages c.args.offset (slice_index c.args.before.now) (change_in c.args.before.now c.args.table.now) in
     let none : length (changes_below 0 c.args.before.now c.args.table.now) ≡ 0 = ap (λ (cs : List Change). length cs) (below_none c.args.before.now c.args.table.now) in
     record {
       met = ap (λ (n : ℕ). first_broken (each n rules)) none ∙ each_none rules;
-      place_is = omega arith;
+      offset_is = omega arith;
     }
 
-pub overflow_add-change_place-then-entry : goal.overflow_add-change_place-then-entry
-overflow_add-change_place-then-entry c =
+pub overflow_add-change_offset-then-entry : goal.overflow_add-change_offset-then-entry
+overflow_add-change_offset-then-entry c =
     let few = below_few c.loop-p.p c.args.before.now c.args.table.now in
-    let place = c.loop-p.invariant.place_is in
+    let offset = c.loop-p.invariant.offset_is in
     omega arith
 
 pub returns-then-entry-pages : goal.returns-then-entry-pages
@@ -34,18 +34,18 @@ returns-then-entry-pages c =
     let table = c.args.table.now in
     let p = c.loop-p.p in
     let m = length (changes_below p before table) in
-    let rules = change_rules c.args.pages c.args.place (slice_index before) (change_in before table) in
+    let rules = change_rules c.args.pages c.args.offset (slice_index before) (change_in before table) in
     let old = c.entry.ensures.number in
     let new = c.entry-in-loop-p.ensures.number in
     let differ : slice_index before p ≢ slice_index table p = λ e. c.if-entry.true (old ∙ e ∙ sym new) in
     let number = c.entry-then-entry.ensures.number in
     let large = c.if-entry-pages.true in
     let unmet : nat_le (slice_index table p) c.args.pages ≡ false = lt-leb _ _ (omega arith) in
-    let next = next_rule c.args.pages c.args.place p before table c.loop-p-test.true differ in
-    let broken : first_broken (rules m) ≡ Some (fault.Page (change_place c.args.place m)) =
-    next.1 ∙ ap (λ (holds : Bool). first_broken ((holds, fault.Page (change_place c.args.place m)) ∷ [])) unmet in
-    let found = each_broken rules m (length (changes before table)) (fault.Page (change_place c.args.place m)) next.0 c.loop-p.invariant.met broken in
-    ap (λ (n : ℕ). Some (fault.Page n)) c.loop-p.invariant.place_is ∙ sym found
+    let next = next_rule c.args.pages c.args.offset p before table c.loop-p-test.true differ in
+    let broken : first_broken (rules m) ≡ Some (fault.Page (change_offset c.args.offset m)) =
+    next.1 ∙ ap (λ (holds : Bool). first_broken ((holds, fault.Page (change_offset c.args.offset m)) ∷ [])) unmet in
+    let found = each_broken rules m (length (changes before table)) (fault.Page (change_offset c.args.offset m)) next.0 c.loop-p.invariant.met broken in
+    ap (λ (n : ℕ). Some (fault.Page n)) c.loop-p.invariant.offset_is ∙ sym found
 
 pub loop-p-preserved : goal.loop-p-preserved
 loop-p-preserved c =
@@ -53,7 +53,7 @@ loop-p-preserved c =
     let table = c.args.table.now in
     let p = c.loop-p.p in
     let m = length (changes_below p before table) in
-    let rules = change_rules c.args.pages c.args.place (slice_index before) (change_in before table) in
+    let rules = change_rules c.args.pages c.args.offset (slice_index before) (change_in before table) in
     let old = c.entry.ensures.number in
     let new = c.entry-in-loop-p.ensures.number in
     let so_far = c.loop-p.invariant in
@@ -63,23 +63,23 @@ loop-p-preserved c =
           let number = w.entry-then-entry.ensures.number in
           let small = w.if-entry-pages.false in
           let meets : nat_le (slice_index table p) c.args.pages ≡ true = le-leb _ _ (omega arith) in
-          let next = next_rule c.args.pages c.args.place p before table c.loop-p-test.true differ in
-          let one : first_broken (rules m) ≡ None = next.1 ∙ ap (λ (holds : Bool). first_broken ((holds, fault.Page (change_place c.args.place m)) ∷ [])) meets in
+          let next = next_rule c.args.pages c.args.offset p before table c.loop-p-test.true differ in
+          let one : first_broken (rules m) ≡ None = next.1 ∙ ap (λ (holds : Bool). first_broken ((holds, fault.Page (change_offset c.args.offset m)) ∷ [])) meets in
           let grown : length (changes_below (p + 1) before table) ≡ m + 1 =
           ap (λ (cs : List Change). length cs) (below_grows p before table differ) ∙ omega (arith, length-append (changes_below p before table) (change_to table p ∷ [])) in
-          let place = w.change_place-is in
-          let place_was = so_far.place_is in
+          let offset = w.change_offset-is in
+          let offset_was = so_far.offset_is in
           record {
             met = ap (λ (n : ℕ). first_broken (each n rules)) grown ∙ each_more rules m so_far.met one;
-            place_is = omega arith;
+            offset_is = omega arith;
           }
       | else-entry w ↦
           let same : slice_index before p ≡ slice_index table p = sym old ∙ w.if-entry.false ∙ new in
           let stays = ap (λ (cs : List Change). length cs) (below_stays p before table same) in
-          let place = w.change_place-is in
-          let place_was = so_far.place_is in
+          let offset = w.change_offset-is in
+          let offset_was = so_far.offset_is in
           record {
             met = ap (λ (n : ℕ). first_broken (each n rules)) stays ∙ so_far.met;
-            place_is = omega arith;
+            offset_is = omega arith;
           }
     ]

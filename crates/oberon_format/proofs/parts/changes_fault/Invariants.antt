@@ -2,7 +2,7 @@ use Rattle.std.proofs.Common.{◌≡◌, length}
 use Rattle.std.specs.Prelude.{slice_index, None}
 use Rattle.oberon_format.specs.Changes.{changes_below}
 use Rattle.oberon_format.specs.FirstFault.{first_broken, each}
-use Rattle.oberon_format.specs.Layout.{change_place}
+use Rattle.oberon_format.specs.Layout.{change_offset}
 use Rattle.oberon_format.specs.Rules.{change_rules}
 use Rattle.oberon_format.proofs.ChangeLemmas.{change_in}
 use Rattle.oberon_format.proofs.parts.changes_fault.Given as goal
@@ -10,6 +10,6 @@ use Rattle.oberon_format.proofs.parts.changes_fault.Given as goal
 -- the changes of the places that were looked at meet their rules, and the next one would stand here
 abbrev pub invariant-loop-p : goal.invariant-loop-p
 invariant-loop-p l = record {
-  met : first_broken (each (length (changes_below l.p l.before l.table)) (change_rules l.pages l.place (slice_index l.before) (change_in l.before l.table))) ≡ None;
-  place_is : l.change_place ≡ change_place l.place (length (changes_below l.p l.before l.table));
+  met : first_broken (each (length (changes_below l.p l.before l.table)) (change_rules l.pages l.offset (slice_index l.before) (change_in l.before l.table))) ≡ None;
+  offset_is : l.change_offset ≡ change_offset l.offset (length (changes_below l.p l.before l.table));
 }

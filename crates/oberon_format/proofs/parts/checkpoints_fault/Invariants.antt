@@ -12,7 +12,7 @@ use Rattle.oberon_format.proofs.parts.checkpoints_fault.Given as goal
 abbrev pub invariant-loop-k : goal.invariant-loop-k
 invariant-loop-k l = record {
   met : first_broken (each l.k (checkpoint_rules (fields_laid VERSION (parts_of l.pool l.inputs l.checkpoints)))) ≡ None;
-  place_is : l.place ≡ start_laid VERSION (parts_of l.pool l.inputs l.checkpoints) l.k;
+  offset_is : l.offset ≡ start_laid VERSION (parts_of l.pool l.inputs l.checkpoints) l.k;
   before_is : l.before ≡ count_before (fields_laid VERSION (parts_of l.pool l.inputs l.checkpoints)) l.k;
   sent_is : l.sent ≡ sent_below (fields_laid VERSION (parts_of l.pool l.inputs l.checkpoints)) l.k;
   small : l.sent ≤ MAX_OUTPUT;

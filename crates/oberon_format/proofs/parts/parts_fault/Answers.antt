@@ -24,4 +24,4 @@ returns-clause-lawful c =
     let r = parts_of c.args.pool.now c.args.inputs.now c.args.checkpoints.now in
     let len = length-map c.args.checkpoints.now checkpoint_parts in
     let is = parts_rest r (length c.args.checkpoints.now) c.checkpoints_fault.result (sym len) c.events-events.ensures.ordered (sym c.counts_fault.ensures.fault ∙ c.in_default.is) (sym c.checkpoints_fault.ensures) in
-    if_none c.checkpoints_fault.result _ (λ none. faultless_lawful VERSION r refl c.len-pages.ensures.pages c.events-events.ensures.ordered c.all_formed.ensures (is ∙ none))
+    if_none c.checkpoints_fault.result _ (λ none. faultless_lawful VERSION r refl c.len-pages.ensures.pages c.events-events.ensures.ordered c.all_formed_law.ensures (is ∙ none))

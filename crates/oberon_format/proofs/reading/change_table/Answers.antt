@@ -11,16 +11,16 @@ use Rattle.oberon_format.proofs.reading.change_table.Goals as goal
 pub loop-i-init : goal.loop-i-init
 loop-i-init c = record {
   len = c.numbers-numbers.ensures.table.count;
-  made = λ p lt. sym (after_none (change_of c.args.text.now c.args.place) (slice_index c.args.table.now) p);
+  made = λ p lt. sym (after_none (change_of c.args.text.now c.args.offset) (slice_index c.args.table.now) p);
 }
 
 pub loop-i-preserved : goal.loop-i-preserved
 loop-i-preserved c =
     let text = c.args.text.now in
     let i = c.loop-i.i in
-    let many = later_second text (c.args.place + CHANGE_COUNT_AT) c.requires.version in
-    let inside : (change_of text c.args.place i).place < PLACES = c.requires.places i (omega arith) in
+    let many = later_second text (c.args.offset + CHANGE_COUNT_AT) c.requires.version in
+    let inside : (change_of text c.args.offset i).place < PLACES = c.requires.places i (omega arith) in
     rw (c.set.ensures, c.of_text-change.ensures) (record {
-      len = length-set c.loop-i.table (change_of text c.args.place i).place (change_of text c.args.place i).number ∙ c.loop-i.invariant.len;
-      made = change_made (change_of text c.args.place) (slice_index c.args.table.now) i c.loop-i.table c.loop-i.invariant.len inside c.loop-i.invariant.made;
+      len = length-set c.loop-i.table (change_of text c.args.offset i).place (change_of text c.args.offset i).number ∙ c.loop-i.invariant.len;
+      made = change_made (change_of text c.args.offset) (slice_index c.args.table.now) i c.loop-i.table c.loop-i.invariant.len inside c.loop-i.invariant.made;
     })

@@ -1,7 +1,7 @@
 use Rattle.std.proofs.Common.{◌≡◌, ◌+◌, length, map}
 use Rattle.std.specs.Prelude.{slice_range}
 use Rattle.oberon_format.specs.CheckpointParts.{checkpoint_parts}
-use Rattle.oberon_format.specs.Layout.{output_place, start}
+use Rattle.oberon_format.specs.Layout.{output_offset, start}
 use Rattle.oberon_format.specs.Recording.{output_of}
 use Rattle.oberon_format.specs.Rules.{stood}
 use Rattle.oberon_format.specs.inner.Tested.{HasNumbers, StandIn}
@@ -12,9 +12,9 @@ use Rattle.oberon_format.proofs.reading.checkpoints_of.Given as goal
 abbrev pub invariant-loop-k : goal.invariant-loop-k
 invariant-loop-k l = record {
   len : length l.list.items ≡ l.k;
-  place_is : l.place ≡ start l.text l.k;
+  offset_is : l.offset ≡ start l.text l.k;
   table_is : HasNumbers l.table (stood (fields_of l.text) l.k);
   stand : StandIn l.text (map checkpoint_parts l.list.items);
-  from_is : l.from ≡ output_place l.text + output_below l.text l.k;
-  output : slice_range l.text (output_place l.text) l.from ≡ output_of (map checkpoint_parts l.list.items);
+  from_is : l.from ≡ output_offset l.text + output_below l.text l.k;
+  output : slice_range l.text (output_offset l.text) l.from ≡ output_of (map checkpoint_parts l.list.items);
 }

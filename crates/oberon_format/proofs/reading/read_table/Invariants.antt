@@ -1,10 +1,10 @@
 use Rattle.std.proofs.Common.{◌≡◌, ◌<◌, ℕ, get_or, length}
 use Rattle.oberon_format.specs.declared.layout.TheConstants.{PLACES}
-use Rattle.oberon_format.specs.Layout.{page_number_place, word_at}
+use Rattle.oberon_format.specs.Layout.{page_number_offset, word_at}
 use Rattle.oberon_format.proofs.reading.read_table.Given as goal
 
 abbrev pub invariant-loop-p : goal.invariant-loop-p
 invariant-loop-p l = record {
   len : length l.table ≡ PLACES;
-  each : (k d : ℕ) → k < l.p → get_or l.table k d ≡ word_at l.text (page_number_place l.place k);
+  each : (k d : ℕ) → k < l.p → get_or l.table k d ≡ word_at l.text (page_number_offset l.offset k);
 }

@@ -12,7 +12,7 @@ from_lawful-requires c =
     let pool = c.in_ok-pool.pool in
     let inputs = c.in_ok-inputs.inputs in
     let items = c.in_ok-checkpoints.checkpoints.items in
-    let formed = rw c.deref.ensures.value at c.all_formed.ensures in
+    let formed = rw c.deref.ensures.value at c.all_formed_law.ensures in
     let laid = text_read text pool inputs (map checkpoint_parts items) c.requires.meets
     c.in_ok-pool.ensures.0 c.in_ok-pool.ensures.1 c.in_ok-inputs.ensures.0 c.in_ok-inputs.ensures.1
     (length-map items checkpoint_parts ∙ c.in_ok-checkpoints.ensures.count) c.in_ok-checkpoints.ensures.stand c.in_ok-checkpoints.ensures.output in
@@ -24,7 +24,7 @@ returns c =
     let pool = c.in_ok-pool.pool in
     let inputs = c.in_ok-inputs.inputs in
     let items = c.in_ok-checkpoints.checkpoints.items in
-    let formed = rw c.deref.ensures.value at c.all_formed.ensures in
+    let formed = rw c.deref.ensures.value at c.all_formed_law.ensures in
     let laid = text_read text pool inputs (map checkpoint_parts items) c.requires.meets
     c.in_ok-pool.ensures.0 c.in_ok-pool.ensures.1 c.in_ok-inputs.ensures.0 c.in_ok-inputs.ensures.1
     (length-map items checkpoint_parts ∙ c.in_ok-checkpoints.ensures.count) c.in_ok-checkpoints.ensures.stand c.in_ok-checkpoints.ensures.output in

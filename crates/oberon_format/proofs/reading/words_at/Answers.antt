@@ -11,7 +11,7 @@ loop-i-preserved g c =
     let lt : i < length words = omega arith in
     record {
       len = length-set words i c.u32_at.result ∙ c.loop-i.invariant.len;
-      each = each_set (λ k word. word_at c.args.text.now (c.args.place + 4 * k) ≡ word) words i c.u32_at.result lt c.loop-i.invariant.each (sym c.u32_at.ensures);
+      each = each_set (λ k word. word_at c.args.text.now (c.args.offset + 4 * k) ≡ word) words i c.u32_at.result lt c.loop-i.invariant.each (sym c.u32_at.ensures);
     }
 
 pub returns : goal.returns

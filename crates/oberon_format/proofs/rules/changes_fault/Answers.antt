@@ -2,7 +2,7 @@ use Rattle.std.proofs.Common.{◌≡◌, ◌≢◌, ◌∙◌, true, false, refl
 use Rattle.std.specs.Prelude.{slice_index}
 use Rattle.std.proofs.lemmas.List.{length-set}
 use Rattle.oberon_format.specs.declared.fault.Fault.TheVariants as fault
-use Rattle.oberon_format.specs.Layout.{change_place}
+use Rattle.oberon_format.specs.Layout.{change_offset}
 use Rattle.oberon_format.specs.Ranges.{is_change}
 use Rattle.oberon_format.specs.Rules.{change_rules, place_floor}
 use Rattle.oberon_format.specs.TextFields.{change_of}
@@ -14,9 +14,9 @@ use Rattle.oberon_format.proofs.rules.changes_fault.Goals as goal
 pub loop-i-init : goal.loop-i-init
 loop-i-init c = record {
   len = c.numbers-numbers.ensures.table.count;
-  met = each_none (change_rules c.args.pages c.args.place (slice_index c.args.table.now) (change_of c.args.text.now c.args.place));
+  met = each_none (change_rules c.args.pages c.args.offset (slice_index c.args.table.now) (change_of c.args.text.now c.args.offset));
   floor_is = refl;
-  made = λ p lt. sym (after_none (change_of c.args.text.now c.args.place) (slice_index c.args.table.now) p);
+  made = λ p lt. sym (after_none (change_of c.args.text.now c.args.offset) (slice_index c.args.table.now) p);
   rest = λ p low lt. refl;
 }
 
@@ -24,7 +24,7 @@ pub loop-i-preserved : goal.loop-i-preserved
 loop-i-preserved c =
     let text = c.args.text.now in
     let i = c.loop-i.i in
-    let change = change_of text c.args.place in
+    let change = change_of text c.args.offset in
     let stood = slice_index c.args.table.now in
     let table = c.loop-i.table in
     let tested = change_tested c.args.pages c.loop-i.floor i stood (slice_index table) change c.of_text-change.result c.of_text-change.ensures c.loop-i.invariant.floor_is c.loop-i.invariant.rest in
@@ -34,7 +34,7 @@ loop-i-preserved c =
     let floor = c.loop-i.invariant.floor_is in
     rw (c.set.ensures, c.of_text-change.ensures) (record {
       len = length-set table (change i).place (change i).number ∙ c.loop-i.invariant.len;
-      met = each_met (λ k. is_change c.args.pages (place_floor change k) stood (change k)) (λ k. fault.Page (change_place c.args.place k)) i c.loop-i.invariant.met holds;
+      met = each_met (λ k. is_change c.args.pages (place_floor change k) stood (change k)) (λ k. fault.Page (change_offset c.args.offset k)) i c.loop-i.invariant.met holds;
       floor_is = sym (floor_above change i);
       made = change_made change stood i table c.loop-i.invariant.len inside c.loop-i.invariant.made;
       rest = λ p above lt.
@@ -46,8 +46,8 @@ pub returns-then-not-is_lawful-clause-fault : goal.returns-then-not-is_lawful-cl
 returns-then-not-is_lawful-clause-fault c =
     let text = c.args.text.now in
     let i = c.loop-i.i in
-    let change = change_of text c.args.place in
+    let change = change_of text c.args.offset in
     let stood = slice_index c.args.table.now in
     let tested = change_tested c.args.pages c.loop-i.floor i stood (slice_index c.loop-i.table) change c.of_text-change.result c.of_text-change.ensures c.loop-i.invariant.floor_is c.loop-i.invariant.rest in
     let fails : is_change c.args.pages (place_floor change i) stood (change i) ≡ false = sym tested ∙ sym c.is_lawful.ensures ∙ c.if-not-is_lawful.true in
-    sym (each_unmet (λ k. is_change c.args.pages (place_floor change k) stood (change k)) (λ k. fault.Page (change_place c.args.place k)) i c.args.count c.loop-i-test.true c.loop-i.invariant.met fails)
+    sym (each_unmet (λ k. is_change c.args.pages (place_floor change k) stood (change k)) (λ k. fault.Page (change_offset c.args.offset k)) i c.args.count c.loop-i-test.true c.loop-i.invariant.met fails)

@@ -12,8 +12,8 @@ use Rattle.oberon_format.proofs.rules.changes_fault.Given as goal
 abbrev pub invariant-loop-i : goal.invariant-loop-i
 invariant-loop-i l = record {
   len : length l.table ≡ PLACES;
-  met : first_broken (each l.i (change_rules l.pages l.place (slice_index l.fn.table) (change_of l.text l.place))) ≡ None;
-  floor_is : l.floor ≡ place_floor (change_of l.text l.place) l.i;
-  made : HasNumbers l.table (number_after (change_of l.text l.place) (slice_index l.fn.table) l.i);
+  met : first_broken (each l.i (change_rules l.pages l.offset (slice_index l.fn.table) (change_of l.text l.offset))) ≡ None;
+  floor_is : l.floor ≡ place_floor (change_of l.text l.offset) l.i;
+  made : HasNumbers l.table (number_after (change_of l.text l.offset) (slice_index l.fn.table) l.i);
   rest : (p : ℕ) → l.floor ≤ p → p < PLACES → slice_index l.table p ≡ slice_index l.fn.table p;
 }

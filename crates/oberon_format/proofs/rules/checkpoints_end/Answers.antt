@@ -9,7 +9,7 @@ use Rattle.oberon_format.specs.Layout.{long_at, word_at, version, checkpoints, c
 use Rattle.oberon_format.specs.Rules.{checkpoint_rules}
 use Rattle.oberon_format.specs.inner.Tested.{HasNumbers}
 use Rattle.oberon_format.specs.TextFields.{checkpoint_of, fields_of, number_before}
-use Rattle.oberon_format.proofs.Room.{start_none, start_next, size_first, events_there, whole_room, place_next}
+use Rattle.oberon_format.proofs.Room.{start_none, start_next, size_first, events_there, whole_room, offset_next}
 use Rattle.oberon_format.proofs.RuleLemmas.{each_none, each_more, each_broken, output_below, output_below_none, output_below_more, count_before_more}
 use Rattle.oberon_format.proofs.TextLemmas.{numbers_none}
 use Rattle.oberon_format.proofs.rules.checkpoints_end.Goals as goal
@@ -20,10 +20,10 @@ loop-k-init c =
     let text = c.args.text.now in
     let none = start_none text in
     let there = events_there text c.requires in
-    let place = c.first_checkpoint-place.ensures in
+    let offset = c.first_checkpoint-offset.ensures in
     record {
       met = each_none (checkpoint_rules (fields_of text));
-      place_is = place;
+      offset_is = offset;
       room = omega arith;
       before_is = refl;
       sent_is = sym (output_below_none text);
@@ -36,7 +36,7 @@ whole_checkpoint-tested-requires-clause-room c =
     let text = c.args.text.now in
     let test : (version text == FIRST_VERSION) ≡ true = sym c.is_first_version-is_first.ensures ∙ c.if-is_first.true in
     let room = whole_room text c.loop-k.k c.requires (omega arith) (eqb-true _ _ test) in
-    let place = c.loop-k.invariant.place_is in
+    let offset = c.loop-k.invariant.offset_is in
     omega arith
 
 pub returns-in-Err : goal.returns-in-Err
@@ -51,8 +51,8 @@ returns-in-Err c =
     each_broken rules k (checkpoints text) c.in-Err.fault (omega arith) c.loop-k.invariant.met one
 
 -- what either test tells of a checkpoint
-record AreTested (text : List ℕ) (k place sent : ℕ) (fields : CheckpointFields) (table : List ℕ) : Type 0 where
-  read : fields ≡ checkpoint_of text place
+record AreTested (text : List ℕ) (k offset sent : ℕ) (fields : CheckpointFields) (table : List ℕ) : Type 0 where
+  read : fields ≡ checkpoint_of text offset
   small : sent + fields.output ≤ MAX_OUTPUT
   there : start text (suc k) ≤ length text
   numbers : version text ≡ VERSION → HasNumbers table (number_before text (suc k))
@@ -62,11 +62,11 @@ pub loop-k-preserved : goal.loop-k-preserved
 loop-k-preserved c =
     let text = c.args.text.now in
     let k = c.loop-k.k in
-    let place = c.loop-k.place in
-    let at = c.loop-k.invariant.place_is in
+    let offset = c.loop-k.offset in
+    let at = c.loop-k.invariant.offset_is in
     let fields = c.in-Ok.fields in
     let lt : k < checkpoints text = omega arith in
-    let tested : AreTested text k place c.loop-k.sent fields c.if-is_first.table = elim c.if-is_first.branch [
+    let tested : AreTested text k offset c.loop-k.sent fields c.if-is_first.table = elim c.if-is_first.branch [
       | then-is_first w ↦
           let told = rw (← w.tested-is, c.in-Ok.is) at w.whole_checkpoint-tested.ensures in
           let test : (version text == FIRST_VERSION) ≡ true = sym c.is_first_version-is_first.ensures ∙ w.if-is_first.true in
@@ -79,13 +79,13 @@ loop-k-preserved c =
           let told = rw (← w.tested-is, c.in-Ok.is) at w.changed_checkpoint-tested.ensures in
           record { read = told.0; small = told.1; there = told.2; numbers = λ is. rw w.table-is told.4; met = told.5 }
     ] in
-    let many : fields.changes ≡ change_count text place = ap (λ (x : CheckpointFields). x.changes) tested.read in
-    let next = place_next text k place fields.changes c.checkpoint_len-place.result at many c.checkpoint_len-place.ensures in
+    let many : fields.changes ≡ change_count text offset = ap (λ (x : CheckpointFields). x.changes) tested.read in
+    let next = offset_next text k offset fields.changes c.checkpoint_len-offset.result at many c.checkpoint_len-offset.ensures in
     let there = tested.there in
     let one = ap (start text) (add-one k) in
     record {
       met = each_more (checkpoint_rules (fields_of text)) k c.loop-k.invariant.met tested.met;
-      place_is = next;
+      offset_is = next;
       room = omega arith;
       before_is = ap (λ (x : CheckpointFields). x.count) tested.read ∙ ap (long_at text) at ∙ sym (count_before_more text k);
       sent_is =

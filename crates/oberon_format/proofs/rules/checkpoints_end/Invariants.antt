@@ -12,8 +12,8 @@ use Rattle.oberon_format.proofs.rules.checkpoints_end.Given as goal
 abbrev pub invariant-loop-k : goal.invariant-loop-k
 invariant-loop-k l = record {
   met : first_broken (each l.k (checkpoint_rules (fields_of l.text))) ≡ None;
-  place_is : l.place ≡ start l.text l.k;
-  room : l.place ≤ length l.text;
+  offset_is : l.offset ≡ start l.text l.k;
+  room : l.offset ≤ length l.text;
   before_is : l.before ≡ count_before (fields_of l.text) l.k;
   sent_is : l.sent ≡ output_below l.text l.k;
   small : l.sent ≤ MAX_OUTPUT;

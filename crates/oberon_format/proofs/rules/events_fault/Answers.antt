@@ -3,7 +3,7 @@ use Rattle.oberon_format.specs.declared.fault.Fault.TheVariants as fault
 use Rattle.oberon_format.proofs.RuleLemmas.{each_none, each_met, each_unmet}
 use Rattle.oberon_format.proofs.Room.{events_there}
 use Rattle.oberon_format.proofs.rules.events_fault.Goals as goal
-use Rattle.oberon_format.specs.Layout.{event_place}
+use Rattle.oberon_format.specs.Layout.{event_offset}
 use Rattle.oberon_format.specs.Ranges.{is_event}
 use Rattle.oberon_format.specs.Rules.{event_floor, event_rules}
 use Rattle.oberon_format.specs.TextFields.{event_of, fields_of}
@@ -20,13 +20,13 @@ loop-i-init c = each_none (event_rules (fields_of c.args.text.now))
 pub loop-i-preserved : goal.loop-i-preserved
 loop-i-preserved c =
     let text = c.args.text.now in
-    let holds : is_event (event_floor (fields_of text) c.loop-i.i) (event_of text (event_place text c.loop-i.i)) ≡ true = cc in
-    each_met (λ k. is_event (event_floor (fields_of text) k) (event_of text (event_place text k))) (λ k. fault.Event (event_place text k)) c.loop-i.i c.loop-i.invariant holds
+    let holds : is_event (event_floor (fields_of text) c.loop-i.i) (event_of text (event_offset text c.loop-i.i)) ≡ true = cc in
+    each_met (λ k. is_event (event_floor (fields_of text) k) (event_of text (event_offset text k))) (λ k. fault.Event (event_offset text k)) c.loop-i.i c.loop-i.invariant holds
 
 pub returns-then-not-is_event : goal.returns-then-not-is_event
 returns-then-not-is_event c =
     let text = c.args.text.now in
-    let fails : is_event (event_floor (fields_of text) c.loop-i.i) (event_of text (event_place text c.loop-i.i)) ≡ false = cc in
+    let fails : is_event (event_floor (fields_of text) c.loop-i.i) (event_of text (event_offset text c.loop-i.i)) ≡ false = cc in
     let lt : c.loop-i.i < c.event_count-i-end.result = c.loop-i-test.true in
-    let found = each_unmet (λ k. is_event (event_floor (fields_of text) k) (event_of text (event_place text k))) (λ k. fault.Event (event_place text k)) c.loop-i.i c.event_count-i-end.result lt c.loop-i.invariant fails in
+    let found = each_unmet (λ k. is_event (event_floor (fields_of text) k) (event_of text (event_offset text k))) (λ k. fault.Event (event_offset text k)) c.loop-i.i c.event_count-i-end.result lt c.loop-i.invariant fails in
     cc

@@ -7,7 +7,7 @@ use Rattle.oberon_format.specs.Changes.{changes}
 use Rattle.oberon_format.specs.CheckpointParts.{CheckpointParts, checkpoint_parts}
 use Rattle.oberon_format.specs.PartFields.{start_laid}
 use Rattle.oberon_format.proofs.ChangeLemmas.{changes-few}
-use Rattle.oberon_format.proofs.WriteLemmas.{laid_next, laid_bounded}
+use Rattle.oberon_format.proofs.WriteLemmas.{written_laid, laid_bounded}
 use Rattle.oberon_format.proofs.writing.text_len.Goals as goal
 
 pub loop-k-init : goal.loop-k-init
@@ -40,7 +40,7 @@ loop-k-preserved c =
     let cs = c.checkpoints-checkpoints.result.now in
     let e = c.index-checkpoints-k.result in
     let before : List ℕ = c.table_before-before.result.now in
-    let next = laid_next c.args.r.now cs c.loop-k.k e before c.checkpoints-checkpoints.ensures.checkpoints c.loop-k-test.true c.index-checkpoints-k.is c.table_before-before.ensures in
+    let next = written_laid c.args.r.now cs c.loop-k.k e before c.checkpoints-checkpoints.ensures.checkpoints c.loop-k-test.true c.index-checkpoints-k.is c.table_before-before.ensures in
     let so_far = c.loop-k.invariant in
     let count : c.change_count.result ≡ length (changes before e.table) = c.change_count.ensures ∙ ap (λ (x : Checkpoint). length (changes before x.table)) (sym c.index-checkpoints-k.is) in
     let own = c.changed_len-len.ensures in

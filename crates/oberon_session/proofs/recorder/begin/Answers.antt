@@ -10,8 +10,8 @@ use Rattle.oberon_session.specs.Recorded.{first_devices, first_laid}
 use Rattle.oberon_session.specs.inner.Progress.{laid_view}
 use Rattle.oberon_session.proofs.recorder.begin.Goals as goal
 
-pub first_layout-requires-clause-places : goal.first_layout-requires-clause-places
-first_layout-requires-clause-places c =
+pub lay_first-requires-clause-places : goal.lay_first-requires-clause-places
+lay_first-requires-clause-places c =
     unmapped placed_view (λ (page : PlacedWords). page.at < 1024) c.pages.result.now (rw c.pages.ensures.pages c.pages.ensures.lawful.places)
 
 pub first_devices-requires : goal.first_devices-requires
@@ -21,11 +21,11 @@ first_devices-requires c =
 pub returns-clause-recorded : goal.returns-clause-recorded
 returns-clause-recorded c =
     let s = c.args.session.now in
-    let laid-so = c.in_ok-layout.ensures ∙ ap first_laid c.pages.ensures.pages in
+    let laid-so = c.in_ok-laid.ensures ∙ ap first_laid c.pages.ensures.pages in
     let table = c.copy.ensures ∙ ap (λ (l : Laid). l.table) laid-so in
     let sent = c.new-2.ensures ∙ c.new.ensures.items in
     let devices = c.first_devices.ensures ∙ ap₂ first_devices c.rate.ensures.rate c.phase.ensures.phase in
     let pushed = rw c.in_ok-checkpoints.ensures.items at c.in_ok-push.ensures.items in
-    so-first s c.pages.ensures.lawful (laid_view c.in_ok-layout.layout) laid-so (map checkpoint_parts c.push.new.self.items)
+    so-first s c.pages.ensures.lawful (laid_view c.in_ok-laid.laid) laid-so (map checkpoint_parts c.push.new.self.items)
     (ap (map checkpoint_parts) pushed
     ∙ one-checkpoint s (cpu_state c.cpu.result) c.first_devices.result c.new-2.result c.copy.result c.cpu.ensures.cpu devices sent table)

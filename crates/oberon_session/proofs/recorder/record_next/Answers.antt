@@ -1,7 +1,7 @@
 use Rattle.std.proofs.Common.{◌≢◌, Some, ◌+◌, ◌∙◌, ◌≤◌, ℕ, List, ap, arith, length, sym, get_or}
 use Rattle.std.proofs.lemmas.Result.{err_from_is_err_and}
 use Rattle.risc_machine.specs.MachineState.{cpu_state}
-use Rattle.oberon_session.proofs.Layouts.{few-changes, low-changes}
+use Rattle.oberon_session.proofs.LaidPages.{few-changes, low-changes}
 use Rattle.oberon_session.proofs.Reaching.{inside-of, last-count, last-fit, recorded-more, refused-output, refused-pages}
 use Rattle.oberon_session.proofs.Steps.{count-rises, count_of-next}
 use Rattle.oberon_session.specs.Recorded.{count_of}
@@ -12,7 +12,7 @@ use Rattle.oberon_session.proofs.recorder.record_next.Goals as goal
 pub index-last-requires : goal.index-last-requires
 index-last-requires c =
     let items = c.args.recorder.now.checkpoints.items in
-    let inside = inside-of c.args.session.now c.args.k (laid_view c.args.recorder.now.layout) items c.args.recorder.now.sent c.requires.recorded in
+    let inside = inside-of c.args.session.now c.args.k (laid_view c.args.recorder.now.laid) items c.args.recorder.now.sent c.requires.recorded in
     omega arith
 
 pub overflow_sub-room : goal.overflow_sub-room
@@ -23,28 +23,28 @@ overflow_sub-room c =
 pub reach-requires-clause-named : goal.reach-requires-clause-named
 reach-requires-clause-named c =
     let items = c.args.recorder.now.checkpoints.items in
-    let laid = laid_view c.args.recorder.now.layout in
+    let laid = laid_view c.args.recorder.now.laid in
     let inside = inside-of c.args.session.now c.args.k laid items c.args.recorder.now.sent c.requires.recorded in
     (last-fit c.args.session.now c.args.k laid items c.args.recorder.now.sent c.requires.recorded c.index-last.result.now inside c.index-last.ensures).named
 
 pub reach-requires-clause-counter : goal.reach-requires-clause-counter
 reach-requires-clause-counter c =
     let items = c.args.recorder.now.checkpoints.items in
-    let laid = laid_view c.args.recorder.now.layout in
+    let laid = laid_view c.args.recorder.now.laid in
     let inside = inside-of c.args.session.now c.args.k laid items c.args.recorder.now.sent c.requires.recorded in
     (last-fit c.args.session.now c.args.k laid items c.args.recorder.now.sent c.requires.recorded c.index-last.result.now inside c.index-last.ensures).cpu.counter
 
 pub reach-requires-clause-stop : goal.reach-requires-clause-stop
 reach-requires-clause-stop c =
     let items = c.args.recorder.now.checkpoints.items in
-    let laid = laid_view c.args.recorder.now.layout in
+    let laid = laid_view c.args.recorder.now.laid in
     let inside = inside-of c.args.session.now c.args.k laid items c.args.recorder.now.sent c.requires.recorded in
     (last-fit c.args.session.now c.args.k laid items c.args.recorder.now.sent c.requires.recorded c.index-last.result.now inside c.index-last.ensures).cpu.stops
 
 pub reach-requires-clause-rises : goal.reach-requires-clause-rises
 reach-requires-clause-rises c =
     let items = c.args.recorder.now.checkpoints.items in
-    let laid = laid_view c.args.recorder.now.layout in
+    let laid = laid_view c.args.recorder.now.laid in
     let s = c.args.session.now in
     let inside = inside-of s c.args.k laid items c.args.recorder.now.sent c.requires.recorded in
     let here = last-count s c.args.k laid items c.args.recorder.now.sent c.requires.recorded c.index-last.result.now inside c.index-last.ensures in
@@ -55,7 +55,7 @@ pub returns-in_err-reached-clause-refused : goal.returns-in_err-reached-clause-r
 returns-in_err-reached-clause-refused c =
     let from = err_from_is_err_and c.from_residual.result c.from_residual.ensures.1 in
     let items = c.args.recorder.now.checkpoints.items in
-    let laid = laid_view c.args.recorder.now.layout in
+    let laid = laid_view c.args.recorder.now.laid in
     let s = c.args.session.now in
     let k : ℕ = c.args.k in
     let so = c.requires.recorded in
@@ -81,7 +81,7 @@ lay_pages-requires-clause-places c =
 pub returns-then-len-gt-MAX_PAGES-clause-refused : goal.returns-then-len-gt-MAX_PAGES-clause-refused
 returns-then-len-gt-MAX_PAGES-clause-refused c =
     let items = c.args.recorder.now.checkpoints.items in
-    let laid = laid_view c.args.recorder.now.layout in
+    let laid = laid_view c.args.recorder.now.laid in
     let s = c.args.session.now in
     let k : ℕ = c.args.k in
     let so = c.requires.recorded in
@@ -91,12 +91,12 @@ returns-then-len-gt-MAX_PAGES-clause-refused c =
     let laid-so = rw c.deref.ensures.value at c.in_ok-lay_pages.ensures in
     λ _. refused-pages s k laid items c.args.recorder.now.sent so c.index-last.result.now inside c.index-last.ensures
     c.inputs.result.now c.inputs.ensures.inputs (get_or c.counts.result.now k 0) next on c.in_ok-reached.reached c.in_ok-reached.ensures.reached
-    (laid_view c.lay_pages.new.layout) laid-so c.in_ok-reached.ensures.room (omega (arith, so.long, ap length so.output, so.lawful.output)) c.requires.inside (omega arith)
+    (laid_view c.lay_pages.new.laid) laid-so c.in_ok-reached.ensures.room (omega (arith, so.long, ap length so.output, so.lawful.output)) c.requires.inside (omega arith)
 
 pub returns-clause-recorded : goal.returns-clause-recorded
 returns-clause-recorded c =
     let items = c.args.recorder.now.checkpoints.items in
-    let laid = laid_view c.args.recorder.now.layout in
+    let laid = laid_view c.args.recorder.now.laid in
     let s = c.args.session.now in
     let k : ℕ = c.args.k in
     let so = c.requires.recorded in
@@ -108,7 +108,7 @@ returns-clause-recorded c =
     let count : ℕ = get_or c.counts.result.now k 0 in
     recorded-more s k laid items c.args.recorder.now.sent so c.index-last.result.now inside c.index-last.ensures
     c.inputs.result.now c.inputs.ensures.inputs (get_or c.counts.result.now k 0) next on r c.in_ok-reached.ensures.reached
-    (laid_view c.lay_pages.new.layout) laid-so c.in_ok-reached.ensures.room (omega (arith, so.long, ap length so.output, so.lawful.output))
+    (laid_view c.lay_pages.new.laid) laid-so c.in_ok-reached.ensures.room (omega (arith, so.long, ap length so.output, so.lawful.output))
     c.counts.ensures.lawful c.requires.inside (omega arith) c.len.ensures.pages c.timer-timer.ensures.ranges c.bytes.ensures.bytes
     c.push.new.self.items _ c.in_ok-push.ensures.items
     (ap (λ (table : List ℕ). record { count = count; cpu = cpu_state r.cpu; devices = r.devices; sent = r.sent; table = table }) c.copy.ensures)

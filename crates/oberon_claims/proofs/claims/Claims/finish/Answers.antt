@@ -1,4 +1,5 @@
 use Rattle.std.proofs.Common.{◌≡◌, ℕ, [], ◌∷◌, ◌++◌, List, length, sym, ap, ◌∙◌, subst, arith, append-nil, append_assoc, min, cond}
+use Rattle.std.proofs.lemmas.List.{nil_from_length}
 use Rattle.atomic_table.specs.Table.{Me}
 use Rattle.oberon_claims.specs.declared.book.View.{View}
 use Rattle.oberon_claims.specs.declared.book.Plan.{Plan}
@@ -7,7 +8,7 @@ use Rattle.oberon_claims.specs.Counts.{once_below}
 use Rattle.oberon_claims.specs.inner.Steps.{joined_view}
 use Rattle.oberon_claims.specs.inner.Book.{own_view, IsLegal}
 use Rattle.oberon_claims.proofs.Shares.{may_take_in, closes}
-use Rattle.oberon_claims.proofs.Gathers.{gathered, gathers, first_of, next_of, nil_if, taken_once, all_gone, least_told_is, shown_all_told, shown_not_below}
+use Rattle.oberon_claims.proofs.Gathers.{gathered, gathers, first_of, next_of, taken_once, all_gone, least_told_is, shown_all_told, shown_not_below}
 use Rattle.oberon_claims.proofs.claims.Claims.finish.Goals as goal
 
 pub loop-pass-init : goal.loop-pass-init
@@ -62,18 +63,18 @@ whole c =
     let i = c.loop-pass.invariant in
     let e = c.close_with-closed.ensures.values.2 in
     let plan : Plan = c.self.inside.table.shared.key in
-    let none = nil_if c.loop-pass.pass-iterator.rest.items (sym c.loop-pass.pass-iterator.rest.ok.0 ∙ c.in-None.ensures.steps.0) in
+    let none = nil_from_length c.loop-pass.pass-iterator.rest.items (sym c.loop-pass.pass-iterator.rest.ok.0 ∙ c.in-None.ensures.steps.0) in
     let all : c.loop-pass.yielded ≡ c.args.passes.items = sym (append-nil c.loop-pass.yielded) ∙ ap (λ (l : List PassRecord). c.loop-pass.yielded ++ l) (sym none) ∙ i.2 in
     let view = i.1 ∙ ap (gathered c.args.self) all in
     let workers : length c.args.passes.items ≡ plan.workers = sym c.args.passes.ok.0 ∙ c.requires.all ∙ ap (λ (b : BookId). b.workers) (sym c.self.view_is) in
     subst (λ (p : ℕ × View). IsLegal plan.jobs p.0 c.word-next.result c.word-least.result (p.1 ∷ [])) (λ k. (sym workers k, view k))
     (closes plan _ _ _ c.word-next.result c.word-least.result e.0 e.1.0 e.1.1 e.2 c.word-next.ensures c.word-least.ensures (ap (λ (v : View). v.stands) view ∙ workers))
 
-capped_is : (c : goal.After-segment_of) → c.taken_of.result ≡ min c.word-next.result c.self.inside.table.shared.key.jobs
-capped_is c = c.taken_of.ensures ∙ ap (min c.word-next.result) (sym c.self.invariant.0)
+capped_is : (c : goal.After-segment_of) → c.jobs_taken.result ≡ min c.word-next.result c.self.inside.table.shared.key.jobs
+capped_is c = c.jobs_taken.ensures ∙ ap (min c.word-next.result) (sym c.self.invariant.0)
 
 pub returns-clause-jobs : goal.returns-clause-jobs
-returns-clause-jobs c = let e = c.taken_of.ensures in let j = ap (λ (b : BookId). b.jobs) c.self.view_is in omega arith
+returns-clause-jobs c = let e = c.jobs_taken.ensures in let j = ap (λ (b : BookId). b.jobs) c.self.view_is in omega arith
 
 pub returns-clause-taken : goal.returns-clause-taken
 returns-clause-taken c = λ x. taken_once c.args.self _ _ _ _ (whole c) x ∙ ap (once_below x) (sym (capped_is c))

@@ -1,8 +1,0 @@
-use Rattle.std.proofs.Common.{arith}
-use Rattle.std.proofs.lemmas.List.Elements.{All-map}
-use Rattle.oberon_format.specs.CheckpointParts.{checkpoint_parts}
-use Rattle.oberon_format.specs.Formed.{IsFormed}
-use Rattle.oberon_format.proofs.formed.all_formed.Goals as goal
-
-pub returns : goal.returns
-returns c = All-map IsFormed checkpoint_parts c.args.checkpoints.now (λ k d lt. c.loop-checkpoint.invariant k d (omega arith) lt)

@@ -1,5 +1,0 @@
-use Rattle.oberon_format.proofs.Cut.{text_within}
-use Rattle.oberon_format.proofs.laws.longest_text.Goals as goal
-
-pub returns : goal.returns
-returns c = text_within

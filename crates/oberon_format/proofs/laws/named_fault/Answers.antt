@@ -1,5 +1,0 @@
-use Rattle.oberon_format.proofs.Named.{text_named}
-use Rattle.oberon_format.proofs.laws.named_fault.Goals as goal
-
-pub returns : goal.returns
-returns c = text_named

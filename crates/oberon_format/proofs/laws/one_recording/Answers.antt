@@ -1,5 +1,0 @@
-use Rattle.oberon_format.proofs.One.{same_recording}
-use Rattle.oberon_format.proofs.laws.one_recording.Goals as goal
-
-pub returns : goal.returns
-returns c = same_recording

@@ -1,5 +1,0 @@
-use Rattle.oberon_format.proofs.LawLemmas.{one_text}
-use Rattle.oberon_format.proofs.laws.one_text.Goals as goal
-
-pub returns : goal.returns
-returns c = one_text

@@ -1,5 +1,0 @@
-use Rattle.oberon_format.proofs.Back.{same_text}
-use Rattle.oberon_format.proofs.laws.one_text_at_most.Goals as goal
-
-pub returns : goal.returns
-returns c = same_text

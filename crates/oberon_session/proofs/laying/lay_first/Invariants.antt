@@ -1,0 +1,12 @@
+use Rattle.std.proofs.Common.{◌≡◌, length, map, take}
+use Rattle.oberon_session.specs.Digits.{PlacedWords}
+use Rattle.oberon_session.specs.inner.Drafts.{placed_view}
+use Rattle.oberon_session.specs.Recorded.{numbered}
+use Rattle.oberon_session.proofs.laying.lay_first.Given as goal
+
+abbrev pub invariant-loop-page : goal.invariant-loop-page
+invariant-loop-page l = record {
+  pages : l.pool ≡ map (λ (page : PlacedWords). page.words) (map placed_view (take l.page-index l.pages));
+  count : length l.pool ≡ l.page-index;
+  numbers : l.table ≡ numbered (map placed_view l.pages) l.page-index;
+}

@@ -1,0 +1,16 @@
+use Rattle.std.proofs.Common.{◌≡◌, ◌-◌, ◌≤◌, length}
+use Rattle.risc_machine.specs.Replay.{run_of, sent_of}
+use Rattle.oberon_session.proofs.way.run_in_pieces.Given as goal
+
+abbrev pub invariant-loop-at : goal.invariant-loop-at
+invariant-loop-at l = record {
+  begun : l.from ≤ l.at;
+  within : l.at ≤ l.to;
+  state : l.machine.state ≡ run_of l.inputs l.from (l.at - l.from) l.initial.machine.state;
+  output : l.sent.items ≡ sent_of l.inputs l.from (l.at - l.from) l.initial.machine.state;
+  room : length l.sent.items ≤ l.room;
+  base : l.machine.base ≡ l.initial.machine.base;
+}
+
+abbrev pub decreases-loop-at : goal.decreases-loop-at
+decreases-loop-at l = l.to - l.at

@@ -1,0 +1,108 @@
+//! The way of a machine from one checkpoint to the next.
+
+ghost use Rattle.std.specs.Prelude.{◌≡◌, ◌≢◌, ◌-◌, ◌<◌, ◌≤◌, IfOk, IfErr, OnOk, length};
+ghost use Rattle.risc_core.specs.declared.branch.TheConstants.{COUNTER_END};
+ghost use Rattle.risc_pages.specs.Tables.{IsNamed};
+ghost use Rattle.risc_machine.specs.Wanting.{Keeps, MayFail};
+ghost use Rattle.risc_machine.specs.Replay.{run_of, sent_of};
+ghost use Rattle.oberon_format.specs.CheckpointParts.{checkpoint_parts};
+ghost use Rattle.oberon_format.specs.Defined.{claim_of};
+ghost use Rattle.oberon_session.specs.inner.Progress.{IsReached};
+
+use crate::record_fault::RecordFault;
+use oberon_format::{Checkpoint, Sent};
+use risc_devices::Devices;
+use risc_machine::{Cpu, Inputs, Machine};
+use risc_pages::{Page, Pool};
+use std::alloc::Global;
+
+/// The most steps that are done before the length of the output is looked at.
+const PIECE: u64 = 1_048_576;
+
+/// What a machine came to, what it sent on the way, and the pages that changed since it was started, each with its place.
+#[derive(Drop)]
+pub struct Reached {
+    pub cpu: Cpu,
+    pub devices: Devices,
+    pub sent: Sent,
+    pub changed: Vec<(u16, Page)>,
+}
+
+/// Starts a machine at a checkpoint and runs it up to the count `to`, where it sends at most `room` bytes.
+pub fn reach(
+    alloc: Global,
+    pool: &Pool,
+    inputs: &Inputs,
+    last: &Checkpoint,
+    to: u64,
+    room: usize,
+) -> Result<Reached, RecordFault>
+    requires named { IsNamed pool.now last.now.table }
+    requires counter { last.now.cpu.pc < COUNTER_END }
+    requires stop { last.now.cpu.stop ≤ 4 }
+    requires rises { last.now.count ≤ to }
+    ensures reached { let begun = (claim_of pool.now (checkpoint_parts last.now)).state in
+        let steps = to - last.now.count in
+        IfOk result (λ reached. IsReached begun.words (run_of inputs.now last.now.count steps begun) (sent_of inputs.now last.now.count steps begun) reached) }
+    ensures room { IfOk result (λ reached. length reached.sent ≤ room) }
+    ensures refused { let begun = (claim_of pool.now (checkpoint_parts last.now)).state in
+        let sent = sent_of inputs.now last.now.count (to - last.now.count) begun in
+        IfErr result (λ fault. fault ≢ RecordFault.Memory → (fault ≡ RecordFault.Output) × (room < length sent)) }
+{
+    let mut machine = Machine::start(alloc, pool, &last.table, last.cpu, last.devices.copy())?;
+    let sent = run_in_pieces(alloc, &mut machine, inputs, last.count, to, room)?;
+    // Each read of a memory says that it is whole.
+    let _owned = machine.memory().owned(0);
+    let (cpu, devices, delta) = machine.close()?;
+    Ok(Reached {
+        cpu,
+        devices,
+        sent: Sent::new(sent),
+        changed: delta.changed,
+    })
+}
+
+/// Runs a machine from one count up to another, and gives what it sends, where that is at most `room` bytes.
+fn run_in_pieces(
+    alloc: Global,
+    machine: &mut Machine<'_>,
+    inputs: &Inputs,
+    from: u64,
+    to: u64,
+    room: usize,
+) -> Result<Vec<u8>, RecordFault>
+    requires { from ≤ to }
+    ensures state { OnOk result (machine.new.state ≡ run_of inputs.now from (to - from) machine.old.state) }
+    ensures sent { IfOk result (λ sent. sent.items ≡ sent_of inputs.now from (to - from) machine.old.state) }
+    ensures room { IfOk result (λ sent. length sent.items ≤ room) }
+    ensures kept { machine.new.base ≡ machine.old.base }
+    ensures refused { IfErr result (λ fault. fault ≢ RecordFault.Memory → (fault ≡ RecordFault.Output) × (room < length (sent_of inputs.now from (to - from) machine.old.state))) }
+    ensures memory { IfErr result (λ fault. fault ≡ RecordFault.Memory → MayFail machine.new) }
+{
+    let mut sent = Vec::new(alloc);
+    let mut at = from;
+    while at < to {
+        let end = piece_end(machine, at, to);
+        let Ok(()) = machine.run(inputs, at, end, &mut sent) else {
+            return Err(RecordFault::Memory);
+        };
+        if sent.len() > room {
+            return Err(RecordFault::Output);
+        }
+        at = end;
+    }
+    Ok(sent)
+}
+
+/// Where a piece of a run ends that begins at a count. A stopped machine does nothing more, and gets there at once.
+fn piece_end(machine: &Machine<'_>, at: u64, to: u64) -> u64
+    requires { at < to }
+    ensures further { at < result }
+    ensures within { result ≤ to }
+{
+    if machine.cpu().stop != 0 || to - at <= PIECE {
+        to
+    } else {
+        at + PIECE
+    }
+}

@@ -1,0 +1,132 @@
+//! Recordings that are laid out as texts.
+
+use crate::bytes::{push_word, push_words, put_word};
+use crate::claim::Claim;
+use crate::spot::Spot;
+use std::alloc::{AllocError, Global};
+
+/// An input, at its count.
+#[derive(Clone, Copy)]
+pub struct Event {
+    pub count: u64,
+    pub kind: u32,
+    pub value: u32,
+}
+
+/// A recording to lay out.
+#[derive(Clone, Copy)]
+pub struct Sketch<'a> {
+    /// The words that each page begins with, at most 256; the others are 0.
+    pub pages: &'a [&'a [u32]],
+    pub events: &'a [Event],
+    /// What the checkpoints claim.
+    pub claims: &'a [Claim<'a>],
+}
+
+impl<'a> Sketch<'a> {
+    /// The same recording up to this checkpoint.
+    pub fn up_to(self, checkpoint: usize) -> Sketch<'a> {
+        let claims = self.claims;
+        let count = checkpoint.saturating_add(1).min(claims.len());
+        Sketch {
+            claims: &claims[..count],
+            ..self
+        }
+    }
+
+    /// The text of version 1, where these numbers stand in place of those that are claimed.
+    pub fn first_text(&self, alloc: Global, turned: &[(Spot, u32)]) -> Result<Vec<u8>, AllocError> {
+        let mut text = self.front(alloc, 1, turned)?;
+        for (k, claim) in self.claims.iter().enumerate() {
+            let start = text.len();
+            claim.push_fields(&mut text)?;
+            claim.push_table(&mut text)?;
+            for (spot, number) in turned {
+                if let Some(offset) = spot.offset_in_first(k) {
+                    put_word(&mut text, start.saturating_add(offset), *number);
+                }
+            }
+        }
+        self.push_output(&mut text)?;
+        Ok(text)
+    }
+
+    /// The text of version 2, where these numbers stand in place of those that are claimed.
+    pub fn second_text(
+        &self,
+        alloc: Global,
+        turned: &[(Spot, u32)],
+    ) -> Result<Vec<u8>, AllocError> {
+        let mut text = self.front(alloc, 2, turned)?;
+        let mut before = [0; 1024];
+        for (k, claim) in self.claims.iter().enumerate() {
+            let start = text.len();
+            claim.push_fields(&mut text)?;
+            claim.push_changes(&mut text, &before)?;
+            before = claim.page_numbers();
+            for (spot, number) in turned {
+                if let Some(offset) = spot.offset_in_second(k) {
+                    put_word(&mut text, start.saturating_add(offset), *number);
+                }
+            }
+        }
+        self.push_output(&mut text)?;
+        Ok(text)
+    }
+
+    /// The header, the pages and the events.
+    fn front(
+        &self,
+        alloc: Global,
+        version: u32,
+        turned: &[(Spot, u32)],
+    ) -> Result<Vec<u8>, AllocError> {
+        let pages = number_of(self.pages);
+        let events = number_of(self.events);
+        let checkpoints = number_of(self.claims);
+        let mut text = header(alloc, version, pages, events, checkpoints)?;
+        for page in self.pages {
+            push_words(&mut text, page)?;
+            for _ in page.len()..256 {
+                push_word(&mut text, 0)?;
+            }
+        }
+        for (spot, number) in turned {
+            if let Some(place) = spot.place_in_pages() {
+                put_word(&mut text, place, *number);
+            }
+        }
+        for event in self.events {
+            text.extend_from_slice(&event.count.to_le_bytes())?;
+            push_words(&mut text, &[event.kind, event.value])?;
+        }
+        Ok(text)
+    }
+
+    /// Adds all bytes that were sent.
+    fn push_output(&self, text: &mut Vec<u8>) -> Result<(), AllocError> {
+        for claim in self.claims {
+            text.extend_from_slice(claim.sent)?;
+        }
+        Ok(())
+    }
+}
+
+/// How many there are, as a number of four bytes.
+fn number_of<T>(all: &[T]) -> u32 {
+    u32::try_from(all.len()).unwrap_or(u32::MAX)
+}
+
+/// The header of a text: its version, and how many pages, events and checkpoints it has.
+pub fn header(
+    alloc: Global,
+    version: u32,
+    pages: u32,
+    events: u32,
+    checkpoints: u32,
+) -> Result<Vec<u8>, AllocError> {
+    let mut text = Vec::new(alloc);
+    text.extend_from_slice(b"ORSR")?;
+    push_words(&mut text, &[version, pages, events, checkpoints, 0])?;
+    Ok(text)
+}

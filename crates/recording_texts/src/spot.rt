@@ -1,0 +1,72 @@
+//! Places of a text at which a single number is turned.
+
+/// Where a number of four bytes stands.
+#[derive(Clone, Copy)]
+pub enum Spot {
+    /// This word of this page of the pool.
+    Word(u16, u16),
+    /// This register at this checkpoint.
+    Register(u16, u16),
+    H(u16),
+    Flags(u16),
+    Stop(u16),
+    Leds(u16),
+    /// How many keys wait.
+    Waiting(u16),
+    /// The first four keys.
+    Keys(u16),
+    /// The timer's rate, for which only version 2 has a place.
+    Rate(u16),
+    /// The timer's phase, for which only version 2 has a place.
+    Phase(u16),
+    /// The page number of this checkpoint at this place, which only version 1 has for each place.
+    Place(u16, u16),
+}
+
+use Spot::{Flags, H, Keys, Leds, Phase, Place, Rate, Register, Stop, Waiting, Word};
+
+impl Spot {
+    /// Where the number stands in the text, if it is one of a page.
+    pub(crate) fn place_in_pages(self) -> Option<usize> {
+        match self {
+            Word(page, word) => Some(24 + 1024 * usize::from(page) + 4 * usize::from(word)),
+            _ => None,
+        }
+    }
+
+    /// Where the number stands in checkpoint k of a text of version 1, from the checkpoint's first byte.
+    pub(crate) fn offset_in_first(self, k: usize) -> Option<usize> {
+        match self {
+            Place(of, place) if usize::from(of) == k => Some(132 + 4 * usize::from(place)),
+            _ => self.offset_in_both(k),
+        }
+    }
+
+    /// Where the number stands in checkpoint k of a text of version 2, from the checkpoint's first byte.
+    pub(crate) fn offset_in_second(self, k: usize) -> Option<usize> {
+        match self {
+            Rate(of) if usize::from(of) == k => Some(132),
+            Phase(of) if usize::from(of) == k => Some(136),
+            _ => self.offset_in_both(k),
+        }
+    }
+
+    /// Where the number stands among the 132 bytes that checkpoint k begins with in both versions.
+    fn offset_in_both(self, k: usize) -> Option<usize> {
+        let (of, offset) = match self {
+            Register(of, number) => (of, 8 + 4 * usize::from(number)),
+            H(of) => (of, 72),
+            Flags(of) => (of, 80),
+            Stop(of) => (of, 84),
+            Leds(of) => (of, 96),
+            Waiting(of) => (of, 108),
+            Keys(of) => (of, 112),
+            Word(..) | Rate(_) | Phase(_) | Place(..) => return None,
+        };
+        if usize::from(of) == k {
+            Some(offset)
+        } else {
+            None
+        }
+    }
+}
