@@ -19,9 +19,6 @@ tally_add : (n : ℕ) (f g : ℕ → ℕ) → tally n (λ x. f x + g x) ≡ tall
 tally_add zero f g = refl
 tally_add (suc n) f g = let e = tally_add n f g in omega arith
 
-one_below : (x n : ℕ) → x < n → once_below x n ≡ 1
-one_below x n below = grind (arith, nat_tests)
-
 tally_once : (n m : ℕ) (f : ℕ → ℕ) → ((x : ℕ) → f x ≡ once_below x m) → n ≤ m → tally n f ≡ n
 tally_once zero m f once within = refl
 tally_once (suc n) m f once within =
