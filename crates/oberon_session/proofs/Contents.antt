@@ -16,7 +16,7 @@ use Rattle.risc_pages.proofs.PoolLemmas.{page_at-table_words, page_of-shared, pa
 use Rattle.risc_pages.specs.Tables.{IsNamed, table_words}
 use Rattle.risc_pages.specs.Delta.{changed_below}
 use Rattle.risc_pages.specs.Pages.{ArePages, page_at, page_of, zero_page}
-use Rattle.oberon_session.proofs.Layouts.{with-page}
+use Rattle.oberon_session.proofs.LaidPages.{with-page}
 use Rattle.oberon_session.specs.Laid.{Laid, changed_pages, is_blank, lay, lay_page, lay_pages}
 use Rattle.oberon_session.specs.Laws.{IsTableOf}
 

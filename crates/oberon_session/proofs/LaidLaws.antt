@@ -10,7 +10,7 @@ use Rattle.risc_pages.proofs.DeltaLemmas.{AreDifferences-changed_below}
 use Rattle.risc_pages.specs.Delta.{changed_below}
 use Rattle.risc_pages.specs.Pages.{page_at}
 use Rattle.oberon_session.proofs.Contents.{blank-is, memory-laid, other-is}
-use Rattle.oberon_session.proofs.Layouts.{with-page}
+use Rattle.oberon_session.proofs.LaidPages.{with-page}
 use Rattle.oberon_session.specs.Laid.{Laid, is_blank, lay, lay_page, lay_pages}
 use Rattle.oberon_session.specs.Laws.{LaidLaw}
 
