@@ -15,7 +15,7 @@ use Rattle.oberon_format.specs.CheckpointParts.{CheckpointParts, checkpoint_part
 use Rattle.oberon_format.specs.Defined.{claim_of}
 use Rattle.oberon_format.specs.Recording.{IsFit}
 use Rattle.oberon_session.proofs.Next.{IsGoodNext, Recorded, checkpoint-there, checkpoints-more, count-of, fit-there, length-checkpoints, recorded-next, recorded-so, so-recorded}
-use Rattle.oberon_session.proofs.Steps.{laid_of-next, output-on, state-on, too-many-pages, too-much-output}
+use Rattle.oberon_session.proofs.Steps.{count-rises, count_of-next, laid_of-next, output-on, state-on, too-many-pages, too-much-output}
 use Rattle.oberon_session.specs.Laid.{Laid, changed_pages, lay, lay_pages}
 use Rattle.oberon_session.specs.Recorded.{checkpoint_of, count_of, laid_of, output_between, output_up_to, record_fault_of, state_of}
 use Rattle.oberon_session.specs.SessionParts.{SessionParts, IsLawful}
@@ -38,17 +38,36 @@ checkpoint-is s k count cpu devices sent table counts cpus states sents tables =
     let sents-so = sents ∙ ap (λ (j : ℕ). output_between s (count_of s j) (count_of s (k + 1))) before in
     λ i. record { count = counts i; cpu = cpus i; devices = states i; sent = sents-so i; table = tables i }
 
-module _ (s : SessionParts) (k : ℕ) (laid : Laid) (checkpoints : List Checkpoint) (sent : ℕ) (so : IsRecorded s k laid (map checkpoint_parts checkpoints) sent) where
-  pub many : length (map checkpoint_parts checkpoints) ≡ k + 1
+-- where the machine begins that is started at a checkpoint
+abbrev first : Laid → Checkpoint → State
+first laid last = (claim_of laid.pool (checkpoint_parts last)).state
+
+-- and where it ends at a count
+abbrev end : Laid → Checkpoint → List Event → ℕ → State
+end laid last es count = run_of es last.count (count - last.count) (first laid last)
+
+-- what it sends on the way
+abbrev sends : Laid → Checkpoint → List Event → ℕ → List ℕ
+sends laid last es count = sent_of es last.count (count - last.count) (first laid last)
+
+-- the count to which it runs
+pub next-count : (s : SessionParts) {counts : List ℕ} (k : ℕ) → counts ≡ s.counts → get_or counts k 0 ≡ count_of s (k + 1)
+next-count s k same = ap (λ (l : List ℕ). get_or l k 0) same ∙ sym (count_of-next s k)
+
+module _ {s : SessionParts} {k : ℕ} {laid : Laid} (checkpoints : List Checkpoint) {sent : ℕ} (so : IsRecorded s k laid (map checkpoint_parts checkpoints) sent) where
+  many : length (map checkpoint_parts checkpoints) ≡ k + 1
   many = ap length so.recorded ∙ length-checkpoints s k
 
   pub inside-of : k < length checkpoints
   inside-of = omega (arith, many, length-map checkpoints checkpoint_parts)
 
-  module _ (last : Checkpoint) (inside : k < length checkpoints) (at : last ≡ get_or checkpoints k last) where
+  pub few-sent : sent ≤ MAX_OUTPUT
+  few-sent = omega (arith, so.long, ap length so.output, so.lawful.output)
+
+  module _ {last : Checkpoint} (at : last ≡ get_or checkpoints k last) where
     last-is : checkpoint_parts last ≡ checkpoint_of s k
     last-is =
-        sym (checkpoint_at-is checkpoints k last inside at)
+        sym (checkpoint_at-is checkpoints k last inside-of at)
         ∙ ap (λ (cs : List CheckpointParts). get_or cs k no_checkpoint) so.recorded ∙ checkpoint-there s k k (omega arith)
 
     pub last-count : last.count ≡ count_of s k
@@ -65,68 +84,59 @@ module _ (s : SessionParts) (k : ℕ) (laid : Laid) (checkpoints : List Checkpoi
         ap (λ (c : CheckpointParts). (claim_of laid.pool c).state) last-is
         ∙ claimed-is s k laid.pool (so.content k (omega arith))
 
-    module _ (es : List Event) (same : es ≡ s.inputs) (count : ℕ) (next : count ≡ count_of s (k + 1)) (on : count_of s k ≤ count_of s (k + 1)) where
-      -- where the machine begins
-      abbrev first : State
-      first = (claim_of laid.pool (checkpoint_parts last)).state
-
-      -- and where it ends
-      abbrev end : State
-      end = run_of es last.count (count - last.count) (claim_of laid.pool (checkpoint_parts last)).state
-
-      -- what it sends on the way
-      abbrev sends : List ℕ
-      sends = sent_of es last.count (count - last.count) (claim_of laid.pool (checkpoint_parts last)).state
+    module _ (lawful : IsLawful s) (within : k < length s.counts) {es : List Event} (same : es ≡ s.inputs) {count : ℕ} (next : count ≡ count_of s (k + 1)) where
+      on : count_of s k ≤ count_of s (k + 1)
+      on = omega (arith, count-rises s lawful k within)
 
       from-to : {X : Type 0} (f : List Event → ℕ → ℕ → State → X)
-          → f es last.count (count - last.count) first ≡ f s.inputs (count_of s k) (count_of s (k + 1) - count_of s k) (state_of s k)
+          → f es last.count (count - last.count) (first laid last) ≡ f s.inputs (count_of s k) (count_of s (k + 1) - count_of s k) (state_of s k)
       from-to f =
           ap (λ (t : State). f es last.count (count - last.count) t) begun
           ∙ ap (λ (l : List Event). f l last.count (count - last.count) (state_of s k)) same
           ∙ ap (λ (n : ℕ). f s.inputs n (count - n) (state_of s k)) last-count
           ∙ ap (λ (m : ℕ). f s.inputs (count_of s k) (m - count_of s k) (state_of s k)) next
 
-      state-reached : end ≡ state_of s (k + 1)
+      state-reached : end laid last es count ≡ state_of s (k + 1)
       state-reached = from-to run_of ∙ state-on s (count_of s k) (count_of s (k + 1)) on
 
-      output-reached : sends ≡ output_between s (count_of s k) (count_of s (k + 1))
+      output-reached : sends laid last es count ≡ output_between s (count_of s k) (count_of s (k + 1))
       output-reached = from-to sent_of
 
-      whole-output : length (output_up_to s (count_of s (k + 1))) ≡ sent + length sends
+      whole-output : length (output_up_to s (count_of s (k + 1))) ≡ sent + length (sends laid last es count)
       whole-output =
           let parts = ap length (output-on s (count_of s k) (count_of s (k + 1)) on) in
           let here = ap length output-reached in
           omega (arith, parts, here, so.long, length-append (output_up_to s (count_of s k)) (output_between s (count_of s k) (count_of s (k + 1))))
 
       -- it sends too much
-      pub refused-output : k < length s.counts → MAX_OUTPUT - sent < length sends → record_fault_of s ≡ Some fault.Output
-      refused-output within many = too-much-output s k within so.faultless (omega (arith, whole-output))
+      pub refused-output : MAX_OUTPUT - sent < length (sends laid last es count) → record_fault_of s ≡ Some fault.Output
+      refused-output many = too-much-output s k within so.faultless (omega (arith, whole-output))
 
-      module _ (r : Reached) (reached : IsReached first.words end sends r) (laid' : Laid) (laid-so : laid' ≡ lay_pages laid (map page_view r.changed.items)) where
-        lay-is : lay first.words end.words laid ≡ lay_pages laid (changed_pages first.words end.words)
+      module _ {r : Reached} (reached : IsReached (first laid last).words (end laid last es count) (sends laid last es count) r) {laid' : Laid} (laid-so : laid' ≡ lay_pages laid (map page_view r.changed.items)) where
+        lay-is : lay (first laid last).words (end laid last es count).words laid ≡ lay_pages laid (changed_pages (first laid last).words (end laid last es count).words)
         unfolding lay
         lay-is = refl
 
         laid-next : laid' ≡ laid_of s (k + 1)
         laid-next =
             laid-so ∙ ap (λ (pages : List (ℕ × List ℕ)). lay_pages laid pages) reached.changed ∙ sym lay-is
-            ∙ ap (λ (l : List ℕ). lay l end.words laid) (ap (λ (t : State). t.words) begun)
+            ∙ ap (λ (l : List ℕ). lay l (end laid last es count).words laid) (ap (λ (t : State). t.words) begun)
             ∙ ap (λ (l : List ℕ). lay (state_of s k).words l laid) (ap (λ (t : State). t.words) state-reached)
             ∙ ap (λ (l : Laid). lay (state_of s k).words (state_of s (k + 1)).words l) so.laid_so
             ∙ sym (laid_of-next s k)
 
         -- as much is sent as may be
-        module _ (room : length r.sent ≤ MAX_OUTPUT - sent) (before : sent ≤ MAX_OUTPUT) where
+        module _ (room : length r.sent ≤ MAX_OUTPUT - sent) where
           few-bytes : length (output_up_to s (count_of s (k + 1))) ≤ MAX_OUTPUT
-          few-bytes = omega (arith, whole-output, ap length reached.output)
+          few-bytes = omega (arith, few-sent, whole-output, ap length reached.output)
 
           -- too many pages were laid
-          pub refused-pages : k < length s.counts → MAX_PAGES < length laid'.pool → record_fault_of s ≡ Some fault.Pages
-          refused-pages within many =
+          pub refused-pages : MAX_PAGES < length laid'.pool → record_fault_of s ≡ Some fault.Pages
+          refused-pages many =
               too-many-pages s k within so.faultless few-bytes (subst (λ (l : Laid). MAX_PAGES < length l.pool) laid-next many)
 
           -- the next checkpoint is recorded
-          module _ (lawful : IsLawful s) (within : k < length s.counts) (pages : length laid'.pool ≤ MAX_PAGES) (pool : ArePages laid'.pool)
+          module _ (pages : length laid'.pool ≤ MAX_PAGES) (pool : ArePages laid'.pool)
               (devices : IsDeviceState r.devices) (bytes : All (λ byte. byte < 2 ^ 8) r.sent) where
             good : IsGoodNext s k
             good =
