@@ -5,7 +5,7 @@ use Rattle.std.proofs.lemmas.List.{drop-take, get_or-take, length-take, take-tak
 use Rattle.std.specs.Prelude.{nat_le, slice_range}
 use Rattle.oberon_format.specs.FirstFault.{first_broken}
 use Rattle.oberon_format.specs.declared.fields.CheckpointFields.{CheckpointFields}
-use Rattle.oberon_format.specs.declared.layout.TheConstants.{LONGEST_TEXT, MAGIC_AT, VERSION_AT, PAGES_AT, EVENTS_AT, CHECKPOINTS_AT, LAST_AT, KIND_AT, VALUE_AT, COUNTER_AT, FLAGS_AT, STOP_AT, SWITCHES_AT, LEDS_AT, MOUSE_AT, SERIAL_AT, WAITING_AT, KEYS_AT, SENT_AT, RATE_AT, PHASE_AT, CHANGE_COUNT_AT, NUMBER_AT, FIRST_VERSION, PLACES, CHANGES_AT, CHANGE_LEN}
+use Rattle.oberon_format.specs.declared.layout.TheConstants.{LONGEST_TEXT, MAGIC_AT, VERSION_AT, PAGES_AT, EVENTS_AT, CHECKPOINTS_AT, LAST_AT, KIND_AT, VALUE_AT, COUNTER_AT, FLAGS_AT, STOP_AT, SWITCHES_AT, LEDS_AT, MOUSE_AT, SERIAL_AT, WAITING_AT, KEYS_AT, SENT_AT, RATE_AT, PHASE_AT, CHANGE_COUNT_AT, NUMBER_AT, FIRST_VERSION, PLACES, CHANGES_AT, CHANGE_LEN, EVENT_LEN}
 use Rattle.oberon_format.specs.Changes.{number_after}
 use Rattle.oberon_format.specs.Fields.{Fields, total}
 use Rattle.oberon_format.specs.Layout.{version, pages, events, checkpoints, event_place, event_start, long_at, page_number_place, change_place, checkpoint_size, change_count, later_word, start, word_at}
@@ -43,7 +43,7 @@ long_at-take n text place within =
     let byte7 = get_or-take n text (suc (suc (suc (suc (suc (suc (suc place))))))) 0 (omega arith) in
     rw (byte0, byte1, byte2, byte3, byte4, byte5, byte6, byte7) refl
 
-event_of-take : (n : ℕ) (text : List ℕ) (place : ℕ) → place + 16 ≤ n → event_of (take n text) place ≡ event_of text place
+event_of-take : (n : ℕ) (text : List ℕ) (place : ℕ) → place + EVENT_LEN ≤ n → event_of (take n text) place ≡ event_of text place
 event_of-take n text place within =
     let count = long_at-take n text place (omega arith) in
     let kind = word_at-take n text (place + KIND_AT) (omega arith) in

@@ -15,7 +15,8 @@ use Rattle.risc_devices.proofs.InputLemmas.{input_of, kind_of-input_of, value_of
 use Rattle.risc_machine.specs.declared.event.Event.{Event}
 use Rattle.risc_machine.specs.MachineState.{CpuState}
 use Rattle.risc_pages.specs.Pages.{IsPage, ArePages}
-use Rattle.oberon_format.specs.declared.layout.TheConstants.{FIRST_VERSION, PLACES, REGISTERS_AT, AUXILIARY_AT, COUNTER_AT, FLAGS_AT, STOP_AT, TIMER_AT, SWITCHES_AT, LEDS_AT, MOUSE_AT, SERIAL_AT, WAITING_AT, KEYS_AT, SENT_AT, RATE_AT, PHASE_AT, CHANGES_AT, NUMBER_AT}
+use Rattle.oberon_format.specs.declared.layout.TheConstants.{FIRST_VERSION, PLACES, REGISTERS_AT, AUXILIARY_AT, COUNTER_AT, FLAGS_AT, STOP_AT, TIMER_AT, SWITCHES_AT, LEDS_AT, MOUSE_AT, SERIAL_AT, WAITING_AT, KEYS_AT, SENT_AT, RATE_AT, PHASE_AT, CHANGES_AT, NUMBER_AT, KIND_AT, VALUE_AT}
+use Rattle.oberon_format.specs.declared.ranges.TheConstants.{FLAGS_END, SWITCHES_END, LEDS_END, SERIAL_END, MAX_KEYS}
 use Rattle.oberon_format.specs.declared.fault.Fault.{Fault}
 use Rattle.oberon_format.specs.CheckpointParts.{CheckpointParts}
 use Rattle.oberon_format.specs.Layout.{word_at, long_at, version, pages, events, checkpoints, page_place, page_number_place, change_place, event_place, later_word, change_count, start, output_place}
@@ -140,8 +141,8 @@ record Events (text : List ℕ) (n : ℕ) : Type 0 where
 event_made : (text : List ℕ) (i : ℕ) → AreBytes text → Meets text → i < events text → (e : Event) × IsEventAt text i e
 event_made text i bytes meets lt =
     let place = event_place text i in
-    let kind = word_at text (place + 8) in
-    let value = word_at text (place + 12) in
+    let kind = word_at text (place + KIND_AT) in
+    let value = word_at text (place + VALUE_AT) in
     let lawful = event_input text i meets lt in (
       record { count = long_at text place; input = input_of kind value lawful; range = long_fits text place bytes },
       record { count = refl; kind = sym (kind_of-input_of kind value lawful); value = sym (value_of-input_of kind value lawful) },
@@ -169,7 +170,7 @@ cpu_at text place = record {
   stop = word_at text (place + STOP_AT);
 }
 
-cpu_stands : (text : List ℕ) (place : ℕ) → word_at text (place + FLAGS_AT) < 16 → IsCpu text place (cpu_at text place)
+cpu_stands : (text : List ℕ) (place : ℕ) → word_at text (place + FLAGS_AT) < FLAGS_END → IsCpu text place (cpu_at text place)
 unfolding cpu_at
 cpu_stands text place few = record {
   registers = words_stand text (place + REGISTERS_AT) 16;
@@ -197,13 +198,13 @@ devices_at text place =
 
 -- what the ranges of a checkpoint's fields say
 record Small (text : List ℕ) (place : ℕ) : Type 0 where
-  flags : word_at text (place + FLAGS_AT) < 16
+  flags : word_at text (place + FLAGS_AT) < FLAGS_END
   phase : is_phase (later_word text (place + RATE_AT)) (later_word text (place + PHASE_AT)) ≡ true
-  switches : word_at text (place + SWITCHES_AT) < 4096
-  leds : word_at text (place + LEDS_AT) < 256
+  switches : word_at text (place + SWITCHES_AT) < SWITCHES_END
+  leds : word_at text (place + LEDS_AT) < LEDS_END
   mouse : is_mouse (word_at text (place + MOUSE_AT)) ≡ true
-  serial : word_at text (place + SERIAL_AT) < 512
-  keys : word_at text (place + WAITING_AT) ≤ 16
+  serial : word_at text (place + SERIAL_AT) < SERIAL_END
+  keys : word_at text (place + WAITING_AT) ≤ MAX_KEYS
 
 small : (text : List ℕ) (place : ℕ) → in_ranges (checkpoint_of text place) ≡ true → are_keys (checkpoint_of text place) ≡ true → Small text place
 small text place ranges keys =
@@ -225,7 +226,7 @@ small text place ranges keys =
     }
 
 -- as many key codes as wait
-codes_length : (text : List ℕ) (place : ℕ) → place + CHANGES_AT ≤ length text → word_at text (place + WAITING_AT) ≤ 16
+codes_length : (text : List ℕ) (place : ℕ) → place + CHANGES_AT ≤ length text → word_at text (place + WAITING_AT) ≤ MAX_KEYS
     → length (slice_range text (place + KEYS_AT) (place + KEYS_AT + word_at text (place + WAITING_AT))) ≡ word_at text (place + WAITING_AT)
 codes_length text place room few =
     let end = place + KEYS_AT + word_at text (place + WAITING_AT) in
