@@ -41,17 +41,18 @@ one_small : (b : Bool) → cond b 1 0 ≤ 1
 one_small true = omega arith
 one_small false = omega arith
 
+-- a segment that no run from here on has doesn't stand behind a verdict: there is such a run, or nothing where it failed
+none_behind : (first end s : ℕ) (vs : List Finding) (o : Option Part) → (IsRun first end vs → times s (segments vs) ≡ 0) → MatchOption o (IsRun first end vs) (λ _. vs ≡ []) → times s (segments vs) ≡ 0
+none_behind first end s vs None next run = next run
+none_behind first end s vs (Some p) next is = ap (λ (l : List Finding). times s (segments l)) is
+
 -- no segment before a run stands in it
 run_before : (first end s : ℕ) (vs : List Finding) → IsRun first end vs → s < first → times s (segments vs) ≡ 0
 run_before first end s [] h below = refl
 run_before first end s (v ∷ vs) h below =
     let here = one_other v.segment s (λ e. (let f = h.1 in absurd (omega arith))) in
     let front = times_front s v.segment (segments vs) in
-    let rest = tail v.part (λ run. run_before (first + 1) end s vs run (omega arith)) h.2 in omega arith
-  where
-    tail : (o : Option Part) → (IsRun (first + 1) end vs → times s (segments vs) ≡ 0) → MatchOption o (IsRun (first + 1) end vs) (λ _. vs ≡ []) → times s (segments vs) ≡ 0
-    tail None next run = next run
-    tail (Some p) next is = ap (λ (l : List Finding). times s (segments l)) is
+    let rest = none_behind (first + 1) end s vs v.part (λ run. run_before (first + 1) end s vs run (omega arith)) h.2 in omega arith
 
 run_past : (first end s : ℕ) (vs : List Finding) → IsRun first end vs → end ≤ s → times s (segments vs) ≡ 0
 run_past first end s [] h past = refl
@@ -59,11 +60,7 @@ run_past first end s (v ∷ vs) h past =
     let below = h.0 in
     let here = one_other v.segment s (λ e. (let f = h.1 in absurd (omega arith))) in
     let front = times_front s v.segment (segments vs) in
-    let rest = tail v.part (λ run. run_past (first + 1) end s vs run past) h.2 in omega arith
-  where
-    tail : (o : Option Part) → (IsRun (first + 1) end vs → times s (segments vs) ≡ 0) → MatchOption o (IsRun (first + 1) end vs) (λ _. vs ≡ []) → times s (segments vs) ≡ 0
-    tail None next run = next run
-    tail (Some p) next is = ap (λ (l : List Finding). times s (segments l)) is
+    let rest = none_behind (first + 1) end s vs v.part (λ run. run_past (first + 1) end s vs run past) h.2 in omega arith
 
 run_once : (first end s : ℕ) (vs : List Finding) → IsRun first end vs → times s (segments vs) ≤ 1
 run_once first end s [] h = omega arith

@@ -5,7 +5,7 @@ use Rattle.std.proofs.lemmas.List.{drop-take, get_or-take, length-take, take-tak
 use Rattle.std.specs.Prelude.{nat_le, slice_range}
 use Rattle.oberon_format.specs.FirstFault.{first_broken}
 use Rattle.oberon_format.specs.declared.fields.CheckpointFields.{CheckpointFields}
-use Rattle.oberon_format.specs.declared.layout.TheConstants.{LONGEST_TEXT, MAGIC_AT, VERSION_AT, PAGES_AT, EVENTS_AT, CHECKPOINTS_AT, LAST_AT, KIND_AT, VALUE_AT, COUNTER_AT, FLAGS_AT, STOP_AT, SWITCHES_AT, LEDS_AT, MOUSE_AT, SERIAL_AT, WAITING_AT, KEYS_AT, SENT_AT, RATE_AT, PHASE_AT, CHANGE_COUNT_AT, NUMBER_AT, FIRST_VERSION, PLACES, CHANGES_AT, CHANGE_LEN}
+use Rattle.oberon_format.specs.declared.layout.TheConstants.{LONGEST_TEXT, MAGIC_AT, VERSION_AT, PAGES_AT, EVENTS_AT, CHECKPOINTS_AT, LAST_AT, KIND_AT, VALUE_AT, COUNTER_AT, FLAGS_AT, STOP_AT, SWITCHES_AT, LEDS_AT, MOUSE_AT, SERIAL_AT, WAITING_AT, KEYS_AT, SENT_AT, RATE_AT, PHASE_AT, CHANGE_COUNT_AT, NUMBER_AT, FIRST_VERSION, PLACES, CHANGES_AT, CHANGE_LEN, EVENT_LEN}
 use Rattle.oberon_format.specs.Changes.{number_after}
 use Rattle.oberon_format.specs.Fields.{Fields, total}
 use Rattle.oberon_format.specs.Layout.{version, pages, events, checkpoints, event_offset, event_start, long_at, page_number_offset, change_offset, checkpoint_size, change_count, later_word, start, word_at}
@@ -43,7 +43,7 @@ long_at-take n text offset within =
     let byte7 = get_or-take n text (suc (suc (suc (suc (suc (suc (suc offset))))))) 0 (omega arith) in
     rw (byte0, byte1, byte2, byte3, byte4, byte5, byte6, byte7) refl
 
-event_of-take : (n : ℕ) (text : List ℕ) (offset : ℕ) → offset + 16 ≤ n → event_of (take n text) offset ≡ event_of text offset
+event_of-take : (n : ℕ) (text : List ℕ) (offset : ℕ) → offset + EVENT_LEN ≤ n → event_of (take n text) offset ≡ event_of text offset
 event_of-take n text offset within =
     let count = long_at-take n text offset (omega arith) in
     let kind = word_at-take n text (offset + KIND_AT) (omega arith) in

@@ -15,7 +15,8 @@ use Rattle.risc_devices.proofs.InputLemmas.{input_of, kind_of-input_of, value_of
 use Rattle.risc_machine.specs.declared.event.Event.{Event}
 use Rattle.risc_machine.specs.MachineState.{CpuState}
 use Rattle.risc_pages.specs.Pages.{IsPage, ArePages}
-use Rattle.oberon_format.specs.declared.layout.TheConstants.{FIRST_VERSION, PLACES, REGISTERS_AT, AUXILIARY_AT, COUNTER_AT, FLAGS_AT, STOP_AT, TIMER_AT, SWITCHES_AT, LEDS_AT, MOUSE_AT, SERIAL_AT, WAITING_AT, KEYS_AT, SENT_AT, RATE_AT, PHASE_AT, CHANGES_AT, NUMBER_AT}
+use Rattle.oberon_format.specs.declared.layout.TheConstants.{FIRST_VERSION, PLACES, REGISTERS_AT, AUXILIARY_AT, COUNTER_AT, FLAGS_AT, STOP_AT, TIMER_AT, SWITCHES_AT, LEDS_AT, MOUSE_AT, SERIAL_AT, WAITING_AT, KEYS_AT, SENT_AT, RATE_AT, PHASE_AT, CHANGES_AT, NUMBER_AT, KIND_AT, VALUE_AT}
+use Rattle.oberon_format.specs.declared.ranges.TheConstants.{FLAGS_END, SWITCHES_END, LEDS_END, SERIAL_END, MAX_KEYS}
 use Rattle.oberon_format.specs.declared.fault.Fault.{Fault}
 use Rattle.oberon_format.specs.CheckpointParts.{CheckpointParts}
 use Rattle.oberon_format.specs.Layout.{word_at, long_at, version, pages, events, checkpoints, page_offset, page_number_offset, change_offset, event_offset, later_word, change_count, start, output_offset}
@@ -140,8 +141,8 @@ record Events (text : List ℕ) (n : ℕ) : Type 0 where
 event_made : (text : List ℕ) (i : ℕ) → AreBytes text → Meets text → i < events text → (e : Event) × IsEventAt text i e
 event_made text i bytes meets lt =
     let offset = event_offset text i in
-    let kind = word_at text (offset + 8) in
-    let value = word_at text (offset + 12) in
+    let kind = word_at text (offset + KIND_AT) in
+    let value = word_at text (offset + VALUE_AT) in
     let lawful = event_input text i meets lt in (
       record { count = long_at text offset; input = input_of kind value lawful; range = long_fits text offset bytes },
       record { count = refl; kind = sym (kind_of-input_of kind value lawful); value = sym (value_of-input_of kind value lawful) },
@@ -169,7 +170,7 @@ cpu_at text offset = record {
   stop = word_at text (offset + STOP_AT);
 }
 
-cpu_stands : (text : List ℕ) (offset : ℕ) → word_at text (offset + FLAGS_AT) < 16 → IsCpu text offset (cpu_at text offset)
+cpu_stands : (text : List ℕ) (offset : ℕ) → word_at text (offset + FLAGS_AT) < FLAGS_END → IsCpu text offset (cpu_at text offset)
 unfolding cpu_at
 cpu_stands text offset few = record {
   registers = words_stand text (offset + REGISTERS_AT) 16;
@@ -197,13 +198,13 @@ devices_at text offset =
 
 -- what the ranges of a checkpoint's fields say
 record Small (text : List ℕ) (offset : ℕ) : Type 0 where
-  flags : word_at text (offset + FLAGS_AT) < 16
+  flags : word_at text (offset + FLAGS_AT) < FLAGS_END
   phase : is_phase (later_word text (offset + RATE_AT)) (later_word text (offset + PHASE_AT)) ≡ true
-  switches : word_at text (offset + SWITCHES_AT) < 4096
-  leds : word_at text (offset + LEDS_AT) < 256
+  switches : word_at text (offset + SWITCHES_AT) < SWITCHES_END
+  leds : word_at text (offset + LEDS_AT) < LEDS_END
   mouse : is_mouse (word_at text (offset + MOUSE_AT)) ≡ true
-  serial : word_at text (offset + SERIAL_AT) < 512
-  keys : word_at text (offset + WAITING_AT) ≤ 16
+  serial : word_at text (offset + SERIAL_AT) < SERIAL_END
+  keys : word_at text (offset + WAITING_AT) ≤ MAX_KEYS
 
 small : (text : List ℕ) (offset : ℕ) → in_ranges (checkpoint_of text offset) ≡ true → are_keys (checkpoint_of text offset) ≡ true → Small text offset
 small text offset ranges keys =
@@ -225,7 +226,7 @@ small text offset ranges keys =
     }
 
 -- as many key codes as wait
-codes_length : (text : List ℕ) (offset : ℕ) → offset + CHANGES_AT ≤ length text → word_at text (offset + WAITING_AT) ≤ 16
+codes_length : (text : List ℕ) (offset : ℕ) → offset + CHANGES_AT ≤ length text → word_at text (offset + WAITING_AT) ≤ MAX_KEYS
     → length (slice_range text (offset + KEYS_AT) (offset + KEYS_AT + word_at text (offset + WAITING_AT))) ≡ word_at text (offset + WAITING_AT)
 codes_length text offset room few =
     let end = offset + KEYS_AT + word_at text (offset + WAITING_AT) in

@@ -5,6 +5,7 @@ use Rattle.std.specs.List.{list_all}
 use Rattle.std.proofs.lemmas.Bool.{eqb-true, leb-true}
 use Rattle.std.proofs.lemmas.List.{take-append-drop, length-drop, length-take, drop-drop, take-take, drop-take}
 use Rattle.oberon_format.specs.declared.layout.TheConstants.{CHANGES_AT, WAITING_AT, KEYS_AT, SENT_AT}
+use Rattle.oberon_format.specs.declared.ranges.TheConstants.{MAX_KEYS}
 use Rattle.oberon_format.proofs.RuleLemmas.{and_left, and_right}
 use Rattle.oberon_format.specs.Layout.{word_at}
 use Rattle.oberon_format.specs.Ranges.{are_keys}
@@ -40,12 +41,12 @@ pub length-range : (xs : List ℕ) (a b : ℕ) → a ≤ b → b ≤ length xs �
 length-range xs a b ab fits = omega (arith, length-take (b - a) (drop a xs), length-drop a xs)
 
 pub keys-stand : (text : List ℕ) (offset : ℕ) → offset + CHANGES_AT ≤ length text → are_keys (checkpoint_of text offset) ≡ true
-    → slice_range text (offset + KEYS_AT) (offset + SENT_AT) ≡ slice_range text (offset + KEYS_AT) (offset + KEYS_AT + word_at text (offset + WAITING_AT)) ++ replicate (16 - word_at text (offset + WAITING_AT)) 0
+    → slice_range text (offset + KEYS_AT) (offset + SENT_AT) ≡ slice_range text (offset + KEYS_AT) (offset + KEYS_AT + word_at text (offset + WAITING_AT)) ++ replicate (MAX_KEYS - word_at text (offset + WAITING_AT)) 0
 keys-stand text offset room h =
     let n = word_at text (offset + WAITING_AT) in
-    let few : n ≤ 16 = leb-true n 16 (and_left _ _ h) in
+    let few : n ≤ MAX_KEYS = leb-true n MAX_KEYS (and_left _ _ h) in
     let rest : drop n (slice_range text (offset + KEYS_AT) (offset + SENT_AT)) ≡ slice_range text (offset + KEYS_AT + n) (offset + SENT_AT) = range-drop text (offset + KEYS_AT) n (offset + SENT_AT) (omega arith) in
-    let zeros = zeros-are (slice_range text (offset + KEYS_AT + n) (offset + SENT_AT)) (subst (λ (l : List ℕ). list_all (λ b. eqb b 0) l ≡ true) rest (and_right (nat_le n 16) _ h)) in
-    let len : length (slice_range text (offset + KEYS_AT + n) (offset + SENT_AT)) ≡ 16 - n = omega (arith, length-range text (offset + KEYS_AT + n) (offset + SENT_AT) (omega arith) (omega arith)) in
+    let zeros = zeros-are (slice_range text (offset + KEYS_AT + n) (offset + SENT_AT)) (subst (λ (l : List ℕ). list_all (λ b. eqb b 0) l ≡ true) rest (and_right (nat_le n MAX_KEYS) _ h)) in
+    let len : length (slice_range text (offset + KEYS_AT + n) (offset + SENT_AT)) ≡ MAX_KEYS - n = omega (arith, length-range text (offset + KEYS_AT + n) (offset + SENT_AT) (omega arith) (omega arith)) in
     range-split text (offset + KEYS_AT) (offset + KEYS_AT + n) (offset + SENT_AT) (omega arith) (omega arith) (omega arith)
     ∙ ap (λ (r : List ℕ). slice_range text (offset + KEYS_AT) (offset + KEYS_AT + n) ++ r) (zeros ∙ ap (λ (m : ℕ). replicate m 0) len)

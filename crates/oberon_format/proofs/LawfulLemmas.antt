@@ -21,7 +21,7 @@ use Rattle.risc_pages.specs.Pages.{ArePages}
 use Rattle.oberon_format.specs.declared.fault.Fault.{Fault}
 use Rattle.oberon_format.specs.declared.fault.Fault.TheVariants as fault
 use Rattle.oberon_format.specs.declared.layout.TheConstants.{FIRST_VERSION, VERSION, HEADER_LEN, LAST_AT, CHANGES_AT, PLACES}
-use Rattle.oberon_format.specs.declared.ranges.TheConstants.{MAX_OUTPUT, MAX_PAGES, MAX_EVENTS, MAX_CHECKPOINTS, FLAGS_END, MAX_STOP, SWITCHES_END, LEDS_END, SERIAL_END}
+use Rattle.oberon_format.specs.declared.ranges.TheConstants.{MAX_COUNT, MAX_OUTPUT, MAX_PAGES, MAX_EVENTS, MAX_CHECKPOINTS, COUNTER_END, FLAGS_END, MAX_STOP, SWITCHES_END, LEDS_END, SERIAL_END, MAX_KEYS}
 use Rattle.oberon_format.specs.Changes.{changes}
 use Rattle.oberon_format.specs.CheckpointParts.{CheckpointParts, no_checkpoint}
 use Rattle.oberon_format.specs.Fields.{Fields, sent_below}
@@ -51,8 +51,8 @@ serial_fits d fits = let s = fits.serial in grind arith
 -- the keys of formed parts
 pub keys_met : (v : ℕ) (before : List ℕ) (c : CheckpointParts) → IsFormed c → are_keys (checkpoint_fields v before c) ≡ true
 keys_met v before c formed =
-    let few : nat_le (length c.devices.keys) 16 ≡ true = le-leb _ _ formed.devices.keys in
-    rw (few, drop_at c.devices.keys (replicate (16 - length c.devices.keys) 0) (length c.devices.keys) refl, zeros_met (16 - length c.devices.keys)) refl
+    let few : nat_le (length c.devices.keys) MAX_KEYS ≡ true = le-leb _ _ formed.devices.keys in
+    rw (few, drop_at c.devices.keys (replicate (MAX_KEYS - length c.devices.keys) 0) (length c.devices.keys) refl, zeros_met (MAX_KEYS - length c.devices.keys)) refl
 
 -- the ranges of formed parts are met where the program counter and the stop are in theirs
 all_nine : (pc flags stop phase switches leds mouse serial changes : Bool) → pc ≡ true → flags ≡ true → stop ≡ true → phase ≡ true → switches ≡ true

@@ -16,6 +16,7 @@ use Rattle.risc_machine.specs.MachineState.{CpuState, IsCpuState}
 use Rattle.risc_pages.specs.Tables.{IsTable}
 use Rattle.oberon_format.specs.declared.change.Change.{Change}
 use Rattle.oberon_format.specs.declared.layout.TheConstants.{PLACES, TABLE_AT}
+use Rattle.oberon_format.specs.declared.ranges.TheConstants.{MAX_KEYS}
 use Rattle.oberon_format.specs.Changes.{changes, no_change, number_after}
 use Rattle.oberon_format.specs.CheckpointParts.{CheckpointParts, no_checkpoint}
 use Rattle.oberon_format.specs.Layout.{version, page_offset, event_offset, change_offset, start}
@@ -63,7 +64,7 @@ same_devices_at : (text : List ℕ) (offset : ℕ) (a b : DeviceState) → IsDev
 same_devices_at text offset a b fit_a fit_b rate phase x y =
     let len : length a.keys ≡ length b.keys = sym x.waiting ∙ y.waiting in
     let keys : a.keys ≡ b.keys =
-    sym (take_at a.keys (replicate (16 - length a.keys) 0) (length b.keys) len) ∙ ap (take (length b.keys)) (sym x.keys ∙ y.keys) ∙ take_at b.keys (replicate (16 - length b.keys) 0) (length b.keys) refl in
+    sym (take_at a.keys (replicate (MAX_KEYS - length a.keys) 0) (length b.keys) len) ∙ ap (take (length b.keys)) (sym x.keys ∙ y.keys) ∙ take_at b.keys (replicate (MAX_KEYS - length b.keys) 0) (length b.keys) refl in
     same_devices a b fit_a fit_b (sym x.timer ∙ y.timer) rate phase (sym x.switches ∙ y.switches) (sym x.leds ∙ y.leds) (sym x.mouse ∙ y.mouse) (sym x.serial ∙ y.serial) keys
 
 -- outputs of one length each that are the same in all

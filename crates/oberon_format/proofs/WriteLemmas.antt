@@ -1,5 +1,5 @@
 -- What is written of a list, member by member.
-use Rattle.std.proofs.Common.{◌≡◌, ◌≢◌, ◌<◌, ◌≤◌, ◌+◌, ◌*◌, ◌∙◌, ℕ, zero, suc, List, [], ◌∷◌, ◌++◌, length, map, take, get_or, sym, ap, arith, add-one, append-nil, append_assoc, length-append}
+use Rattle.std.proofs.Common.{◌≡◌, ◌≢◌, ◌<◌, ◌≤◌, ◌+◌, ◌∙◌, ℕ, zero, suc, List, [], ◌∷◌, ◌++◌, length, map, take, get_or, sym, ap, arith, add-one, append-nil, append_assoc, length-append}
 use Rattle.std.specs.Prelude.{slice_index}
 use Rattle.std.specs.List.{flat_map}
 use Rattle.std.proofs.lemmas.List.{take_more, flat_map_more}
@@ -8,7 +8,6 @@ use Rattle.risc_pages.specs.Pages.{page_of, zero_page}
 use Rattle.oberon_format.specs.declared.change.Change.{Change}
 use Rattle.oberon_format.specs.declared.checkpoint.Checkpoint.{Checkpoint}
 use Rattle.oberon_format.specs.declared.layout.TheConstants.{VERSION}
-use Rattle.oberon_format.specs.declared.ranges.TheConstants.{MAX_PAGES, MAX_EVENTS}
 use Rattle.oberon_format.specs.Changes.{changes, changes_below}
 use Rattle.oberon_format.specs.CheckpointParts.{CheckpointParts, checkpoint_parts, no_checkpoint}
 use Rattle.oberon_format.specs.Layout.{checkpoint_size}
@@ -16,7 +15,7 @@ use Rattle.oberon_format.specs.PartFields.{start_laid}
 use Rattle.oberon_format.specs.Recording.{RecordingParts, checkpoint_at, table_before, output_of}
 use Rattle.oberon_format.specs.inner.Spelling.{change_bytes, checkpoint_bytes, checkpoints_bytes}
 use Rattle.oberon_format.proofs.CheckpointLemmas.{checkpoint_at-is}
-use Rattle.oberon_format.proofs.PartLemmas.{laid_next, laid_within}
+use Rattle.oberon_format.proofs.PartLemmas.{laid_next}
 use Rattle.oberon_format.proofs.Places.{bytes_at, bytes_at-next}
 use Rattle.oberon_format.proofs.Walk.{below_stays, below_grows}
 
@@ -68,10 +67,6 @@ written_laid r cs k c before same lt is b =
     ap (start_laid VERSION r) (add-one k) ∙ laid_next VERSION r k
     ∙ ap (λ (t : List ℕ). start_laid VERSION r k + checkpoint_size VERSION (length (changes t (checkpoint_at r k).table))) (sym before_is)
     ∙ ap (λ (t : List ℕ). start_laid VERSION r k + checkpoint_size VERSION (length (changes before t))) (sym table)
-
--- where a checkpoint is laid out is within a limit
-pub laid_bounded : (r : RecordingParts) (k : ℕ) → length r.pool ≤ MAX_PAGES → length r.inputs ≤ MAX_EVENTS → start_laid VERSION r k ≤ 83108888 + 8336 * k
-laid_bounded r k pages events = let within = laid_within VERSION r k in omega arith
 
 -- page number p + 1 is page p of the pool
 pub next_page : (pool : List (List ℕ)) (p : ℕ) → page_of pool (p + 1) ≡ get_or pool p zero_page

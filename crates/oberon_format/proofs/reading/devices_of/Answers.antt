@@ -3,6 +3,7 @@ use Rattle.std.specs.Prelude.{slice_range}
 use Rattle.std.proofs.lemmas.Bool.Decides.{nat_tests}
 use Rattle.risc_devices.specs.DeviceState.{DeviceState}
 use Rattle.oberon_format.specs.declared.layout.TheConstants.{KEYS_AT}
+use Rattle.oberon_format.specs.declared.ranges.TheConstants.{MAX_KEYS, SERIAL_END}
 use Rattle.oberon_format.specs.Text.{IsDevices}
 use Rattle.oberon_format.proofs.Keys.{keys-stand, length-range}
 use Rattle.oberon_format.proofs.Numbers.{serial_whole}
@@ -13,8 +14,8 @@ returns c =
     let text = c.args.text.now in
     let offset = c.args.offset in
     let is = rw c.unwrap.ensures at c.new.ensures.parts in
-    let few : c.u32_at-waiting.result ≤ 16 = grind (arith, nat_tests) in
-    let line : c.u32_at-5.result < 512 = grind (arith, nat_tests) in
+    let few : c.u32_at-waiting.result ≤ MAX_KEYS = grind (arith, nat_tests) in
+    let line : c.u32_at-5.result < SERIAL_END = grind (arith, nat_tests) in
     let len : length (slice_range text (offset + KEYS_AT) (offset + KEYS_AT + c.u32_at-waiting.result)) ≡ c.u32_at-waiting.result = omega (arith, length-range text (offset + KEYS_AT) (offset + KEYS_AT + c.u32_at-waiting.result) (omega arith) (omega arith)) in
     record {
       devices = subst (IsDevices text offset) (sym is) (record {

@@ -7,7 +7,8 @@ use Rattle.oberon_format.specs.Changes.{changes}
 use Rattle.oberon_format.specs.CheckpointParts.{CheckpointParts, checkpoint_parts}
 use Rattle.oberon_format.specs.PartFields.{start_laid}
 use Rattle.oberon_format.proofs.ChangeLemmas.{changes-few}
-use Rattle.oberon_format.proofs.WriteLemmas.{written_laid, laid_bounded}
+use Rattle.oberon_format.proofs.PartRules.{place_small}
+use Rattle.oberon_format.proofs.WriteLemmas.{written_laid}
 use Rattle.oberon_format.proofs.writing.text_len.Goals as goal
 
 pub loop-k-init : goal.loop-k-init
@@ -29,7 +30,7 @@ overflow_add-len c =
     let len = length-map c.checkpoints-checkpoints.result.now checkpoint_parts in
     let few = lawful.few in
     let same : length (map checkpoint_parts c.checkpoints-checkpoints.result.now) ≡ length c.args.r.now.checkpoints = ap (λ (l : List CheckpointParts). length l) c.checkpoints-checkpoints.ensures.checkpoints in
-    let most = laid_bounded c.args.r.now c.loop-k.k lawful.pages lawful.events in
+    let most = place_small c.args.r.now c.loop-k.k lawful.pages lawful.events (omega arith) in
     let so_far = c.loop-k.invariant in
     let count = c.change_count.ensures in
     let own = c.changed_len-len.ensures in
@@ -52,7 +53,7 @@ overflow_add-result c =
     let same : length (map checkpoint_parts c.checkpoints-checkpoints.result.now) ≡ length c.args.r.now.checkpoints = ap (λ (l : List CheckpointParts). length l) c.checkpoints-checkpoints.ensures.checkpoints in
     let len = length-map c.checkpoints-checkpoints.result.now checkpoint_parts in
     let few = lawful.few in
-    let most = laid_bounded c.args.r.now c.loop-k.k lawful.pages lawful.events in
+    let most = place_small c.args.r.now c.loop-k.k lawful.pages lawful.events (omega arith) in
     let limit = lawful.output in
     let so_far = c.loop-k.invariant in
     let own = c.output_len.ensures in
