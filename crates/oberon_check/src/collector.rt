@@ -2,12 +2,12 @@
 //!
 //! Here live the tally of segment verdicts and the faults of lists that have too many or too few. What one segment's replay
 //! finds lives in `segment`.
-ghost use Rattle.std.specs.Prelude.{◌≡◌, ◌<◌, ◌≤◌, ℕ, All, IfOk, IfErr, OnOk, MatchOption, length};
+ghost use Rattle.std.specs.Prelude.{◌≡◌, ◌<◌, ◌≤◌, All, IfOk, IfErr, OnOk, length};
 ghost use Rattle.oberon_format.specs.Recording.{IsLawful};
 ghost use Rattle.oberon_check.specs.Verdict.{IsVerdict};
 ghost use Rattle.oberon_check.specs.Segment.{Finding, IsTrueFinding};
 ghost use Rattle.oberon_check.specs.Collecting.{IsFirstDouble, IsCollectFault};
-ghost use Rattle.oberon_check.specs.inner.Tally.{IsTally, end_of, IsMarked, lesser_of};
+ghost use Rattle.oberon_check.specs.inner.Tally.{IsFirstUnmarked, IsTally, end_of, lesser_of};
 
 use crate::part::Part;
 use crate::segment::SegmentVerdict;
@@ -79,7 +79,7 @@ fn tally_of(verdicts: &[SegmentVerdict]) -> Result<Tally, u32>
 /// The first segment below `end` that has no mark.
 fn first_unmarked(seen: &[bool; 4096], end: u32) -> Option<u32>
     requires { end ≤ 4096 }
-    ensures { MatchOption result ((s : ℕ) → s < end → IsMarked seen.now s) (λ x. (x < end) × ¬ (IsMarked seen.now x) × ((s : ℕ) → s < x → IsMarked seen.now s)) }
+    ensures { IsFirstUnmarked seen.now end result }
 {
     for segment in 0..end {
         if !seen[segment as usize] {

@@ -2,12 +2,11 @@
 //!
 //! Here live the comparisons of the processor, of the devices and of the whole. Pages are compared by `risc_pages`, and
 //! the bytes sent while the machine runs.
-ghost use Rattle.std.specs.Prelude.{◌≡◌, ◌≢◌, ◌<◌, ◌↔◌, ℕ, List, slice_index, IsTrue, MatchOption};
 ghost use Rattle.risc_pages.specs.Tables.{IsNamed};
 ghost use Rattle.risc_machine.specs.MachineState.{cpu_state};
 ghost use Rattle.oberon_format.specs.CheckpointParts.{checkpoint_parts};
-ghost use Rattle.oberon_format.specs.Defined.{Outcome, claim_of};
-ghost use Rattle.oberon_check.specs.Difference.{IsFirstDifference, IsDifference};
+ghost use Rattle.oberon_format.specs.Defined.{claim_of};
+ghost use Rattle.oberon_check.specs.inner.Comparing.{IsCpuDifference, IsDeviceDifference, IsDifferenceBy, IsFirstRegister};
 
 use crate::part::Part;
 use oberon_format::Checkpoint;
@@ -17,7 +16,7 @@ use risc_pages::Pool;
 
 /// The first register that isn't the same.
 fn register_difference(a: &[u32; 16], b: &[u32; 16]) -> Option<u8>
-    ensures { MatchOption result (a.now ≡ b.now) (λ i. (i < 16) × ((k : ℕ) → k < i → slice_index a.now k ≡ slice_index b.now k) × (slice_index a.now i ≢ slice_index b.now i)) }
+    ensures { IsFirstRegister a.now b.now result }
 {
     for i in 0..16u8 {
         if a[i as usize] != b[i as usize] {
@@ -29,7 +28,7 @@ fn register_difference(a: &[u32; 16], b: &[u32; 16]) -> Option<u8>
 
 /// The first part in which two processors differ, whatever is around them.
 fn cpu_difference(claimed: &Cpu, cpu: &Cpu) -> Option<Part>
-    ensures { (x y : Outcome) → x.state.cpu ≡ cpu_state claimed.now → y.state.cpu ≡ cpu_state cpu.now → MatchOption result (x.state.cpu ≡ y.state.cpu) (IsFirstDifference x y) }
+    ensures { IsCpuDifference (cpu_state claimed.now) (cpu_state cpu.now) result }
 {
     if let Some(i) = register_difference(&claimed.r, &cpu.r) {
         return Some(Part::R(i));
@@ -51,7 +50,7 @@ fn cpu_difference(claimed: &Cpu, cpu: &Cpu) -> Option<Part>
 
 /// The first part in which devices differ, where the processors beside them don't.
 fn device_difference(claimed: &Devices, devices: &Devices) -> Option<Part>
-    ensures { (x y : Outcome) → x.state.cpu ≡ y.state.cpu → x.state.devices ≡ claimed.now → y.state.devices ≡ devices.now → MatchOption result (x.state.devices ≡ y.state.devices) (IsFirstDifference x y) }
+    ensures { IsDeviceDifference claimed.now devices.now result }
 {
     if claimed.timer() != devices.timer() {
         return Some(Part::Timer);
@@ -89,7 +88,7 @@ pub(crate) fn first_difference(
     checkpoint: &Checkpoint,
 ) -> Option<Part>
     requires { IsNamed pool.now checkpoint.now.table }
-    ensures { (sent : List ℕ) → (IsTrue same ↔ (sent ≡ checkpoint.now.sent)) → IsDifference (claim_of pool.now (checkpoint_parts checkpoint.now)) (record { state = machine.now.state; sent = sent }) result }
+    ensures { IsDifferenceBy same (claim_of pool.now (checkpoint_parts checkpoint.now)) machine.now.state result }
 {
     if let Some(part) = cpu_difference(&checkpoint.cpu, machine.cpu()) {
         return Some(part);

@@ -2,14 +2,12 @@
 //!
 //! Here lives the end of a shared check. A single worker's share lives in `worker`.
 ghost use Rattle.std.specs.Prelude.{◌≡◌, ℕ, vec_len, All, IfOk};
-ghost use Rattle.oberon_format.specs.Recording.{IsLawful};
 ghost use Rattle.oberon_check.specs.declared.collector.CollectFault.{CollectFault};
-ghost use Rattle.oberon_check.specs.declared.verdict.Verdict.{Verdict};
 ghost use Rattle.oberon_check.specs.Collecting.{IsCollectFault};
 ghost use Rattle.oberon_check.specs.Gathering.{all_findings, IsGathered};
-ghost use Rattle.oberon_check.specs.Segment.{IsTrueFinding};
 ghost use Rattle.oberon_check.specs.Verdict.{IsVerdict};
 ghost use Rattle.oberon_check.specs.Work.{IsShareOf};
+ghost use Rattle.oberon_check.specs.inner.Progress.{GathersTrue};
 
 use crate::collector::collect;
 use crate::segment::SegmentVerdict;
@@ -32,7 +30,7 @@ fn all_verdicts(
     ensures findings { IfOk result (λ vs. vs.items ≡ all_findings done.items) }
     ensures recordings { IfOk result (λ vs. All (λ v. v.recording ≡ r.now) vs.items) }
     ensures whole { IfOk result (λ vs. (fault : CollectFault) → ¬ (IsCollectFault r.now vs.items fault)) }
-    ensures gathered { IfOk result (λ vs. IsLawful r.now → All IsTrueFinding vs.items → (verdict : Verdict) → IsVerdict r.now verdict → IsGathered r.now done.items verdict) }
+    ensures gathered { IfOk result (λ vs. GathersTrue r.now done.items vs.items) }
 {
     // The contract alone names the recording.
     let _ = r;

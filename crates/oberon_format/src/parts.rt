@@ -3,13 +3,13 @@
 //! What the types of the parts keep isn't tested again: that registers are words, that inputs are in their ranges and in their order,
 //! that devices are lawful (`AreFormed`). Nothing here takes memory.
 
-ghost use Rattle.std.specs.Prelude.{◌≡◌, ◌≤◌, length, slice_index, slice_index_or};
+ghost use Rattle.std.specs.Prelude.{◌≡◌, ◌≤◌, length};
 ghost use Rattle.std.specs.Option.{IfNone};
-ghost use Rattle.oberon_format.specs.Changes.{changes, no_change};
-ghost use Rattle.oberon_format.specs.FirstFault.{first_broken, each};
+ghost use Rattle.oberon_format.specs.FirstFault.{first_broken};
 ghost use Rattle.oberon_format.specs.PartFields.{fields_laid, fault_of_parts};
 ghost use Rattle.oberon_format.specs.Recording.{parts_of, IsLawful};
-ghost use Rattle.oberon_format.specs.Rules.{header_rules, change_rules, checkpoint_rules};
+ghost use Rattle.oberon_format.specs.Rules.{header_rules};
+ghost use Rattle.oberon_format.specs.inner.Tested.{change_rules_laid, checkpoint_rules_laid};
 
 use crate::checkpoint::{Checkpoint, table_before};
 use crate::fault::Fault;
@@ -55,7 +55,7 @@ fn counts_fault(pool: &Pool, inputs: &Inputs, checkpoints: &[Checkpoint]) -> Opt
 /// The first fault of the changes from one table to another, in a checkpoint that begins at an offset.
 fn changes_fault(pages: u32, offset: usize, before: &Table, table: &Table) -> Option<Fault>
     requires { offset ≤ LONGEST_TEXT }
-    ensures { result ≡ first_broken (each (length (changes before.now table.now)) (change_rules pages offset (slice_index before.now) (λ i. slice_index_or (changes before.now table.now) i no_change))) }
+    ensures { result ≡ first_broken (change_rules_laid pages offset before.now table.now) }
 {
     let mut change_offset = offset + CHANGES_AT;
     for p in 0..PLACES as u16 {
@@ -74,7 +74,7 @@ fn checkpoints_fault(pool: &Pool, inputs: &Inputs, checkpoints: &[Checkpoint]) -
     requires pages { length pool.now ≤ MAX_PAGES }
     requires events { length inputs.now ≤ MAX_EVENTS }
     requires few { length checkpoints.now ≤ MAX_CHECKPOINTS }
-    ensures { result ≡ first_broken (each (length checkpoints.now) (checkpoint_rules (fields_laid VERSION (parts_of pool.now inputs.now checkpoints.now)))) }
+    ensures { result ≡ first_broken (checkpoint_rules_laid (length checkpoints.now) (parts_of pool.now inputs.now checkpoints.now)) }
 {
     let pages = pool.len();
     let zeros = Table::zeros();

@@ -1,15 +1,15 @@
 //! The rules of a text, tested in their order. Nothing here takes memory: the tables of version 2 are one table, changed in place.
 
-ghost use Rattle.std.specs.Prelude.{ℕ, suc, ◌≡◌, ◌≤◌, ◌<◌, ◌+◌, true, false, ◌==◌, length, slice_index, MatchResult, OnOk, Some, None};
+ghost use Rattle.std.specs.Prelude.{◌≡◌, ◌≤◌, ◌<◌, ◌+◌, ◌==◌, length, slice_index, Some, None};
 ghost use Rattle.std.specs.Option.{IfNone};
 ghost use Rattle.oberon_format.specs.Changes.{number_after};
 ghost use Rattle.oberon_format.specs.FirstFault.{first_broken, each};
 ghost use Rattle.oberon_format.specs.Layout.{word_at, page_number_offset, version, pages, events, checkpoints, event_offset, change_offset, start, output_offset};
 ghost use Rattle.oberon_format.specs.Fields.{sent_below};
 ghost use Rattle.oberon_format.specs.Ranges.{is_event};
-ghost use Rattle.oberon_format.specs.Rules.{named_len, header_rules, event_floor, event_rules, page_number_rules, change_rules, count_before, checkpoint_rules, end_rules};
-ghost use Rattle.oberon_format.specs.inner.Tested.{IsSized, HasNumbers};
-ghost use Rattle.oberon_format.specs.TextFields.{first_fault_of, fields_of, event_of, checkpoint_of, change_of, number_before};
+ghost use Rattle.oberon_format.specs.Rules.{named_len, header_rules, event_floor, event_rules, page_number_rules, change_rules, count_before, end_rules};
+ghost use Rattle.oberon_format.specs.inner.Tested.{IsSized, HasNumbers, AreTested, IsChangedTested, IsTested, IsWholeTested};
+ghost use Rattle.oberon_format.specs.TextFields.{fields_of, event_of, change_of, number_before};
 
 use crate::change::Change;
 use crate::fault::Fault;
@@ -173,11 +173,7 @@ fn whole_checkpoint(
     requires before { before ≡ count_before (fields_of text.now) k }
     requires sent { sent ≡ sent_below (fields_of text.now) k }
     requires small { sent ≤ MAX_OUTPUT }
-    ensures { MatchResult result
-        (λ fields. (fields ≡ checkpoint_of text.now offset)
-        × (sent + fields.output ≤ MAX_OUTPUT)
-        × (first_broken (checkpoint_rules (fields_of text.now) k) ≡ None))
-        (λ f. first_broken (checkpoint_rules (fields_of text.now) k) ≡ Some f) }
+    ensures { IsWholeTested text.now k offset sent result }
 {
     let fields = CheckpointFields::of_text(text, offset);
     if let Some(fault) = fields_fault(offset, k, before, sent, &fields) {
@@ -206,14 +202,7 @@ fn changed_checkpoint(
     requires sent { sent ≡ sent_below (fields_of text.now) k }
     requires small { sent ≤ MAX_OUTPUT }
     requires table { HasNumbers table.old (number_before text.now k) }
-    ensures { MatchResult result
-        (λ fields. (fields ≡ checkpoint_of text.now offset)
-        × (sent + fields.output ≤ MAX_OUTPUT)
-        × (start text.now (suc k) ≤ length text.now)
-        × (fields.changes ≤ PLACES)
-        × HasNumbers table.new (number_before text.now (suc k))
-        × (first_broken (checkpoint_rules (fields_of text.now) k) ≡ None))
-        (λ f. first_broken (checkpoint_rules (fields_of text.now) k) ≡ Some f) }
+    ensures { IsChangedTested text.now k offset sent table.new result }
 {
     let room = text.len() - offset;
     if room < CHANGES_AT {
@@ -242,13 +231,7 @@ struct End {
 /// The end of the checkpoints, or their first fault.
 fn checkpoints_end(text: &[u8]) -> Result<End, Fault>
     requires { IsSized text.now }
-    ensures { MatchResult result
-        (λ end. (end.output ≡ output_offset text.now)
-        × (end.output ≤ length text.now)
-        × (end.sent ≡ sent_below (fields_of text.now) (checkpoints text.now))
-        × (end.sent ≤ MAX_OUTPUT)
-        × (first_broken (each (checkpoints text.now) (checkpoint_rules (fields_of text.now))) ≡ None))
-        (λ f. first_broken (each (checkpoints text.now) (checkpoint_rules (fields_of text.now))) ≡ Some f) }
+    ensures { AreTested text.now result }
 {
     let is_first = is_first_version(text);
     let mut offset = first_checkpoint(text);
@@ -297,9 +280,7 @@ fn end_fault(text: &[u8], end: &End) -> Option<Fault>
 /// Where the output of a text without fault begins, or the first fault of a text.
 #[tactic(auto, using(crate::proofs::RuleLemmas::in_header, crate::proofs::RuleLemmas::in_events, crate::proofs::RuleLemmas::in_checkpoints, crate::proofs::RuleLemmas::in_end))]
 pub(crate) fn test_text(text: &[u8]) -> Result<usize, Fault>
-    ensures { MatchResult result
-        (λ output. (first_fault_of text.now ≡ None) × (output ≡ output_offset text.now))
-        (λ f. first_fault_of text.now ≡ Some f) }
+    ensures { IsTested text.now result }
 {
     if let Some(fault) = header_fault(text) {
         return Err(fault);

@@ -1,8 +1,8 @@
 //! Reading an input to its end, or up to a limit, by a loop that counts its turns. What the bytes mean is not known here.
-ghost use Rattle.std.specs.Prelude.{◌≡◌, ◌<◌, ◌≤◌, ◌++◌, ◌^◌, List, ℕ, length, IfErr, IfOk, OnErr, OnOk, true, false};
-ghost use Rattle.std.specs.Io.KnownBytes.{Consumes, IsAtEnd};
+ghost use Rattle.std.specs.Prelude.{◌≡◌, ◌<◌, ◌^◌, length, IfErr, IfOk, OnErr, OnOk, true, false};
+ghost use Rattle.std.specs.Io.KnownBytes.{IsAtEnd};
 ghost use Rattle.oberon_replay.specs.Transfer.{Goes, IsReadUpTo, TakesAtMost};
-ghost use Rattle.oberon_replay.specs.inner.Failures.{IsReadFault};
+ghost use Rattle.oberon_replay.specs.inner.Failures.{GainsInTurn, IsReadFault};
 
 use crate::source::Source;
 use std::alloc::{AllocError, Global};
@@ -62,9 +62,8 @@ fn read_turn<R: Source>(
     bytes: &mut Vec<u8>,
 ) -> Result<bool, ReadFault>
     requires { 0 < length chunk.old }
-    ensures gained { IfOk result (λ ended. (got : List ℕ) × (bytes.new.items ≡ bytes.old.items ++ got)
-        × (length got ≤ length chunk.old) × (ended ≡ false → 0 < length got)
-        × Consumes (R.known input.old).bytes (R.known input.new).bytes got) }
+    ensures gained { IfOk result
+        (GainsInTurn (R.known input.old) (R.known input.new) bytes.old.items bytes.new.items (length chunk.old)) }
     ensures end { IfOk result (λ ended. ended ≡ true → IsAtEnd (R.known input.new).bytes) }
     ensures lost { OnErr result (TakesAtMost (length chunk.old) (R.known input.old) (R.known input.new)) }
     ensures goes { OnOk result (Goes (R.known input.old) (R.known input.new)) }

@@ -1,8 +1,9 @@
 //! The program as a function: from words, a reader and a writer to a status.
-ghost use Rattle.std.specs.Prelude.{◌≡◌, map, IfOk, IfErr};
+ghost use Rattle.std.specs.Prelude.{map, IfOk, IfErr};
 ghost use Rattle.oberon_replay.specs.Answer.{limit_for};
 ghost use Rattle.oberon_replay.specs.Asked.{request_in};
-ghost use Rattle.oberon_replay.specs.Reply.{AnswersAll, IsReplyTo, IsSentText, IsThreeForFaults, MayFail, Outcome, Replies, failure_line, failure_status, outcome_status, outcome_text};
+ghost use Rattle.oberon_replay.specs.Reply.{AnswersAll, IsSentText, IsThreeForFaults, MayFail, Replies, failure_line, failure_status};
+ghost use Rattle.oberon_replay.specs.inner.Requests.{IsReply};
 ghost use Rattle.oberon_replay.specs.Transfer.{TakesAtMost};
 
 use crate::answer::answer;
@@ -82,9 +83,8 @@ fn reply<'a, H: Threads + Wait + Sync, R: Source>(
     words: &'a [&'a str],
     input: &mut R,
 ) -> Result<Reply, Failure>
-    ensures ok { IfOk result (λ reply. (outcome : Outcome)
-        × IsReplyTo (map (λ word. word.now) words.entry.now) (R.known input.old) (R.known input.new) outcome
-        × (reply.text.items ≡ outcome_text outcome) × (reply.status ≡ outcome_status outcome)) }
+    ensures ok { IfOk result
+        (IsReply (map (λ word. word.now) words.entry.now) (R.known input.old) (R.known input.new)) }
     ensures err { IfErr result (MayFail (map (λ word. word.now) words.entry.now) (R.known input.old)
         (R.known input.new)) }
     ensures reads { TakesAtMost (limit_for (request_in (map (λ word. word.now) words.entry.now)))

@@ -1,12 +1,12 @@
 //! The inputs of a session, tested and made.
 
-ghost use Rattle.std.specs.Prelude.{◌≡◌, ◌≢◌, IfOk, IfErr, MatchOption, map};
+ghost use Rattle.std.specs.Prelude.{◌≡◌, IfOk, IfErr, map};
 ghost use Rattle.std.specs.List.{All};
 ghost use Rattle.risc_machine.specs.InputOrder.{AreOrdered};
 ghost use Rattle.oberon_session.specs.inner.Drafts.{input_view};
 ghost use Rattle.oberon_session.specs.Ranges.{input_counts};
 ghost use Rattle.oberon_session.specs.Session.{numbers_of_event};
-ghost use Rattle.oberon_session.specs.inner.Tested.{BreaksInputs, InputFits, InputsFit, NeverFalls};
+ghost use Rattle.oberon_session.specs.inner.Tested.{BreaksInputs, BreaksRanges, InputFits, InputsFit, IsEventOf, NeverFalls};
 
 use crate::SessionFault;
 use crate::draft::InputDraft;
@@ -36,7 +36,7 @@ pub fn inputs_of(alloc: Global, drafts: &[InputDraft]) -> Result<Inputs, Session
 fn events(alloc: Global, drafts: &[InputDraft]) -> Result<Vec<Event>, SessionFault>
     ensures numbers { IfOk result (λ events. map numbers_of_event events.items ≡ map input_view drafts.now) }
     ensures fit { IfOk result (λ _. All InputFits (map input_view drafts.now)) }
-    ensures err { IfErr result (λ fault. fault ≢ SessionFault.Memory → (fault ≡ SessionFault.Range) × (All InputFits (map input_view drafts.now) → ⊥)) }
+    ensures err { IfErr result (BreaksRanges (map input_view drafts.now)) }
 {
     let mut events = Vec::new(alloc);
     for draft in drafts {
@@ -50,7 +50,7 @@ fn events(alloc: Global, drafts: &[InputDraft]) -> Result<Vec<Event>, SessionFau
 
 /// The event of an input that is in its range.
 fn event(draft: &InputDraft) -> Option<Event>
-    ensures { MatchOption result (InputFits (input_view draft.now) → ⊥) (λ event. (numbers_of_event event ≡ input_view draft.now) × InputFits (input_view draft.now)) }
+    ensures { IsEventOf (input_view draft.now) result }
 {
     if draft.count > MAX_COUNT {
         return None;

@@ -1,13 +1,11 @@
 //! The recorder: the recording of a session.
 
-ghost use Rattle.std.specs.Prelude.{◌≡◌, ◌≢◌, ◌+◌, ◌<◌, ℕ, length, map, None, Some, IfOk, IfErr, OnOk};
+ghost use Rattle.std.specs.Prelude.{◌≡◌, ◌≢◌, ◌+◌, ◌<◌, ℕ, length, None, Some, IfOk, IfErr, OnOk};
 ghost use Rattle.risc_devices.specs.DeviceState.{IsPhase};
-ghost use Rattle.risc_machine.specs.InputOrder.{AreOrdered};
-ghost use Rattle.oberon_format.specs.CheckpointParts.{checkpoint_parts};
 ghost use Rattle.oberon_format.specs.Defined.{IsTrueAt};
 ghost use Rattle.oberon_format.specs.Recording.{parts_of, IsLawful};
 ghost use Rattle.oberon_session.specs.Recorded.{first_devices, record_fault_of, recording_of};
-ghost use Rattle.oberon_session.specs.inner.Progress.{IsRecorded, laid_view};
+ghost use Rattle.oberon_session.specs.inner.Progress.{HasRecorded};
 
 use crate::laying::{LaidPages, lay_first, lay_pages};
 use crate::record_fault::RecordFault;
@@ -50,7 +48,7 @@ pub fn make_recording(alloc: Global, session: &Session) -> Result<Recording, Rec
 
 /// Checkpoint 0 of a session.
 fn begin(alloc: Global, session: &Session) -> Result<Recorder, RecordFault>
-    ensures recorded { IfOk result (λ recorder. IsRecorded session.now 0 (laid_view recorder.laid) (map checkpoint_parts recorder.checkpoints.items) recorder.sent) }
+    ensures recorded { IfOk result (HasRecorded session.now 0) }
     ensures wanting { IfErr result (λ fault. fault ≡ RecordFault.Memory) }
 {
     let laid = lay_first(alloc, session.pages())?;
@@ -89,8 +87,8 @@ fn record_next(
     k: usize,
 ) -> Result<(), RecordFault>
     requires inside { k < length session.now.counts }
-    requires recorded { IsRecorded session.now k (laid_view recorder.old.laid) (map checkpoint_parts recorder.old.checkpoints.items) recorder.old.sent }
-    ensures recorded { OnOk result (IsRecorded session.now (k + 1) (laid_view recorder.new.laid) (map checkpoint_parts recorder.new.checkpoints.items) recorder.new.sent) }
+    requires recorded { HasRecorded session.now k recorder.old }
+    ensures recorded { OnOk result (HasRecorded session.now (k + 1) recorder.new) }
     ensures refused { IfErr result (λ fault. fault ≢ RecordFault.Memory → record_fault_of session.now ≡ Some fault) }
 {
     let last = &recorder.checkpoints[k];

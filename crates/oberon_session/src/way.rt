@@ -1,13 +1,12 @@
 //! The way of a machine from one checkpoint to the next.
 
-ghost use Rattle.std.specs.Prelude.{◌≡◌, ◌≢◌, ◌-◌, ◌<◌, ◌≤◌, IfOk, IfErr, OnOk, length};
+ghost use Rattle.std.specs.Prelude.{◌≡◌, ◌-◌, ◌<◌, ◌≤◌, IfOk, IfErr, OnOk, length};
 ghost use Rattle.risc_core.specs.declared.branch.TheConstants.{COUNTER_END};
 ghost use Rattle.risc_pages.specs.Tables.{IsNamed};
-ghost use Rattle.risc_machine.specs.Wanting.{Keeps, MayFail};
+ghost use Rattle.risc_machine.specs.Wanting.{MayFail};
 ghost use Rattle.risc_machine.specs.Replay.{run_of, sent_of};
 ghost use Rattle.oberon_format.specs.CheckpointParts.{checkpoint_parts};
-ghost use Rattle.oberon_format.specs.Defined.{claim_of};
-ghost use Rattle.oberon_session.specs.inner.Progress.{IsReached};
+ghost use Rattle.oberon_session.specs.inner.Progress.{HasReached, SendsTooMuch, sent_on};
 
 use crate::record_fault::RecordFault;
 use oberon_format::{Checkpoint, Sent};
@@ -41,13 +40,9 @@ pub fn reach(
     requires counter { last.now.cpu.pc < COUNTER_END }
     requires stop { last.now.cpu.stop ≤ 4 }
     requires rises { last.now.count ≤ to }
-    ensures reached { let begun = (claim_of pool.now (checkpoint_parts last.now)).state in
-        let steps = to - last.now.count in
-        IfOk result (λ reached. IsReached begun.words (run_of inputs.now last.now.count steps begun) (sent_of inputs.now last.now.count steps begun) reached) }
+    ensures reached { IfOk result (HasReached pool.now inputs.now (checkpoint_parts last.now) to) }
     ensures room { IfOk result (λ reached. length reached.sent ≤ room) }
-    ensures refused { let begun = (claim_of pool.now (checkpoint_parts last.now)).state in
-        let sent = sent_of inputs.now last.now.count (to - last.now.count) begun in
-        IfErr result (λ fault. fault ≢ RecordFault.Memory → (fault ≡ RecordFault.Output) × (room < length sent)) }
+    ensures refused { IfErr result (SendsTooMuch room (sent_on pool.now inputs.now (checkpoint_parts last.now) to)) }
 {
     let mut machine = Machine::start(alloc, pool, &last.table, last.cpu, last.devices.copy())?;
     let sent = run_in_pieces(alloc, &mut machine, inputs, last.count, to, room)?;
@@ -76,7 +71,7 @@ fn run_in_pieces(
     ensures sent { IfOk result (λ sent. sent.items ≡ sent_of inputs.now from (to - from) machine.old.state) }
     ensures room { IfOk result (λ sent. length sent.items ≤ room) }
     ensures kept { machine.new.base ≡ machine.old.base }
-    ensures refused { IfErr result (λ fault. fault ≢ RecordFault.Memory → (fault ≡ RecordFault.Output) × (room < length (sent_of inputs.now from (to - from) machine.old.state))) }
+    ensures refused { IfErr result (SendsTooMuch room (sent_of inputs.now from (to - from) machine.old.state)) }
     ensures memory { IfErr result (λ fault. fault ≡ RecordFault.Memory → MayFail machine.new) }
 {
     let mut sent = Vec::new(alloc);

@@ -1,8 +1,11 @@
 -- How the verdicts of a worker grow, job by job.
 use Rattle.std.specs.Prelude.{ℕ, ◌≡◌, List, ◌++◌, All, Contains}
 use Rattle.oberon_claims.specs.Pass.{PassRecord}
-use Rattle.oberon_format.specs.Recording.{RecordingParts, last_of}
-use Rattle.oberon_check.specs.Segment.{Finding, IsRun}
+use Rattle.oberon_format.specs.Recording.{RecordingParts, IsLawful, last_of}
+use Rattle.oberon_check.specs.declared.verdict.Verdict.{Verdict}
+use Rattle.oberon_check.specs.Gathering.{IsGathered}
+use Rattle.oberon_check.specs.Segment.{Finding, IsRun, IsTrueFinding}
+use Rattle.oberon_check.specs.Verdict.{IsVerdict}
 use Rattle.oberon_check.specs.Work.{IsJob, failed_of, DoneRecord}
 
 -- the share of this recording, cut, pass and verdicts
@@ -32,3 +35,8 @@ pub record AddsRun (r : RecordingParts) (first end : ℕ) (p q : PassRecord) (vs
   pub told : q.told ≡ p.told ++ failed_of piece
   pub recordings : All (λ v. v.recording ≡ r) piece
   pub is_run : IsRun first end piece
+
+-- what the answer of true findings rests on: the shares that they come from
+abbrev pub GathersTrue : RecordingParts → List DoneRecord → List Finding → Type 0
+GathersTrue r done findings =
+    IsLawful r → All IsTrueFinding findings → (verdict : Verdict) → IsVerdict r verdict → IsGathered r done verdict

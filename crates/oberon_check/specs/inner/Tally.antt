@@ -30,3 +30,8 @@ pub record IsTally (vs : List Finding) (n : ℕ) (seen : List Bool) (least : Opt
   pub marks : (s : ℕ) → s < 4096 → IsMarked seen s ↔ StandsBelow vs n s
   pub single : (k : ℕ) → k < n → ¬ (StandsBelow vs k (segment_at vs k))
   pub least_failed : IsLeastFailed vs n least
+
+-- the first segment below an end that has no mark
+abbrev pub IsFirstUnmarked : List Bool → ℕ → Option ℕ → Type 0
+IsFirstUnmarked seen end found = MatchOption found ((s : ℕ) → s < end → IsMarked seen s)
+    (λ x. (x < end) × ¬ (IsMarked seen x) × ((s : ℕ) → s < x → IsMarked seen s))

@@ -1,15 +1,21 @@
 -- What is known of a text of which some rules were tested.
-use Rattle.std.specs.Prelude.{ℕ, true, ◌≡◌, ◌≤◌, ◌<◌, List, length, slice_index, None}
-use Rattle.oberon_format.specs.declared.layout.TheConstants.{MAGIC, HEADER_LEN, MAGIC_AT, LAST_AT, PLACES}
-use Rattle.oberon_format.specs.declared.ranges.TheConstants.{MAX_PAGES, MAX_EVENTS, MAX_CHECKPOINTS}
+use Rattle.std.specs.Prelude.{ℕ, suc, true, ◌≡◌, ◌≤◌, ◌<◌, ◌+◌, List, length, slice_index, slice_index_or, None, Some, Result, MatchResult}
+use Rattle.oberon_format.specs.declared.fault.Fault.{Fault}
+use Rattle.oberon_format.specs.declared.fields.CheckpointFields.{CheckpointFields}
+use Rattle.oberon_format.specs.declared.layout.TheConstants.{MAGIC, HEADER_LEN, MAGIC_AT, LAST_AT, PLACES, VERSION}
+use Rattle.oberon_format.specs.declared.ranges.TheConstants.{MAX_PAGES, MAX_EVENTS, MAX_CHECKPOINTS, MAX_OUTPUT}
+use Rattle.oberon_format.specs.declared.rules.End.{End}
+use Rattle.oberon_format.specs.Changes.{changes, no_change}
 use Rattle.oberon_format.specs.CheckpointParts.{CheckpointParts}
-use Rattle.oberon_format.specs.FirstFault.{first_broken, each}
-use Rattle.oberon_format.specs.Layout.{word_at, version, pages, events, checkpoints, start}
+use Rattle.oberon_format.specs.Fields.{sent_below}
+use Rattle.oberon_format.specs.FirstFault.{Rule, first_broken, each}
+use Rattle.oberon_format.specs.Layout.{word_at, version, pages, events, checkpoints, start, output_offset}
 use Rattle.oberon_format.specs.Ranges.{is_version}
-use Rattle.oberon_format.specs.Recording.{table_before}
-use Rattle.oberon_format.specs.Rules.{event_rules, checkpoint_rules, named_len, whole}
+use Rattle.oberon_format.specs.PartFields.{fields_laid}
+use Rattle.oberon_format.specs.Recording.{RecordingParts, table_before}
+use Rattle.oberon_format.specs.Rules.{change_rules, event_rules, checkpoint_rules, named_len, whole}
 use Rattle.oberon_format.specs.Text.{EachAt, IsCheckpoint}
-use Rattle.oberon_format.specs.TextFields.{fields_of, first_fault_of}
+use Rattle.oberon_format.specs.TextFields.{fields_of, first_fault_of, checkpoint_of, number_before}
 
 -- the header is there, its version is known, it names few enough pages, events and checkpoints,
 -- and what it names is there
@@ -39,3 +45,48 @@ HasNumbers table number = (p : ℕ) → p < PLACES → slice_index table p ≡ n
 -- these checkpoints stand in a text, each at its offset and after the table of the one before
 abbrev pub StandIn : List ℕ → List CheckpointParts → Type 0
 StandIn text cs = EachAt (λ k c. IsCheckpoint (version text) text (start text k) (table_before cs k) c) cs
+
+-- what is told of checkpoint k of version 1, at an offset: its fields, where it meets its rules, and else its first fault
+abbrev pub IsWholeTested : List ℕ → ℕ → ℕ → ℕ → Result CheckpointFields Fault → Type 0
+IsWholeTested text k offset sent told = MatchResult told
+    (λ fields. (fields ≡ checkpoint_of text offset)
+    × (sent + fields.output ≤ MAX_OUTPUT)
+    × (first_broken (checkpoint_rules (fields_of text) k) ≡ None))
+    (λ f. first_broken (checkpoint_rules (fields_of text) k) ≡ Some f)
+
+-- what is told of checkpoint k of version 2, at an offset, where a table becomes its own
+abbrev pub IsChangedTested : List ℕ → ℕ → ℕ → ℕ → List ℕ → Result CheckpointFields Fault → Type 0
+IsChangedTested text k offset sent table told = MatchResult told
+    (λ fields. (fields ≡ checkpoint_of text offset)
+    × (sent + fields.output ≤ MAX_OUTPUT)
+    × (start text (suc k) ≤ length text)
+    × (fields.changes ≤ PLACES)
+    × HasNumbers table (number_before text (suc k))
+    × (first_broken (checkpoint_rules (fields_of text) k) ≡ None))
+    (λ f. first_broken (checkpoint_rules (fields_of text) k) ≡ Some f)
+
+-- what is told of all checkpoints: where they end and how much they sent, where they meet their rules, and else their first fault
+abbrev pub AreTested : List ℕ → Result End Fault → Type 0
+AreTested text told = MatchResult told
+    (λ end. (end.output ≡ output_offset text)
+    × (end.output ≤ length text)
+    × (end.sent ≡ sent_below (fields_of text) (checkpoints text))
+    × (end.sent ≤ MAX_OUTPUT)
+    × (first_broken (each (checkpoints text) (checkpoint_rules (fields_of text))) ≡ None))
+    (λ f. first_broken (each (checkpoints text) (checkpoint_rules (fields_of text))) ≡ Some f)
+
+-- what is told of a text: where its output begins, where it breaks no rule, and else its first fault
+abbrev pub IsTested : List ℕ → Result ℕ Fault → Type 0
+IsTested text told = MatchResult told
+    (λ output. (first_fault_of text ≡ None) × (output ≡ output_offset text))
+    (λ f. first_fault_of text ≡ Some f)
+
+-- the rules of the changes from one table to another, laid out in a checkpoint at an offset
+abbrev pub change_rules_laid : ℕ → ℕ → List ℕ → List ℕ → List (Rule Fault)
+change_rules_laid pages offset before table =
+    each (length (changes before table))
+    (change_rules pages offset (slice_index before) (λ i. slice_index_or (changes before table) i no_change))
+
+-- the rules of the first so many checkpoints of parts, laid out
+abbrev pub checkpoint_rules_laid : ℕ → RecordingParts → List (Rule Fault)
+checkpoint_rules_laid count r = each count (checkpoint_rules (fields_laid VERSION r))

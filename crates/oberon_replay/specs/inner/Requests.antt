@@ -1,5 +1,5 @@
--- The numbers of a request, and what its words are refused for.
-use Rattle.std.specs.Prelude.{◌≤◌, List, ⊤}
+-- The numbers of a request, what its words are refused for, and the reply to them.
+use Rattle.std.specs.Prelude.{◌≡◌, ◌≤◌, List, ⊤}
 use Rattle.clap.specs.Walk.{Text}
 use Rattle.clap.specs.declared.error.Error.{Error}
 use Rattle.clap.specs.declared.error.kind.ErrorKind.{ErrorKind}
@@ -9,7 +9,10 @@ use Rattle.oberon_replay.specs.declared.words.Request.TheVariants.{Check, Migrat
 use Rattle.oberon_replay.specs.declared.words.Refusal.{Refusal}
 use Rattle.oberon_replay.specs.declared.words.Refusal.TheVariants.{Help, Words, Memory}
 use Rattle.oberon_format.specs.declared.ranges.TheConstants.{LAST_CHECKPOINT}
+use Rattle.oberon_replay.specs.declared.reply.Reply.{Reply}
 use Rattle.oberon_replay.specs.Asked.{IsHelp, IsRefused}
+use Rattle.oberon_replay.specs.Reply.{IsReplyTo, Outcome, outcome_status, outcome_text}
+use Rattle.oberon_replay.specs.Transfer.{Known}
 
 -- the numbers of a request are in their ranges
 abbrev pub IsWithinLimits : Request → Type 0
@@ -29,3 +32,9 @@ abbrev pub RefusedBy : List Text → Refusal → Type 0
 RefusedBy words (Help error) = IsHelp words
 RefusedBy words Words = IsRefused words
 RefusedBy words Memory = ⊤
+
+-- the text and the status of a reply to the words, for the bytes that were taken from the reader
+abbrev pub IsReply : List Text → Known → Known → Reply → Type 0
+IsReply words old new reply =
+    (outcome : Outcome) × IsReplyTo words old new outcome × (reply.text.items ≡ outcome_text outcome)
+    × (reply.status ≡ outcome_status outcome)

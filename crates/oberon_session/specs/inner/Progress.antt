@@ -1,15 +1,20 @@
 -- What the recorder holds on its way.
-use Rattle.std.specs.Prelude.{ℕ, ◌≡◌, ◌+◌, ◌≤◌, List, length, map, None}
+use Rattle.std.specs.Prelude.{ℕ, ◌≡◌, ◌≢◌, ◌+◌, ◌-◌, ◌<◌, ◌≤◌, List, length, map, None}
 use Rattle.std.specs.List.{range_with_len}
 use Rattle.risc_pages.specs.declared.page.Page.{Page}
 use Rattle.risc_pages.specs.Tables.{table_words}
+use Rattle.risc_machine.specs.declared.event.Event.{Event}
 use Rattle.risc_machine.specs.MachineState.{State, cpu_state, IsCpuState}
-use Rattle.oberon_format.specs.CheckpointParts.{CheckpointParts}
+use Rattle.risc_machine.specs.Replay.{run_of, sent_of}
+use Rattle.oberon_format.specs.CheckpointParts.{CheckpointParts, checkpoint_parts}
+use Rattle.oberon_format.specs.Defined.{claim_of}
 use Rattle.oberon_format.specs.Recording.{IsLawful, output_of}
 use Rattle.oberon_session.specs.Laid.{Laid, changed_pages}
 use Rattle.oberon_session.specs.Recorded.{checkpoint_of, count_of, first_fault, laid_of, output_up_to, state_of}
 use Rattle.oberon_session.specs.SessionParts.{SessionParts}
 use Rattle.oberon_session.specs.declared.laying.LaidPages.{LaidPages}
+use Rattle.oberon_session.specs.declared.record_fault.RecordFault.{RecordFault}
+use Rattle.oberon_session.specs.declared.recorder.Recorder.{Recorder}
 use Rattle.oberon_session.specs.declared.way.Reached.{Reached}
 
 -- a pool and a table, as Rust has them
@@ -46,3 +51,24 @@ pub record IsRecorded (s : SessionParts) (k : ℕ) (laid : Laid) (checkpoints : 
   pub lawful : IsLawful (record { pool = laid.pool; inputs = s.inputs; checkpoints = checkpoints })
   pub content : (j : ℕ) → j ≤ k → IsContentOf s laid.pool j
   pub faultless : first_fault s k ≡ None
+
+-- what the recorder holds when the session was recorded up to checkpoint k
+abbrev pub HasRecorded : SessionParts → ℕ → Recorder → Type 0
+HasRecorded s k r = IsRecorded s k (laid_view r.laid) (map checkpoint_parts r.checkpoints.items) r.sent
+
+-- where memory is not wanting, more bytes are sent than there is room for
+abbrev pub SendsTooMuch : ℕ → List ℕ → RecordFault → Type 0
+SendsTooMuch room sent fault = fault ≢ RecordFault.Memory → (fault ≡ RecordFault.Output) × (room < length sent)
+
+-- the state that checkpoint c claims, over a pool
+abbrev pub claimed : List (List ℕ) → CheckpointParts → State
+claimed pool c = (claim_of pool c).state
+
+-- what is sent from checkpoint c up to a count
+abbrev pub sent_on : List (List ℕ) → List Event → CheckpointParts → ℕ → List ℕ
+sent_on pool events c to = sent_of events c.count (to - c.count) (claimed pool c)
+
+-- what a machine came to that ran from checkpoint c up to a count is told
+abbrev pub HasReached : List (List ℕ) → List Event → CheckpointParts → ℕ → Reached → Type 0
+HasReached pool events c to reached =
+    IsReached (claimed pool c).words (run_of events c.count (to - c.count) (claimed pool c)) (sent_on pool events c to) reached

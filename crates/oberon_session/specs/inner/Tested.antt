@@ -1,6 +1,6 @@
 -- What single tests of a draft say, in the words of their proofs. That the tests of the table are right about them stands in
 -- `proofs/Deciding.antt`.
-use Rattle.std.specs.Prelude.{◌≡◌, ◌+◌, ◌<◌, ◌≤◌, ◌^◌, ℕ, List, length, map, slice_index, slice_index_or, Some, None, IsTrue, IsUtf8, ⊤}
+use Rattle.std.specs.Prelude.{◌≡◌, ◌≢◌, ◌+◌, ◌<◌, ◌≤◌, ◌^◌, ℕ, List, Option, MatchOption, length, map, slice_index, slice_index_or, Some, None, IsTrue, IsUtf8, ⊤}
 use Rattle.std.specs.List.{All}
 use Rattle.std.specs.List.Sorted.{IsStrictlyIncreasing}
 use Rattle.serde_json.specs.Data.{Data}
@@ -118,3 +118,11 @@ BreaksIn json fault.Order = (draft : Draft) × (draft_of json ≡ Some draft) ×
 BreaksIn json fault.Hex =
     (draft : Draft) × (draft_of json ≡ Some draft) × InRange draft × InOrder draft × (all_placed_of draft.pages ≡ None)
 BreaksIn json fault.Memory = ⊤
+
+-- the event of an input that is in its range, and none of another
+abbrev pub IsEventOf : InputNumbers → Option Event → Type 0
+IsEventOf input event = MatchOption event (InputFits input → ⊥) (λ e. (numbers_of_event e ≡ input) × InputFits input)
+
+-- where memory is not wanting, an input is out of its range
+abbrev pub BreaksRanges : List InputNumbers → SessionFault → Type 0
+BreaksRanges inputs broken = broken ≢ fault.Memory → (broken ≡ fault.Range) × (All InputFits inputs → ⊥)
