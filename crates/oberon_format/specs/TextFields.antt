@@ -1,7 +1,8 @@
 -- The fields of a text, and its first fault.
-use Rattle.std.specs.Prelude.{ℕ, zero, suc, ◌+◌, ◌==◌, if◌then◌else◌, List, length, slice_range, Option}
+use Rattle.std.specs.Prelude.{ℕ, zero, suc, ◌≡◌, ◌+◌, ◌==◌, if◌then◌else◌, List, length, slice_range, Option, MatchOption, Result, Err, MatchResult}
 use Rattle.oberon_format.specs.declared.change.Change.{Change}
 use Rattle.oberon_format.specs.declared.fault.Fault.{Fault}
+use Rattle.oberon_format.specs.declared.fault.Fault.TheVariants as fault
 use Rattle.oberon_format.specs.declared.fields.CheckpointFields.{CheckpointFields}
 use Rattle.oberon_format.specs.declared.layout.TheConstants.{FIRST_VERSION, MAGIC_AT, LAST_AT, KIND_AT, VALUE_AT, COUNTER_AT, FLAGS_AT, STOP_AT, SWITCHES_AT, LEDS_AT, MOUSE_AT, SERIAL_AT, WAITING_AT, KEYS_AT, SENT_AT, RATE_AT, PHASE_AT, NUMBER_AT}
 use Rattle.oberon_format.specs.Changes.{number_after}
@@ -75,3 +76,8 @@ fields_of text = record {
 -- the first fault of a text, if it has one
 abbrev pub first_fault_of : List ℕ → Option Fault
 first_fault_of text = first_broken (rules (fields_of text))
+
+-- an answer to a text: where it has no fault a good one, or want of memory; and else its first fault
+abbrev pub AnswersText : {Answer : Type 0} → List ℕ → (Answer → Type 0) → Result Answer Fault → Type 0
+AnswersText text IsGood answer =
+    MatchOption (first_fault_of text) (MatchResult answer IsGood (λ f. f ≡ fault.Memory)) (λ f. answer ≡ Err f)

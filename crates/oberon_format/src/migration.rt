@@ -1,8 +1,7 @@
 //! The text of a recording, of any version, written again in the version that is written now.
 
-ghost use Rattle.std.specs.Prelude.{◌≡◌, MatchOption, MatchResult};
 ghost use Rattle.oberon_format.specs.Migration.{IsMigrated};
-ghost use Rattle.oberon_format.specs.TextFields.{first_fault_of};
+ghost use Rattle.oberon_format.specs.TextFields.{AnswersText};
 
 use crate::fault::Fault;
 use crate::reading::read;
@@ -13,9 +12,7 @@ use std::alloc::Global;
 /// for a text without fault, as by `read`.
 pub fn migrate(alloc: Global, bytes: &[u8]) -> Result<Vec<u8>, Fault>
     // A text without fault gives the text of its recording, or there was no room; any other gives its first fault.
-    ensures { MatchOption (first_fault_of bytes.now)
-        (MatchResult result (λ text. IsMigrated bytes.now text.items) (λ f. f ≡ Fault.Memory))
-        (λ f. result ≡ Err f) }
+    ensures { AnswersText bytes.now (λ text. IsMigrated bytes.now text.items) result }
 {
     let recording = read(alloc, bytes)?;
     match write(alloc, &recording) {

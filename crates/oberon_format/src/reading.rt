@@ -1,15 +1,15 @@
 //! The recording of a text without fault. Whether a text has one is tested before, in `rules`.
 
-ghost use Rattle.std.specs.Prelude.{◌≡◌, ◌≤◌, ◌<◌, ◌+◌, ◌*◌, ◌^◌, ℕ, All, true, length, IfOk, slice_index, slice_range, drop, map, MatchOption, MatchResult};
+ghost use Rattle.std.specs.Prelude.{◌≡◌, ◌≤◌, ◌<◌, ◌+◌, ◌*◌, ◌^◌, ℕ, All, true, length, IfOk, slice_index, slice_range, drop, map};
 ghost use Rattle.oberon_format.specs.Changes.{number_after};
 ghost use Rattle.oberon_format.specs.CheckpointParts.{checkpoint_parts};
 ghost use Rattle.oberon_format.specs.Layout.{word_at, version, pages, events, checkpoints, page_number_offset, change_offset, later_word, change_count, start, output_offset};
-ghost use Rattle.oberon_format.specs.Recording.{parts_of, output_of};
+ghost use Rattle.oberon_format.specs.Recording.{output_of};
 ghost use Rattle.oberon_format.specs.Ranges.{in_ranges, are_keys};
 ghost use Rattle.oberon_format.specs.Rules.{stood};
 ghost use Rattle.oberon_format.specs.inner.Tested.{IsSized, Meets, HasNumbers, StandIn};
 ghost use Rattle.oberon_format.specs.Text.{EachAt, AreWords, IsPageAt, IsEvent, IsEventAt, IsCpu, IsDevices, IsFront, Text};
-ghost use Rattle.oberon_format.specs.TextFields.{first_fault_of, fields_of, checkpoint_of, change_of, page_number_of};
+ghost use Rattle.oberon_format.specs.TextFields.{fields_of, checkpoint_of, change_of, page_number_of, AnswersText};
 ghost use Rattle.risc_devices.specs.InputKind.{IsInput};
 ghost use Rattle.risc_machine.specs.MachineState.{cpu_state};
 
@@ -37,9 +37,7 @@ use std::alloc::{AllocError, Global};
 /// before anything grows, and the test takes no memory.
 pub fn read(alloc: Global, bytes: &[u8]) -> Result<Recording, Fault>
     // A text without fault gives its recording, or there was no room; any other gives its first fault.
-    ensures { MatchOption (first_fault_of bytes.now)
-        (MatchResult result (λ r. Text bytes.now r) (λ f. f ≡ Fault.Memory))
-        (λ f. result ≡ Err f) }
+    ensures { AnswersText bytes.now (Text bytes.now) result }
 {
     let output = test_text(bytes)?;
     match recording_of(alloc, bytes, output) {
