@@ -31,6 +31,3 @@ pub use laws::{bits_law, division_law, flags_law, instruction_law, width_law};
 pub use locate::place;
 pub use stop::Stop;
 pub use sums::{Sum, add, subtract};
-
-#[cfg(test)]
-mod tests;

@@ -20,6 +20,3 @@ pub use input::Input;
 pub use kind::is_mouse_word;
 pub use laws::mouse_law;
 pub use phase::is_phase_at;
-
-#[cfg(test)]
-mod tests;

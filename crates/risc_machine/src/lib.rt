@@ -33,6 +33,3 @@ pub use laws::{lane_law, run_law, stop_law, stopped_law};
 pub use machine::Machine;
 pub use replay::RunFault;
 pub use risc_core::Flags;
-
-#[cfg(test)]
-mod tests;

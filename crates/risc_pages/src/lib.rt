@@ -13,8 +13,6 @@ mod page;
 mod place;
 mod pool;
 mod table;
-#[cfg(test)]
-mod tests;
 
 pub use memory::{Delta, Memory};
 pub use page::Page;

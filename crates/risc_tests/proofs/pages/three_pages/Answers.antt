@@ -1,6 +1,6 @@
 use Rattle.std.proofs.Common.{◌<◌, ◌^◌, refl, lit<}
 use Rattle.std.proofs.lemmas.List.Elements.{All-replicate}
-use Rattle.risc_pages.proofs.tests.three_pages.Goals as goal
+use Rattle.risc_tests.proofs.pages.three_pages.Goals as goal
 
 pub invariant_of-push : goal.invariant_of-push
 invariant_of-push c = record { whole = refl; fit = All-replicate (λ w. w < 2 ^ 32) 256 _ (lit< tt) }

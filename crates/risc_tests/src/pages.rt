@@ -1,9 +1,9 @@
-//! Each public call once on its happy path, and what no clause says of them.
+//! Tests of `risc_pages`: each public call once on its happy path, and what no clause says of them.
 
 ghost use Rattle.std.specs.Prelude.{◌≡◌, IfOk, IsTrue, length};
 ghost use Rattle.risc_pages.specs.Tables.{IsNamed};
 
-use crate::{Memory, Page, Pool, Table};
+use risc_pages::{Memory, Page, Pool, Table};
 use std::alloc::AllocError;
 use std::process::Abort;
 use std::test::Fail;

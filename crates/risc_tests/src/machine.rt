@@ -1,8 +1,8 @@
-//! Worked examples, and each call once.
+//! Tests of `risc_machine`: worked examples, and each call once.
 ghost use Rattle.std.specs.Prelude.{◌≡◌, ◌≤◌, ◌<◌, All, IfOk, length};
 
-use super::*;
 use risc_devices::{Devices, Input};
+use risc_machine::{Cpu, Event, Flags, Inputs, MAX_COUNT, Machine, Unordered};
 use risc_pages::{Page, Pool, Table};
 use std::alloc::{AllocError, Global};
 use std::process::Abort;

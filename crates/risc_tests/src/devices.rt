@@ -1,6 +1,6 @@
-//! Worked examples, and each call once.
+//! Tests of `risc_devices`: worked examples, and each call once.
 
-use super::*;
+use risc_devices::{Devices, Input, RangeFault, picture};
 use std::alloc::AllocError;
 use std::process::Abort;
 
