@@ -26,6 +26,3 @@ pub use reading::{LONGEST_SESSION, read_session};
 pub use record_fault::RecordFault;
 pub use recorder::make_recording;
 pub use session::Session;
-
-#[cfg(test)]
-mod tests;

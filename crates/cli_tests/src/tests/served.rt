@@ -1,0 +1,17 @@
+//! `serve` over a text in memory.
+
+use oberon_cli::serve;
+use std::sync::Wait;
+use std::thread::Threads;
+
+/// What was written for the words and the text, and the status.
+pub(super) fn served<'a, H: AllocGlobal + Threads + Wait + Sync>(
+    rt: &H,
+    words: &'a [&'a str],
+    text: &[u8],
+) -> (Vec<u8>, u8) {
+    let mut written = Vec::new(rt.alloc());
+    let mut rest = text;
+    let status = serve(rt, rt.alloc(), words, &mut rest, &mut written);
+    (written, status)
+}

@@ -1,0 +1,53 @@
+-- What words that are written out ask for.
+use Rattle.std.proofs.Common.{◌≡◌, [], ◌∷◌, Some, None, refl, codes, inl}
+use Rattle.clap.proofs.OnLiterals.{clap_on_literals}
+use Rattle.oberon_cli.specs.Asked.{IsHelp, request_in, faults, found}
+use Rattle.oberon_cli.specs.declared.words.Request.TheVariants.{Check, Migrate, Record, Screen}
+
+pub check : request_in (codes "check" ∷ []) ≡ Some (Check 2 1)
+unfolding clap_on_literals faults found
+check = refl
+
+pub check_workers : request_in (codes "check" ∷ codes "--workers" ∷ codes "3" ∷ []) ≡ Some (Check 3 1)
+unfolding clap_on_literals faults found
+check_workers = refl
+
+pub check_both : request_in (codes "check" ∷ codes "--cut=4096" ∷ codes "--workers=64" ∷ []) ≡ Some (Check 64 4096)
+unfolding clap_on_literals faults found
+check_both = refl
+
+pub recorder : request_in (codes "record" ∷ []) ≡ Some Record
+unfolding clap_on_literals faults found
+recorder = refl
+
+pub record_surplus : request_in (codes "record" ∷ codes "again" ∷ []) ≡ None
+unfolding clap_on_literals faults found
+record_surplus = refl
+
+pub screen : request_in (codes "screen" ∷ codes "--at" ∷ codes "0" ∷ []) ≡ Some (Screen 0)
+unfolding clap_on_literals faults found
+screen = refl
+
+pub migrate : request_in (codes "migrate" ∷ []) ≡ Some Migrate
+unfolding clap_on_literals faults found
+migrate = refl
+
+pub migrate_at : request_in (codes "migrate" ∷ codes "--at" ∷ codes "1" ∷ []) ≡ None
+unfolding clap_on_literals faults found
+migrate_at = refl
+
+pub too_many_workers : request_in (codes "check" ∷ codes "--workers" ∷ codes "65" ∷ []) ≡ None
+unfolding clap_on_literals faults found
+too_many_workers = refl
+
+pub screen_alone : request_in (codes "screen" ∷ []) ≡ None
+unfolding clap_on_literals faults found
+screen_alone = refl
+
+pub help : IsHelp (codes "--help" ∷ [])
+unfolding clap_on_literals faults found
+help = inl refl
+
+pub check_help : IsHelp (codes "check" ∷ codes "-h" ∷ [])
+unfolding clap_on_literals faults found
+check_help = inl refl

@@ -1,0 +1,89 @@
+-- The status 3 stands for faults alone.
+use Rattle.std.proofs.Common.{◌≡◌, ◌<◌, ◌⊎◌, inl, inr, ℕ, false, List, arith}
+use Rattle.clap.specs.Walk.{Text}
+use Rattle.oberon_format.specs.Recording.{RecordingParts}
+use Rattle.oberon_session.specs.SessionParts.{SessionParts}
+use Rattle.oberon_check.specs.Headline.{IsLineOf}
+use Rattle.oberon_check.specs.Line.{status_of}
+use Rattle.oberon_check.specs.declared.verdict.Verdict.{Verdict}
+use Rattle.oberon_check.specs.declared.verdict.Verdict.TheVariants.{Accepted, FalseAt}
+use Rattle.oberon_cli.specs.Answer.{IsAnswer}
+use Rattle.oberon_cli.specs.Transfer.{Known, Fails, GainsWhole, Goes}
+use Rattle.oberon_cli.specs.Migrate.{IsMigration}
+use Rattle.oberon_cli.specs.Record.{IsRecord, IsRecordOf}
+use Rattle.oberon_cli.specs.Reply.{IsReplyTo, IsSent, IsThreeForFaults, Outcome, answer, failure, failure_line, help}
+use Rattle.oberon_cli.specs.Screen.{IsScreen, IsScreenOf}
+use Rattle.oberon_cli.specs.declared.words.Request.{Request}
+use Rattle.oberon_cli.specs.declared.words.Request.TheVariants.{Check, Migrate, Record, Screen}
+use Rattle.oberon_cli.specs.declared.failure.Failure.TheVariants.{Memory, Read, Words}
+
+verdict_status : (verdict : Verdict) → status_of verdict < 3
+verdict_status (Accepted checkpoints steps) = omega arith
+verdict_status (FalseAt checkpoint count part) = omega arith
+
+line_status : (input text : List ℕ) (status : ℕ) → IsLineOf input text status → status < 3
+line_status input text status (inl is) = rw is.status_is (verdict_status is.verdict)
+line_status input text status (inr is) = omega (arith, is.status_is)
+
+recorded_status : (session : SessionParts) (text : List ℕ) (status : ℕ) → IsRecordOf session text status → status < 3
+recorded_status session text status (inl is) = omega (arith, is.status_is)
+recorded_status session text status (inr is) = omega (arith, is.refusal.status_is)
+
+record_status : (input text : List ℕ) (status : ℕ) → IsRecord input text status → status < 3
+record_status input text status (inl is) = recorded_status is.session text status is.record_is
+record_status input text status (inr is) = omega (arith, is.refusal.status_is)
+
+shown_status : (r : RecordingParts) (at : ℕ) (text : List ℕ) (status : ℕ) → IsScreenOf r at text status → status < 3
+shown_status r at text status (inl is) = omega (arith, is.status_is)
+shown_status r at text status (inr is) = omega (arith, is.status_is)
+
+screen_status : (at : ℕ) (input text : List ℕ) (status : ℕ) → IsScreen at input text status → status < 3
+screen_status at input text status (inl is) = shown_status is.recording at text status is.screen
+screen_status at input text status (inr is) = omega (arith, is.status_is)
+
+migration_status : (input text : List ℕ) (status : ℕ) → IsMigration input text status → status < 3
+migration_status input text status (inl is) = omega (arith, is.status_is)
+migration_status input text status (inr is) = omega (arith, is.status_is)
+
+-- a command's own answer has another status
+answer_status : (request : Request) (input text : List ℕ) (status : ℕ) → IsAnswer request input text status → status < 3
+answer_status (Check workers cut) input text status is = line_status input text status is
+answer_status Record input text status is = record_status input text status is
+answer_status (Screen at) input text status is = screen_status at input text status is
+answer_status Migrate input text status is = migration_status input text status is
+
+-- where no call failed, none has
+still : (old new : Known) → Goes old new → old.failed ≡ false → Fails new → ⊥
+still old new goes before fails = cc
+
+three_only : (words : List Text) (input rest old new : Known) (outcome : Outcome) (status : ℕ) → IsReplyTo words input rest outcome → IsSent outcome old new status
+    → status ≡ 3 → Fails rest ⊎ (Fails new ⊎ GainsWhole (failure_line Memory) old new)
+three_only words input rest old new outcome status is (inr failed) three = inr (inl failed.0.3)
+three_only words input rest old new (answer request taken text own) status is (inl sent) three =
+    let low : own < 3 = answer_status request taken text own is.2 in
+    absurd (omega (arith, sent.1))
+three_only words input rest old new (help text) status is (inl sent) three = absurd (omega (arith, sent.1))
+three_only words input rest old new (failure Words) status is (inl sent) three = absurd (omega (arith, sent.1))
+three_only words input rest old new (failure Read) status is (inl sent) three = inl is.2
+three_only words input rest old new (failure Memory) status is (inl sent) three = inr (inr sent.0)
+
+three_reads : (words : List Text) (input rest old new : Known) (outcome : Outcome) (status : ℕ) → IsReplyTo words input rest outcome → IsSent outcome old new status
+    → input.failed ≡ false → Fails rest → status ≡ 3
+three_reads words input rest old new outcome status is (inr failed) before fails = failed.1
+three_reads words input rest old new (answer request taken text own) status is (inl sent) before fails = absurd (still input rest is.1.goes before fails)
+three_reads words input rest old new (help text) status is (inl sent) before fails = absurd (still input rest is.1 before fails)
+three_reads words input rest old new (failure Words) status is (inl sent) before fails = absurd (still input rest is.1 before fails)
+three_reads words input rest old new (failure Read) status is (inl sent) before fails = sent.1
+three_reads words input rest old new (failure Memory) status is (inl sent) before fails = sent.1
+
+three_writes : (outcome : Outcome) (old new : Known) (status : ℕ) → IsSent outcome old new status → old.failed ≡ false → Fails new → status ≡ 3
+three_writes outcome old new status (inl sent) before fails = absurd (still old new sent.0.1 before fails)
+three_writes outcome old new status (inr failed) before fails = failed.1
+
+pub three : (words : List Text) (input rest old new : Known) (outcome : Outcome) (status : ℕ) → IsReplyTo words input rest outcome → IsSent outcome old new status
+    → IsThreeForFaults input rest old new status
+three words input rest old new outcome status is sent = record {
+  only = three_only words input rest old new outcome status is sent;
+  reads = three_reads words input rest old new outcome status is sent;
+  writes = three_writes outcome old new status sent;
+}

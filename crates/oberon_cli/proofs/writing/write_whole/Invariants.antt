@@ -1,0 +1,12 @@
+use Rattle.std.proofs.Common.{◌≤◌, length, take}
+use Rattle.std.specs.Io.KnownBytes.{Appends}
+use Rattle.oberon_cli.specs.Transfer.{Goes}
+use Rattle.oberon_cli.proofs.writing.write_whole.Given as goal
+
+abbrev pub invariant-loop-turn : goal.invariant-loop-turn
+invariant-loop-turn g l = record {
+  within : l.done ≤ length l.text;
+  counted : l._turn ≤ l.done;
+  gained : Appends (g.W.Sink.known l.initial.output).bytes (g.W.Sink.known l.output).bytes (take l.done l.text);
+  goes : Goes (g.W.Sink.known l.initial.output) (g.W.Sink.known l.output);
+}

@@ -1,0 +1,29 @@
+-- What each command answers to the bytes of an input.
+use Rattle.std.specs.Prelude.{ℕ, ◌+◌, List, Option, Some, None}
+use Rattle.oberon_check.specs.Headline.{IsLineOf}
+use Rattle.oberon_cli.specs.Migrate.{IsMigration}
+use Rattle.oberon_cli.specs.Record.{IsRecord}
+use Rattle.oberon_cli.specs.Screen.{IsScreen}
+use Rattle.oberon_cli.specs.declared.words.Request.{Request}
+use Rattle.oberon_cli.specs.declared.words.Request.TheVariants.{Check, Migrate, Record, Screen}
+use Rattle.oberon_format.specs.declared.layout.TheConstants.{LONGEST_TEXT}
+use Rattle.oberon_session.specs.declared.reading.TheConstants.{LONGEST_SESSION}
+
+-- the most bytes that the command reads: one more than the longest text of a recording or of a session has
+abbrev pub limit_of : Request → ℕ
+limit_of (Check workers cut) = LONGEST_TEXT + 1
+limit_of Record = LONGEST_SESSION + 1
+limit_of (Screen at) = LONGEST_TEXT + 1
+limit_of Migrate = LONGEST_TEXT + 1
+
+-- the most bytes that are read where the words ask for this: none where they ask for no command
+abbrev pub limit_for : Option Request → ℕ
+limit_for (Some request) = limit_of request
+limit_for None = 0
+
+-- the text with its status is the answer of the command to the input. Workers and cut don't occur in it
+abbrev pub IsAnswer : Request → List ℕ → List ℕ → ℕ → Type 0
+IsAnswer (Check workers cut) input text status = IsLineOf input text status
+IsAnswer Record input text status = IsRecord input text status
+IsAnswer (Screen at) input text status = IsScreen at input text status
+IsAnswer Migrate input text status = IsMigration input text status

@@ -1,0 +1,60 @@
+-- What the words of the command line ask for.
+use Rattle.std.specs.Prelude.{◌≡◌, ◌≢◌, ℕ, List, [], ◌∷◌, Option, Some, None, option_map, option_and_then, if◌then◌else◌, codes}
+use Rattle.std.specs.Str.{bytes_eq}
+use Rattle.std.specs.Str.Parse.{digits_value, without_leading_plus}
+use Rattle.clap.specs.ValueTests.{is_unsigned_in}
+use Rattle.clap.specs.Walk.{Row, Text, is_empty, one_of}
+use Rattle.clap.specs.Simple.{subcommand_of}
+use Rattle.clap.specs.Kinds.{IsAmong, Kinds}
+use Rattle.clap.specs.Faults.{fault_of}
+use Rattle.clap.specs.declared.error.kind.ErrorKind.TheVariants.{DisplayHelp}
+use Rattle.oberon_cli.specs.Program.{program_app}
+use Rattle.oberon_cli.specs.declared.words.Request.{Request}
+use Rattle.oberon_cli.specs.declared.words.Request.TheVariants.{Check, Migrate, Record, Screen}
+use Rattle.oberon_format.specs.declared.ranges.TheConstants.{LAST_CHECKPOINT}
+
+-- the number that the text writes in decimal digits, perhaps after a plus, where it lies in the range
+abbrev pub whole_number : ℕ → ℕ → Text → Option ℕ
+whole_number low high text =
+    if is_unsigned_in low high text then Some (digits_value 10 (without_leading_plus text)) else None
+
+-- the number that `clap` found for an argument
+abbrev pub number_at : ℕ → ℕ → Text → List Row → Option ℕ
+number_at low high id rows = option_and_then (whole_number low high) (one_of id rows)
+
+abbrev pub check_of : List Row → Option Request
+check_of rows = option_and_then (λ workers. option_map (λ cut. Check workers cut)
+    (number_at 1 LAST_CHECKPOINT (codes "cut") rows)) (number_at 1 64 (codes "workers") rows)
+
+-- what a subcommand with its arguments asks for
+abbrev pub request_of : Text → List Row → Option Request
+request_of name rows =
+    if bytes_eq name (codes "check") then check_of rows
+    else if bytes_eq name (codes "record") then Some Record
+    else if bytes_eq name (codes "screen") then option_map Screen (number_at 0 LAST_CHECKPOINT (codes "at") rows)
+    else if bytes_eq name (codes "migrate") then Some Migrate
+    else None
+
+-- the kinds of fault that `clap` finds in the words
+unfoldable pub faults : List Text → Kinds
+faults words = fault_of program_app words
+
+-- the subcommand that `clap` finds in the words, with its arguments
+unfoldable pub found : List Text → Option (Text × List Row)
+found words = subcommand_of program_app words
+
+-- what the words ask for, no words at all for a check
+abbrev pub request_in : List Text → Option Request
+request_in [] = Some (Check 2 1)
+request_in (word ∷ words) =
+    if is_empty (faults (word ∷ words)) then option_and_then (λ p. request_of p.0 p.1) (found (word ∷ words))
+    else None
+
+-- the words ask for help. `clap` answers some words, as `help` before an unknown command, with one of two kinds of fault, so that these
+-- may get help, and may be refused
+abbrev pub IsHelp : List Text → Type 0
+IsHelp words = IsAmong DisplayHelp (faults words)
+
+-- the words ask for nothing, and not for help alone
+abbrev pub IsRefused : List Text → Type 0
+IsRefused words = (request_in words ≡ None) × (faults words ≢ DisplayHelp ∷ [])

@@ -1,0 +1,37 @@
+//! What each command answers to the bytes of its input. Reading them, and writing the answer, is in `serve`.
+ghost use Rattle.std.specs.Prelude.{IfOk};
+ghost use Rattle.oberon_cli.specs.Answer.{IsAnswer};
+ghost use Rattle.oberon_cli.specs.inner.Requests.{IsWithinLimits};
+
+use crate::migrate::migrate;
+use crate::record::record;
+use crate::reply::Reply;
+use crate::screen::screen;
+use crate::words::Request;
+use oberon_check::{CheckFault, FreeGate, Report, check_bytes};
+use std::alloc::{AllocError, Global};
+use std::sync::Wait;
+use std::thread::Threads;
+
+/// The answer of a command to the bytes of an input. It fails only for want of memory.
+pub fn answer<H: Threads + Wait + Sync>(
+    rt: &H,
+    alloc: Global,
+    request: Request,
+    bytes: &[u8],
+) -> Result<Reply, AllocError>
+    requires { IsWithinLimits request }
+    ensures { IfOk result (λ reply. IsAnswer request bytes.now reply.text.items reply.status) }
+{
+    match request {
+        Request::Check { workers, cut } => {
+            match check_bytes(rt, alloc, bytes, workers, cut, &FreeGate) {
+                Ok(Report { line, status }) => Ok(Reply { text: line, status }),
+                Err(CheckFault::Memory) => Err(AllocError),
+            }
+        }
+        Request::Record => record(alloc, bytes),
+        Request::Screen { at } => screen(alloc, bytes, at),
+        Request::Migrate => migrate(alloc, bytes),
+    }
+}

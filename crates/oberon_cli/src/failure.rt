@@ -1,0 +1,64 @@
+//! Why the program has no answer, with the line and the status of each reason.
+ghost use Rattle.std.specs.Prelude.{◌≡◌};
+ghost use Rattle.oberon_cli.specs.Reply.{failure_line, failure_status};
+
+use crate::reading::ReadFault;
+use std::alloc::AllocError;
+
+/// Why there is no answer.
+#[derive(Clone, Copy, Debug, PartialEq, Eq)]
+pub enum Failure {
+    /// The words ask for nothing that the program does.
+    Words,
+    /// The input could not be read.
+    Read,
+    /// There was no memory.
+    Memory,
+}
+
+impl Failure {
+    /// Its line. Takes no memory.
+    pub fn line(self) -> &'static str
+        ensures { result.now ≡ failure_line self }
+    {
+        match self {
+            Failure::Words => "words refused\n",
+            Failure::Read => "read fault\n",
+            Failure::Memory => "no memory\n",
+        }
+    }
+
+    /// The status that the program ends with.
+    pub fn status(self) -> u8
+        ensures { result ≡ failure_status self }
+    {
+        match self {
+            Failure::Words => 4,
+            Failure::Read | Failure::Memory => 3,
+        }
+    }
+}
+
+impl From<AllocError> for Failure {
+    ghost use Rattle.oberon_cli.specs.declared.failure.Failure.{Failure};
+
+    ghost from_gives = { λ _ failure. failure ≡ Failure.Memory };
+
+    fn from(_wanting: AllocError) -> Failure {
+        Failure::Memory
+    }
+}
+
+impl From<ReadFault> for Failure {
+    ghost use Rattle.std.specs.Prelude.{◌≡◌};
+    ghost use Rattle.oberon_cli.specs.inner.Failures.{failure_by};
+
+    ghost from_gives = { λ fault failure. failure ≡ failure_by fault };
+
+    fn from(fault: ReadFault) -> Failure {
+        match fault {
+            ReadFault::Failed => Failure::Read,
+            ReadFault::Memory => Failure::Memory,
+        }
+    }
+}

@@ -1,0 +1,80 @@
+//! What binds the program to its process: its words, and the status that it ends with. The program itself is `serve`.
+ghost use Rattle.std.specs.Prelude.{◌≡◌, ◌≢◌, IfOk, drop, map, string_bytes};
+ghost use Rattle.std.specs.Process.{exit_status};
+ghost use Rattle.oberon_cli.specs.Reply.{AnswersAll, IsSentText, IsThreeForFaults, Replies, failure_line, failure_status};
+
+use crate::failure::Failure;
+use crate::service::{refuse, serve};
+use crate::sink::Sink;
+use crate::source::Source;
+use std::alloc::{AllocError, Global};
+use std::env;
+use std::io::ErrorKind;
+use std::process::ExitCode;
+use std::rt::Env;
+use std::sync::Wait;
+use std::thread::Threads;
+
+/// The words of the process, the program's own name before them.
+pub fn process_words<H: AllocGlobal + Env>(rt: &H) -> Result<Vec<String>, Failure> {
+    Ok(
+        env::args(rt)
+            .map_err(|error| failure_of(error.kind()))?
+            .collect(rt.alloc())?,
+    )
+}
+
+/// Why the words of the process can't be had: want of memory, or anything else, as where one is not UTF-8, which refuses the words.
+fn failure_of(kind: ErrorKind) -> Failure
+    ensures memory { kind ≡ ErrorKind.OutOfMemory → result ≡ Failure.Memory }
+    ensures words { kind ≢ ErrorKind.OutOfMemory → result ≡ Failure.Words }
+{
+    match kind {
+        ErrorKind::OutOfMemory => Failure::Memory,
+        _ => Failure::Words,
+    }
+}
+
+/// The texts of the words.
+pub fn texts<'a>(alloc: Global, words: &'a [String]) -> Result<Vec<&'a str>, AllocError>
+    ensures { IfOk result (λ texts. map (λ text. text.now) texts.items ≡ map string_bytes words.now) }
+{
+    let mut texts = Vec::new(alloc);
+    for word in words {
+        texts.push(word.as_str())?;
+    }
+    Ok(texts)
+}
+
+/// Serves the words behind the first, which is the program's own name, and ends with the status that this answers.
+pub fn run<'a, H: Threads + Wait + Sync, R: Source, W: Sink>(
+    rt: &H,
+    alloc: Global,
+    words: &'a [&'a str],
+    input: &mut R,
+    output: &mut W,
+) -> ExitCode
+    ensures replies { Replies (map (λ word. word.now) (drop 1 words.entry.now)) (R.known input.old) (R.known input.new)
+        (W.known output.old) (W.known output.new) (exit_status result) }
+    ensures answers { AnswersAll (map (λ word. word.now) (drop 1 words.entry.now)) (R.known input.old) (W.known output.old)
+        (W.known output.new) (exit_status result) }
+    ensures three { IsThreeForFaults (R.known input.old) (R.known input.new) (W.known output.old) (W.known output.new)
+        (exit_status result) }
+{
+    ExitCode::from(serve(rt, alloc, behind_name(words), input, output))
+}
+
+/// The words behind the first.
+fn behind_name<'a>(words: &'a [&'a str]) -> &'a [&'a str]
+    ensures { result.now ≡ drop 1 words.now }
+{
+    &words[words.len().min(1)..]
+}
+
+/// Writes the line of a failure, and ends with the status that this answers.
+pub fn fail<W: Sink>(output: &mut W, failure: Failure) -> ExitCode
+    ensures { IsSentText (failure_line failure) (failure_status failure) (W.known output.old) (W.known output.new)
+        (exit_status result) }
+{
+    ExitCode::from(refuse(output, failure))
+}

@@ -1,0 +1,80 @@
+//! Reading an input to its end, or up to a limit, by a loop that counts its turns. What the bytes mean is not known here.
+ghost use Rattle.std.specs.Prelude.{◌≡◌, ◌<◌, ◌^◌, length, IfErr, IfOk, OnErr, OnOk, true, false};
+ghost use Rattle.std.specs.Io.KnownBytes.{IsAtEnd};
+ghost use Rattle.oberon_cli.specs.Transfer.{Goes, IsReadUpTo, TakesAtMost};
+ghost use Rattle.oberon_cli.specs.inner.Failures.{GainsInTurn, IsReadFault};
+
+use crate::source::Source;
+use std::alloc::{AllocError, Global};
+
+/// The most bytes that one read asks for: what a pipe holds.
+const CHUNK: usize = 65_536;
+
+/// Why an input was not read.
+#[derive(Clone, Copy, Debug, PartialEq, Eq)]
+pub enum ReadFault {
+    /// A read failed.
+    Failed,
+    /// There was no memory for the bytes.
+    Memory,
+}
+
+impl From<AllocError> for ReadFault {
+    ghost use Rattle.oberon_cli.specs.declared.reading.ReadFault.{ReadFault};
+
+    ghost from_gives = { λ _ fault. fault ≡ ReadFault.Memory };
+
+    fn from(_wanting: AllocError) -> ReadFault {
+        ReadFault::Memory
+    }
+}
+
+/// Reads the input to its end, or `limit` bytes of it where it has more, in at most `limit + 1` turns. The first read that
+/// fails ends it. Whatever happens, no more than `limit` bytes are taken from the input.
+pub fn read_up_to<R: Source>(
+    alloc: Global,
+    input: &mut R,
+    limit: usize,
+) -> Result<Vec<u8>, ReadFault>
+    requires { limit < 2 ^ 32 }
+    ensures read { IfOk result (λ bytes. IsReadUpTo limit (R.known input.old) (R.known input.new) bytes.items) }
+    ensures most { TakesAtMost limit (R.known input.old) (R.known input.new) }
+    ensures fault { IfErr result (IsReadFault (R.known input.old) (R.known input.new)) }
+{
+    let mut bytes = Vec::new(alloc);
+    let mut chunk = [0u8; CHUNK];
+    for _turn in 0..limit + 1 {
+        let room = (limit - bytes.len()).min(CHUNK);
+        if room == 0 {
+            return Ok(bytes);
+        }
+        if read_turn(input, &mut chunk[..room], &mut bytes)? {
+            return Ok(bytes);
+        }
+    }
+    Err(ReadFault::Failed)
+}
+
+/// One turn: the bytes of one read go to the end of `bytes`, at least one where the input has not ended. Answers whether it has.
+fn read_turn<R: Source>(
+    input: &mut R,
+    chunk: &mut [u8],
+    bytes: &mut Vec<u8>,
+) -> Result<bool, ReadFault>
+    requires { 0 < length chunk.old }
+    ensures gained { IfOk result
+        (GainsInTurn (R.known input.old) (R.known input.new) bytes.old.items bytes.new.items (length chunk.old)) }
+    ensures end { IfOk result (λ ended. ended ≡ true → IsAtEnd (R.known input.new).bytes) }
+    ensures lost { OnErr result (TakesAtMost (length chunk.old) (R.known input.old) (R.known input.new)) }
+    ensures goes { OnOk result (Goes (R.known input.old) (R.known input.new)) }
+    ensures fault { IfErr result (IsReadFault (R.known input.old) (R.known input.new)) }
+{
+    match input.pull(chunk) {
+        Ok(0) => Ok(true),
+        Ok(n) => {
+            bytes.extend_from_slice(&chunk[..n])?;
+            Ok(false)
+        }
+        Err(_) => Err(ReadFault::Failed),
+    }
+}

@@ -1,0 +1,105 @@
+//! The program as a function: from words, a reader and a writer to a status.
+ghost use Rattle.std.specs.Prelude.{map, IfOk, IfErr};
+ghost use Rattle.oberon_cli.specs.Answer.{limit_for};
+ghost use Rattle.oberon_cli.specs.Asked.{request_in};
+ghost use Rattle.oberon_cli.specs.Reply.{AnswersAll, IsSentText, IsThreeForFaults, MayFail, Replies, failure_line, failure_status};
+ghost use Rattle.oberon_cli.specs.inner.Requests.{IsReply};
+ghost use Rattle.oberon_cli.specs.Transfer.{TakesAtMost};
+
+use crate::answer::answer;
+use crate::failure::Failure;
+use crate::reading::read_up_to;
+use crate::reply::Reply;
+use crate::sink::{Sink, WriteFault};
+use crate::source::Source;
+use crate::words::{Refusal, request_in};
+use crate::writing::write_whole;
+use std::alloc::Global;
+use std::sync::Wait;
+use std::thread::Threads;
+
+/// Does the command of the words, and answers the status to end with.
+///
+/// | words | what is written | status |
+/// |---|---|---|
+/// | none, or `check` with its options | the line of the check | 0 accepted, 1 false, 2 refused |
+/// | `record` | the text of the session's recording; the line of a fault of the session; or the line of the recorder's fault | 0; 2; 2 |
+/// | `screen --at k` | the picture of the screen that checkpoint k claims; the line of a fault; or `no checkpoint k` | 0; 2; 2 |
+/// | `migrate` | the text of the same recording in the version that is written; or the line of a fault | 0; 2 |
+/// | a request for help | `clap`'s text | 0 |
+/// | others | `words refused` | 4 |
+///
+/// `rt` is the runtime whose threads a check uses, and the program waits for nothing but these. The words are read before the
+/// input, and of the input no more than one byte beyond the longest text that the command takes. Where a read fails, for whatever
+/// cause, only `read fault` is written, where memory is wanting only `no memory`; the status is 3. Where a write fails, or takes
+/// nothing, what went out is a front of the text, nothing else is written, and the status is 3. It is 3 nowhere else.
+pub fn serve<'a, H: Threads + Wait + Sync, R: Source, W: Sink>(
+    rt: &H,
+    alloc: Global,
+    words: &'a [&'a str],
+    input: &mut R,
+    output: &mut W,
+) -> u8
+    // Whatever the reader and the writer do, some reply to the words is written: an answer to bytes that were read up to the end or
+    // to the limit, help, or the line of a failure alone. After a failed write it is a front of the reply.
+    ensures replies { Replies (map (λ word. word.now) words.entry.now) (R.known input.old) (R.known input.new)
+        (W.known output.old) (W.known output.new) result }
+    // Where nothing fails it is the answer to the whole input.
+    ensures answers { AnswersAll (map (λ word. word.now) words.entry.now) (R.known input.old) (W.known output.old)
+        (W.known output.new) result }
+    ensures three { IsThreeForFaults (R.known input.old) (R.known input.new) (W.known output.old) (W.known output.new)
+        result }
+    ensures reads { TakesAtMost (limit_for (request_in (map (λ word. word.now) words.entry.now)))
+        (R.known input.old) (R.known input.new) }
+{
+    match reply(rt, alloc, words, input) {
+        Ok(reply) => send(output, &reply.text, reply.status),
+        Err(failure) => refuse(output, failure),
+    }
+}
+
+/// Writes the line of a failure, and answers its status, or 3 after a write fault. Takes no memory.
+pub fn refuse<W: Sink>(output: &mut W, failure: Failure) -> u8
+    ensures { IsSentText (failure_line failure) (failure_status failure) (W.known output.old)
+        (W.known output.new) result }
+{
+    send(output, failure.line().as_bytes(), failure.status())
+}
+
+/// Writes the text, and answers its status, or 3 after a write fault.
+fn send<W: Sink>(output: &mut W, text: &[u8], status: u8) -> u8
+    ensures { IsSentText text.now status (W.known output.old) (W.known output.new) result }
+{
+    match write_whole(output, text) {
+        Ok(()) => status,
+        Err(WriteFault) => 3,
+    }
+}
+
+/// What there is to write, and its status. The input is read only where the words ask for a command.
+fn reply<'a, H: Threads + Wait + Sync, R: Source>(
+    rt: &H,
+    alloc: Global,
+    words: &'a [&'a str],
+    input: &mut R,
+) -> Result<Reply, Failure>
+    ensures ok { IfOk result
+        (IsReply (map (λ word. word.now) words.entry.now) (R.known input.old) (R.known input.new)) }
+    ensures err { IfErr result (MayFail (map (λ word. word.now) words.entry.now) (R.known input.old)
+        (R.known input.new)) }
+    ensures reads { TakesAtMost (limit_for (request_in (map (λ word. word.now) words.entry.now)))
+        (R.known input.old) (R.known input.new) }
+{
+    match request_in(alloc, words) {
+        Ok(request) => {
+            let bytes = read_up_to(alloc, input, request.limit())?;
+            Ok(answer(rt, alloc, request, &bytes)?)
+        }
+        Err(Refusal::Help(error)) => Ok(Reply {
+            text: error.to_string(alloc)?.into_bytes(),
+            status: 0,
+        }),
+        Err(Refusal::Words) => Err(Failure::Words),
+        Err(Refusal::Memory) => Err(Failure::Memory),
+    }
+}

@@ -1,0 +1,30 @@
+//! Where the bytes of an input come from: a reader, of which contracts say whether a read failed.
+ghost use Rattle.std.specs.Prelude.{OnErr, OnOk, true};
+ghost use Rattle.std.specs.Io.{ReadsAtMost};
+ghost use Rattle.std.specs.Io.KnownBytes.{ReadConsumes};
+ghost use Rattle.oberon_cli.specs.Transfer.{Known, Fails, Goes};
+
+use std::io::{self, Read};
+
+/// Gives bytes in their order.
+pub trait Source {
+    // the bytes that are left, and whether a read has failed
+    ghost known: { Self → Known };
+
+    /// Moves bytes to the front of the chunk, and answers how many: none only at the end, or where the chunk has no room. Each
+    /// `Err`, an interruption too, is a read that failed.
+    fn pull(&mut self, chunk: &mut [u8]) -> io::Result<usize>
+        ensures bound { ReadsAtMost result chunk.new }
+        ensures bytes { ReadConsumes (known self.old).bytes (known self.new).bytes result chunk.new }
+        ensures goes { OnOk result (Goes (known self.old) (known self.new)) }
+        ensures fails { OnErr result (Fails (known self.new)) };
+}
+
+/// Of a reader of the standard library no contract says whether a read has failed, so each may have.
+impl<R: Read> Source for R {
+    ghost known = { λ reader. record { bytes = R.remaining reader; failed = true } };
+
+    fn pull(&mut self, chunk: &mut [u8]) -> io::Result<usize> {
+        self.read(chunk)
+    }
+}

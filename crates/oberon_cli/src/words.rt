@@ -1,0 +1,129 @@
+//! What the words of the command line ask for. The command line itself is in `command`.
+ghost use Rattle.std.specs.Prelude.{◌≡◌, ◌≤◌, Some, IfSome, map, IfOk, IfErr, option_and_then};
+ghost use Rattle.clap.specs.Words.{found_of, kind_of, rows_of, subcommand_rows_of};
+ghost use Rattle.oberon_cli.specs.inner.Requests.{IsWithinLimits, RefusedBy, refusal_by};
+ghost use Rattle.oberon_cli.specs.Asked.{request_in, number_at, request_of};
+
+use crate::command::program;
+use clap::error::ErrorKind;
+use clap::{ArgMatches, Error};
+use oberon_format::{LAST_CHECKPOINT, LONGEST_TEXT};
+use oberon_session::LONGEST_SESSION;
+use std::alloc::{AllocError, Global};
+
+/// One byte more than the longest text of a recording has. A longer input has a fault within so many bytes, and none of them is
+/// looked at further on.
+const RECORDING_LIMIT: usize = LONGEST_TEXT + 1;
+
+/// One byte more than the longest text of a session has. A longer input is refused for its length alone.
+const SESSION_LIMIT: usize = LONGEST_SESSION + 1;
+
+/// What the program is to do.
+#[derive(Clone, Copy, Debug, PartialEq, Eq)]
+pub enum Request {
+    /// Check the recording that is read: with 1 to 64 workers, each job of 1 to 4,096 segments in a row.
+    Check { workers: u32, cut: u32 },
+    /// Record the session that is read.
+    Record,
+    /// Show the screen that checkpoint `at`, of 0 to 4,096, of the recording that is read claims.
+    Screen { at: u32 },
+    /// Print the recording that is read as a text of the version that is written.
+    Migrate,
+}
+
+impl Request {
+    ghost use Rattle.std.specs.Prelude.{◌≡◌};
+    ghost use Rattle.oberon_cli.specs.Answer.{limit_of};
+
+    /// The most bytes that the command reads.
+    pub fn limit(self) -> usize
+        ensures { result ≡ limit_of self }
+    {
+        match self {
+            Request::Check { .. } | Request::Screen { .. } | Request::Migrate => RECORDING_LIMIT,
+            Request::Record => SESSION_LIMIT,
+        }
+    }
+}
+
+/// Why the words ask for none of these.
+#[derive(Debug, Drop)]
+pub enum Refusal {
+    /// They ask for help, whose text is the error's.
+    Help(Error),
+    /// They are none that the program knows.
+    Words,
+    /// There was no memory for reading them.
+    Memory,
+}
+
+impl From<AllocError> for Refusal {
+    ghost use Rattle.oberon_cli.specs.declared.words.Refusal.{Refusal};
+
+    ghost from_gives = { λ _ refusal. refusal ≡ Refusal.Memory };
+
+    fn from(_wanting: AllocError) -> Refusal {
+        Refusal::Memory
+    }
+}
+
+/// What the words ask for, by what `clap` reads from them. No words at all ask for a check with 2 workers and cut 1.
+pub fn request_in<'a>(alloc: Global, words: &'a [&'a str]) -> Result<Request, Refusal>
+    ensures ok { IfOk result (λ request.
+        request_in (map (λ word. word.now) words.entry.now) ≡ Some request) }
+    ensures limits { IfOk result IsWithinLimits }
+    ensures err { IfErr result (RefusedBy (map (λ word. word.now) words.entry.now)) }
+{
+    if words.is_empty() {
+        return Ok(Request::Check { workers: 2, cut: 1 });
+    }
+    match program(alloc)?.try_get_matches_from(words) {
+        Ok(matches) => request_of(&matches).ok_or(Refusal::Words),
+        Err(error) => Err(refusal_of(error)),
+    }
+}
+
+/// What an error of `clap` refuses.
+fn refusal_of(error: Error) -> Refusal
+    ensures { result ≡ refusal_by (kind_of error) error }
+{
+    match error.kind() {
+        ErrorKind::DisplayHelp => Refusal::Help(error),
+        ErrorKind::OutOfMemory => Refusal::Memory,
+        _ => Refusal::Words,
+    }
+}
+
+/// What the command that `clap` found asks for.
+fn request_of(matches: &ArgMatches<'_>) -> Option<Request>
+    ensures value { result
+        ≡ option_and_then (λ found. request_of found.0 found.1) (subcommand_rows_of matches.now) }
+    ensures limits { IfSome result IsWithinLimits }
+{
+    let (name, inner) = matches.subcommand()?;
+    match name {
+        "check" => Some(Request::Check {
+            workers: whole_number(inner, "workers", 1, 64)?,
+            cut: whole_number(inner, "cut", 1, LAST_CHECKPOINT)?,
+        }),
+        "record" => Some(Request::Record),
+        "screen" => Some(Request::Screen {
+            at: whole_number(inner, "at", 0, LAST_CHECKPOINT)?,
+        }),
+        "migrate" => Some(Request::Migrate),
+        _ => None,
+    }
+}
+
+/// The number of an option, where it lies in the range.
+fn whole_number(matches: &ArgMatches<'_>, id: &str, low: u32, high: u32) -> Option<u32>
+    ensures value { result ≡ number_at low high id.now (rows_of (found_of matches.now)) }
+    ensures limits { IfSome result (λ number. (low ≤ number) × (number ≤ high)) }
+{
+    let number = matches.get_one::<u32>(id)?;
+    if low <= number && number <= high {
+        Some(number)
+    } else {
+        None
+    }
+}

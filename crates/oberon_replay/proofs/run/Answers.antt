@@ -1,4 +1,0 @@
-use Rattle.oberon_replay.proofs.run.Goals as goal
-
-pub returns-clause-answers : goal.returns-clause-answers
-returns-clause-answers g c = rw (← c.behind_name.ensures, c.from.ensures) c.serve.ensures.answers

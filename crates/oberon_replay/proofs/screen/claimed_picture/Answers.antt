@@ -1,8 +1,0 @@
-use Rattle.std.proofs.Common.{◌∙◌, ap, arith, length}
-use Rattle.oberon_replay.proofs.DisplayLemmas.{range_length}
-use Rattle.oberon_replay.proofs.screen.claimed_picture.Goals as goal
-
-pub picture-requires : goal.picture-requires
-picture-requires c =
-    ap length c.deref.ensures.value
-    ∙ range_length c.in_ok-memory.memory.words c.in_ok-words.words.items 237504 24576 c.in_ok-words.ensures (omega (arith, c.in_ok-memory.ensures.memory.words))

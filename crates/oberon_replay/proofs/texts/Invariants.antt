@@ -1,7 +1,0 @@
-use Rattle.std.proofs.Common.{◌≡◌, map, string_bytes, take}
-use Rattle.oberon_replay.proofs.texts.Given as goal
-
-abbrev pub invariant-loop-word : goal.invariant-loop-word
-invariant-loop-word l = record {
-  texts : map (λ text. text.now) l.texts.items ≡ map string_bytes (take l.word-index l.words);
-}
