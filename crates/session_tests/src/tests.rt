@@ -257,7 +257,7 @@ const WORDS: [(u16, u32, u32); 7] = [
 
 /// The word at an index of the page at a place of the first memory.
 fn first_word(rt: &impl Abort, recording: &Recording, place: u16, index: u32) -> u32 {
-    assert!(rt; place < 1024 && index < 256);
+    assert!(rt; place < 1024 && index < 256 && recording.count() > 0);
     let page_no = recording.checkpoint(0).table.entry(place);
     let pool = recording.pool();
     assert!(rt; page_no <= pool.len());
