@@ -41,6 +41,3 @@ pub use recording::Recording;
 pub use risc_machine::MAX_COUNT;
 pub use sent::Sent;
 pub use writing::write;
-
-#[cfg(test)]
-mod tests;

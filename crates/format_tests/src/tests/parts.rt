@@ -1,6 +1,6 @@
 //! Recordings made of parts: each rule that parts can break, broken once.
 
-use crate::*;
+use oberon_format::{Checkpoint, Fault, Recording, Sent};
 use risc_devices::{Devices, Input};
 use risc_machine::{Cpu, Event, Flags, Inputs};
 use risc_pages::{Page, Pool, Table};
@@ -157,40 +157,95 @@ fn counts_the_changes_before_a_fault(rt: HostRuntime) -> Result<(), Fail> {
     Ok(())
 }
 
-#[test]
-fn refuses_parts_beyond_the_limits(rt: HostRuntime) -> Result<(), Fail> {
-    let alloc = rt.alloc();
-    let none = Inputs::new(Vec::new(alloc))
-        .ok()
-        .ok_or("no inputs are in order")?;
-    let nothing = Recording::from_parts(Pool::new(alloc), none, Vec::new(alloc));
-    assert_eq!(rt; nothing.err(), Some(Fault::Limit(16)));
-    let mut pool = Pool::with_capacity(alloc, 65_537)?;
-    for _ in 0..65_537 {
-        assert!(rt; pool.len() < 100_000);
+/// No inputs.
+fn no_inputs(alloc: Global) -> Result<Inputs, Fail> {
+    match Inputs::new(Vec::new(alloc)) {
+        Ok(inputs) => Ok(inputs),
+        Err(_) => Err("no inputs are in order".into()),
+    }
+}
+
+/// What is wrong with this pool and no inputs and checkpoints.
+fn fault_of_pool(alloc: Global, pool: Pool) -> Result<Option<Fault>, Fail> {
+    let inputs = no_inputs(alloc)?;
+    Ok(Recording::from_parts(pool, inputs, Vec::new(alloc)).err())
+}
+
+/// A pool of so many pages of zeros.
+fn pool_of(alloc: Global, pages: u32) -> Result<Pool, AllocError> {
+    let mut pool = Pool::new(alloc);
+    for _ in 0..pages {
+        if pool.len() > 100_000 {
+            return Ok(pool);
+        }
         pool.push(Page { words: [0; 256] })?;
     }
-    let none = Inputs::new(Vec::new(alloc))
-        .ok()
-        .ok_or("no inputs are in order")?;
-    let many_pages = Recording::from_parts(pool, none, Vec::new(alloc));
-    assert_eq!(rt; many_pages.err(), Some(Fault::Limit(8)));
+    Ok(pool)
+}
+
+/// So many events, one before each count.
+fn events_of(alloc: Global, input: Input, events: u64) -> Result<Vec<Event>, AllocError> {
+    let mut list = Vec::new(alloc);
+    for count in 0..events {
+        list.push(Event { count, input })?;
+    }
+    Ok(list)
+}
+
+/// What is wrong with these events and no pages and checkpoints.
+fn fault_of_events(alloc: Global, events: Vec<Event>) -> Result<Option<Fault>, Fail> {
+    match Inputs::new(events) {
+        Ok(inputs) => Ok(Recording::from_parts(Pool::new(alloc), inputs, Vec::new(alloc)).err()),
+        Err(_) => Err("the counts rise".into()),
+    }
+}
+
+/// So many checkpoints, at the counts from 0 on.
+fn checkpoints_of(
+    rt: &impl Abort,
+    alloc: Global,
+    checkpoints: u64,
+) -> Result<Vec<Checkpoint>, AllocError> {
+    let mut list = Vec::new(alloc);
+    for count in 0..checkpoints {
+        list.push(checkpoint(rt, alloc, (count, 0, 0, 0, 0, 0))?)?;
+    }
+    Ok(list)
+}
+
+#[test]
+fn refuses_no_checkpoint(rt: HostRuntime) -> Result<(), Fail> {
+    let alloc = rt.alloc();
+    let fault = fault_of_pool(alloc, Pool::new(alloc))?;
+    assert_eq!(rt; fault, Some(Fault::Limit(16)));
+    Ok(())
+}
+
+#[test]
+fn refuses_a_page_too_many(rt: HostRuntime) -> Result<(), Fail> {
+    let alloc = rt.alloc();
+    let pool = pool_of(alloc, 65_537)?;
+    assert_eq!(rt; pool.len(), 65_537);
+    assert_eq!(rt; fault_of_pool(alloc, pool)?, Some(Fault::Limit(8)));
+    Ok(())
+}
+
+#[test]
+fn refuses_an_event_too_many(rt: HostRuntime) -> Result<(), Fail> {
+    let alloc = rt.alloc();
     let input = Input::new(1, 0).expect(&rt, "the input is in range");
-    let mut events = Vec::with_capacity(alloc, 1_000_001)?;
-    for count in 0..1_000_001 {
-        events.push(Event { count, input })?;
-    }
-    let many = Inputs::new(events).ok().ok_or("the counts rise")?;
-    let many_events = Recording::from_parts(Pool::new(alloc), many, Vec::new(alloc));
-    assert_eq!(rt; many_events.err(), Some(Fault::Limit(12)));
-    let mut checkpoints = Vec::with_capacity(alloc, 4098)?;
-    for count in 0..4098 {
-        checkpoints.push(checkpoint(&rt, alloc, (count, 0, 0, 0, 0, 0))?)?;
-    }
-    let none = Inputs::new(Vec::new(alloc))
-        .ok()
-        .ok_or("no inputs are in order")?;
-    let many_checkpoints = Recording::from_parts(Pool::new(alloc), none, checkpoints);
-    assert_eq!(rt; many_checkpoints.err(), Some(Fault::Limit(16)));
+    let events = events_of(alloc, input, 1_000_001)?;
+    assert_eq!(rt; fault_of_events(alloc, events)?, Some(Fault::Limit(12)));
+    Ok(())
+}
+
+#[test]
+fn refuses_a_checkpoint_too_many(rt: HostRuntime) -> Result<(), Fail> {
+    let alloc = rt.alloc();
+    let checkpoints = checkpoints_of(&rt, alloc, 4098)?;
+    assert_eq!(rt;
+        fault_of_checkpoints(alloc, checkpoints),
+        Some(Fault::Limit(16))
+    );
     Ok(())
 }

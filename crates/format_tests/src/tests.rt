@@ -6,7 +6,7 @@ mod parts;
 mod second;
 mod texts;
 
-use super::*;
+use oberon_format::{Fault, Sent};
 use std::test::Fail;
 
 /// The text of each fault.

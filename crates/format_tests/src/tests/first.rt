@@ -1,11 +1,13 @@
 //! Texts of version 1: each rule broken once, and what they are written as.
 
 use crate::tests::texts::{put_byte, put_word};
-use crate::*;
+use oberon_format::{Checkpoint, Fault, Recording, read, refusal, write};
 use recording_texts::{
     Claim, EMPTY, EQUAL_PAGES, Event, FIRST_PAGE, JUMP, ONE_BYTE_SENT, STORED_RUN, Sketch, ZEROS,
     header,
 };
+use risc_machine::Inputs;
+use risc_pages::Pool;
 use std::alloc::{AllocError, Global};
 use std::test::Fail;
 
@@ -61,47 +63,105 @@ fn two_events(alloc: Global, words: &[(u16, u32)]) -> Result<Vec<u8>, AllocError
     Ok(text)
 }
 
+/// Recordings that have a text of version 1.
+const SKETCHES: [Sketch<'static>; 5] = [STORED_RUN, EMPTY, EQUAL_PAGES, ONE_BYTE_SENT, FULL];
+
+/// The recording of a sketch, by its text of version 1.
+fn first_recording(alloc: Global, sketch: &Sketch<'_>) -> Result<Recording, Fail> {
+    let text = sketch.first_text(alloc, &[])?;
+    Ok(read(alloc, &text)?)
+}
+
+/// What this recording is written as.
+fn written_text(alloc: Global, sketch: &Sketch<'_>) -> Result<Vec<u8>, Fail> {
+    let recording = first_recording(alloc, sketch)?;
+    Ok(write(alloc, &recording)?)
+}
+
+/// The recording of what it is written as.
+fn second_recording(alloc: Global, sketch: &Sketch<'_>) -> Result<Recording, Fail> {
+    let text = written_text(alloc, sketch)?;
+    Ok(read(alloc, &text)?)
+}
+
+/// How long the text of version 1 is.
+fn first_length(alloc: Global, sketch: &Sketch<'_>) -> Result<usize, Fail> {
+    Ok(sketch.first_text(alloc, &[])?.len())
+}
+
+/// Whether two checkpoints agree, and the first has a timer that doesn't count by itself.
+fn is_same_checkpoint(other: &Checkpoint, one: &Checkpoint) -> bool {
+    other.count == one.count
+        && other.cpu.r == one.cpu.r
+        && other.devices.keys() == one.devices.keys()
+        && other.devices.rate() == 0
+        && other.sent.bytes() == one.sent.bytes()
+        && other.table.numbers() == one.table.numbers()
+}
+
+/// Whether two recordings agree in each checkpoint.
+fn has_same_checkpoints(again: &Recording, recording: &Recording) -> bool {
+    if again.count() != recording.count() {
+        return false;
+    }
+    for k in 0..recording.count() {
+        if !is_same_checkpoint(again.checkpoint(k), recording.checkpoint(k)) {
+            return false;
+        }
+    }
+    true
+}
+
 #[test]
 fn gives_the_same_recording_in_the_second_version(rt: HostRuntime) -> Result<(), Fail> {
-    let alloc = rt.alloc();
-    for sketch in [STORED_RUN, EMPTY, EQUAL_PAGES, ONE_BYTE_SENT, FULL] {
-        let text = sketch.first_text(alloc, &[])?;
-        let recording = read(alloc, &text)?;
-        let second = write(alloc, &recording)?;
-        assert_eq!(rt; second.as_slice()[4], 2);
-        assert!(rt; second.len() < text.len());
-        let again = read(alloc, &second)?;
+    for sketch in &SKETCHES {
+        let recording = first_recording(rt.alloc(), sketch)?;
+        let again = second_recording(rt.alloc(), sketch)?;
         assert_eq!(rt; again.pool().len(), recording.pool().len());
         assert_eq!(rt; again.inputs().events(), recording.inputs().events());
-        assert_eq!(rt; again.count(), recording.count());
-        for k in 0..recording.count() {
-            let one = recording.checkpoint(k);
-            let other = again.checkpoint(k);
-            assert_eq!(rt; other.count, one.count);
-            assert_eq!(rt; other.cpu.r, one.cpu.r);
-            assert_eq!(rt; other.devices.keys(), one.devices.keys());
-            assert_eq!(rt; other.devices.rate(), 0);
-            assert_eq!(rt; other.sent.bytes(), one.sent.bytes());
-            assert_eq!(rt; other.table.numbers(), one.table.numbers());
-        }
+        assert!(rt; has_same_checkpoints(&again, &recording));
     }
     Ok(())
 }
 
+/// The version of a text.
+fn version_of(text: &[u8]) -> u8 {
+    if text.len() > 4 { text[4] } else { 0 }
+}
+
+#[test]
+fn writes_a_shorter_text_of_the_second_version(rt: HostRuntime) -> Result<(), Fail> {
+    for sketch in &SKETCHES {
+        let length = first_length(rt.alloc(), sketch)?;
+        let second = written_text(rt.alloc(), sketch)?;
+        assert_eq!(rt; version_of(&second), 2);
+        assert!(rt; second.len() < length);
+    }
+    Ok(())
+}
+
+/// Whether the pool is that of the stored run.
+fn is_stored_pool(pool: &Pool) -> bool {
+    pool.len() == 1 && pool.page(1).words[0] == 0x4000_0005
+}
+
+/// Whether this is what the stored run claims at its end.
+fn is_stored_end(last: &Checkpoint) -> bool {
+    last.count == 100
+        && last.cpu.r[0] == 5
+        && last.cpu.pc == 100
+        && last.devices.timer() == 0
+        && last.sent.bytes().is_empty()
+        && last.table.entry(0) == 1
+}
+
 #[test]
 fn reads_the_parts_of_a_text(rt: HostRuntime) -> Result<(), Fail> {
-    let recording = read(rt.alloc(), &STORED_RUN.first_text(rt.alloc(), &[])?)?;
-    assert_eq!(rt; recording.pool().len(), 1);
-    assert_eq!(rt; recording.pool().page(1).words[0], 0x4000_0005);
+    let recording = first_recording(rt.alloc(), &STORED_RUN)?;
+    assert!(rt; is_stored_pool(recording.pool()));
     assert_eq!(rt; recording.inputs().events().len(), 0);
     assert_eq!(rt; recording.count(), 2);
-    let last = recording.checkpoint(1);
-    assert_eq!(rt; last.count, 100);
-    assert_eq!(rt; last.cpu.r[0], 5);
-    assert_eq!(rt; last.cpu.pc, 100);
-    assert_eq!(rt; last.devices.timer(), 0);
-    assert_eq!(rt; last.sent.bytes().len(), 0);
-    assert_eq!(rt; last.table.entry(0), 1);
+    assert!(rt; is_stored_end(recording.checkpoint(1)));
     Ok(())
 }
 
@@ -322,9 +382,8 @@ fn gives_the_first_of_two_faults(rt: HostRuntime) -> Result<(), Fail> {
     Ok(())
 }
 
-#[test]
-fn reads_as_many_pages_and_events_as_there_can_be(rt: HostRuntime) -> Result<(), Fail> {
-    let alloc = rt.alloc();
+/// A text of as many pages and events as there can be.
+fn most_text(alloc: Global) -> Result<Vec<u8>, Fail> {
     let mut text = vec![in alloc; 0; 83_113_116]?;
     let header = header(alloc, 1, 65_536, 1_000_000, 1)?;
     for (place, byte) in header.iter().enumerate() {
@@ -338,16 +397,39 @@ fn reads_as_many_pages_and_events_as_there_can_be(rt: HostRuntime) -> Result<(),
         put_byte(&mut text, 67_108_900 + 16 * i, 9);
     }
     put_byte(&mut text, 83_113_114, 1);
-    let recording = read(alloc, &text)?;
-    assert_eq!(rt; recording.pool().len(), 65_536);
-    assert_eq!(rt; recording.pool().page(1).words[0], JUMP);
-    assert_eq!(rt; recording.pool().page(65_536).words[255], 7);
-    assert_eq!(rt; recording.inputs().events().len(), 1_000_000);
-    assert_eq!(rt; recording.inputs().events()[999_999].input.value(), 9);
+    Ok(text)
+}
+
+/// The recording of this text.
+fn most_recording(alloc: Global) -> Result<Recording, Fail> {
+    let text = most_text(alloc)?;
+    Ok(read(alloc, &text)?)
+}
+
+/// Whether the pool is that of this text.
+fn is_most_pool(pool: &Pool) -> bool {
+    pool.len() == 65_536 && pool.page(1).words[0] == JUMP && pool.page(65_536).words[255] == 7
+}
+
+/// Whether these are the events of this text.
+fn are_most_events(inputs: &Inputs) -> bool {
+    let events = inputs.events();
+    events.len() == 1_000_000 && events[999_999].input.value() == 9
+}
+
+/// How long a recording's text is in the version that is written.
+fn second_length(alloc: Global, recording: &Recording) -> Result<usize, Fail> {
+    Ok(write(alloc, recording)?.len())
+}
+
+#[test]
+fn reads_as_many_pages_and_events_as_there_can_be(rt: HostRuntime) -> Result<(), Fail> {
+    let recording = most_recording(rt.alloc())?;
+    assert!(rt; is_most_pool(recording.pool()));
+    assert!(rt; are_most_events(recording.inputs()));
     assert_eq!(rt; recording.count(), 1);
     assert_eq!(rt; recording.checkpoint(0).table.entry(1023), 65_536);
-    let second = write(alloc, &recording)?;
     // 24 bytes, the pages, the events, and a checkpoint with a change
-    assert_eq!(rt; second.len(), 83_109_040);
+    assert_eq!(rt; second_length(rt.alloc(), &recording)?, 83_109_040);
     Ok(())
 }

@@ -1,6 +1,6 @@
 //! Texts that are written again in the version that is written now.
 
-use crate::{Fault, migrate};
+use oberon_format::{Fault, migrate};
 use recording_texts::STORED_RUN;
 use std::test::Fail;
 

@@ -1,7 +1,7 @@
 //! Texts of version 2: what is read is written, and each rule is broken once.
 
 use crate::tests::texts::put_word;
-use crate::*;
+use oberon_format::{Checkpoint, Fault, read, refusal, write};
 use recording_texts::{Claim, EMPTY, JUMP, STORED_RUN, Sketch, ZEROS};
 use std::test::Fail;
 
@@ -41,21 +41,35 @@ fn writes_what_it_reads(rt: HostRuntime) -> Result<(), Fail> {
     Ok(())
 }
 
+/// Places, with the numbers that they have in the two tables of the five changes.
+const NUMBERS: [(u16, u32, u32); 5] = [(0, 1, 1), (7, 2, 0), (8, 0, 2), (1023, 1, 1), (9, 0, 0)];
+
+/// Whether the tables of the five changes have their numbers.
+fn has_numbers(first: &Checkpoint, last: &Checkpoint) -> bool {
+    for (place, before, after) in NUMBERS {
+        if place >= 1024 || first.table.entry(place) != before || last.table.entry(place) != after {
+            return false;
+        }
+    }
+    true
+}
+
+/// Whether the timers of the five changes, and what was sent, are what the text says.
+fn has_timers(first: &Checkpoint, last: &Checkpoint) -> bool {
+    first.devices.rate() == 25_000
+        && first.devices.phase() == 24_999
+        && last.devices.timer() == 9
+        && last.devices.phase() == 9
+        && last.sent.bytes() == [0x41, 0x42].as_slice()
+}
+
 #[test]
 fn reads_tables_by_their_changes(rt: HostRuntime) -> Result<(), Fail> {
-    let recording = read(rt.alloc(), &FIVE_CHANGES.second_text(rt.alloc(), &[])?)?;
+    let text = FIVE_CHANGES.second_text(rt.alloc(), &[])?;
+    let recording = read(rt.alloc(), &text)?;
     assert_eq!(rt; recording.count(), 2);
-    let first = recording.checkpoint(0);
-    let last = recording.checkpoint(1);
-    for (place, before, after) in [(0, 1, 1), (7, 2, 0), (8, 0, 2), (1023, 1, 1), (9, 0, 0)] {
-        assert_eq!(rt; first.table.entry(place), before);
-        assert_eq!(rt; last.table.entry(place), after);
-    }
-    assert_eq!(rt; first.devices.rate(), 25_000);
-    assert_eq!(rt; first.devices.phase(), 24_999);
-    assert_eq!(rt; last.devices.timer(), 9);
-    assert_eq!(rt; last.devices.phase(), 9);
-    assert_eq!(rt; last.sent.bytes(), [0x41, 0x42].as_slice());
+    assert!(rt; has_numbers(recording.checkpoint(0), recording.checkpoint(1)));
+    assert!(rt; has_timers(recording.checkpoint(0), recording.checkpoint(1)));
     Ok(())
 }
 
