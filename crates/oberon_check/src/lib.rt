@@ -27,6 +27,3 @@ pub use report::{Report, check_bytes};
 pub use segment::{SegmentVerdict, replay_segment};
 pub use verdict::Verdict;
 pub use worker::{Done, work};
-
-#[cfg(test)]
-mod tests;

@@ -16,6 +16,3 @@ mod pass;
 pub use claims::Claims;
 pub use ledger::Ledger;
 pub use pass::Pass;
-
-#[cfg(test)]
-mod tests;

@@ -1,47 +1,74 @@
-//! The worked examples of the book, in one thread and in eight.
+//! The worked examples of the claim book, in one thread and in eight.
 ghost use Rattle.std.specs.Prelude.{◌≡◌, All, IfOk, vec_len};
 ghost use Rattle.oberon_claims.specs.Pass.{fresh_pass};
 
-use super::*;
-use std::alloc::AllocError;
+use oberon_claims::{Claims, Ledger, Pass};
+use std::alloc::{AllocError, Global};
 use std::sync::atomic::{AtomicU64, Ordering};
 use std::test::Fail;
 use std::thread::{Threads, map_vec};
 
+/// What two passes that share three jobs are answered in turn, and what the book comes to.
+fn answers_by_hand(alloc: Global) -> Result<([Option<u32>; 8], Ledger), Fail> {
+    let (claims, mut passes) = Claims::new(alloc, 3, 2)?;
+    let mut b = passes.pop().ok_or("no pass")?;
+    let mut a = passes.pop().ok_or("no pass")?;
+    let first = claims.claim(&mut a);
+    let second = claims.claim(&mut b);
+    let third = claims.claim(&mut a);
+    let past = claims.claim(&mut b);
+    let past_again = claims.claim(&mut a);
+    claims.tell(&mut a, 5);
+    let own = claims.look(&mut a);
+    claims.tell(&mut b, 3);
+    let less = claims.look(&mut a);
+    claims.tell(&mut a, 9);
+    let still = claims.look(&mut a);
+    passes.push(a)?;
+    passes.push(b)?;
+    let answers = [first, second, third, past, past_again, own, less, still];
+    Ok((answers, claims.finish(passes)))
+}
+
 /// Two passes share three jobs: claims past the end, and looks that see what the other pass told.
 #[test]
 fn claims_by_hand(rt: HostRuntime) -> Result<(), Fail> {
-    let (claims, mut passes) = Claims::new(rt.alloc(), 3, 2)?;
-    let mut b = passes.pop().ok_or("no pass")?;
-    let mut a = passes.pop().ok_or("no pass")?;
-    assert_eq!(rt; claims.claim(&mut a), Some(0));
-    assert_eq!(rt; claims.claim(&mut b), Some(1));
-    assert_eq!(rt; claims.claim(&mut a), Some(2));
-    assert_eq!(rt; claims.claim(&mut b), None);
-    assert_eq!(rt; claims.claim(&mut a), None);
-    claims.tell(&mut a, 5);
-    assert_eq!(rt; claims.look(&mut a), Some(5));
-    claims.tell(&mut b, 3);
-    assert_eq!(rt; claims.look(&mut a), Some(3));
-    claims.tell(&mut a, 9);
-    assert_eq!(rt; claims.look(&mut a), Some(3));
-    passes.push(a)?;
-    passes.push(b)?;
-    let ledger = claims.finish(passes);
+    let (answers, ledger) = answers_by_hand(rt.alloc())?;
+    let expected = [
+        Some(0),
+        Some(1),
+        Some(2),
+        None,
+        None,
+        Some(5),
+        Some(3),
+        Some(3),
+    ];
+    for (call, (found, wanted)) in answers.iter().zip(&expected).enumerate() {
+        assert_eq!(rt; *found, *wanted, "answer {call}");
+    }
     assert_eq!(rt; ledger.taken, 3);
     assert_eq!(rt; ledger.least, Some(3));
     Ok(())
 }
 
+/// What the one pass of a book without jobs is answered, and what the book comes to.
+fn answers_without_jobs(alloc: Global) -> Result<([Option<u32>; 3], Ledger), Fail> {
+    let (claims, mut passes) = Claims::new(alloc, 0, 1)?;
+    let mut pass = passes.pop().ok_or("no pass")?;
+    let first = claims.claim(&mut pass);
+    let second = claims.claim(&mut pass);
+    let least = claims.look(&mut pass);
+    passes.push(pass)?;
+    Ok(([first, second, least], claims.finish(passes)))
+}
+
 #[test]
 fn no_jobs(rt: HostRuntime) -> Result<(), Fail> {
-    let (claims, mut passes) = Claims::new(rt.alloc(), 0, 1)?;
-    let mut pass = passes.pop().ok_or("no pass")?;
-    assert_eq!(rt; claims.claim(&mut pass), None);
-    assert_eq!(rt; claims.claim(&mut pass), None);
-    assert_eq!(rt; claims.look(&mut pass), None);
-    passes.push(pass)?;
-    let ledger = claims.finish(passes);
+    let (answers, ledger) = answers_without_jobs(rt.alloc())?;
+    for (call, found) in answers.iter().enumerate() {
+        assert_eq!(rt; *found, None, "answer {call}");
+    }
     assert_eq!(rt; ledger.taken, 0);
     assert_eq!(rt; ledger.least, None);
     Ok(())
@@ -87,6 +114,17 @@ fn work_all<R: Threads + Sync>(
     )
 }
 
+/// What a book of 4,096 jobs comes to, which eight threads share.
+fn ledger_of_eight<R: Threads + Sync>(
+    rt: &R,
+    alloc: Global,
+    marks: &[AtomicU64],
+) -> Result<Ledger, Fail> {
+    let (claims, passes) = Claims::new(alloc, 4096, 8)?;
+    let passes = work_all(rt, &claims, passes, marks)?;
+    Ok(claims.finish(passes))
+}
+
 /// Eight threads share 4,096 jobs: each job is taken once, and the least segment told is known.
 #[test]
 fn eight_threads_share_all_jobs(rt: HostRuntime) -> Result<(), Fail> {
@@ -94,9 +132,7 @@ fn eight_threads_share_all_jobs(rt: HostRuntime) -> Result<(), Fail> {
     for _job in 0..4096 {
         marks.push(AtomicU64::new(0))?;
     }
-    let (claims, passes) = Claims::new(rt.alloc(), 4096, 8)?;
-    let passes = work_all(&rt, &claims, passes, marks.as_slice())?;
-    let ledger = claims.finish(passes);
+    let ledger = ledger_of_eight(&rt, rt.alloc(), marks.as_slice())?;
     assert_eq!(rt; ledger.taken, 4096);
     assert_eq!(rt; ledger.least, Some(700));
     for (job, mark) in marks.iter().enumerate() {

@@ -1,7 +1,7 @@
 use Rattle.std.proofs.Common.{◌≡◌, ◌<◌, ℕ, List, length, get_or, sym, subst}
 use Rattle.oberon_check.specs.Segment.{Finding}
 use Rattle.std.proofs.lemmas.List.Elements.{All-push}
-use Rattle.oberon_check.proofs.tests.verdicts_of.Goals as goal
+use Rattle.check_tests.proofs.tests.segments.verdicts_of.Goals as goal
 
 pub loop-segment-preserved : goal.loop-segment-preserved
 loop-segment-preserved c =

@@ -3,7 +3,7 @@ use Rattle.oberon_claims.specs.Pass.{PassRecord, fresh_pass}
 use Rattle.std.proofs.lemmas.List.Elements.{All-push}
 use Rattle.oberon_claims.proofs.Gathers.{next_of}
 use Rattle.oberon_check.specs.Work.{DoneRecord, IsShareOf}
-use Rattle.oberon_check.proofs.tests.work_in_turn.Goals as goal
+use Rattle.check_tests.proofs.tests.passes.work_in_turn.Goals as goal
 
 pub work-requires-clause-fresh : goal.work-requires-clause-fresh
 work-requires-clause-fresh c =

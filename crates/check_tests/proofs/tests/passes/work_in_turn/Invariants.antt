@@ -1,7 +1,7 @@
 use Rattle.std.proofs.Common.{◌≡◌, ◌++◌, length}
 use Rattle.std.specs.Prelude.{All}
 use Rattle.oberon_check.specs.Work.{IsShareOf}
-use Rattle.oberon_check.proofs.tests.work_in_turn.Given as goal
+use Rattle.check_tests.proofs.tests.passes.work_in_turn.Given as goal
 
 abbrev pub invariant-loop-pass : goal.invariant-loop-pass
 invariant-loop-pass l = record {

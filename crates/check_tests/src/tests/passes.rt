@@ -1,0 +1,139 @@
+//! Passes of a book that callers give to `work` by themselves, and all shares that they give to `gather`.
+ghost use Rattle.std.specs.Prelude.{◌≡◌, ◌≤◌, All, IfOk, vec_len};
+ghost use Rattle.std.specs.Int.{div_ceil};
+ghost use Rattle.oberon_claims.specs.Pass.{fresh_pass};
+ghost use Rattle.oberon_format.specs.Recording.{last_of};
+ghost use Rattle.oberon_check.specs.Work.{IsShareOf};
+
+use super::jumps::{FALSE_LEDS, LIT_LEDS, jump_recording};
+use super::segments::are_findings;
+use oberon_check::{Done, FreeGate, Part, Verdict, gather, work};
+use oberon_claims::{Claims, Pass};
+use oberon_format::Recording;
+use std::alloc::{AllocError, Global};
+use std::test::Fail;
+use std::thread::{Threads, map_vec};
+
+/// Each pass in a thread of its own.
+fn work_all<R: Threads + Sync>(
+    rt: &R,
+    alloc: Global,
+    r: &Recording,
+    claims: &Claims,
+    passes: Vec<Pass>,
+) -> Result<Vec<Result<Done, AllocError>>, AllocError>
+    requires fresh { All (λ p. p ≡ fresh_pass claims.now) passes.items }
+    requires jobs { claims.now.jobs ≡ div_ceil (last_of r.now) 1 }
+    ensures len { IfOk result (λ v. vec_len v ≡ vec_len passes) }
+    ensures parts { IfOk result (λ v. All (λ d. IfOk d (IsShareOf r.now 1 claims.now)) v.items) }
+{
+    map_vec(
+        rt,
+        passes,
+        &|pass: Pass| -> Result<Done, AllocError>
+            requires { (pass ≡ fresh_pass claims.now) × (claims.now.jobs ≡ div_ceil (last_of r.now) 1) }
+            ensures { IfOk result (IsShareOf r.entry.now 1 claims.entry.now) }
+        { work(alloc, r, claims, pass, 1, &FreeGate) },
+    )
+}
+
+/// The shares, if memory sufficed for each.
+fn all_done(
+    alloc: Global,
+    r: &Recording,
+    claims: &Claims,
+    results: Vec<Result<Done, AllocError>>,
+) -> Result<Vec<Done>, AllocError>
+    requires { All (λ d. IfOk d (IsShareOf r.now 1 claims.now)) results.items }
+    ensures len { IfOk result (λ v. vec_len v ≡ vec_len results) }
+    ensures parts { IfOk result (λ v. All (IsShareOf r.now 1 claims.now) v.items) }
+{
+    // The contract alone names these.
+    let _ = r;
+    let _ = claims;
+    let mut done = Vec::new(alloc);
+    for result in results {
+        let one = result?;
+        done.push(one)?;
+    }
+    Ok(done)
+}
+
+/// The verdict of eight passes, each on a thread of the caller.
+fn verdict_of_eight<R: Threads + Sync>(
+    rt: &R,
+    alloc: Global,
+    r: &Recording,
+) -> Result<Verdict, AllocError> {
+    let jobs = (r.count() - 1).div_ceil(1);
+    let (claims, passes) = Claims::new(alloc, jobs, 8)?;
+    let results = work_all(rt, alloc, r, &claims, passes)?;
+    let done = all_done(alloc, r, &claims, results)?;
+    gather(alloc, r, claims, done)
+}
+
+/// Ten segments, of which checkpoints 3 and 7 are false, and a pass for each of eight threads.
+#[test]
+fn eight_passes_on_threads_of_the_caller(rt: HostRuntime) -> Result<(), Fail> {
+    let r = jump_recording(rt.alloc(), 10, &LIT_LEDS)?;
+    let verdict = verdict_of_eight(&rt, rt.alloc(), &r)?;
+    assert_eq!(rt; verdict, FALSE_LEDS);
+    Ok(())
+}
+
+/// The passes are worked one after the other, in this thread.
+fn work_in_turn(
+    alloc: Global,
+    r: &Recording,
+    claims: &Claims,
+    passes: Vec<Pass>,
+    cut: u32,
+) -> Result<Vec<Done>, AllocError>
+    requires cut { 1 ≤ cut }
+    requires fresh { All (λ p. p ≡ fresh_pass claims.now) passes.items }
+    requires jobs { claims.now.jobs ≡ div_ceil (last_of r.now) cut }
+    ensures len { IfOk result (λ v. vec_len v ≡ vec_len passes) }
+    ensures parts { IfOk result (λ v. All (IsShareOf r.now cut claims.now) v.items) }
+{
+    let mut done = Vec::new(alloc);
+    for pass in passes {
+        let one = work(alloc, r, claims, pass, cut, &FreeGate)?;
+        done.push(one)?;
+    }
+    Ok(done)
+}
+
+/// What the first pass finds where it takes all jobs: it tells segment 2, and passes the other jobs over.
+const FIRST_SHARE: [(u32, Option<Part>); 3] = [(0, None), (1, None), (2, Some(Part::Leds))];
+
+/// Whether there are two shares, of which the first has all findings and the second has none.
+fn first_has_all(done: &[Done]) -> bool {
+    match done {
+        [first, second] => {
+            are_findings(first.verdicts(), &FIRST_SHARE) && second.verdicts().is_empty()
+        }
+        _ => false,
+    }
+}
+
+/// Whether the first of two passes, worked one after the other, has all findings, and the verdict of both.
+fn work_of_two(alloc: Global, r: &Recording) -> Result<(bool, Verdict), AllocError> {
+    let jobs = (r.count() - 1).div_ceil(4);
+    let (claims, passes) = Claims::new(alloc, jobs, 2)?;
+    let done = work_in_turn(alloc, r, &claims, passes, 4)?;
+    let all = first_has_all(done.as_slice());
+    Ok((all, gather(alloc, r, claims, done)?))
+}
+
+/// Two passes, of which the first takes all jobs: it tells segment 2, and passes the other jobs over.
+#[test]
+fn first_pass_takes_all(rt: HostRuntime) -> Result<(), Fail> {
+    let r = jump_recording(rt.alloc(), 10, &LIT_LEDS)?;
+    let (all, verdict) = work_of_two(rt.alloc(), &r)?;
+    assert!(rt;
+        all,
+        "the first pass has other findings, or the second has any"
+    );
+    assert_eq!(rt; verdict, FALSE_LEDS);
+    Ok(())
+}

@@ -1,0 +1,57 @@
+//! Timers that a checkpoint of the second version claims, and the part of them that is named first.
+
+use oberon_check::{Part, replay_segment};
+use oberon_format::read;
+use recording_texts::{Claim, FIRST_PAGE, JUMP, Sketch};
+use std::alloc::Global;
+use std::test::Fail;
+
+/// A jump to itself for ten steps without a timer, and the part that is named where checkpoint 1 claims this timer, of this rate
+/// and phase.
+fn part_of_timer(
+    alloc: Global,
+    (timer, rate, phase): (u32, u32, u32),
+    before: u32,
+) -> Result<Option<Part>, Fail> {
+    let first = Claim {
+        rate: before,
+        ..FIRST_PAGE
+    };
+    let end = Claim {
+        count: 10,
+        timer,
+        rate,
+        phase,
+        ..FIRST_PAGE
+    };
+    let recording = Sketch {
+        pages: &[&[JUMP]],
+        events: &[],
+        claims: &[first, end],
+    };
+    let text = recording.second_text(alloc, &[])?;
+    let r = read(alloc, text.as_slice())?;
+    if r.count() < 2 {
+        return Err("no segment".into());
+    }
+    Ok(replay_segment(alloc, &r, 0)?.part())
+}
+
+/// The rate at checkpoint 0, what checkpoint 1 claims of the timer, its rate and its phase, and the part that is named.
+const TIMERS: [(u32, (u32, u32, u32), Option<Part>); 6] = [
+    (0, (0, 0, 0), None),
+    (0, (7, 10, 3), Some(Part::Timer)),
+    (0, (0, 10, 3), Some(Part::Rate)),
+    (10, (1, 10, 0), None),
+    (10, (1, 10, 3), Some(Part::Phase)),
+    (10, (0, 11, 3), Some(Part::Timer)),
+];
+
+#[test]
+fn differences_of_timers(rt: HostRuntime) -> Result<(), Fail> {
+    for (before, claimed, part) in TIMERS {
+        let found = part_of_timer(rt.alloc(), claimed, before)?;
+        assert_eq!(rt; found, part);
+    }
+    Ok(())
+}
