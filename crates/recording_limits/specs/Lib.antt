@@ -1,0 +1,2 @@
+-- The limits of recordings and sessions, by value.
+pub mod Laws
