@@ -159,11 +159,10 @@ impl<'a> Memory<'a> {
         place
     }
 
-    /// The places whose content differs from the table that the memory was made from, with their pages. The
-    /// memory is given up, also where there is no room for the answer.
-    pub fn close(self) -> Result<Delta, AllocError>
-        ensures delta { IfOk result (λ delta. IsDelta self.entry.base self.entry.words delta.changed.items) }
-        ensures differences { IfOk result (λ delta. AreDifferences self.entry.base self.entry.words (places_of delta.changed.items)) }
+    /// The places whose content differs from the table that the memory was made from, with their pages.
+    fn changes(&self) -> Result<Vec<(u16, Page)>, AllocError>
+        ensures delta { IfOk result (λ changed. IsDelta self.now.base self.now.words changed.items) }
+        ensures differences { IfOk result (λ changed. AreDifferences self.now.base self.now.words (places_of changed.items)) }
     {
         let mut changed = Vec::new(self.alloc);
         for place in 0..1024u16 {
@@ -171,6 +170,16 @@ impl<'a> Memory<'a> {
                 changed.push((place, *page))?;
             }
         }
+        Ok(changed)
+    }
+
+    /// The places whose content differs from the table that the memory was made from, with their pages. The
+    /// memory is given up, also where there is no room for the answer.
+    pub fn close(self) -> Result<Delta, AllocError>
+        ensures delta { IfOk result (λ delta. IsDelta self.entry.base self.entry.words delta.changed.items) }
+        ensures differences { IfOk result (λ delta. AreDifferences self.entry.base self.entry.words (places_of delta.changed.items)) }
+    {
+        let changed = self.changes()?;
         Ok(Delta { changed })
     }
 }

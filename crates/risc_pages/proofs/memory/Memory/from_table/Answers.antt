@@ -1,3 +1,4 @@
+use Rattle.std.proofs.lemmas.Grind.{common_steps}
 use Rattle.std.proofs.Common.{◌≡◌, ℕ, ◌<◌, List, Bool, length, get_or, false, ap, ◌∙◌, arith, refl}
 use Rattle.std.proofs.lemmas.List.Elements.{All-map}
 use Rattle.risc_pages.proofs.Paging.{flat_map-same}
@@ -42,3 +43,6 @@ returns-clause-shared c = All-map (λ (owned : Bool). owned ≡ false) is_owned 
 
 pub returns-clause-memory : goal.returns-clause-memory
 returns-clause-memory c = IsMemory-contents_of c.loop-number.places.items _ (count c) refl
+
+pub loop-number-preserved : goal.loop-number-preserved
+loop-number-preserved c = grind (arith, common_steps)

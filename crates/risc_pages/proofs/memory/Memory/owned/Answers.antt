@@ -1,3 +1,5 @@
+use Rattle.std.proofs.Common.{arith}
+use Rattle.std.proofs.lemmas.Grind.{elements}
 use Rattle.risc_pages.proofs.PlaceLemmas.{IsMemory-contents_of}
 use Rattle.risc_pages.proofs.memory.Memory.owned.Goals as goal
 
@@ -6,3 +8,6 @@ returns-in-Owned-clause-memory c = IsMemory-contents_of _ _ c.self.invariant c.s
 
 pub returns-in_default-clause-memory : goal.returns-in_default-clause-memory
 returns-in_default-clause-memory c = IsMemory-contents_of _ _ c.self.invariant c.self.view_is
+
+pub returns-in-Owned-clause-owned : goal.returns-in-Owned-clause-owned
+returns-in-Owned-clause-owned c = grind (arith, elements)

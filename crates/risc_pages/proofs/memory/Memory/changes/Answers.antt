@@ -9,8 +9,8 @@ use Rattle.risc_pages.specs.Delta.{changed_below}
 use Rattle.risc_pages.specs.declared.place.Place.{Place}
 use Rattle.risc_pages.specs.Pages.{page_at}
 use Rattle.risc_pages.specs.inner.Places.{base_of, content}
-use Rattle.risc_pages.proofs.memory.Memory.close.Goals as goal
-use Rattle.risc_pages.proofs.memory.Memory.close.Goals.{in-Some+in_ok-push, in_default}
+use Rattle.risc_pages.proofs.memory.Memory.changes.Goals as goal
+use Rattle.risc_pages.proofs.memory.Memory.changes.Goals.{in-Some+in_ok-push, in_default}
 
 pub loop-place-init : goal.loop-place-init
 loop-place-init c =
@@ -51,11 +51,11 @@ loop-place-preserved c =
 
 pub returns-clause-differences : goal.returns-clause-differences
 returns-clause-differences c =
-    let base : flat_map base_of c.self.inside.places.items ≡ c.args.self.base = ap (λ (m : Contents). m.base) c.self.view_is in
-    let words : flat_map content c.self.inside.places.items ≡ c.args.self.words = ap (λ (m : Contents). m.words) c.self.view_is in
+    let base : flat_map base_of c.self.inside.places.items ≡ c.args.self.now.base = ap (λ (m : Contents). m.base) c.self.view_is in
+    let words : flat_map content c.self.inside.places.items ≡ c.args.self.now.words = ap (λ (m : Contents). m.words) c.self.view_is in
     let all : c.loop-place.place ≡ 1024 = omega arith in
     AreDifferences-changed_below _ _ _
     (c.loop-place.invariant.places
     ∙ ap (λ (n : ℕ). changed_below n (flat_map base_of c.self.inside.places.items) (flat_map content c.self.inside.places.items)) all
     ∙ ap (λ (b : List ℕ). changed_below 1024 b (flat_map content c.self.inside.places.items)) base
-    ∙ ap (λ (w : List ℕ). changed_below 1024 c.args.self.base w) words)
+    ∙ ap (λ (w : List ℕ). changed_below 1024 c.args.self.now.base w) words)

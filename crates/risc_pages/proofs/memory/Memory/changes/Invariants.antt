@@ -4,7 +4,7 @@ use Rattle.risc_pages.specs.declared.page.Page.{Page}
 use Rattle.risc_pages.specs.Delta.{changed_below}
 use Rattle.risc_pages.specs.Pages.{page_at}
 use Rattle.risc_pages.specs.inner.Places.{base_of, content}
-use Rattle.risc_pages.proofs.memory.Memory.close.Given as goal
+use Rattle.risc_pages.proofs.memory.Memory.changes.Given as goal
 
 abbrev pub invariant-loop-place : goal.invariant-loop-place
 invariant-loop-place l = record {

@@ -1,0 +1,5 @@
+use Rattle.std.proofs.Common.{rules}
+use Rattle.risc_pages.proofs.place.Place.change.Goals as goal
+
+pub returns-in-Owned-clause-some : goal.returns-in-Owned-clause-some
+returns-in-Owned-clause-some c = search rules
