@@ -1,5 +1,5 @@
 //! The condition flags, how a value written to a register sets two of them, and the flags as one number. The carry and the
-//! overflow of sums and differences are in `arithmetic`.
+//! overflow of sums and differences are in `sums`, and which branches they allow in `branch`.
 
 use crate::word::is_set;
 

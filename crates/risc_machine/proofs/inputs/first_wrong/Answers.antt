@@ -1,3 +1,4 @@
+use Rattle.std.proofs.lemmas.Grind.{common_steps}
 use Rattle.std.proofs.Common.{◌≡◌, ap, sym, ◌∙◌, arith, below_more}
 use Rattle.risc_machine.specs.declared.event.Event.{Event}
 use Rattle.risc_machine.specs.InputOrder.{IsRightPlace, count_at}
@@ -15,3 +16,6 @@ loop-place-preserved c =
       right = below_more (λ k. IsRightPlace es k) place c.loop-place.invariant.right right;
       least = sym here ∙ sym (count_before-next es place);
     }
+
+pub returns-then-event-least-clause-some : goal.returns-then-event-least-clause-some
+returns-then-event-least-clause-some c = grind (arith, common_steps)

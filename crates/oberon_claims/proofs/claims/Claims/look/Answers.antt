@@ -1,4 +1,4 @@
-use Rattle.std.proofs.Common.{sym, ap, ◌∙◌, arith}
+use Rattle.std.proofs.Common.{sym, ap, ◌∙◌, arith, rules}
 use Rattle.oberon_claims.specs.Pass.{BookId, PassRecord}
 use Rattle.oberon_claims.proofs.Steps.{may_look}
 use Rattle.oberon_claims.proofs.claims.Claims.look.Goals as goal
@@ -9,3 +9,9 @@ load-requires c =
     let p = c.pass.invariant in
     let same = ap (λ (h : PassRecord). h.book) c.pass.view_is ∙ c.requires.book ∙ sym c.self.view_is in
     (ap (λ (b : BookId). b.table) same, omega arith, may_look _ _ _ _ (omega arith))
+
+pub returns-clause-joins : goal.returns-clause-joins
+returns-clause-joins c = search rules
+
+pub returns-clause-none : goal.returns-clause-none
+returns-clause-none c = search rules

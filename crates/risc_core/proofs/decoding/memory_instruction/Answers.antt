@@ -1,0 +1,5 @@
+use Rattle.std.proofs.Common.{rules}
+use Rattle.risc_core.proofs.decoding.memory_instruction.Goals as goal
+
+pub returns-then-is_set-clause-value : goal.returns-then-is_set-clause-value
+returns-then-is_set-clause-value c = search rules

@@ -1,0 +1,5 @@
+use Rattle.std.proofs.Common.{rules}
+use Rattle.risc_core.proofs.sums.difference_overflows.Goals as goal
+
+pub returns-then-negative-is_set : goal.returns-then-negative-is_set
+returns-then-negative-is_set c = search rules

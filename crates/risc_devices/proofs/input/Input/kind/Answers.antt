@@ -1,0 +1,5 @@
+use Rattle.std.proofs.Common.{rules}
+use Rattle.risc_devices.proofs.input.Input.kind.Goals as goal
+
+pub returns : goal.returns
+returns c = search rules
