@@ -13,6 +13,7 @@ use Rattle.oberon_format.specs.declared.layout.TheConstants.{VERSION}
 use Rattle.oberon_format.specs.Changes.{changes}
 use Rattle.oberon_format.specs.CheckpointParts.{CheckpointParts, no_checkpoint}
 use Rattle.oberon_format.specs.Layout.{version}
+use Rattle.oberon_format.specs.Migration.{IsMigrated}
 use Rattle.oberon_format.specs.Recording.{RecordingParts, IsLawful, IsFit, output_of}
 use Rattle.oberon_format.specs.inner.Spelling.{word_bytes, long_bytes, words_bytes, event_bytes, cpu_bytes, device_bytes, front_bytes, change_bytes, changes_bytes, changed_bytes, tail_bytes, checkpoint_bytes, checkpoints_bytes, header_bytes, spelling}
 use Rattle.oberon_format.specs.Text.{AreBytes, TextIn, Text}
@@ -109,3 +110,9 @@ read_back r s text written read = same_recording text s r read (record { version
 -- and what is written of what was read of a text of that version is the text
 pub written_back : (text other : List ℕ) (r : RecordingParts) → AreBytes text → AreBytes other → version text ≡ VERSION → Text text r → TextIn VERSION other r → other ≡ text
 written_back text other r bytes others is read written = same_text VERSION r text other bytes others (in_version VERSION text r is read) written
+
+-- a text that was migrated is its own migration
+pub migrated_again : (text migrated again : List ℕ) → AreBytes migrated → AreBytes again → IsMigrated text migrated → IsMigrated migrated again → again ≡ migrated
+migrated_again text migrated again bytes others first second =
+    let one : second.recording ≡ first.recording = read_back first.recording second.recording migrated first.written second.read in
+    same_text VERSION first.recording migrated again bytes others first.written (subst (λ (r : RecordingParts). TextIn VERSION again r) one second.written)

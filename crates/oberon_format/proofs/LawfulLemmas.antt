@@ -21,7 +21,8 @@ use Rattle.risc_pages.specs.Pages.{ArePages}
 use Rattle.oberon_format.specs.declared.fault.Fault.{Fault}
 use Rattle.oberon_format.specs.declared.fault.Fault.TheVariants as fault
 use Rattle.oberon_format.specs.declared.layout.TheConstants.{FIRST_VERSION, VERSION, HEADER_LEN, LAST_AT, CHANGES_AT, PLACES}
-use Rattle.oberon_format.specs.declared.ranges.TheConstants.{MAX_OUTPUT, MAX_PAGES, MAX_EVENTS, MAX_CHECKPOINTS, FLAGS_END, MAX_STOP, SWITCHES_END, LEDS_END, SERIAL_END, MAX_KEYS}
+use Rattle.oberon_format.specs.declared.ranges.TheConstants.{MAX_CHECKPOINTS, FLAGS_END, MAX_STOP, SWITCHES_END, LEDS_END, SERIAL_END, MAX_KEYS}
+use Rattle.recording_limits.specs.declared.limits.TheConstants.{MAX_EVENTS, MAX_OUTPUT, MAX_PAGES}
 use Rattle.oberon_format.specs.Changes.{changes}
 use Rattle.oberon_format.specs.CheckpointParts.{CheckpointParts, no_checkpoint}
 use Rattle.oberon_format.specs.Fields.{Fields, sent_below}

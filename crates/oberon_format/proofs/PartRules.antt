@@ -8,7 +8,8 @@ use Rattle.oberon_format.specs.declared.fault.Fault.{Fault}
 use Rattle.oberon_format.specs.declared.fault.Fault.TheVariants as fault
 use Rattle.oberon_format.specs.declared.fields.CheckpointFields.{CheckpointFields}
 use Rattle.oberon_format.specs.declared.layout.TheConstants.{VERSION, LONGEST_TEXT, CHANGES_AT}
-use Rattle.oberon_format.specs.declared.ranges.TheConstants.{MAX_PAGES, MAX_EVENTS, MAX_CHECKPOINTS}
+use Rattle.oberon_format.specs.declared.ranges.TheConstants.{MAX_CHECKPOINTS}
+use Rattle.recording_limits.specs.declared.limits.TheConstants.{MAX_EVENTS, MAX_PAGES}
 use Rattle.oberon_format.specs.Changes.{changes}
 use Rattle.oberon_format.specs.CheckpointParts.{CheckpointParts, checkpoint_parts}
 use Rattle.oberon_format.specs.Fields.{sent_below}

@@ -14,7 +14,8 @@ use Rattle.risc_pages.specs.Pages.{IsPage}
 use Rattle.risc_pages.specs.Tables.{zero_numbers, IsTable}
 use Rattle.oberon_format.specs.declared.change.Change.{Change}
 use Rattle.oberon_format.specs.declared.layout.TheConstants.{MAGIC, VERSION, HEADER_LEN, PAGE_LEN, EVENT_LEN, CHANGE_LEN, FRONT_LEN, MAGIC_AT, VERSION_AT, PAGES_AT, EVENTS_AT, CHECKPOINTS_AT, LAST_AT, KIND_AT, VALUE_AT, REGISTERS_AT, AUXILIARY_AT, COUNTER_AT, FLAGS_AT, STOP_AT, TIMER_AT, SWITCHES_AT, LEDS_AT, MOUSE_AT, SERIAL_AT, WAITING_AT, KEYS_AT, SENT_AT, RATE_AT, PHASE_AT, CHANGE_COUNT_AT, CHANGES_AT, NUMBER_AT}
-use Rattle.oberon_format.specs.declared.ranges.TheConstants.{MAX_OUTPUT, MAX_KEYS}
+use Rattle.oberon_format.specs.declared.ranges.TheConstants.{MAX_KEYS}
+use Rattle.recording_limits.specs.declared.limits.TheConstants.{MAX_OUTPUT}
 use Rattle.oberon_format.specs.Changes.{changes, no_change}
 use Rattle.oberon_format.specs.CheckpointParts.{CheckpointParts, no_checkpoint}
 use Rattle.oberon_format.specs.Layout.{word_at, version, pages, events, checkpoints, page_offset, event_start, event_offset, change_offset, checkpoint_size, start, output_offset}

@@ -5,6 +5,7 @@ use Rattle.risc_pages.specs.Pages.{ArePages}
 use Rattle.oberon_format.specs.declared.layout.TheConstants.{LONGEST_TEXT, VERSION}
 use Rattle.oberon_format.specs.Formed.{AreFormed}
 use Rattle.oberon_format.specs.Line.{IsNamedFault}
+use Rattle.oberon_format.specs.Migration.{IsMigrated}
 use Rattle.oberon_format.specs.PartFields.{fault_of_parts}
 use Rattle.oberon_format.specs.Recording.{RecordingParts, IsLawful}
 use Rattle.oberon_format.specs.Layout.{version}
@@ -30,6 +31,10 @@ HasReadBack = (r s : RecordingParts) (text : List ℕ) → TextIn VERSION text r
 -- what is written of a recording that was read is the text of which it was read, where that is of the version that is written
 abbrev pub HasWrittenBack : Type 0
 HasWrittenBack = (text other : List ℕ) (r : RecordingParts) → AreBytes text → AreBytes other → version text ≡ VERSION → Text text r → TextIn VERSION other r → other ≡ text
+
+-- a text that was migrated is its own migration
+abbrev pub IsMigratedOnce : Type 0
+IsMigratedOnce = (text migrated again : List ℕ) → AreBytes migrated → AreBytes again → IsMigrated text migrated → IsMigrated migrated again → again ≡ migrated
 
 -- each text has a recording exactly where it has no first fault
 abbrev pub HasTextOrFault : Type 0

@@ -1,4 +1,4 @@
--- Recordings and their texts. Read it in this order: a recording, its text, the first fault of a text, migration, laws.
+-- Recordings and their texts. Read it in this order: a recording, its text, the first fault of a text, migration, numbers, laws.
 pub mod Fields
 pub mod Ranges
 pub mod CheckpointParts
@@ -14,5 +14,6 @@ pub mod Line
 pub mod Formed
 pub mod PartFields
 pub mod Migration
+pub mod Numbers
 pub mod Laws
 pub mod inner

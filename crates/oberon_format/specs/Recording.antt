@@ -8,7 +8,8 @@ use Rattle.risc_machine.specs.declared.event.Event.{Event}
 use Rattle.risc_machine.specs.InputOrder.{AreOrdered}
 use Rattle.risc_machine.specs.MachineState.{IsCpuState}
 use Rattle.risc_machine.specs.declared.inputs.TheConstants.{MAX_COUNT}
-use Rattle.oberon_format.specs.declared.ranges.TheConstants.{MAX_OUTPUT, MAX_PAGES, MAX_EVENTS, MAX_CHECKPOINTS}
+use Rattle.oberon_format.specs.declared.ranges.TheConstants.{MAX_CHECKPOINTS}
+use Rattle.recording_limits.specs.declared.limits.TheConstants.{MAX_EVENTS, MAX_OUTPUT, MAX_PAGES}
 use Rattle.oberon_format.specs.CheckpointParts.{CheckpointParts, no_checkpoint, checkpoint_parts}
 use Rattle.oberon_format.specs.declared.checkpoint.Checkpoint.{Checkpoint}
 
@@ -48,7 +49,9 @@ pub record IsFit (pool : List (List ℕ)) (c : CheckpointParts) : Type 0 where
   pub bytes : All (λ byte. byte < 2 ^ 8) c.sent
 
 -- within all limits: few enough pages and inputs, inputs in the order of their counts, at least one checkpoint and few enough,
--- counts that begin at 0 and rise, nothing sent before checkpoint 0, and not too much in all
+-- counts that begin at 0 and rise, nothing sent before checkpoint 0, and not too much in all. That each input's value is one of
+-- its kind's is not asked here, since there is no other input: it is kept by `Input` itself, as `IsInput` of `risc_devices`
+-- (`specs/InputKind.antt`)
 pub record IsLawful (r : RecordingParts) : Type 0 where
   pub pages : length r.pool ≤ MAX_PAGES
   pub pool : ArePages r.pool

@@ -6,7 +6,8 @@ use Rattle.oberon_format.specs.declared.fault.Fault.{Fault}
 use Rattle.oberon_format.specs.declared.fault.Fault.TheVariants as fault
 use Rattle.oberon_format.specs.declared.fields.CheckpointFields.{CheckpointFields}
 use Rattle.oberon_format.specs.declared.layout.TheConstants.{MAGIC, FIRST_VERSION, HEADER_LEN, PLACES, MAGIC_AT, VERSION_AT, PAGES_AT, EVENTS_AT, CHECKPOINTS_AT, LAST_AT, CHANGES_AT}
-use Rattle.oberon_format.specs.declared.ranges.TheConstants.{MAX_PAGES, MAX_EVENTS, MAX_CHECKPOINTS}
+use Rattle.oberon_format.specs.declared.ranges.TheConstants.{MAX_CHECKPOINTS}
+use Rattle.recording_limits.specs.declared.limits.TheConstants.{MAX_EVENTS, MAX_PAGES}
 use Rattle.oberon_format.specs.Fields.{Fields, sent_below}
 use Rattle.oberon_format.specs.FirstFault.{Rule, each}
 use Rattle.oberon_format.specs.Layout.{event_start, page_number_offset, change_offset}

@@ -18,9 +18,9 @@ use crate::layout::{
 };
 use crate::number::{u32_at, u64_at};
 use crate::ranges::{
-    FLAGS_END, LEDS_END, MAX_KEYS, MAX_OUTPUT, MAX_STOP, SERIAL_END, SWITCHES_END, is_count,
-    is_output,
+    FLAGS_END, LEDS_END, MAX_KEYS, MAX_STOP, SERIAL_END, SWITCHES_END, is_count, is_output,
 };
+use recording_limits::MAX_OUTPUT;
 use risc_core::COUNTER_END;
 use risc_devices::{Devices, is_mouse_word, is_phase_at};
 use risc_pages::Table;

@@ -1,6 +1,12 @@
 //! Laws of the format, over its definitions alone.
 
-ghost use Rattle.oberon_format.specs.Laws.{HasOneRecording, HasOneText, HasOneTextAtMost, HasReadBack, HasWrittenBack, HasTextOrFault, HasFaultOfParts, HasNamedFault, HasLongestText, HasFaultWithin, IsMadeOfParts};
+ghost use Rattle.oberon_format.specs.Numbers.{HasNumbers};
+ghost use Rattle.oberon_format.specs.Laws.{HasOneRecording, HasOneText, HasOneTextAtMost, HasReadBack, HasWrittenBack, IsMigratedOnce, HasTextOrFault, HasFaultOfParts, HasNamedFault, HasLongestText, HasFaultWithin, IsMadeOfParts};
+
+/// Each length, offset and limit by its value.
+pub fn numbers_law()
+    ensures { HasNumbers }
+{}
 
 /// A text is that of at most one recording.
 pub fn one_recording_law()
@@ -25,6 +31,11 @@ pub fn read_back_law()
 /// What is written of a recording that was read of a text of version 2 is that text: `write(read(t)) = t`.
 pub fn written_back_law()
     ensures { HasWrittenBack }
+{}
+
+/// A text that was migrated is its own migration: `migrate(migrate(t)) = migrate(t)`.
+pub fn migrated_again_law()
+    ensures { IsMigratedOnce }
 {}
 
 /// Each text has a recording or a first fault, and not both.

@@ -6,7 +6,7 @@ ghost use Rattle.std.specs.Prelude.{◌≡◌, ◌≤◌, ◌+◌, ◌==◌, len
 ghost use Rattle.oberon_format.specs.Layout.{page_offset, event_start, checkpoint_size, version, pages, events, checkpoints, start, later_word};
 
 use crate::number::u32_at;
-use crate::ranges::{MAX_EVENTS, MAX_PAGES};
+use recording_limits::{MAX_EVENTS, MAX_PAGES};
 
 /// `ORSR`, the four bytes that begin each text, as a number.
 pub(crate) const MAGIC: u32 = 0x5253_524F;

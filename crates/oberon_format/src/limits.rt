@@ -7,7 +7,8 @@ ghost use Rattle.oberon_format.specs.Rules.{limit_rules};
 
 use crate::fault::Fault;
 use crate::layout::{CHECKPOINTS_AT, EVENTS_AT, PAGES_AT};
-use crate::ranges::{MAX_CHECKPOINTS, MAX_EVENTS, MAX_PAGES};
+use crate::ranges::MAX_CHECKPOINTS;
+use recording_limits::{MAX_EVENTS, MAX_PAGES};
 
 /// The first fault of the numbers of pages, events and checkpoints.
 pub(crate) fn limits_fault(pages: usize, events: usize, checkpoints: usize) -> Option<Fault>

@@ -19,7 +19,8 @@ use crate::layout::{
     CHANGE_LEN, CHANGES_AT, LONGEST_TEXT, PLACES, VERSION, changed_len, event_start,
 };
 use crate::limits::limits_fault;
-use crate::ranges::{MAX_CHECKPOINTS, MAX_EVENTS, MAX_PAGES};
+use crate::ranges::MAX_CHECKPOINTS;
+use recording_limits::{MAX_EVENTS, MAX_PAGES};
 use risc_machine::Inputs;
 use risc_pages::{Pool, Table};
 

@@ -1,27 +1,16 @@
 //! The ranges of fields, tested on numbers. Where these stand in a text is not known here.
 //!
-//! Each limit has its one name, which definitions, contracts and code cite: here, or in a crate below that has it too, as
-//! `MAX_COUNT` of counts in `risc_machine` and `COUNTER_END` of program counters in `risc_core`. All are this project's own
-//! choice, but for the end of program counters.
+//! Each limit has its one name, which definitions, contracts and code cite: here, or in a crate below that others have it from
+//! too, as those of whole recordings in `recording_limits`, `MAX_COUNT` of counts in `risc_machine` and `COUNTER_END` of program
+//! counters in `risc_core`. All are this project's own choice, but for the end of program counters.
 
 ghost use Rattle.std.specs.Prelude.{◌≡◌, ◌≤◌};
 ghost use Rattle.risc_devices.specs.InputKind.{is_input};
 ghost use Rattle.oberon_format.specs.Ranges.{is_count, is_output};
 
+use recording_limits::{LAST_CHECKPOINT, MAX_OUTPUT};
 use risc_devices::Input;
 use risc_machine::MAX_COUNT;
-
-/// The most bytes that a recording may send in all.
-pub const MAX_OUTPUT: u64 = 1_048_576;
-
-/// The largest number of pages in a pool.
-pub const MAX_PAGES: u32 = 65_536;
-
-/// The largest number of inputs.
-pub const MAX_EVENTS: u32 = 1_000_000;
-
-/// The largest number of a checkpoint. Checkpoints are numbered from 0 on.
-pub const LAST_CHECKPOINT: u32 = 4_096;
 
 /// The largest number of checkpoints, checkpoint 0 among them.
 pub(crate) const MAX_CHECKPOINTS: u32 = LAST_CHECKPOINT + 1;

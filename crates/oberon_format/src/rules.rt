@@ -22,7 +22,8 @@ use crate::layout::{
 };
 use crate::limits::limits_fault;
 use crate::number::{u32_at, u64_at};
-use crate::ranges::{MAX_CHECKPOINTS, MAX_EVENTS, MAX_OUTPUT, MAX_PAGES, is_input};
+use crate::ranges::{MAX_CHECKPOINTS, is_input};
+use recording_limits::{MAX_EVENTS, MAX_OUTPUT, MAX_PAGES};
 use risc_machine::MAX_COUNT;
 use risc_pages::Table;
 

@@ -1,6 +1,6 @@
 use Rattle.std.proofs.Common.{◌≡◌, ◌≤◌, None}
 use Rattle.oberon_format.specs.declared.layout.TheConstants.{VERSION}
-use Rattle.oberon_format.specs.declared.ranges.TheConstants.{MAX_OUTPUT}
+use Rattle.recording_limits.specs.declared.limits.TheConstants.{MAX_OUTPUT}
 use Rattle.oberon_format.specs.Fields.{sent_below}
 use Rattle.oberon_format.specs.FirstFault.{first_broken, each}
 use Rattle.oberon_format.specs.PartFields.{fields_laid, start_laid}

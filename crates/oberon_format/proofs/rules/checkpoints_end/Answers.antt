@@ -3,7 +3,7 @@ use Rattle.std.specs.Prelude.{◌==◌}
 use Rattle.std.proofs.lemmas.Bool.{eqb-true}
 use Rattle.oberon_format.specs.declared.fields.CheckpointFields.{CheckpointFields}
 use Rattle.oberon_format.specs.declared.layout.TheConstants.{FIRST_VERSION, VERSION, SENT_AT}
-use Rattle.oberon_format.specs.declared.ranges.TheConstants.{MAX_OUTPUT}
+use Rattle.recording_limits.specs.declared.limits.TheConstants.{MAX_OUTPUT}
 use Rattle.oberon_format.specs.FirstFault.{first_broken}
 use Rattle.oberon_format.specs.Layout.{long_at, word_at, version, checkpoints, change_count, start}
 use Rattle.oberon_format.specs.Rules.{checkpoint_rules}

@@ -1,6 +1,6 @@
 use Rattle.std.proofs.Common.{◌≡◌, ◌≤◌, None, length}
 use Rattle.oberon_format.specs.declared.layout.TheConstants.{VERSION}
-use Rattle.oberon_format.specs.declared.ranges.TheConstants.{MAX_OUTPUT}
+use Rattle.recording_limits.specs.declared.limits.TheConstants.{MAX_OUTPUT}
 use Rattle.oberon_format.specs.FirstFault.{each, first_broken}
 use Rattle.oberon_format.specs.Layout.{start, version}
 use Rattle.oberon_format.specs.Rules.{checkpoint_rules, count_before}
