@@ -4,7 +4,7 @@ use Rattle.std.proofs.lemmas.Bool.{cases_lt}
 use Rattle.std.proofs.lemmas.Grind.{common_steps}
 use Rattle.std.proofs.lemmas.List.{get_or_push, length_push}
 use Rattle.risc_pages.specs.Pages.{ArePages}
-use Rattle.oberon_format.specs.declared.ranges.TheConstants.{LAST_CHECKPOINT, MAX_OUTPUT, MAX_PAGES}
+use Rattle.recording_limits.specs.declared.limits.TheConstants.{LAST_CHECKPOINT, MAX_OUTPUT, MAX_PAGES}
 use Rattle.oberon_format.proofs.Output.{output_of_push}
 use Rattle.oberon_format.specs.CheckpointParts.{CheckpointParts, no_checkpoint}
 use Rattle.oberon_format.specs.Recording.{IsFit, IsLawful, RecordingParts, checkpoint_at, count_at, last_of, output_of}

@@ -7,7 +7,7 @@ use Rattle.risc_devices.specs.DeviceState.{IsDeviceState}
 use Rattle.risc_pages.specs.Tables.{IsNamed, table_words}
 use Rattle.risc_pages.specs.Pages.{ArePages}
 use Rattle.risc_machine.specs.MachineState.{IsCpuState}
-use Rattle.oberon_format.specs.declared.ranges.TheConstants.{MAX_OUTPUT, MAX_PAGES}
+use Rattle.recording_limits.specs.declared.limits.TheConstants.{MAX_OUTPUT, MAX_PAGES}
 use Rattle.oberon_format.proofs.Output.{output_of_push}
 use Rattle.oberon_format.specs.CheckpointParts.{CheckpointParts, no_checkpoint}
 use Rattle.oberon_format.specs.Recording.{IsFit, IsLawful, RecordingParts, count_at, output_of}

@@ -10,7 +10,7 @@ use Rattle.risc_machine.specs.MachineState.{CpuState, State, IsCpuState, cpu_sta
 use Rattle.risc_machine.specs.Replay.{run_of, sent_of}
 use Rattle.oberon_format.proofs.CheckpointLemmas.{checkpoint_at-is}
 use Rattle.oberon_format.specs.declared.checkpoint.Checkpoint.{Checkpoint}
-use Rattle.oberon_format.specs.declared.ranges.TheConstants.{MAX_OUTPUT, MAX_PAGES}
+use Rattle.recording_limits.specs.declared.limits.TheConstants.{MAX_OUTPUT, MAX_PAGES}
 use Rattle.oberon_format.specs.CheckpointParts.{CheckpointParts, checkpoint_parts, no_checkpoint}
 use Rattle.oberon_format.specs.Defined.{claim_of}
 use Rattle.oberon_format.specs.Recording.{IsFit}

@@ -12,7 +12,7 @@ use Rattle.oberon_session.specs.Recorded.{count_of, fault_at, first_fault, first
 use Rattle.oberon_session.specs.SessionParts.{CountFits, SessionParts, IsLawful}
 use Rattle.oberon_session.specs.declared.record_fault.RecordFault.{RecordFault}
 use Rattle.oberon_session.specs.declared.record_fault.RecordFault.TheVariants as fault
-use Rattle.oberon_format.specs.declared.ranges.TheConstants.{MAX_OUTPUT, MAX_PAGES}
+use Rattle.recording_limits.specs.declared.limits.TheConstants.{MAX_OUTPUT, MAX_PAGES}
 
 module _ (s : SessionParts) where
   -- ---- the run

@@ -22,7 +22,7 @@ use Rattle.oberon_session.specs.Shape.{◌>>=◌}
 use Rattle.oberon_session.specs.inner.Tested.{BreaksIn, InOrder, InRange, IsJson, IsSessionIn}
 use Rattle.oberon_session.specs.declared.fault.SessionFault.{SessionFault}
 use Rattle.oberon_session.specs.declared.fault.SessionFault.TheVariants.{Json, Shape, Range, Order, Hex, Memory}
-use Rattle.oberon_session.specs.declared.reading.TheConstants.{LONGEST_SESSION}
+use Rattle.recording_limits.specs.declared.limits.TheConstants.{LONGEST_SESSION}
 
 -- the table of a text: whether it is short enough, its value, and what it says
 abbrev table : Bool → Option Data → Option Draft → Option SessionFault

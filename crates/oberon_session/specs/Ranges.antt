@@ -7,7 +7,7 @@ use Rattle.risc_devices.specs.DeviceState.{is_phase}
 use Rattle.risc_devices.specs.InputKind.{is_input}
 use Rattle.oberon_session.specs.Draft.{Draft, InputNumbers, PageText, Start}
 use Rattle.risc_machine.specs.declared.inputs.TheConstants.{MAX_COUNT}
-use Rattle.oberon_format.specs.declared.ranges.TheConstants.{LAST_CHECKPOINT, MAX_EVENTS}
+use Rattle.recording_limits.specs.declared.limits.TheConstants.{LAST_CHECKPOINT, MAX_EVENTS}
 
 -- ---- ranges
 

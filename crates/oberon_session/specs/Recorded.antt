@@ -6,7 +6,7 @@ use Rattle.risc_pages.specs.Tables.{table_words, zero_numbers}
 use Rattle.risc_devices.specs.DeviceState.{DeviceState}
 use Rattle.risc_machine.specs.MachineState.{State}
 use Rattle.risc_machine.specs.OneRun.{sent_between, state_from}
-use Rattle.oberon_format.specs.declared.ranges.TheConstants.{MAX_OUTPUT, MAX_PAGES}
+use Rattle.recording_limits.specs.declared.limits.TheConstants.{MAX_OUTPUT, MAX_PAGES}
 use Rattle.oberon_format.specs.CheckpointParts.{CheckpointParts}
 use Rattle.oberon_format.specs.Recording.{RecordingParts}
 use Rattle.oberon_session.specs.Digits.{PlacedWords}

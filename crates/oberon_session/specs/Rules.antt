@@ -11,7 +11,7 @@ use Rattle.oberon_session.specs.Ranges.{in_order, in_range}
 use Rattle.oberon_session.specs.Shape.{◌>>=◌}
 use Rattle.oberon_session.specs.declared.fault.SessionFault.{SessionFault}
 use Rattle.oberon_session.specs.declared.fault.SessionFault.TheVariants as fault
-use Rattle.oberon_session.specs.declared.reading.TheConstants.{LONGEST_SESSION}
+use Rattle.recording_limits.specs.declared.limits.TheConstants.{LONGEST_SESSION}
 
 -- the JSON value of a text in UTF-8, as `serde_json` reads it
 abbrev pub json_of : List ℕ → Option Data

@@ -10,7 +10,7 @@ use Rattle.oberon_session.specs.Rules.{draft_in, first_fault_of}
 use Rattle.oberon_session.specs.SessionParts.{SessionParts}
 use Rattle.oberon_session.specs.declared.fault.SessionFault.{SessionFault}
 use Rattle.oberon_session.specs.declared.fault.SessionFault.TheVariants as fault
-use Rattle.oberon_session.specs.declared.reading.TheConstants.{LONGEST_SESSION}
+use Rattle.recording_limits.specs.declared.limits.TheConstants.{LONGEST_SESSION}
 
 -- ---- what a draft says
 

@@ -9,7 +9,7 @@ use Rattle.risc_machine.specs.MachineState.{CpuState, IsCpuState}
 use Rattle.risc_machine.specs.declared.inputs.TheConstants.{MAX_COUNT}
 use Rattle.oberon_session.specs.Digits.{PlacedWords}
 use Rattle.oberon_session.specs.Ranges.{timer_fits}
-use Rattle.oberon_format.specs.declared.ranges.TheConstants.{LAST_CHECKPOINT, MAX_EVENTS}
+use Rattle.recording_limits.specs.declared.limits.TheConstants.{LAST_CHECKPOINT, MAX_EVENTS}
 
 -- the processor of the first state, its timer's rate and phase, the pages of its memory, whose other places are zeros, the inputs
 -- with their counts, and the counts of checkpoints 1 to K. All else in the devices of the first state is zeros

@@ -22,7 +22,8 @@ mod way;
 
 pub use fault::SessionFault;
 pub use laws::{answer_law, first_table_law, laid_law};
-pub use reading::{LONGEST_SESSION, read_session};
+pub use reading::read_session;
 pub use record_fault::RecordFault;
 pub use recorder::make_recording;
+pub use recording_limits::LONGEST_SESSION;
 pub use session::Session;

@@ -15,12 +15,10 @@ use crate::events::inputs_of;
 use crate::range::{is_in_range, is_rising};
 use crate::session::Session;
 use crate::shape::read_draft;
+use recording_limits::LONGEST_SESSION;
 use risc_machine::{Cpu, Flags, Inputs};
 use serde_json::{Error, Value};
 use std::alloc::Global;
-
-/// The longest text of a session, in bytes (this project's own choice).
-pub const LONGEST_SESSION: usize = 67_108_864;
 
 /// The session of a text, or the first rule that the text breaks.
 ///

@@ -20,7 +20,7 @@ use Rattle.oberon_session.specs.declared.draft.Draft.{Draft as DraftValue}
 use Rattle.oberon_session.specs.declared.draft.PageDraft.{PageDraft}
 use Rattle.oberon_session.specs.declared.fault.SessionFault.{SessionFault}
 use Rattle.oberon_session.specs.declared.fault.SessionFault.TheVariants as fault
-use Rattle.oberon_format.specs.declared.ranges.TheConstants.{MAX_EVENTS}
+use Rattle.recording_limits.specs.declared.limits.TheConstants.{MAX_EVENTS}
 
 -- ---- ranges and order
 

@@ -1,0 +1,5 @@
+use Rattle.std.proofs.Common.{rules}
+use Rattle.oberon_session.proofs.range.timer_fits.Goals as goal
+
+pub returns-then-phase : goal.returns-then-phase
+returns-then-phase c = search rules
