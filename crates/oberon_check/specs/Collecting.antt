@@ -32,6 +32,11 @@ pub record IsFirstMissing (r : RecordingParts) (vs : List Finding) (segment : �
   pub before : (s : ℕ) → s < segment → StandsBelow vs (length vs) s
   pub below_failed : (k : ℕ) → k < length vs → IsSome (part_at vs k) → segment < segment_at vs k
 
+-- the number of such a fault: this project's own choice
+abbrev pub collect_fault_number : CollectFault → ℕ
+collect_fault_number (Double segment) = 1
+collect_fault_number (Missing segment) = 2
+
 -- a segment has two verdicts; or, where none has, a segment that is needed has none
 abbrev pub IsCollectFault : RecordingParts → List Finding → CollectFault → Type 0
 IsCollectFault r vs (Double segment) = IsFirstDouble vs segment

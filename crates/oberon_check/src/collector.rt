@@ -6,7 +6,7 @@ ghost use Rattle.std.specs.Prelude.{◌≡◌, ◌<◌, ◌≤◌, All, IfOk, If
 ghost use Rattle.oberon_format.specs.Recording.{IsLawful};
 ghost use Rattle.oberon_check.specs.Verdict.{IsVerdict};
 ghost use Rattle.oberon_check.specs.Segment.{Finding, IsTrueFinding};
-ghost use Rattle.oberon_check.specs.Collecting.{IsFirstDouble, IsCollectFault};
+ghost use Rattle.oberon_check.specs.Collecting.{IsFirstDouble, IsCollectFault, collect_fault_number};
 ghost use Rattle.oberon_check.specs.inner.Tally.{IsFirstUnmarked, IsTally, end_of, lesser_of};
 
 use crate::part::Part;
@@ -25,6 +25,18 @@ pub enum CollectFault {
     /// or among all where none failed.
     #[error("segment {0} has no verdict")]
     Missing(u32),
+}
+
+impl CollectFault {
+    /// The fault's number, 1 or 2.
+    pub fn number(self) -> u8
+        ensures { result ≡ collect_fault_number self }
+    {
+        match self {
+            CollectFault::Double(_) => 1,
+            CollectFault::Missing(_) => 2,
+        }
+    }
 }
 
 /// Which segments have a verdict, and the least that failed.

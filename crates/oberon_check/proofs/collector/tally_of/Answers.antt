@@ -1,4 +1,4 @@
-use Rattle.std.proofs.Common.{◌<◌, ◌+◌, ℕ, length, false, sym, ◌∙◌, subst, arith}
+use Rattle.std.proofs.Common.{◌<◌, ◌+◌, ℕ, length, false, sym, ◌∙◌, subst, arith, rules}
 use Rattle.std.proofs.lemmas.List.{length-replicate, length-set}
 use Rattle.oberon_check.specs.Segment.{Finding}
 use Rattle.oberon_check.specs.inner.Tally.{IsTally}
@@ -29,3 +29,12 @@ loop-verdict-preserved c =
       tally = subst (IsTally vs (n + 1) _) (sym c.lesser-least.ensures) more;
       findings = told_more vs n v i.findings inside c.verdict-item.is findings;
     }
+
+pub returns-clause-ok : goal.returns-clause-ok
+returns-clause-ok c = search rules
+
+pub returns-clause-findings : goal.returns-clause-findings
+returns-clause-findings c = search rules
+
+pub returns-clause-double : goal.returns-clause-double
+returns-clause-double c = search rules

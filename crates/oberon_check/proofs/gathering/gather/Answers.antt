@@ -1,4 +1,4 @@
-use Rattle.std.proofs.Common.{List, subst}
+use Rattle.std.proofs.Common.{List, subst, rules}
 use Rattle.std.specs.Prelude.{All}
 use Rattle.oberon_check.specs.Segment.{Finding, IsTrueFinding}
 use Rattle.oberon_check.proofs.gathering.gather.Goals as goal
@@ -7,3 +7,6 @@ pub returns-clause-gathered : goal.returns-clause-gathered
 returns-clause-gathered c =
     let findings = subst (λ (vs : List Finding). All IsTrueFinding vs) c.as_slice.ensures.value c.in-Ok.ensures.findings in
     c.in_ok-verdicts.ensures.gathered c.in-Ok.ensures.lawful findings c.in-Ok.verdict c.in-Ok.ensures.verdict
+
+pub returns-clause-verdict : goal.returns-clause-verdict
+returns-clause-verdict c = search rules

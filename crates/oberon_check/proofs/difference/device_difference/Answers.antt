@@ -1,0 +1,29 @@
+use Rattle.std.proofs.Common.{rules}
+use Rattle.oberon_check.proofs.difference.device_difference.Goals as goal
+
+pub returns-then-timer : goal.returns-then-timer
+returns-then-timer c = search rules
+
+pub returns-then-rate : goal.returns-then-rate
+returns-then-rate c = search rules
+
+pub returns-then-phase : goal.returns-then-phase
+returns-then-phase c = search rules
+
+pub returns-then-switches : goal.returns-then-switches
+returns-then-switches c = search rules
+
+pub returns-then-leds : goal.returns-then-leds
+returns-then-leds c = search rules
+
+pub returns-then-mouse : goal.returns-then-mouse
+returns-then-mouse c = search rules
+
+pub returns-then-serial : goal.returns-then-serial
+returns-then-serial c = search rules
+
+pub returns-then-ne : goal.returns-then-ne
+returns-then-ne c = search rules
+
+pub returns : goal.returns
+returns c = search rules

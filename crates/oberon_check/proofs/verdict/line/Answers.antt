@@ -1,0 +1,5 @@
+use Rattle.std.proofs.Common.{rules}
+use Rattle.oberon_check.proofs.verdict.line.Goals as goal
+
+pub returns : goal.returns
+returns c = search rules
