@@ -24,7 +24,7 @@ use Rattle.oberon_cli.specs.declared.words.Request.{Request}
 use Rattle.oberon_cli.specs.declared.words.Request.TheVariants.{Check, Migrate, Record, Screen}
 use Rattle.oberon_cli.specs.declared.failure.Failure.TheVariants.{Memory, Read, Words}
 use Rattle.oberon_format.specs.declared.layout.TheConstants.{LONGEST_TEXT}
-use Rattle.oberon_session.specs.declared.reading.TheConstants.{LONGEST_SESSION}
+use Rattle.recording_limits.specs.declared.limits.TheConstants.{LONGEST_SESSION}
 use Rattle.oberon_format.proofs.Cut.{cut_is_no_text, first_fault_of-take}
 use Rattle.oberon_cli.proofs.Parsed.{asked_none}
 

@@ -7,7 +7,7 @@ use Rattle.oberon_cli.specs.Screen.{IsScreen}
 use Rattle.oberon_cli.specs.declared.words.Request.{Request}
 use Rattle.oberon_cli.specs.declared.words.Request.TheVariants.{Check, Migrate, Record, Screen}
 use Rattle.oberon_format.specs.declared.layout.TheConstants.{LONGEST_TEXT}
-use Rattle.oberon_session.specs.declared.reading.TheConstants.{LONGEST_SESSION}
+use Rattle.recording_limits.specs.declared.limits.TheConstants.{LONGEST_SESSION}
 
 -- the most bytes that the command reads: one more than the longest text of a recording or of a session has
 abbrev pub limit_of : Request → ℕ

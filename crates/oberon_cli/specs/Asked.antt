@@ -11,7 +11,7 @@ use Rattle.clap.specs.declared.error.kind.ErrorKind.TheVariants.{DisplayHelp}
 use Rattle.oberon_cli.specs.Program.{program_app}
 use Rattle.oberon_cli.specs.declared.words.Request.{Request}
 use Rattle.oberon_cli.specs.declared.words.Request.TheVariants.{Check, Migrate, Record, Screen}
-use Rattle.oberon_format.specs.declared.ranges.TheConstants.{LAST_CHECKPOINT}
+use Rattle.recording_limits.specs.declared.limits.TheConstants.{LAST_CHECKPOINT}
 
 -- the number that the text writes in decimal digits, perhaps after a plus, where it lies in the range
 abbrev pub whole_number : ℕ → ℕ → Text → Option ℕ

@@ -4,7 +4,7 @@ use Rattle.clap.specs.Walk.{Rule}
 use Rattle.clap.specs.Simple.{App, Shape, new_app, new_rule, new_shape, with_rule, with_subcommand}
 use Rattle.clap.specs.declared.builder.action.ArgAction.TheVariants.{Set}
 use Rattle.clap.specs.declared.builder.value_parser.ValueParser.TheVariants.{Signed}
-use Rattle.oberon_format.specs.declared.ranges.TheConstants.{LAST_CHECKPOINT}
+use Rattle.recording_limits.specs.declared.limits.TheConstants.{LAST_CHECKPOINT}
 
 -- `--workers`, from 1 to 64, or 2
 abbrev pub workers_rule : Rule
@@ -57,7 +57,11 @@ abbrev pub program_shape : Shape
 program_shape =
     record (new_shape (codes "oberon_replay")) { no_binary_name = true; subcommand_required = true }
 
+-- the program before it has its commands
+abbrev pub without_commands_app : App
+without_commands_app = record { top = program_shape; subs = [] }
+
 abbrev pub program_app : App
 program_app =
-    with_subcommand (with_subcommand (with_subcommand (with_subcommand (record { top = program_shape; subs = [] }) check_app.top)
+    with_subcommand (with_subcommand (with_subcommand (with_subcommand without_commands_app check_app.top)
     record_app.top) screen_app.top) migrate_app.top

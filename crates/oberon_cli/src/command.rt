@@ -2,7 +2,7 @@
 //! What the words of a run ask for is in `words`.
 ghost use Rattle.std.specs.Prelude.{◌≡◌, IfOk, false};
 ghost use Rattle.clap.specs.Words.{app_of, rule_of};
-ghost use Rattle.oberon_cli.specs.Program.{at_rule, check_app, cut_rule, migrate_app, program_app, record_app, screen_app, workers_rule};
+ghost use Rattle.oberon_cli.specs.Program.{at_rule, check_app, cut_rule, migrate_app, program_app, record_app, screen_app, without_commands_app, workers_rule};
 ghost use Rattle.clap.specs.declared.builder.command.Command.TheViews.{out-Command as fields_of};
 
 use clap::{Arg, ArgAction, Command, value_parser};
@@ -13,18 +13,27 @@ use std::alloc::{AllocError, Global};
 pub fn program<'a>(alloc: Global) -> Result<Command<'a>, AllocError>
     ensures app { IfOk result (λ command. app_of command ≡ program_app) }
 {
-    Command::new(alloc, "oberon_replay")
-        .bin_name("oberon_replay")?
-        .about(
-            "Records sessions of a Project Oberon workstation, checks and migrates recordings, and shows their screens",
-        )
-        .after_help("Example:\n  oberon_replay <face.orsr")
-        .no_binary_name(true)
-        .subcommand_required(true)
+    without_commands(alloc)?
         .subcommand(check(alloc)?)?
         .subcommand(record(alloc))?
         .subcommand(screen(alloc)?)?
         .subcommand(migrate(alloc))
+}
+
+/// The program's name, texts and settings.
+fn without_commands<'a>(alloc: Global) -> Result<Command<'a>, AllocError>
+    ensures app { IfOk result (λ command. app_of command ≡ without_commands_app) }
+{
+    Ok(
+        Command::new(alloc, "oberon_replay")
+            .bin_name("oberon_replay")?
+            .about(
+                "Records sessions of a Project Oberon workstation, checks and migrates recordings, and shows their screens",
+            )
+            .after_help("Example:\n  oberon_replay <face.orsr")
+            .no_binary_name(true)
+            .subcommand_required(true),
+    )
 }
 
 fn check<'a>(alloc: Global) -> Result<Command<'a>, AllocError>

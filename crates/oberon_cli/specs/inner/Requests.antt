@@ -8,7 +8,7 @@ use Rattle.oberon_cli.specs.declared.words.Request.{Request}
 use Rattle.oberon_cli.specs.declared.words.Request.TheVariants.{Check, Migrate, Record, Screen}
 use Rattle.oberon_cli.specs.declared.words.Refusal.{Refusal}
 use Rattle.oberon_cli.specs.declared.words.Refusal.TheVariants.{Help, Words, Memory}
-use Rattle.oberon_format.specs.declared.ranges.TheConstants.{LAST_CHECKPOINT}
+use Rattle.recording_limits.specs.declared.limits.TheConstants.{LAST_CHECKPOINT}
 use Rattle.oberon_cli.specs.declared.reply.Reply.{Reply}
 use Rattle.oberon_cli.specs.Asked.{IsHelp, IsRefused}
 use Rattle.oberon_cli.specs.Reply.{IsReplyTo, Outcome, outcome_status, outcome_text}

@@ -1,4 +1,4 @@
-use Rattle.std.proofs.Common.{◌∙◌, ap, arith, length}
+use Rattle.std.proofs.Common.{◌∙◌, ap, arith, length, rules}
 use Rattle.oberon_cli.proofs.DisplayLemmas.{range_length}
 use Rattle.oberon_cli.proofs.screen.claimed_picture.Goals as goal
 
@@ -6,3 +6,6 @@ pub picture-requires : goal.picture-requires
 picture-requires c =
     ap length c.deref.ensures.value
     ∙ range_length c.in_ok-memory.memory.words c.in_ok-words.words.items 237504 24576 c.in_ok-words.ensures (omega (arith, c.in_ok-memory.ensures.memory.words))
+
+pub returns-clause-picture : goal.returns-clause-picture
+returns-clause-picture c = search rules

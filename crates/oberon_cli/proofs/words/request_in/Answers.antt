@@ -1,4 +1,5 @@
-use Rattle.std.proofs.Common.{◌≡◌, ◌∙◌, ◌<◌, [], List, map, length, sym, ap, option_and_then}
+use Rattle.std.proofs.lemmas.Grind.{common_steps}
+use Rattle.std.proofs.Common.{◌≡◌, ◌∙◌, ◌<◌, [], List, map, length, sym, ap, option_and_then, arith, rules}
 use Rattle.std.proofs.lemmas.List.{length-map}
 use Rattle.clap.specs.Words.{is_simple, subcommand_rows_of, Text}
 use Rattle.clap.specs.Faults.{is_simple_and_free}
@@ -27,3 +28,12 @@ returns-in-Err-clause-err c =
     let app = c.in_ok-program.ensures.app in
     let kinds : HasKind (faults words) c.in-Err.error = rw (← faults_are _ words app) (c.in-Err.ensures.kinds (ap is_simple_and_free app ∙ free)) in
     rw c.refusal_of.ensures (refused words c.in-Err.error some kinds)
+
+pub returns-in-Err-clause-ok : goal.returns-in-Err-clause-ok
+returns-in-Err-clause-ok c = search rules
+
+pub returns-then-is_empty-clause-err : goal.returns-then-is_empty-clause-err
+returns-then-is_empty-clause-err c = search rules
+
+pub returns-then-is_empty-clause-ok : goal.returns-then-is_empty-clause-ok
+returns-then-is_empty-clause-ok c = grind (arith, common_steps)
