@@ -58,19 +58,35 @@ impl Claim<'_> {
     /// Adds the 132 bytes that a checkpoint begins with in both versions.
     pub(crate) fn push_fields(&self, text: &mut Vec<u8>) -> Result<(), AllocError> {
         text.extend_from_slice(&self.count.to_le_bytes())?;
+        self.push_processor(text)?;
+        self.push_devices(text)?;
+        push_length(text, self.sent.len())
+    }
+
+    /// Adds the registers, H, the program counter, the flags and the stop.
+    fn push_processor(&self, text: &mut Vec<u8>) -> Result<(), AllocError> {
         let mut registers = [0; 16];
         set_words(&mut registers, self.registers);
         push_words(text, &registers)?;
-        push_words(text, &[self.h, self.pc, self.flags, self.stop])?;
-        push_words(text, &[self.timer, self.switches, self.leds])?;
-        push_words(text, &[self.mouse, self.serial])?;
+        push_words(text, &[self.h, self.pc, self.flags, self.stop])
+    }
+
+    /// Adds the devices but for the timer's rate and phase.
+    fn push_devices(&self, text: &mut Vec<u8>) -> Result<(), AllocError> {
+        let words = [
+            self.timer,
+            self.switches,
+            self.leds,
+            self.mouse,
+            self.serial,
+        ];
+        push_words(text, &words)?;
         push_length(text, self.keys.len())?;
         let mut keys = [0u8; 16];
         for (there, key) in keys.iter_mut().zip(self.keys) {
             *there = *key;
         }
-        text.extend_from_slice(&keys)?;
-        push_length(text, self.sent.len())
+        text.extend_from_slice(&keys)
     }
 
     /// Adds the page numbers of all places, as version 1 has them.
@@ -78,7 +94,7 @@ impl Claim<'_> {
         push_words(text, &self.page_numbers())
     }
 
-    /// Adds the timer, and the places at which the table isn't what it was, as version 2 has them.
+    /// Adds the timer's rate and phase, and the places at which the table isn't what it was, as version 2 has them.
     pub(crate) fn push_changes(
         &self,
         text: &mut Vec<u8>,
@@ -86,11 +102,7 @@ impl Claim<'_> {
     ) -> Result<(), AllocError> {
         push_words(text, &[self.rate, self.phase])?;
         let numbers = self.page_numbers();
-        let mut changes = 0u32;
-        for (old, new) in before.iter().zip(&numbers) {
-            changes = changes.saturating_add(u32::from(old != new));
-        }
-        push_word(text, changes)?;
+        push_word(text, changes_between(before, &numbers))?;
         let mut place = 0u32;
         for (old, new) in before.iter().zip(&numbers) {
             if old != new {
@@ -112,4 +124,13 @@ impl Claim<'_> {
 /// Adds a length as a number of four bytes.
 fn push_length(text: &mut Vec<u8>, length: usize) -> Result<(), AllocError> {
     push_word(text, u32::try_from(length).unwrap_or(u32::MAX))
+}
+
+/// At how many places two tables differ.
+fn changes_between(before: &[u32; 1024], after: &[u32; 1024]) -> u32 {
+    let mut changes = 0u32;
+    for (old, new) in before.iter().zip(after) {
+        changes = changes.saturating_add(u32::from(old != new));
+    }
+    changes
 }

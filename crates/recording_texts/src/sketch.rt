@@ -37,16 +37,7 @@ impl<'a> Sketch<'a> {
     /// The text of version 1, where these numbers stand in place of those that are claimed.
     pub fn first_text(&self, alloc: Global, turned: &[(Spot, u32)]) -> Result<Vec<u8>, AllocError> {
         let mut text = self.front(alloc, 1, turned)?;
-        for (k, claim) in self.claims.iter().enumerate() {
-            let start = text.len();
-            claim.push_fields(&mut text)?;
-            claim.push_table(&mut text)?;
-            for (spot, number) in turned {
-                if let Some(offset) = spot.offset_in_first(k) {
-                    put_word(&mut text, start.saturating_add(offset), *number);
-                }
-            }
-        }
+        self.push_first_claims(&mut text, turned)?;
         self.push_output(&mut text)?;
         Ok(text)
     }
@@ -58,18 +49,7 @@ impl<'a> Sketch<'a> {
         turned: &[(Spot, u32)],
     ) -> Result<Vec<u8>, AllocError> {
         let mut text = self.front(alloc, 2, turned)?;
-        let mut before = [0; 1024];
-        for (k, claim) in self.claims.iter().enumerate() {
-            let start = text.len();
-            claim.push_fields(&mut text)?;
-            claim.push_changes(&mut text, &before)?;
-            before = claim.page_numbers();
-            for (spot, number) in turned {
-                if let Some(offset) = spot.offset_in_second(k) {
-                    put_word(&mut text, start.saturating_add(offset), *number);
-                }
-            }
-        }
+        self.push_second_claims(&mut text, turned)?;
         self.push_output(&mut text)?;
         Ok(text)
     }
@@ -85,22 +65,74 @@ impl<'a> Sketch<'a> {
         let events = number_of(self.events);
         let checkpoints = number_of(self.claims);
         let mut text = header(alloc, version, pages, events, checkpoints)?;
-        for page in self.pages {
-            push_words(&mut text, page)?;
-            for _ in page.len()..256 {
-                push_word(&mut text, 0)?;
-            }
-        }
+        self.push_pages(&mut text)?;
         for (spot, number) in turned {
             if let Some(place) = spot.place_in_pages() {
                 put_word(&mut text, place, *number);
             }
         }
+        self.push_events(&mut text)?;
+        Ok(text)
+    }
+
+    /// Adds the pages, each with zeros up to its end.
+    fn push_pages(&self, text: &mut Vec<u8>) -> Result<(), AllocError> {
+        for page in self.pages {
+            push_words(text, page)?;
+            for _ in page.len()..256 {
+                push_word(text, 0)?;
+            }
+        }
+        Ok(())
+    }
+
+    /// Adds the events.
+    fn push_events(&self, text: &mut Vec<u8>) -> Result<(), AllocError> {
         for event in self.events {
             text.extend_from_slice(&event.count.to_le_bytes())?;
-            push_words(&mut text, &[event.kind, event.value])?;
+            push_words(text, &[event.kind, event.value])?;
         }
-        Ok(text)
+        Ok(())
+    }
+
+    /// Adds the checkpoints as version 1 has them, with these numbers turned.
+    fn push_first_claims(
+        &self,
+        text: &mut Vec<u8>,
+        turned: &[(Spot, u32)],
+    ) -> Result<(), AllocError> {
+        for (k, claim) in self.claims.iter().enumerate() {
+            let start = text.len();
+            claim.push_fields(text)?;
+            claim.push_table(text)?;
+            for (spot, number) in turned {
+                if let Some(offset) = spot.offset_in_first(k) {
+                    put_word(text, start.saturating_add(offset), *number);
+                }
+            }
+        }
+        Ok(())
+    }
+
+    /// Adds the checkpoints as version 2 has them, with these numbers turned.
+    fn push_second_claims(
+        &self,
+        text: &mut Vec<u8>,
+        turned: &[(Spot, u32)],
+    ) -> Result<(), AllocError> {
+        let mut before = [0; 1024];
+        for (k, claim) in self.claims.iter().enumerate() {
+            let start = text.len();
+            claim.push_fields(text)?;
+            claim.push_changes(text, &before)?;
+            before = claim.page_numbers();
+            for (spot, number) in turned {
+                if let Some(offset) = spot.offset_in_second(k) {
+                    put_word(text, start.saturating_add(offset), *number);
+                }
+            }
+        }
+        Ok(())
     }
 
     /// Adds all bytes that were sent.

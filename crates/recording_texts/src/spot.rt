@@ -36,17 +36,17 @@ impl Spot {
 
     /// Where the number stands in checkpoint k of a text of version 1, from the checkpoint's first byte.
     pub(crate) fn offset_in_first(self, k: usize) -> Option<usize> {
-        match self {
-            Place(of, place) if usize::from(of) == k => Some(132 + 4 * usize::from(place)),
-            _ => self.offset_in_both(k),
-        }
+        let Place(of, place) = self else {
+            return self.offset_in_both(k);
+        };
+        offset_if(of, k, 132 + 4 * usize::from(place))
     }
 
     /// Where the number stands in checkpoint k of a text of version 2, from the checkpoint's first byte.
     pub(crate) fn offset_in_second(self, k: usize) -> Option<usize> {
         match self {
-            Rate(of) if usize::from(of) == k => Some(132),
-            Phase(of) if usize::from(of) == k => Some(136),
+            Rate(of) => offset_if(of, k, 132),
+            Phase(of) => offset_if(of, k, 136),
             _ => self.offset_in_both(k),
         }
     }
@@ -63,10 +63,15 @@ impl Spot {
             Keys(of) => (of, 112),
             Word(..) | Rate(_) | Phase(_) | Place(..) => return None,
         };
-        if usize::from(of) == k {
-            Some(offset)
-        } else {
-            None
-        }
+        offset_if(of, k, offset)
+    }
+}
+
+/// The offset, if the number is one of checkpoint k.
+fn offset_if(of: u16, k: usize, offset: usize) -> Option<usize> {
+    if usize::from(of) == k {
+        Some(offset)
+    } else {
+        None
     }
 }

@@ -36,11 +36,11 @@ fn takes_inputs_in_their_ranges_alone(rt: HostRuntime) {
         match Input::new(kind, value) {
             Ok(input) => {
                 assert!(rt; want, "kind {kind} took {value}");
-                assert_eq!(rt; (input.kind(), input.value()), (kind, value));
+                assert!(rt; (input.kind(), input.value()) == (kind, value));
             }
             Err(fault) => {
                 assert!(rt; !want, "kind {kind} refused {value}");
-                assert_eq!(rt; (fault, fault.number()), (RangeFault, 1));
+                assert!(rt; (fault, fault.number()) == (RangeFault, 1));
             }
         }
     }
@@ -124,24 +124,50 @@ fn writes_leds_and_sends(rt: HostRuntime) {
     assert_eq!(rt; (devices.timer(), devices.mouse()), (0, 0));
 }
 
+/// Rate, phase, switches, mouse word, serial word and keys of devices, of which one is out of its range.
+const OUT_OF_RANGE: [(u32, u32, u16, u32, u16, usize); 6] = [
+    (0, 1, 0, 0, 0, 0),
+    (10, 10, 0, 0, 0, 0),
+    (0, 0, 4096, 0, 0, 0),
+    (0, 0, 0, 0x0800_0000, 0, 0),
+    (0, 0, 0, 0, 512, 0),
+    (0, 0, 0, 0, 0, 17),
+];
+
+/// Whether there are devices of these parts, with so many keys.
+fn has_devices(
+    (rate, phase, switches, mouse, serial, keys): (u32, u32, u16, u32, u16, usize),
+) -> bool {
+    let codes = [9; 17];
+    if keys > 17 {
+        return false;
+    }
+    Devices::new(0, rate, phase, switches, 0, mouse, serial, &codes[..keys]).is_ok()
+}
+
 #[test]
-fn makes_devices_of_parts_in_range(rt: HostRuntime) {
-    let keys = [9; 17];
-    assert!(rt; Devices::new(0, 0, 1, 0, 0, 0, 0, &[]).is_err());
-    assert!(rt; Devices::new(0, 10, 10, 0, 0, 0, 0, &[]).is_err());
-    assert!(rt; Devices::new(0, 0, 0, 4096, 0, 0, 0, &[]).is_err());
-    assert!(rt; Devices::new(0, 0, 0, 0, 0, 0x0800_0000, 0, &[]).is_err());
-    assert!(rt; Devices::new(0, 0, 0, 0, 0, 0, 512, &[]).is_err());
-    assert!(rt; Devices::new(0, 0, 0, 0, 0, 0, 0, &keys).is_err());
-    let made = Devices::new(0xFFFF_FFFF, 10, 9, 4095, 255, 0x073F_F3FF, 511, &keys[..16]);
+fn makes_devices_of_parts_in_range_alone(rt: HostRuntime) {
+    for parts in OUT_OF_RANGE {
+        assert!(rt; !has_devices(parts));
+    }
+}
+
+/// Whether devices have the largest parts.
+fn are_largest(devices: &Devices) -> bool {
+    devices.timer() == 0xFFFF_FFFF
+        && (devices.rate(), devices.phase()) == (10, 9)
+        && devices.switches() == 4095
+        && devices.leds() == 255
+        && devices.mouse() == 0x073F_F3FF
+        && devices.serial() == 511
+        && devices.keys() == [9; 16].as_slice()
+}
+
+#[test]
+fn makes_devices_of_the_largest_parts(rt: HostRuntime) {
+    let made = Devices::new(0xFFFF_FFFF, 10, 9, 4095, 255, 0x073F_F3FF, 511, &[9; 16]);
     let devices = made.expect(&rt, "the parts are in range").copy();
-    assert_eq!(rt; devices.timer(), 0xFFFF_FFFF);
-    assert_eq!(rt; (devices.rate(), devices.phase()), (10, 9));
-    assert_eq!(rt; devices.switches(), 4095);
-    assert_eq!(rt; devices.leds(), 255);
-    assert_eq!(rt; devices.mouse(), 0x073F_F3FF);
-    assert_eq!(rt; devices.serial(), 511);
-    assert_eq!(rt; devices.keys(), &keys[..16]);
+    assert!(rt; are_largest(&devices), "another part");
 }
 
 /// Devices with this timer, rate and phase, and nothing else.
@@ -149,35 +175,55 @@ fn timer_devices(rt: &impl Abort, timer: u32, rate: u32, phase: u32) -> Devices 
     Devices::new(timer, rate, phase, 0, 0, 0, 0, &[]).expect(rt, "the phase is below the rate")
 }
 
+/// The timer, rate and phase of devices.
+fn clock_of(devices: &Devices) -> (u32, u32, u32) {
+    (devices.timer(), devices.rate(), devices.phase())
+}
+
+/// The same once so many instructions were counted, one by one.
+fn counted_slowly(
+    rt: &impl Abort,
+    (timer, rate, phase): (u32, u32, u32),
+    count: u64,
+) -> (u32, u32, u32) {
+    let mut devices = timer_devices(rt, timer, rate, phase);
+    for _ in 0..count {
+        devices.tick();
+    }
+    clock_of(&devices)
+}
+
+/// The same once they were counted at once.
+fn counted_at_once(
+    rt: &impl Abort,
+    (timer, rate, phase): (u32, u32, u32),
+    count: u64,
+) -> (u32, u32, u32) {
+    let mut devices = timer_devices(rt, timer, rate, phase);
+    devices.tick_times(count);
+    clock_of(&devices)
+}
+
 #[test]
 fn counts_instructions_one_by_one_and_at_once(rt: HostRuntime) {
     let rows = [
-        (0, 10, 0, 25, 2, 5),
-        (7, 0, 0, 25, 7, 0),
-        (7, 1, 0, 3, 10, 0),
-        (0xFFFF_FFFF, 3, 2, 1, 0, 0),
-        (0xFFFF_FFFE, 3, 1, 8, 1, 0),
-        (0xFFFF_FFFF, 0xFFFF_FFFF, 0xFFFF_FFFE, 1, 0, 0),
+        ((0, 10, 0), 25, (2, 10, 5)),
+        ((7, 0, 0), 25, (7, 0, 0)),
+        ((7, 1, 0), 3, (10, 1, 0)),
+        ((0xFFFF_FFFF, 3, 2), 1, (0, 3, 0)),
+        ((0xFFFF_FFFE, 3, 1), 8, (1, 3, 0)),
+        (
+            (0xFFFF_FFFF, 0xFFFF_FFFF, 0xFFFF_FFFE),
+            1,
+            (0, 0xFFFF_FFFF, 0),
+        ),
     ];
-    for (timer, rate, phase, count, want_timer, want_phase) in rows {
-        let mut slow = timer_devices(&rt, timer, rate, phase);
-        for _ in 0..count {
-            slow.tick();
-        }
-        let mut fast = timer_devices(&rt, timer, rate, phase);
-        fast.tick_times(count);
-        assert_eq!(rt;
-            (slow.timer(), slow.rate(), slow.phase()),
-            (want_timer, rate, want_phase)
-        );
-        assert_eq!(rt;
-            (fast.timer(), fast.rate(), fast.phase()),
-            (want_timer, rate, want_phase)
-        );
+    for (before, count, after) in rows {
+        assert_eq!(rt; counted_slowly(&rt, before, count), after);
+        assert_eq!(rt; counted_at_once(&rt, before, count), after);
     }
-    let mut devices = timer_devices(&rt, 0, 10, 5);
-    devices.tick_times(u64::MAX);
-    assert_eq!(rt; (devices.timer(), devices.phase()), (0x9999_999A, 0));
+    let most = counted_at_once(&rt, (0, 10, 5), u64::MAX);
+    assert_eq!(rt; most, (0x9999_999A, 10, 0));
 }
 
 #[test]
@@ -192,6 +238,19 @@ fn keeps_the_phase_where_the_timer_is_set(rt: HostRuntime) {
     assert_eq!(rt; (devices.timer(), devices.phase()), (101, 0));
 }
 
+/// Whether a picture has the head of a display's, and one byte after it that isn't 0.
+fn has_dot(bytes: &[u8], at: usize, byte: u8) -> bool {
+    if bytes.len() != 98_316 || !bytes.starts_with(b"P4\n1024 768\n") {
+        return false;
+    }
+    for (k, dots) in bytes.iter().enumerate() {
+        if k >= 12 && *dots != if k == at { byte } else { 0 } {
+            return false;
+        }
+    }
+    true
+}
+
 #[test]
 fn draws_a_dot_in_each_corner(rt: HostRuntime) -> Result<(), AllocError> {
     let rows = [(0, 1, 98_188, 0x80), (24_575, 0x8000_0000, 139, 0x01)];
@@ -199,12 +258,7 @@ fn draws_a_dot_in_each_corner(rt: HostRuntime) -> Result<(), AllocError> {
         let mut words = [0; 24_576];
         words[place] = word;
         let bytes = picture(rt.alloc(), &words)?;
-        assert_eq!(rt; bytes.len(), 98_316);
-        assert_eq!(rt; &bytes[..12], &b"P4\n1024 768\n"[..]);
-        for (k, dots) in bytes[12..].iter().enumerate() {
-            let want = if k + 12 == at { byte } else { 0 };
-            assert_eq!(rt; *dots, want, "byte {k}");
-        }
+        assert!(rt; has_dot(&bytes, at, byte), "at byte {at}");
     }
     Ok(())
 }

@@ -4,6 +4,7 @@ mod recorded;
 
 use oberon_format::{MAX_COUNT, Recording};
 use oberon_session::{SessionFault, make_recording, read_session};
+use risc_machine::{Cpu, Inputs};
 use std::alloc::Global;
 use std::process::Abort;
 use std::test::Fail;
@@ -227,10 +228,15 @@ fn recording_of(alloc: Global, text: &str) -> Result<Recording, Fail> {
     }
 }
 
+/// The processor of the first state.
+fn first_processor(rt: &impl Abort, recording: &Recording) -> Cpu {
+    assert!(rt; recording.count() > 0);
+    recording.checkpoint(0).cpu
+}
+
 #[test]
 fn reads_the_processor_of_a_session(rt: HostRuntime) -> Result<(), Fail> {
-    let recording = recording_of(rt.alloc(), WHOLE)?;
-    let cpu = recording.checkpoint(0).cpu;
+    let cpu = first_processor(&rt, &recording_of(rt.alloc(), WHOLE)?);
     for (register, value) in cpu.r.into_iter().enumerate() {
         let wanted = if register < 15 {
             register as u32 + 1
@@ -264,15 +270,19 @@ fn first_word(rt: &impl Abort, recording: &Recording, place: u16, index: u32) ->
     pool.word(page_no, index)
 }
 
-#[test]
-fn reads_the_pages_of_a_session(rt: HostRuntime) -> Result<(), Fail> {
-    let recording = recording_of(rt.alloc(), WHOLE)?;
+/// Checks the pages of the whole session.
+fn check_pages(rt: &impl Abort, recording: &Recording) {
     // each page of a session is in the pool, also one of zeros
     assert_eq!(rt; recording.pool().len(), 3);
     for (place, index, word) in WORDS {
-        let found = first_word(&rt, &recording, place, index);
+        let found = first_word(rt, recording, place, index);
         assert_eq!(rt; found, word, "word {index} at {place}");
     }
+}
+
+#[test]
+fn reads_the_pages_of_a_session(rt: HostRuntime) -> Result<(), Fail> {
+    check_pages(&rt, &recording_of(rt.alloc(), WHOLE)?);
     Ok(())
 }
 
@@ -285,35 +295,48 @@ const INPUTS: [(u64, u8, u32); 5] = [
     (MAX_COUNT, 5, 255),
 ];
 
-#[test]
-fn reads_the_inputs_of_a_session(rt: HostRuntime) -> Result<(), Fail> {
-    let recording = recording_of(rt.alloc(), WHOLE)?;
-    let events = recording.inputs().events();
+/// Checks the inputs of the whole session.
+fn check_inputs(rt: &impl Abort, inputs: &Inputs) {
+    let events = inputs.events();
     assert_eq!(rt; events.len(), INPUTS.len());
     for (event, (count, kind, value)) in events.iter().zip(INPUTS) {
         assert_eq!(rt; event.count, count);
         assert_eq!(rt; (event.input.kind(), event.input.value()), (kind, value));
     }
-    Ok(())
 }
 
 #[test]
-fn reads_the_counts_of_a_session(rt: HostRuntime) -> Result<(), Fail> {
-    let recording = recording_of(rt.alloc(), WHOLE)?;
+fn reads_the_inputs_of_a_session(rt: HostRuntime) -> Result<(), Fail> {
+    check_inputs(&rt, recording_of(rt.alloc(), WHOLE)?.inputs());
+    Ok(())
+}
+
+/// Checks the counts of the whole session.
+fn check_counts(rt: &impl Abort, recording: &Recording) {
     assert_eq!(rt; recording.count(), 4);
     for (k, count) in [(0, 0), (1, 1), (2, 100), (3, MAX_COUNT)] {
         assert!(rt; k < recording.count());
         assert_eq!(rt; recording.checkpoint(k).count, count);
     }
+}
+
+#[test]
+fn reads_the_counts_of_a_session(rt: HostRuntime) -> Result<(), Fail> {
+    check_counts(&rt, &recording_of(rt.alloc(), WHOLE)?);
     Ok(())
+}
+
+/// The first fault of a text in two parts.
+fn fault_behind(alloc: Global, start: &str, rest: &str) -> Result<Option<SessionFault>, Fail> {
+    let text = format!(in alloc; "{start}{rest}")?;
+    Ok(fault_of(alloc, text.as_bytes()))
 }
 
 #[test]
 fn gives_the_first_fault(rt: HostRuntime) -> Result<(), Fail> {
     let alloc = rt.alloc();
     for (rest, fault) in &FAULTS_AFTER_START {
-        let text = format!(in alloc; "{START}{rest}")?;
-        assert!(rt; fault_of(alloc, text.as_bytes()) == Some(*fault));
+        assert!(rt; fault_behind(alloc, START, rest)? == Some(*fault), "{rest}");
     }
     for (text, fault) in &FAULTS_AT_START {
         assert!(rt; fault_of(alloc, text.as_bytes()) == Some(*fault));
@@ -322,14 +345,19 @@ fn gives_the_first_fault(rt: HostRuntime) -> Result<(), Fail> {
     Ok(())
 }
 
+/// The first fault of a text of version 2 whose first state ends so.
+fn fault_of_timer(alloc: Global, rest: &str) -> Result<Option<SessionFault>, Fail> {
+    let text = format!(in alloc;
+        "{START_2}{rest}}},\"pages\":[],\"inputs\":[],\"checkpoints\":[]}}"
+    )?;
+    Ok(fault_of(alloc, text.as_bytes()))
+}
+
 #[test]
 fn reads_rate_and_phase(rt: HostRuntime) -> Result<(), Fail> {
     let alloc = rt.alloc();
     for (rest, fault) in RATES {
-        let text = format!(in alloc;
-            "{START_2}{rest}}},\"pages\":[],\"inputs\":[],\"checkpoints\":[]}}"
-        )?;
-        assert!(rt; fault_of(alloc, text.as_bytes()) == fault);
+        assert!(rt; fault_of_timer(alloc, rest)? == fault, "{rest}");
     }
     Ok(())
 }
@@ -341,16 +369,24 @@ fn rate_and_phase(alloc: Global, text: &str) -> Result<(u32, u32), Fail> {
     Ok((devices.rate(), devices.phase()))
 }
 
-#[test]
-fn takes_rate_and_phase_into_the_first_state(rt: HostRuntime) -> Result<(), Fail> {
-    let alloc = rt.alloc();
+/// The same of a session of version 2 whose timer counts each ten instructions.
+fn rate_and_phase_of_a_timer(alloc: Global) -> Result<(u32, u32), Fail> {
     let text = format!(in alloc;
         "{START_2},\"rate\":10,\"phase\":9}},\"pages\":[],\"inputs\":[],\"checkpoints\":[]}}"
     )?;
-    assert_eq!(rt; rate_and_phase(alloc, text.as_str())?, (10, 9));
-    // in version 1 they are 0
+    rate_and_phase(alloc, text.as_str())
+}
+
+/// The same of a session of version 1.
+fn rate_and_phase_of_the_first_version(alloc: Global) -> Result<(u32, u32), Fail> {
     let text = format!(in alloc; "{START}\"pages\":[],\"inputs\":[],\"checkpoints\":[]}}")?;
-    assert_eq!(rt; rate_and_phase(alloc, text.as_str())?, (0, 0));
+    rate_and_phase(alloc, text.as_str())
+}
+
+#[test]
+fn takes_rate_and_phase_into_the_first_state(rt: HostRuntime) -> Result<(), Fail> {
+    assert_eq!(rt; rate_and_phase_of_a_timer(rt.alloc())?, (10, 9));
+    assert_eq!(rt; rate_and_phase_of_the_first_version(rt.alloc())?, (0, 0));
     Ok(())
 }
 
@@ -363,9 +399,17 @@ fn copies_of(alloc: Global, text: &str, count: u32) -> Result<String, Fail> {
     Ok(all)
 }
 
+/// The first fault of a text whose page has so many copies of a digit.
+fn fault_of_digits(alloc: Global, digit: &str, count: u32) -> Result<Option<SessionFault>, Fail> {
+    let digits = copies_of(alloc, digit, count)?;
+    let text = format!(in alloc;
+        "{START}\"pages\":[{{\"at\":0,\"hex\":\"{digits}\"}}],\"inputs\":[],\"checkpoints\":[]}}"
+    )?;
+    Ok(fault_of(alloc, text.as_bytes()))
+}
+
 #[test]
 fn measures_digits_in_bytes(rt: HostRuntime) -> Result<(), Fail> {
-    let alloc = rt.alloc();
     let rows = [
         // as many digits as a page has, and one pair more
         ("f", 2_048, None),
@@ -375,18 +419,23 @@ fn measures_digits_in_bytes(rt: HostRuntime) -> Result<(), Fail> {
         ("\u{e9}", 1_025, Some(SessionFault::Range)),
     ];
     for (digit, count, fault) in rows {
-        let digits = copies_of(alloc, digit, count)?;
-        let text = format!(in alloc;
-            "{START}\"pages\":[{{\"at\":0,\"hex\":\"{digits}\"}}],\"inputs\":[],\"checkpoints\":[]}}"
-        )?;
-        assert_eq!(rt; fault_of(alloc, text.as_bytes()), fault);
+        assert_eq!(rt; fault_of_digits(rt.alloc(), digit, count)?, fault);
     }
     Ok(())
 }
 
+/// The first fault of a text with arrays in place of its pages, nested so deep.
+fn fault_of_arrays(alloc: Global, depth: u32) -> Result<Option<SessionFault>, Fail> {
+    let open = copies_of(alloc, "[", depth)?;
+    let close = copies_of(alloc, "]", depth)?;
+    let text = format!(in alloc;
+        "{START}\"pages\":{open}{close},\"inputs\":[],\"checkpoints\":[]}}"
+    )?;
+    Ok(fault_of(alloc, text.as_bytes()))
+}
+
 #[test]
 fn takes_arrays_nested_127_deep(rt: HostRuntime) -> Result<(), Fail> {
-    let alloc = rt.alloc();
     let rows = [
         // with the object around them 127 and 128
         (126, SessionFault::Shape),
@@ -394,12 +443,7 @@ fn takes_arrays_nested_127_deep(rt: HostRuntime) -> Result<(), Fail> {
         (200, SessionFault::Json),
     ];
     for (depth, fault) in rows {
-        let open = copies_of(alloc, "[", depth)?;
-        let close = copies_of(alloc, "]", depth)?;
-        let text = format!(in alloc;
-            "{START}\"pages\":{open}{close},\"inputs\":[],\"checkpoints\":[]}}"
-        )?;
-        assert_eq!(rt; fault_of(alloc, text.as_bytes()), Some(fault));
+        assert_eq!(rt; fault_of_arrays(rt.alloc(), depth)?, Some(fault));
     }
     Ok(())
 }

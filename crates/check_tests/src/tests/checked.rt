@@ -1,7 +1,9 @@
 //! The check of a text by so many workers, as the trials call it.
 
-use oberon_check::{Gate, check_bytes};
+use oberon_check::{FreeGate, Gate, check_bytes};
+use oberon_format::{Fault, migrate, refusal};
 use std::alloc::Global;
+use std::process::Abort;
 use std::sync::Wait;
 use std::test::Fail;
 use std::thread::Threads;
@@ -27,4 +29,56 @@ pub(crate) fn checked<R: Threads + Wait + Sync, G: Gate + Sync>(
     }
     let report = check_bytes(rt, alloc, text, workers, cut, gate)?;
     Ok((report.line, report.status))
+}
+
+/// Checks the line and the status of a text by so many workers, whose jobs begin at once, and those of its migration.
+pub(crate) fn gives<R: Abort + Threads + Wait + Sync>(
+    rt: &R,
+    alloc: Global,
+    text: &[u8],
+    crew: Crew,
+    expected: (&[u8], u8),
+) -> Result<(), Fail> {
+    is_answered(rt, alloc, text, crew, expected)?;
+    match migrate(alloc, text) {
+        Ok(migrated) => is_answered(rt, alloc, &migrated, crew, expected),
+        Err(fault) => is_refused(rt, alloc, fault, expected),
+    }
+}
+
+/// Checks the line and the status of a text.
+fn is_answered<R: Abort + Threads + Wait + Sync>(
+    rt: &R,
+    alloc: Global,
+    text: &[u8],
+    crew: Crew,
+    (line, status): (&[u8], u8),
+) -> Result<(), Fail> {
+    let (written, ended) = checked(rt, alloc, text, crew, &FreeGate)?;
+    is_line(rt, written.as_slice(), line);
+    assert_eq!(rt; ended, status);
+    Ok(())
+}
+
+/// Checks that a text is refused, and the line of its fault.
+fn is_refused(
+    rt: &impl Abort,
+    alloc: Global,
+    fault: Fault,
+    (line, status): (&[u8], u8),
+) -> Result<(), Fail> {
+    assert_eq!(rt; status, 2);
+    match fault {
+        Fault::Memory => Err("no memory".into()),
+        _ => {
+            let written = refusal(alloc, &fault)?;
+            is_line(rt, written.as_slice(), line);
+            Ok(())
+        }
+    }
+}
+
+/// Checks a line.
+pub(crate) fn is_line(rt: &impl Abort, written: &[u8], line: &[u8]) {
+    assert_eq!(rt; written, line);
 }

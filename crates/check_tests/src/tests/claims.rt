@@ -8,25 +8,35 @@ use std::sync::atomic::{AtomicU64, Ordering};
 use std::test::Fail;
 use std::thread::{Threads, map_vec};
 
-/// What two passes that share three jobs are answered in turn, and what the book comes to.
+/// What two passes that share three jobs are answered in turn.
+fn answers_to_two(claims: &Claims, a: &mut Pass, b: &mut Pass) -> [Option<u32>; 8]
+    requires first { a.old.book ≡ claims.now }
+    requires second { b.old.book ≡ claims.now }
+    ensures first { a.new.book ≡ claims.now }
+    ensures second { b.new.book ≡ claims.now }
+{
+    let first = claims.claim(a);
+    let second = claims.claim(b);
+    let third = claims.claim(a);
+    let past = claims.claim(b);
+    let past_again = claims.claim(a);
+    claims.tell(a, 5);
+    let own = claims.look(a);
+    claims.tell(b, 3);
+    let less = claims.look(a);
+    claims.tell(a, 9);
+    let still = claims.look(a);
+    [first, second, third, past, past_again, own, less, still]
+}
+
+/// What these are answered, and what the book comes to.
 fn answers_by_hand(alloc: Global) -> Result<([Option<u32>; 8], Ledger), Fail> {
     let (claims, mut passes) = Claims::new(alloc, 3, 2)?;
     let mut b = passes.pop().ok_or("no pass")?;
     let mut a = passes.pop().ok_or("no pass")?;
-    let first = claims.claim(&mut a);
-    let second = claims.claim(&mut b);
-    let third = claims.claim(&mut a);
-    let past = claims.claim(&mut b);
-    let past_again = claims.claim(&mut a);
-    claims.tell(&mut a, 5);
-    let own = claims.look(&mut a);
-    claims.tell(&mut b, 3);
-    let less = claims.look(&mut a);
-    claims.tell(&mut a, 9);
-    let still = claims.look(&mut a);
+    let answers = answers_to_two(&claims, &mut a, &mut b);
     passes.push(a)?;
     passes.push(b)?;
-    let answers = [first, second, third, past, past_again, own, less, still];
     Ok((answers, claims.finish(passes)))
 }
 
@@ -52,15 +62,23 @@ fn claims_by_hand(rt: HostRuntime) -> Result<(), Fail> {
     Ok(())
 }
 
-/// What the one pass of a book without jobs is answered, and what the book comes to.
+/// What the one pass of a book without jobs is answered.
+fn answers_to_one(claims: &Claims, pass: &mut Pass) -> [Option<u32>; 3]
+    requires { pass.old.book ≡ claims.now }
+    ensures { pass.new.book ≡ claims.now }
+{
+    let first = claims.claim(pass);
+    let second = claims.claim(pass);
+    [first, second, claims.look(pass)]
+}
+
+/// What it is answered, and what the book comes to.
 fn answers_without_jobs(alloc: Global) -> Result<([Option<u32>; 3], Ledger), Fail> {
     let (claims, mut passes) = Claims::new(alloc, 0, 1)?;
     let mut pass = passes.pop().ok_or("no pass")?;
-    let first = claims.claim(&mut pass);
-    let second = claims.claim(&mut pass);
-    let least = claims.look(&mut pass);
+    let answers = answers_to_one(&claims, &mut pass);
     passes.push(pass)?;
-    Ok(([first, second, least], claims.finish(passes)))
+    Ok((answers, claims.finish(passes)))
 }
 
 #[test]
@@ -72,6 +90,20 @@ fn no_jobs(rt: HostRuntime) -> Result<(), Fail> {
     assert_eq!(rt; ledger.taken, 0);
     assert_eq!(rt; ledger.least, None);
     Ok(())
+}
+
+/// How often a thread looks for another before it goes on alone.
+const TURNS: u32 = 1_000_000_000;
+
+/// Says that a thread has begun, waits for another, and counts those that saw one.
+fn meet(begun: &AtomicU64, met: &AtomicU64) {
+    begun.fetch_add(1, Ordering::SeqCst);
+    for _turn in 0..TURNS {
+        if begun.load(Ordering::SeqCst) > 1 {
+            met.fetch_add(1, Ordering::SeqCst);
+            return;
+        }
+    }
 }
 
 /// Claims to the end, marks each job taken, and tells each that is a multiple of 7 and at least 700.
@@ -93,12 +125,14 @@ fn work(claims: &Claims, mut pass: Pass, marks: &[AtomicU64]) -> Pass
     pass
 }
 
-/// Each pass in a thread of its own.
+/// Each pass in a thread of its own, which waits for another.
 fn work_all<R: Threads + Sync>(
     rt: &R,
     claims: &Claims,
     passes: Vec<Pass>,
     marks: &[AtomicU64],
+    begun: &AtomicU64,
+    met: &AtomicU64,
 ) -> Result<Vec<Pass>, AllocError>
     requires { All (λ p. p ≡ fresh_pass claims.now) passes.items }
     ensures len { IfOk result (λ v. vec_len v ≡ vec_len passes) }
@@ -110,7 +144,10 @@ fn work_all<R: Threads + Sync>(
         &|pass: Pass| -> Pass
             requires { pass ≡ fresh_pass claims.now }
             ensures { result.book ≡ claims.entry.now }
-        { work(claims, pass, marks) },
+        {
+            meet(begun, met);
+            work(claims, pass, marks)
+        },
     )
 }
 
@@ -119,20 +156,24 @@ fn ledger_of_eight<R: Threads + Sync>(
     rt: &R,
     alloc: Global,
     marks: &[AtomicU64],
+    met: &AtomicU64,
 ) -> Result<Ledger, Fail> {
     let (claims, passes) = Claims::new(alloc, 4096, 8)?;
-    let passes = work_all(rt, &claims, passes, marks)?;
+    let begun = AtomicU64::new(0);
+    let passes = work_all(rt, &claims, passes, marks, &begun, met)?;
     Ok(claims.finish(passes))
 }
 
-/// Eight threads share 4,096 jobs: each job is taken once, and the least segment told is known.
+/// Eight threads share 4,096 jobs: each sees another at work, each job is taken once, and the least segment told is known.
 #[test]
 fn eight_threads_share_all_jobs(rt: HostRuntime) -> Result<(), Fail> {
     let mut marks = Vec::new(rt.alloc());
     for _job in 0..4096 {
         marks.push(AtomicU64::new(0))?;
     }
-    let ledger = ledger_of_eight(&rt, rt.alloc(), marks.as_slice())?;
+    let met = AtomicU64::new(0);
+    let ledger = ledger_of_eight(&rt, rt.alloc(), marks.as_slice(), &met)?;
+    assert_eq!(rt; met.load(Ordering::SeqCst), 8);
     assert_eq!(rt; ledger.taken, 4096);
     assert_eq!(rt; ledger.least, Some(700));
     for (job, mark) in marks.iter().enumerate() {

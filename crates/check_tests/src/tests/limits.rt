@@ -1,13 +1,15 @@
 //! Texts that are cut off, and texts that stand at a limit or past it.
 
-use super::checked::{Crew, checked};
-use oberon_check::FreeGate;
+use super::checked::{Crew, gives};
 use oberon_format::{MAX_COUNT, Recording, read};
 use recording_texts::{Claim, FIRST_PAGE, ONE_BYTE_SENT, STORED_RUN, Sketch, ZEROS, header};
 use risc_devices::Devices;
 use risc_machine::{Cpu, Machine};
 use std::alloc::Global;
+use std::process::Abort;
+use std::sync::Wait;
 use std::test::Fail;
+use std::thread::Threads;
 
 const TWO: Crew = Crew {
     workers: 2,
@@ -29,23 +31,26 @@ fn divisor_stop(alloc: Global, count: u64) -> Result<Vec<u8>, Fail> {
     Ok(recording.first_text(alloc, &[])?)
 }
 
+/// Checks that a text of which only so many bytes are there is short.
+fn is_short<R: Abort + Threads + Wait + Sync>(
+    rt: &R,
+    alloc: Global,
+    text: &[u8],
+    length: usize,
+) -> Result<(), Fail> {
+    let line = format!(in alloc; "refused 1 short at byte {length}\n")?;
+    gives(rt, alloc, &text[..length], TWO, (line.as_bytes(), 2))
+}
+
 #[test]
 fn a_text_cut_anywhere_is_short(rt: HostRuntime) -> Result<(), Fail> {
-    let alloc = rt.alloc();
-    let text = STORED_RUN.first_text(alloc, &[])?;
+    let text = STORED_RUN.first_text(rt.alloc(), &[])?;
     assert_eq!(rt; text.len(), 9504);
     for length in 0..text.len() {
-        let (line, status) = checked(&rt, alloc, &text[..length], TWO, &FreeGate)?;
-        let short = format!(in alloc; "refused 1 short at byte {length}\n")?;
-        assert_eq!(rt; line.as_slice(), short.as_bytes());
-        assert_eq!(rt; status, 2);
+        is_short(&rt, rt.alloc(), &text, length)?;
     }
-    let (line, _) = checked(&rt, alloc, text.as_slice(), TWO, &FreeGate)?;
-    assert_eq!(rt;
-        line.as_slice(),
-        b"accepted 1 checkpoints 100 steps\n".as_slice()
-    );
-    Ok(())
+    let accepted = (b"accepted 1 checkpoints 100 steps\n".as_slice(), 0);
+    gives(&rt, rt.alloc(), &text, TWO, accepted)
 }
 
 #[test]
@@ -53,40 +58,30 @@ fn a_byte_of_output_too_few_or_one_too_many(rt: HostRuntime) -> Result<(), Fail>
     let alloc = rt.alloc();
     let mut text = ONE_BYTE_SENT.first_text(alloc, &[])?;
     assert_eq!(rt; text.len(), 13_733);
-    let (line, _) = checked(&rt, alloc, text.as_slice(), TWO, &FreeGate)?;
-    assert_eq!(rt;
-        line.as_slice(),
-        b"accepted 2 checkpoints 4 steps\n".as_slice()
-    );
+    let accepted = (b"accepted 2 checkpoints 4 steps\n".as_slice(), 0);
+    gives(&rt, alloc, &text, TWO, accepted)?;
     text.push(0)?;
-    let (line, _) = checked(&rt, alloc, text.as_slice(), TWO, &FreeGate)?;
-    assert_eq!(rt;
-        line.as_slice(),
-        b"refused 8 trailing at byte 13733\n".as_slice()
-    );
+    let trailing = (b"refused 8 trailing at byte 13733\n".as_slice(), 2);
+    gives(&rt, alloc, &text, TWO, trailing)?;
     text.truncate(13_732);
-    let (line, _) = checked(&rt, alloc, text.as_slice(), TWO, &FreeGate)?;
-    assert_eq!(rt;
-        line.as_slice(),
-        b"refused 1 short at byte 13732\n".as_slice()
-    );
-    Ok(())
+    let short = (b"refused 1 short at byte 13732\n".as_slice(), 2);
+    gives(&rt, alloc, &text, TWO, short)
 }
+
+/// Pages, events and checkpoints of a header, and the line that it gives with nothing behind it.
+const HEADERS: [(u32, u32, u32, &[u8]); 4] = [
+    (65_537, 0, 1, b"refused 4 limit at byte 8\n"),
+    (0, 1_000_001, 1, b"refused 4 limit at byte 12\n"),
+    (0, 0, 4_098, b"refused 4 limit at byte 16\n"),
+    (65_536, 1_000_000, 4_097, b"refused 1 short at byte 24\n"),
+];
 
 #[test]
 fn headers_at_the_limits_and_past_them(rt: HostRuntime) -> Result<(), Fail> {
-    let alloc = rt.alloc();
-    for (pages, events, checkpoints, expected) in [
-        (65_537, 0, 1, b"refused 4 limit at byte 8\n".as_slice()),
-        (0, 1_000_001, 1, b"refused 4 limit at byte 12\n"),
-        (0, 0, 4_098, b"refused 4 limit at byte 16\n"),
-        (65_536, 1_000_000, 4_097, b"refused 1 short at byte 24\n"),
-    ] {
-        let text = header(alloc, 1, pages, events, checkpoints)?;
+    for (pages, events, checkpoints, line) in HEADERS {
+        let text = header(rt.alloc(), 1, pages, events, checkpoints)?;
         assert_eq!(rt; text.len(), 24);
-        let (line, status) = checked(&rt, alloc, text.as_slice(), TWO, &FreeGate)?;
-        assert_eq!(rt; line.as_slice(), expected);
-        assert_eq!(rt; status, 2);
+        gives(&rt, rt.alloc(), &text, TWO, (line, 2))?;
     }
     Ok(())
 }
@@ -110,45 +105,32 @@ fn text_of_most_checkpoints(alloc: Global) -> Result<Vec<u8>, Fail> {
     Ok(recording.first_text(alloc, &[])?)
 }
 
-const MOST_ACCEPTED: &[u8] = b"accepted 4096 checkpoints 4096 steps\n";
+/// What such a text gives.
+const MOST_ACCEPTED: (&[u8], u8) = (b"accepted 4096 checkpoints 4096 steps\n", 0);
 
 #[test]
 fn as_many_checkpoints_as_there_can_be(rt: HostRuntime) -> Result<(), Fail> {
-    let alloc = rt.alloc();
-    let text = text_of_most_checkpoints(alloc)?;
-    let (line, status) = checked(&rt, alloc, text.as_slice(), TWO, &FreeGate)?;
-    assert_eq!(rt; line.as_slice(), MOST_ACCEPTED);
-    assert_eq!(rt; status, 0);
-    Ok(())
+    let text = text_of_most_checkpoints(rt.alloc())?;
+    gives(&rt, rt.alloc(), &text, TWO, MOST_ACCEPTED)
 }
 
 #[test]
 fn as_many_jobs_as_there_can_be(rt: HostRuntime) -> Result<(), Fail> {
-    let alloc = rt.alloc();
-    let text = text_of_most_checkpoints(alloc)?;
+    let text = text_of_most_checkpoints(rt.alloc())?;
     let crew = Crew { workers: 2, cut: 1 };
-    let (line, status) = checked(&rt, alloc, text.as_slice(), crew, &FreeGate)?;
-    assert_eq!(rt; line.as_slice(), MOST_ACCEPTED);
-    assert_eq!(rt; status, 0);
-    Ok(())
+    gives(&rt, rt.alloc(), &text, crew, MOST_ACCEPTED)
 }
 
 #[test]
 fn the_last_count_and_the_one_after(rt: HostRuntime) -> Result<(), Fail> {
-    let alloc = rt.alloc();
-    for (count, expected) in [
-        (
-            MAX_COUNT,
-            b"accepted 1 checkpoints 1099511627776 steps\n".as_slice(),
-        ),
-        (
-            MAX_COUNT + 1,
-            b"refused 6 checkpoint at byte 5276\n".as_slice(),
-        ),
-    ] {
-        let text = divisor_stop(alloc, count)?;
-        let (line, _) = checked(&rt, alloc, text.as_slice(), TWO, &FreeGate)?;
-        assert_eq!(rt; line.as_slice(), expected);
+    let last = (
+        b"accepted 1 checkpoints 1099511627776 steps\n".as_slice(),
+        0,
+    );
+    let after = (b"refused 6 checkpoint at byte 5276\n".as_slice(), 2);
+    for (count, expected) in [(MAX_COUNT, last), (MAX_COUNT + 1, after)] {
+        let text = divisor_stop(rt.alloc(), count)?;
+        gives(&rt, rt.alloc(), &text, TWO, expected)?;
     }
     Ok(())
 }

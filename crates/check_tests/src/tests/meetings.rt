@@ -88,9 +88,12 @@ fn met_line<R: Threads + Wait + Sync>(
 
 #[test]
 fn workers_of_a_text_meet(rt: HostRuntime) -> Result<(), Fail> {
-    let text = JUMPS.up_to(2).first_text(rt.alloc(), &[])?;
-    let (accepted, met) = met_line(&rt, rt.alloc(), text.as_slice())?;
-    assert!(rt; accepted, "another line");
-    assert_eq!(rt; met, 2);
+    let first = JUMPS.up_to(2).first_text(rt.alloc(), &[])?;
+    let second = JUMPS.up_to(2).second_text(rt.alloc(), &[])?;
+    for text in [&first, &second] {
+        let (accepted, met) = met_line(&rt, rt.alloc(), text.as_slice())?;
+        assert!(rt; accepted, "another line");
+        assert_eq!(rt; met, 2);
+    }
     Ok(())
 }

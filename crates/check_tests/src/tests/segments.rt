@@ -3,7 +3,8 @@ ghost use Rattle.std.specs.Prelude.{◌≡◌, All, IfOk};
 
 use super::jumps::{FALSE_H, GIVEN_H, jump_recording};
 use oberon_check::{CollectFault, Part, SegmentVerdict, Verdict, collect, replay_segment};
-use oberon_format::Recording;
+use oberon_format::{Recording, read};
+use recording_texts::EMPTY;
 use std::alloc::{AllocError, Global};
 use std::test::Fail;
 
@@ -48,7 +49,8 @@ fn segments_of_a_false_h(rt: HostRuntime) -> Result<(), Fail> {
     let r = jump_recording(rt.alloc(), 3, &GIVEN_H)?;
     let verdicts = verdicts_of(rt.alloc(), &r, &[0, 1, 2])?;
     let expected = [(0, None), (1, Some(Part::H)), (2, None)];
-    assert!(rt; are_findings(verdicts.as_slice(), &expected));
+    let same = are_findings(verdicts.as_slice(), &expected);
+    assert!(rt; same, "another segment or part");
     Ok(())
 }
 
@@ -92,5 +94,20 @@ fn collect_where_all_hold(rt: HostRuntime) -> Result<(), Fail> {
         let same = come_to(rt.alloc(), &r, segments, Ok(accepted))?;
         assert!(rt; same, "of {checkpoints} segments");
     }
+    Ok(())
+}
+
+#[test]
+fn collect_nothing_of_a_recording_without_pages(rt: HostRuntime) -> Result<(), Fail> {
+    let text = EMPTY.first_text(rt.alloc(), &[])?;
+    let r = read(rt.alloc(), &text)?;
+    let accepted = Verdict::Accepted {
+        checkpoints: 0,
+        steps: 0,
+    };
+    assert!(rt;
+        come_to(rt.alloc(), &r, &[], Ok(accepted))?,
+        "another verdict"
+    );
     Ok(())
 }

@@ -1,18 +1,17 @@
 //! Timers that a checkpoint of the second version claims, and the part of them that is named first.
 
 use oberon_check::{Part, replay_segment};
-use oberon_format::read;
+use oberon_format::{Recording, read};
 use recording_texts::{Claim, FIRST_PAGE, JUMP, Sketch};
-use std::alloc::Global;
+use std::alloc::{AllocError, Global};
 use std::test::Fail;
 
-/// A jump to itself for ten steps without a timer, and the part that is named where checkpoint 1 claims this timer, of this rate
-/// and phase.
-fn part_of_timer(
+/// The text of a jump to itself for ten steps, where checkpoint 1 claims this timer, of this rate and phase.
+fn timer_text(
     alloc: Global,
     (timer, rate, phase): (u32, u32, u32),
     before: u32,
-) -> Result<Option<Part>, Fail> {
+) -> Result<Vec<u8>, AllocError> {
     let first = Claim {
         rate: before,
         ..FIRST_PAGE
@@ -29,12 +28,26 @@ fn part_of_timer(
         events: &[],
         claims: &[first, end],
     };
-    let text = recording.second_text(alloc, &[])?;
-    let r = read(alloc, text.as_slice())?;
+    recording.second_text(alloc, &[])
+}
+
+/// The part that is named at the end of the first segment.
+fn part_of_segment(alloc: Global, r: &Recording) -> Result<Option<Part>, Fail> {
     if r.count() < 2 {
         return Err("no segment".into());
     }
-    Ok(replay_segment(alloc, &r, 0)?.part())
+    Ok(replay_segment(alloc, r, 0)?.part())
+}
+
+/// The part that is named where checkpoint 1 claims this timer.
+fn part_of_timer(
+    alloc: Global,
+    claimed: (u32, u32, u32),
+    before: u32,
+) -> Result<Option<Part>, Fail> {
+    let text = timer_text(alloc, claimed, before)?;
+    let r = read(alloc, text.as_slice())?;
+    part_of_segment(alloc, &r)
 }
 
 /// The rate at checkpoint 0, what checkpoint 1 claims of the timer, its rate and its phase, and the part that is named.

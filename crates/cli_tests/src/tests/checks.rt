@@ -1,6 +1,6 @@
 //! Recordings that are checked: each with the line that it gives.
 
-use super::served::served;
+use super::served::{gives, served};
 use recording_texts::Spot::{Flags, Keys, Leds, Place, Register, Stop, Waiting};
 use recording_texts::{
     Claim, EMPTY, EQUAL_PAGES, Event, FIRST_PAGE, JUMP, JUMPS, ONE_BYTE_SENT, STORED_RUN, Sketch,
@@ -266,7 +266,28 @@ const CODE_WRITTEN: Sketch<'static> = Sketch {
     ],
 };
 
-const EXAMPLES: [Example; 26] = [
+/// Stores the byte 80 hexadecimal, which leaves N and V as they are, and Z and C too.
+const BYTE_STORED: Sketch<'static> = Sketch {
+    pages: &[&[0xB200_0009, JUMP], &[0xB200_0009, JUMP, 0x8000]],
+    events: &[],
+    claims: &[
+        Claim {
+            registers: &[(2, 0x80)],
+            flags: NEGATIVE | OVERFLOW,
+            ..FIRST_PAGE
+        },
+        Claim {
+            count: 1,
+            registers: &[(2, 0x80)],
+            pc: 1,
+            flags: NEGATIVE | OVERFLOW,
+            table: &[(0, 2)],
+            ..ZEROS
+        },
+    ],
+};
+
+const EXAMPLES: &[Example] = &[
     (EMPTY, &[], "accepted 0 checkpoints 0 steps\n", 0),
     (MOVE_FIVE, &[], "accepted 1 checkpoints 1000 steps\n", 0),
     (ADD_WITH_CARRY, &[], "accepted 1 checkpoints 1 steps\n", 0),
@@ -340,6 +361,7 @@ const EXAMPLES: [Example; 26] = [
         "false checkpoint 2 at 4 part R2\n",
         1,
     ),
+    (BYTE_STORED, &[], "accepted 1 checkpoints 1 steps\n", 0),
     (STORED_RUN, &[], "accepted 1 checkpoints 100 steps\n", 0),
     (
         STORED_RUN,
@@ -359,7 +381,7 @@ const EXAMPLES: [Example; 26] = [
 fn gives_each_recording_its_line_whatever_the_workers_and_the_cut(
     rt: HostRuntime,
 ) -> Result<(), Fail> {
-    check_each(&rt, &EXAMPLES)
+    check_each(&rt, EXAMPLES)
 }
 
 fn check_each(
@@ -368,9 +390,7 @@ fn check_each(
 ) -> Result<(), Fail> {
     for (recording, turned, line, status) in examples {
         let text = recording.first_text(rt.alloc(), turned)?;
-        let (written, ended) = served(rt, &[], &text);
-        assert_eq!(rt; written.as_slice(), line.as_bytes());
-        assert_eq!(rt; ended, *status, "{line}");
+        gives(rt, &[], &text, line.as_bytes(), *status);
         check_with_each(rt, &text, line, *status);
         check_migrated(rt, &text, line, *status);
     }
@@ -385,15 +405,13 @@ fn check_migrated(
     status: u8,
 ) {
     let (migrated, ended) = served(rt, &["migrate"], text);
-    assert_eq!(rt; ended, 0);
-    let (again, ended) = served(rt, &["migrate"], &migrated);
-    assert!(rt; again.as_slice() == migrated.as_slice());
-    assert_eq!(rt; ended, 0);
+    gives(rt, &["migrate"], &migrated, &migrated, 0);
     check_with_each(rt, &migrated, line, status);
+    assert_eq!(rt; ended, 0);
 }
 
 /// Checks the text with few workers and many, and with jobs of one segment and of more.
-fn check_with_each(
+pub(super) fn check_with_each(
     rt: &(impl Abort + AllocGlobal + Threads + Wait + Sync),
     text: &[u8],
     line: &str,
@@ -402,9 +420,7 @@ fn check_with_each(
     for workers in ["1", "2", "64"] {
         for cut in ["1", "4", "100"] {
             let words = ["check", "--workers", workers, "--cut", cut];
-            let (written, ended) = served(rt, &words, text);
-            assert_eq!(rt; written.as_slice(), line.as_bytes());
-            assert_eq!(rt; ended, status, "{line}");
+            gives(rt, &words, text, line.as_bytes(), status);
         }
     }
 }

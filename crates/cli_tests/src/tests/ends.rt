@@ -1,11 +1,15 @@
 //! Readers and writers that fail, that never end, or that take one byte at a time.
 
-use super::served::served;
+use super::served::{is_written, served};
 use super::watched::Watched;
-use oberon_cli::serve;
+use oberon_cli::{Source, serve};
 use recording_texts::STORED_RUN;
+use std::alloc::Global;
 use std::io::{self, Error, ErrorKind, Read, Write};
+use std::process::Abort;
+use std::sync::Wait;
 use std::test::Fail;
+use std::thread::Threads;
 
 /// The line of the stored run.
 const LINE: &[u8] = b"accepted 1 checkpoints 100 steps\n";
@@ -60,6 +64,16 @@ impl Read for Endless {
     }
 }
 
+#[test]
+fn help_and_refused_words_read_nothing(rt: HostRuntime) {
+    for (words, status) in [(["--help"], 0), (["bogus"], 4)] {
+        let mut input = Endless { given: 0 };
+        let mut output = Vec::new(rt.alloc());
+        let ended = serve(&rt, rt.alloc(), &words, &mut input, &mut output);
+        assert_eq!(rt; (ended, input.given), (status, 0));
+    }
+}
+
 /// What a call does that takes no bytes.
 #[derive(Clone, Copy)]
 enum Refusal {
@@ -107,98 +121,142 @@ impl Write for Narrow {
     }
 }
 
+/// A reader of this text whose call after so many fails.
+fn failing_reader<'a>(rest: &'a [u8], calls: u32, why: ErrorKind) -> Watched<Failing<'a>> {
+    Watched::new(Failing { rest, calls, why })
+}
+
+/// Checks that the words end with a fault of the reader, and that nothing else is written.
+fn ends_with_read_fault<'a, H: Abort + AllocGlobal + Threads + Wait + Sync>(
+    rt: &H,
+    words: &'a [&'a str],
+    mut input: Watched<Failing<'_>>,
+) {
+    let mut output = Watched::new(Vec::new(rt.alloc()));
+    let status = serve(rt, rt.alloc(), words, &mut input, &mut output);
+    let has_failed = (input.has_failed(), output.has_failed());
+    is_written(rt, output.into_inner().as_slice(), b"read fault\n");
+    assert_eq!(rt; status, 3);
+    assert!(rt; has_failed == (true, false));
+}
+
+/// Words that read a text.
+const READING: [&[&str]; 4] = [
+    &["check", "--cut=1"],
+    &["record"],
+    &["screen", "--at=0"],
+    &["migrate"],
+];
+
 #[test]
 fn a_read_that_fails_leaves_its_line_alone(rt: HostRuntime) -> Result<(), Fail> {
-    let alloc = rt.alloc();
-    let text = STORED_RUN.first_text(alloc, &[])?;
-    for words in [
-        ["check", "--cut=1"].as_slice(),
-        &["record"],
-        &["screen", "--at=0"],
-        &["migrate"],
-    ] {
+    let text = STORED_RUN.first_text(rt.alloc(), &[])?;
+    for words in READING {
         for why in [ErrorKind::Other, ErrorKind::Interrupted] {
             // The text takes ten calls, and its end is seen at the eleventh.
             for calls in 0..11 {
-                let mut input = Watched::new(Failing {
-                    rest: &text,
-                    calls,
-                    why,
-                });
-                let mut output = Watched::new(Vec::new(alloc));
-                assert_eq!(rt; serve(&rt, alloc, words, &mut input, &mut output), 3);
-                assert!(rt; input.has_failed() && !output.has_failed());
-                assert_eq!(rt; output.into_inner().as_slice(), b"read fault\n".as_slice());
+                ends_with_read_fault(&rt, words, failing_reader(&text, calls, why));
             }
         }
     }
     Ok(())
 }
 
+/// Checks that a text is checked to the line of the stored run.
+fn is_accepted<H: Abort + AllocGlobal + Threads + Wait + Sync>(
+    rt: &H,
+    words: &[&str],
+    input: &mut impl Source,
+) {
+    let mut output = Watched::new(Vec::new(rt.alloc()));
+    let status = serve(rt, rt.alloc(), words, input, &mut output);
+    let has_failed = output.has_failed();
+    is_written(rt, output.into_inner().as_slice(), LINE);
+    assert_eq!(rt; status, 0);
+    assert!(rt; !has_failed);
+}
+
 #[test]
 fn a_read_that_would_fail_behind_the_end_is_not_made(rt: HostRuntime) -> Result<(), Fail> {
-    let alloc = rt.alloc();
-    let text = STORED_RUN.first_text(alloc, &[])?;
-    let mut input = Watched::new(Failing {
-        rest: &text,
-        calls: 11,
-        why: ErrorKind::Other,
-    });
-    let mut output = Watched::new(Vec::new(alloc));
-    assert_eq!(rt; serve(&rt, alloc, &["check"], &mut input, &mut output), 0);
-    assert!(rt; !input.has_failed() && !output.has_failed());
-    assert_eq!(rt; output.into_inner().as_slice(), LINE);
+    let text = STORED_RUN.first_text(rt.alloc(), &[])?;
+    let mut input = failing_reader(&text, 11, ErrorKind::Other);
+    is_accepted(&rt, &["check"], &mut input);
+    assert!(rt; !input.has_failed());
     Ok(())
 }
 
 #[test]
 fn a_reader_of_one_byte_a_call_is_read_to_its_end(rt: HostRuntime) -> Result<(), Fail> {
-    let alloc = rt.alloc();
-    let text = STORED_RUN.first_text(alloc, &[])?;
-    let mut input = Dripping { rest: &text };
-    let mut output = Vec::new(alloc);
-    assert_eq!(rt; serve(&rt, alloc, &[], &mut input, &mut output), 0);
-    assert_eq!(rt; output.as_slice(), LINE);
+    let text = STORED_RUN.first_text(rt.alloc(), &[])?;
+    is_accepted(&rt, &[], &mut Dripping { rest: &text });
     Ok(())
 }
 
+/// Words, the line that they give where the input is zeros without end, and how many of these are read.
+const ENDLESS: [(&[&str], &str, u64); 4] = [
+    (&["check"], "refused 2 magic at byte 0\n", 118_310_057),
+    (&["migrate"], "refused 2 magic at byte 0\n", 118_310_057),
+    (
+        &["screen", "--at=0"],
+        "refused 2 magic at byte 0\n",
+        118_310_057,
+    ),
+    (&["record"], "session refused 3 range\n", 67_108_865),
+];
+
 #[test]
 fn a_reader_without_end_is_read_up_to_the_limit(rt: HostRuntime) {
-    for (words, line, limit) in [
-        (["check"], "refused 2 magic at byte 0\n", 118_310_057),
-        (["migrate"], "refused 2 magic at byte 0\n", 118_310_057),
-        (["record"], "session refused 3 range\n", 67_108_865),
-    ] {
+    for (words, line, limit) in ENDLESS {
         let mut input = Endless { given: 0 };
         let mut output = Vec::new(rt.alloc());
-        assert_eq!(rt; serve(&rt, rt.alloc(), &words, &mut input, &mut output), 2);
-        assert_eq!(rt; output.as_slice(), line.as_bytes());
-        assert_eq!(rt; input.given, limit);
+        let status = serve(&rt, rt.alloc(), words, &mut input, &mut output);
+        is_written(&rt, output.as_slice(), line.as_bytes());
+        assert_eq!(rt; (status, input.given), (2, limit));
     }
 }
 
+/// Checks the status of these words over a writer that takes one byte a call, and what it has taken. A status of 3 says that it
+/// failed.
+fn ends_narrow<'a, H: Abort + AllocGlobal + Threads + Wait + Sync>(
+    rt: &H,
+    words: &'a [&'a str],
+    text: &[u8],
+    output: Narrow,
+    (status, taken): (u8, &[u8]),
+) {
+    let mut output = Watched::new(output);
+    let mut rest = text;
+    let ended = serve(rt, rt.alloc(), words, &mut rest, &mut output);
+    let has_failed = output.has_failed();
+    is_written(rt, output.into_inner().taken.as_slice(), taken);
+    assert_eq!(rt; ended, status);
+    assert_eq!(rt; has_failed, status == 3);
+}
+
+/// A writer whose call after so many is refused, and whose flush succeeds.
+fn refusing(alloc: Global, calls: usize, refusal: Refusal) -> Narrow {
+    Narrow {
+        taken: Vec::new(alloc),
+        calls,
+        refusal,
+        flush: Refusal::TakesNone,
+    }
+}
+
+/// What a call does that takes no bytes, in each way that there is.
+const REFUSALS: [Refusal; 3] = [
+    Refusal::TakesNone,
+    Refusal::Fails(ErrorKind::Other),
+    Refusal::Fails(ErrorKind::Interrupted),
+];
+
 #[test]
 fn a_write_that_fails_leaves_a_front_of_the_text(rt: HostRuntime) -> Result<(), Fail> {
-    let alloc = rt.alloc();
-    let text = STORED_RUN.first_text(alloc, &[])?;
+    let text = STORED_RUN.first_text(rt.alloc(), &[])?;
     for calls in 0..LINE.len() {
-        for refusal in [
-            Refusal::TakesNone,
-            Refusal::Fails(ErrorKind::Other),
-            Refusal::Fails(ErrorKind::Interrupted),
-        ] {
-            let mut output = Watched::new(Narrow {
-                taken: Vec::new(alloc),
-                calls,
-                refusal,
-                flush: Refusal::TakesNone,
-            });
-            assert_eq!(rt;
-                serve(&rt, alloc, &[], &mut text.as_slice(), &mut output),
-                3
-            );
-            assert!(rt; output.has_failed());
-            assert_eq!(rt; output.into_inner().taken.as_slice(), &LINE[..calls]);
+        for refusal in REFUSALS {
+            let output = refusing(rt.alloc(), calls, refusal);
+            ends_narrow(&rt, &[], &text, output, (3, &LINE[..calls]));
         }
     }
     Ok(())
@@ -206,28 +264,13 @@ fn a_write_that_fails_leaves_a_front_of_the_text(rt: HostRuntime) -> Result<(), 
 
 #[test]
 fn a_write_that_fails_leaves_a_front_of_a_migrated_text(rt: HostRuntime) -> Result<(), Fail> {
-    let alloc = rt.alloc();
-    let text = STORED_RUN.first_text(alloc, &[])?;
+    let text = STORED_RUN.first_text(rt.alloc(), &[])?;
     let (migrated, _) = served(&rt, &["migrate"], &text);
     for calls in [0, 1, 24, migrated.len().saturating_sub(1)] {
-        for refusal in [
-            Refusal::TakesNone,
-            Refusal::Fails(ErrorKind::Other),
-            Refusal::Fails(ErrorKind::Interrupted),
-        ] {
-            let mut output = Watched::new(Narrow {
-                taken: Vec::new(alloc),
-                calls,
-                refusal,
-                flush: Refusal::TakesNone,
-            });
-            assert_eq!(rt;
-                serve(&rt, alloc, &["migrate"], &mut text.as_slice(), &mut output),
-                3
-            );
-            assert!(rt; output.has_failed());
-            let front = migrated.get(..calls).ok_or("the text is shorter")?;
-            assert!(rt; output.into_inner().taken.as_slice() == front);
+        let front = migrated.get(..calls).ok_or("the text is shorter")?;
+        for refusal in REFUSALS {
+            let output = refusing(rt.alloc(), calls, refusal);
+            ends_narrow(&rt, &["migrate"], &text, output, (3, front));
         }
     }
     Ok(())
@@ -235,25 +278,13 @@ fn a_write_that_fails_leaves_a_front_of_a_migrated_text(rt: HostRuntime) -> Resu
 
 #[test]
 fn a_flush_that_fails_is_a_write_fault(rt: HostRuntime) -> Result<(), Fail> {
-    let alloc = rt.alloc();
-    let text = STORED_RUN.first_text(alloc, &[])?;
-    for (flush, status) in [
-        (Refusal::TakesNone, 0),
-        (Refusal::Fails(ErrorKind::Other), 3),
-        (Refusal::Fails(ErrorKind::Interrupted), 3),
-    ] {
-        let mut output = Watched::new(Narrow {
-            taken: Vec::new(alloc),
-            calls: LINE.len(),
-            refusal: Refusal::TakesNone,
+    let text = STORED_RUN.first_text(rt.alloc(), &[])?;
+    for (flush, status) in REFUSALS.into_iter().zip([0, 3, 3]) {
+        let output = Narrow {
             flush,
-        });
-        assert_eq!(rt;
-            serve(&rt, alloc, &[], &mut text.as_slice(), &mut output),
-            status
-        );
-        assert_eq!(rt; output.has_failed(), status == 3);
-        assert_eq!(rt; output.into_inner().taken.as_slice(), LINE);
+            ..refusing(rt.alloc(), LINE.len(), Refusal::TakesNone)
+        };
+        ends_narrow(&rt, &[], &text, output, (status, LINE));
     }
     Ok(())
 }

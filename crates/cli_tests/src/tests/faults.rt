@@ -1,6 +1,7 @@
 //! Texts that are refused: each with the line of its first fault.
 
-use super::served::served;
+use super::checks::check_with_each;
+use super::served::gives;
 use recording_texts::{Event, STORED_RUN, Sketch, ZEROS};
 use std::process::Abort;
 use std::sync::Wait;
@@ -8,9 +9,11 @@ use std::test::Fail;
 use std::thread::Threads;
 
 /// One byte of the text of the stored run that is changed, and the line that this gives.
-const CHANGED_BYTES: [(usize, u8, &str); 8] = [
+const CHANGED_BYTES: [(usize, u8, &str); 9] = [
     (0, 0x00, "refused 2 magic at byte 0\n"),
     (4, 0x09, "refused 3 version at byte 4\n"),
+    // read as version 2, in which the second checkpoint is right behind the first
+    (4, 0x02, "refused 6 checkpoint at byte 1192\n"),
     (20, 0x01, "refused 4 limit at byte 20\n"),
     (16, 0x00, "refused 4 limit at byte 16\n"),
     (1048, 0x01, "refused 6 checkpoint at byte 1048\n"),
@@ -48,10 +51,36 @@ fn put(text: &mut [u8], at: usize, byte: u8) {
 
 fn refuse(rt: &(impl Abort + AllocGlobal + Threads + Wait + Sync), text: &[u8], line: &str) {
     for word in ["check", "migrate"] {
-        let (written, ended) = served(rt, &[word], text);
-        assert_eq!(rt; written.as_slice(), line.as_bytes());
-        assert_eq!(rt; ended, 2);
+        gives(rt, &[word], text, line.as_bytes(), 2);
     }
+}
+
+/// The same of its text of version 2.
+const CHANGED_BYTES_2: [(usize, u8, &str); 7] = [
+    (0, 0x00, "refused 2 magic at byte 0\n"),
+    (4, 0x03, "refused 3 version at byte 4\n"),
+    (20, 0x01, "refused 4 limit at byte 20\n"),
+    (1048, 0x01, "refused 6 checkpoint at byte 1048\n"),
+    (1184, 0x01, "refused 6 checkpoint at byte 1048\n"),
+    (1196, 0x02, "refused 7 page at byte 1192\n"),
+    (1328, 0x01, "refused 1 short at byte 1344\n"),
+];
+
+#[test]
+fn refuses_a_text_of_version_2_with_one_byte_changed(rt: HostRuntime) -> Result<(), Fail> {
+    let text = STORED_RUN.second_text(rt.alloc(), &[])?;
+    assert_eq!(rt; text.len(), 1344);
+    refuse_each(&rt, text, &CHANGED_BYTES_2)
+}
+
+#[test]
+fn refuses_a_text_of_version_2_that_is_cut_or_goes_on(rt: HostRuntime) -> Result<(), Fail> {
+    let mut text = STORED_RUN.second_text(rt.alloc(), &[])?;
+    text.push(0)?;
+    refuse(&rt, &text, "refused 8 trailing at byte 1344\n");
+    text.truncate(1343);
+    refuse(&rt, &text, "refused 1 short at byte 1343\n");
+    Ok(())
 }
 
 #[test]
@@ -61,6 +90,7 @@ fn refuses_a_text_that_is_cut_or_goes_on(rt: HostRuntime) -> Result<(), Fail> {
     refuse(&rt, &text, "refused 8 trailing at byte 9504\n");
     text.truncate(9503);
     refuse(&rt, &text, "refused 1 short at byte 9503\n");
+    check_with_each(&rt, &text, "refused 1 short at byte 9503\n", 2);
     refuse(&rt, &[], "refused 1 short at byte 0\n");
     Ok(())
 }
@@ -78,7 +108,11 @@ const BAD_EVENT_KIND: Sketch<'static> = Sketch {
 
 #[test]
 fn refuses_an_event_of_no_kind(rt: HostRuntime) -> Result<(), Fail> {
+    let line = "refused 5 event at byte 1048\n";
     let text = BAD_EVENT_KIND.first_text(rt.alloc(), &[])?;
-    refuse(&rt, &text, "refused 5 event at byte 1048\n");
+    refuse(&rt, &text, line);
+    check_with_each(&rt, &text, line, 2);
+    let text = BAD_EVENT_KIND.second_text(rt.alloc(), &[])?;
+    refuse(&rt, &text, line);
     Ok(())
 }

@@ -1,6 +1,6 @@
 //! Words that ask for help, and words that ask for nothing.
 
-use super::served::served;
+use super::served::{gives, served};
 use std::process::Abort;
 use std::sync::Wait;
 use std::thread::Threads;
@@ -72,9 +72,7 @@ fn refuse_each<'a>(
     words: &'a [&'a [&'a str]],
 ) {
     for words in words {
-        let (written, ended) = served(rt, words, b"the input isn't read");
-        assert_eq!(rt; written.as_slice(), b"words refused\n".as_slice());
-        assert_eq!(rt; ended, 4);
+        gives(rt, words, b"the input isn't read", b"words refused\n", 4);
     }
 }
 
@@ -86,17 +84,27 @@ fn helps(rt: HostRuntime) {
 fn help_each(rt: &(impl Abort + AllocGlobal + Threads + Wait + Sync), all: &[Help]) {
     for help in all {
         let (written, ended) = served(rt, help.words, b"the input isn't read");
-        assert!(rt; has(&written, help.usage));
-        assert!(rt; written.ends_with(help.example));
+        helps_with(rt, &written, help);
         assert_eq!(rt; ended, 0);
     }
+}
+
+/// Checks how a text begins to help, and its example.
+fn helps_with(rt: &impl Abort, text: &[u8], help: &Help) {
+    assert!(rt; has(text, help.usage));
+    assert!(rt; text.ends_with(help.example));
 }
 
 #[test]
 fn lists_the_commands(rt: HostRuntime) {
     let (written, _) = served(&rt, &["--help"], &[]);
+    has_commands(&rt, &written);
+}
+
+/// Checks that a text has each command.
+fn has_commands(rt: &impl Abort, text: &[u8]) {
     for command in COMMANDS {
-        assert!(rt; has(&written, command));
+        assert!(rt; has(text, command));
     }
 }
 

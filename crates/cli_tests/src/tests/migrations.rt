@@ -1,30 +1,36 @@
 //! Recordings that are written in the version that is written now.
 
-use super::served::served;
+use super::served::{gives, served};
 use recording_texts::STORED_RUN;
+use std::process::Abort;
+use std::sync::Wait;
 use std::test::Fail;
+use std::thread::Threads;
+
+/// Checks that the words give the same for two texts.
+fn agrees<'a, H: Abort + AllocGlobal + Threads + Wait + Sync>(
+    rt: &H,
+    words: &'a [&'a str],
+    text: &[u8],
+    migrated: &[u8],
+) {
+    let (written, ended) = served(rt, words, text);
+    gives(rt, words, migrated, &written, ended);
+}
 
 #[test]
 fn migrates_a_recording(rt: HostRuntime) -> Result<(), Fail> {
-    let alloc = rt.alloc();
-    let text = STORED_RUN.first_text(alloc, &[])?;
-    let (migrated, ended) = served(&rt, &["migrate"], &text);
-    assert_eq!(rt; ended, 0);
-    assert!(rt; migrated.as_slice() == STORED_RUN.second_text(alloc, &[])?.as_slice());
+    let text = STORED_RUN.first_text(rt.alloc(), &[])?;
+    let migrated = STORED_RUN.second_text(rt.alloc(), &[])?;
+    gives(&rt, &["migrate"], &text, &migrated, 0);
     // Its check and its screens are those of the text, and migrated again it stays.
-    for words in [
-        ["check", "--cut=1"].as_slice(),
-        &["screen", "--at=1"],
-        &["screen", "--at=2"],
-    ] {
-        let (before, before_ended) = served(&rt, words, &text);
-        let (after, after_ended) = served(&rt, words, &migrated);
-        assert!(rt; after.as_slice() == before.as_slice());
-        assert_eq!(rt; after_ended, before_ended);
+    for text in [&text, &migrated] {
+        let line = b"accepted 1 checkpoints 100 steps\n";
+        gives(&rt, &["check", "--cut=1"], text, line, 0);
+        gives(&rt, &["screen", "--at=2"], text, b"no checkpoint 2\n", 2);
     }
-    let (again, ended) = served(&rt, &["migrate"], &migrated);
-    assert!(rt; again.as_slice() == migrated.as_slice());
-    assert_eq!(rt; ended, 0);
+    agrees(&rt, &["screen", "--at=1"], &text, &migrated);
+    gives(&rt, &["migrate"], &migrated, &migrated, 0);
     Ok(())
 }
 
@@ -32,11 +38,12 @@ fn migrates_a_recording(rt: HostRuntime) -> Result<(), Fail> {
 fn migrates_no_text_with_a_fault(rt: HostRuntime) -> Result<(), Fail> {
     let mut text = STORED_RUN.first_text(rt.alloc(), &[])?;
     text.truncate(9503);
-    let (written, ended) = served(&rt, &["migrate"], &text);
-    assert_eq!(rt;
-        written.as_slice(),
-        b"refused 1 short at byte 9503\n".as_slice()
+    gives(
+        &rt,
+        &["migrate"],
+        &text,
+        b"refused 1 short at byte 9503\n",
+        2,
     );
-    assert_eq!(rt; ended, 2);
     Ok(())
 }

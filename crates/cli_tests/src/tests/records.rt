@@ -1,6 +1,6 @@
 //! Sessions that are recorded: each with its recording, or with the line of its fault.
 
-use super::served::served;
+use super::served::{gives, served};
 use recording_texts::{Claim, FIRST_PAGE, JUMP, STORED_RUN, Sketch, ZEROS};
 use std::alloc::{AllocError, Global};
 use std::process::Abort;
@@ -25,31 +25,20 @@ fn session(alloc: Global, digits: &str, counts: &str) -> Result<String, AllocErr
     format!(in alloc; "{BEFORE_DIGITS}{digits}{BEFORE_COUNTS}{counts}{END}")
 }
 
-/// Serves `record` with this input.
-fn record(rt: &(impl Abort + AllocGlobal + Threads + Wait + Sync), input: &[u8]) -> (Vec<u8>, u8) {
-    served(rt, &["record"], input)
-}
-
-/// The recording of the session is this text, and its check gives this line.
-fn gives(
+/// Checks that the recording of the session is this text, and that its check gives this line.
+fn records(
     rt: &(impl Abort + AllocGlobal + Threads + Wait + Sync),
     session: &str,
     recording: &[u8],
     line: &str,
 ) {
-    let (written, ended) = record(rt, session.as_bytes());
-    assert_eq!(rt; ended, 0);
-    assert!(rt; written.as_slice() == recording);
-    let (checked, ended) = served(rt, &[], &written);
-    assert_eq!(rt; checked.as_slice(), line.as_bytes());
-    assert_eq!(rt; ended, 0);
+    gives(rt, &["record"], session.as_bytes(), recording, 0);
+    gives(rt, &[], recording, line.as_bytes(), 0);
 }
 
 /// The session is refused with this line.
 fn refuses(rt: &(impl Abort + AllocGlobal + Threads + Wait + Sync), session: &str, line: &str) {
-    let (written, ended) = record(rt, session.as_bytes());
-    assert_eq!(rt; written.as_slice(), line.as_bytes());
-    assert_eq!(rt; ended, 2);
+    gives(rt, &["record"], session.as_bytes(), line.as_bytes(), 2);
 }
 
 #[test]
@@ -57,7 +46,7 @@ fn records_the_stored_run(rt: HostRuntime) -> Result<(), Fail> {
     let text = session(rt.alloc(), "05000040", "100")?;
     let recording = STORED_RUN.second_text(rt.alloc(), &[])?;
     assert_eq!(rt; recording.len(), 1344);
-    gives(&rt, &text, &recording, "accepted 1 checkpoints 100 steps\n");
+    records(&rt, &text, &recording, "accepted 1 checkpoints 100 steps\n");
     Ok(())
 }
 
@@ -95,6 +84,28 @@ fn refuse_each(
         let (before, after) = text.split_once(*old).ok_or("no such part")?;
         let changed = format!(in rt.alloc(); "{before}{new}{after}")?;
         refuses(rt, &changed, line);
+    }
+    Ok(())
+}
+
+/// Members of a first state that its version doesn't have, or whose numbers are out of their range, and the lines that they give.
+const STARTS: [(&str, &str, &str); 3] = [
+    ("1", ",\"rate\":10", "session refused 2 shape\n"),
+    ("2", ",\"rate\":10", "session refused 2 shape\n"),
+    (
+        "2",
+        ",\"rate\":10,\"phase\":10",
+        "session refused 3 range\n",
+    ),
+];
+
+#[test]
+fn refuses_a_rate_without_a_place_and_a_phase_at_its_rate(rt: HostRuntime) -> Result<(), Fail> {
+    for (version, members, line) in STARTS {
+        let text = format!(in rt.alloc();
+            "{{\"format\":\"oberon-session\",\"version\":{version},\"start\":{{\"R\":[0,0,0,0,0,0,0,0,0,0,0,0,0,0,0,0],\"H\":0,\"PC\":0,\"flags\":0{members}}},\"pages\":[],\"inputs\":[],\"checkpoints\":[1]}}"
+        )?;
+        refuses(&rt, &text, line);
     }
     Ok(())
 }
@@ -138,12 +149,10 @@ fn lays_only_pages_that_changed(rt: HostRuntime) -> Result<(), Fail> {
     let text = session(rt.alloc(), STORES, "2,4,5")?;
     let recording = STORED.second_text(rt.alloc(), &[])?;
     assert_eq!(rt; recording.len(), 2_672);
-    gives(&rt, &text, &recording, "accepted 3 checkpoints 5 steps\n");
+    records(&rt, &text, &recording, "accepted 3 checkpoints 5 steps\n");
     let first = STORED.first_text(rt.alloc(), &[])?;
     assert_eq!(rt; first.len(), 18_984);
-    let (migrated, ended) = served(&rt, &["migrate"], &first);
-    assert_eq!(rt; ended, 0);
-    assert!(rt; migrated.as_slice() == recording.as_slice());
+    gives(&rt, &["migrate"], &first, &recording, 0);
     Ok(())
 }
 
@@ -153,16 +162,12 @@ const SENDS: &str = "c8ff0051000010a0feffffe7";
 #[test]
 fn records_as_much_output_as_a_recording_may_have(rt: HostRuntime) -> Result<(), Fail> {
     let text = session(rt.alloc(), SENDS, "2097152")?;
-    let (written, ended) = record(&rt, text.as_bytes());
+    let (written, ended) = served(&rt, &["record"], text.as_bytes());
     assert_eq!(rt; ended, 0);
     // A header, a page, two checkpoints of which one has a change, and 1,048,576 bytes of output.
     assert_eq!(rt; written.len(), 24 + 1024 + 2 * 144 + 8 + 1_048_576);
-    let (checked, ended) = served(&rt, &["check"], &written);
-    assert_eq!(rt;
-        checked.as_slice(),
-        b"accepted 1 checkpoints 2097152 steps\n".as_slice()
-    );
-    assert_eq!(rt; ended, 0);
+    let line = b"accepted 1 checkpoints 2097152 steps\n";
+    gives(&rt, &["check"], &written, line, 0);
     Ok(())
 }
 

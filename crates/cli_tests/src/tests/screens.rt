@@ -1,6 +1,6 @@
 //! The screens of recordings.
 
-use super::served::served;
+use super::served::{gives, served};
 use recording_texts::Spot::Word;
 use recording_texts::{Claim, STORED_RUN, Sketch, ZEROS};
 use std::alloc::{AllocError, Global};
@@ -38,6 +38,13 @@ fn shows_one_dot(rt: HostRuntime) -> Result<(), Fail> {
 fn show(rt: &(impl Abort + AllocGlobal + Threads + Wait + Sync), text: &[u8], at: usize, byte: u8) {
     let (written, ended) = served(rt, &["screen", "--at", "0"], text);
     assert_eq!(rt; ended, 0);
+    has_dot(rt, &written, at, byte);
+    let (migrated, _) = served(rt, &["migrate"], text);
+    gives(rt, &["screen", "--at", "0"], &migrated, &written, 0);
+}
+
+/// Checks a picture that has one byte after its head that isn't 0.
+fn has_dot(rt: &impl Abort, written: &[u8], at: usize, byte: u8) {
     assert_eq!(rt; written.len(), 98_316);
     assert!(rt; written.starts_with(b"P4\n1024 768\n"));
     assert_eq!(rt; written.get(at).copied(), Some(byte));
@@ -55,7 +62,5 @@ fn shows_no_screen(rt: HostRuntime) -> Result<(), Fail> {
 }
 
 fn refuse(rt: &(impl Abort + AllocGlobal + Threads + Wait + Sync), text: &[u8], line: &[u8]) {
-    let (written, ended) = served(rt, &["screen", "--at", "2"], text);
-    assert_eq!(rt; written.as_slice(), line);
-    assert_eq!(rt; ended, 2);
+    gives(rt, &["screen", "--at", "2"], text, line, 2);
 }

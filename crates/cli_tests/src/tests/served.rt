@@ -1,6 +1,7 @@
 //! `serve` over a text in memory.
 
 use oberon_cli::serve;
+use std::process::Abort;
 use std::sync::Wait;
 use std::thread::Threads;
 
@@ -14,4 +15,22 @@ pub(super) fn served<'a, H: AllocGlobal + Threads + Wait + Sync>(
     let mut rest = text;
     let status = serve(rt, rt.alloc(), words, &mut rest, &mut written);
     (written, status)
+}
+
+/// Checks what is written for the words and the text, and the status.
+pub(super) fn gives<'a, H: Abort + AllocGlobal + Threads + Wait + Sync>(
+    rt: &H,
+    words: &'a [&'a str],
+    text: &[u8],
+    wanted: &[u8],
+    status: u8,
+) {
+    let (written, ended) = served(rt, words, text);
+    is_written(rt, &written, wanted);
+    assert_eq!(rt; ended, status);
+}
+
+/// Checks what was written.
+pub(super) fn is_written(rt: &impl Abort, written: &[u8], wanted: &[u8]) {
+    assert_eq!(rt; written, wanted);
 }

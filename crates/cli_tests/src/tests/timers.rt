@@ -1,6 +1,6 @@
 //! Recordings of version 2 whose timer counts by itself.
 
-use super::served::served;
+use super::served::gives;
 use recording_texts::Spot::{Phase, Rate};
 use recording_texts::{Claim, Event, FIRST_PAGE, JUMP, Sketch, Spot};
 use std::process::Abort;
@@ -60,7 +60,7 @@ const READS_BEFORE_ITS_COUNT: Sketch<'static> = Sketch {
 };
 
 /// The check of this recording with these numbers turned gives this line, with one worker, two and 64.
-fn gives(
+fn checks(
     rt: &(impl Abort + AllocGlobal + Threads + Wait + Sync),
     recording: &Sketch<'_>,
     turned: &[(Spot, u32)],
@@ -69,16 +69,14 @@ fn gives(
 ) -> Result<(), Fail> {
     let text = recording.second_text(rt.alloc(), turned)?;
     for workers in ["--workers=1", "--workers=2", "--workers=64"] {
-        let (written, ended) = served(rt, &["check", workers], &text);
-        assert_eq!(rt; written.as_slice(), line.as_bytes());
-        assert_eq!(rt; ended, status);
+        gives(rt, &["check", workers], &text, line.as_bytes(), status);
     }
     Ok(())
 }
 
 #[test]
 fn a_timer_counts(rt: HostRuntime) -> Result<(), Fail> {
-    gives(
+    checks(
         &rt,
         &TIMER_COUNTS,
         &[],
@@ -90,14 +88,14 @@ fn a_timer_counts(rt: HostRuntime) -> Result<(), Fail> {
 /// At checkpoint 2 a phase of 1 is claimed, and a rate of 5, which nothing changed.
 #[test]
 fn a_false_phase_or_rate_is_named(rt: HostRuntime) -> Result<(), Fail> {
-    gives(
+    checks(
         &rt,
         &TIMER_COUNTS,
         &[(Phase(2), 1)],
         "false checkpoint 2 at 30 part phase\n",
         1,
     )?;
-    gives(
+    checks(
         &rt,
         &TIMER_COUNTS,
         &[(Rate(2), 5)],
@@ -108,7 +106,7 @@ fn a_false_phase_or_rate_is_named(rt: HostRuntime) -> Result<(), Fail> {
 
 #[test]
 fn a_read_sees_the_timer_before_its_own_count(rt: HostRuntime) -> Result<(), Fail> {
-    gives(
+    checks(
         &rt,
         &READS_BEFORE_ITS_COUNT,
         &[],

@@ -1,11 +1,12 @@
 //! Texts of version 1: each rule broken once, and what they are written as.
 
-use crate::tests::texts::{put_byte, put_word};
-use oberon_format::{Checkpoint, Fault, Recording, read, refusal, write};
+use crate::tests::texts::{fault_of, has_line, put_byte, put_word, put_words};
+use oberon_format::{Checkpoint, Fault, Recording, read, write};
 use recording_texts::{
     Claim, EMPTY, EQUAL_PAGES, Event, FIRST_PAGE, JUMP, ONE_BYTE_SENT, STORED_RUN, Sketch, ZEROS,
     header,
 };
+use risc_devices::Devices;
 use risc_machine::Inputs;
 use risc_pages::Pool;
 use std::alloc::{AllocError, Global};
@@ -54,13 +55,15 @@ const FULL: Sketch<'static> = Sketch {
     }],
 };
 
-/// The text of the two events with these words at their places.
-fn two_events(alloc: Global, words: &[(u16, u32)]) -> Result<Vec<u8>, AllocError> {
-    let mut text = TWO_EVENTS.first_text(alloc, &[])?;
-    for (place, word) in words {
-        put_word(&mut text, *place, *word);
-    }
-    Ok(text)
+/// The first fault of the text of a sketch with these words at their places.
+fn fault_with(
+    alloc: Global,
+    sketch: &Sketch<'_>,
+    words: &[(u16, u32)],
+) -> Result<Option<Fault>, AllocError> {
+    let mut text = sketch.first_text(alloc, &[])?;
+    put_words(&mut text, words);
+    Ok(fault_of(alloc, &text))
 }
 
 /// Recordings that have a text of version 1.
@@ -89,11 +92,22 @@ fn first_length(alloc: Global, sketch: &Sketch<'_>) -> Result<usize, Fail> {
     Ok(sketch.first_text(alloc, &[])?.len())
 }
 
+/// Whether two devices agree in all that they remember.
+fn are_same_devices(other: &Devices, one: &Devices) -> bool {
+    other.timer() == one.timer()
+        && (other.rate(), other.phase()) == (one.rate(), one.phase())
+        && other.switches() == one.switches()
+        && other.leds() == one.leds()
+        && other.mouse() == one.mouse()
+        && other.serial() == one.serial()
+        && other.keys() == one.keys()
+}
+
 /// Whether two checkpoints agree, and the first has a timer that doesn't count by itself.
 fn is_same_checkpoint(other: &Checkpoint, one: &Checkpoint) -> bool {
     other.count == one.count
-        && other.cpu.r == one.cpu.r
-        && other.devices.keys() == one.devices.keys()
+        && other.cpu == one.cpu
+        && are_same_devices(&other.devices, &one.devices)
         && other.devices.rate() == 0
         && other.sent.bytes() == one.sent.bytes()
         && other.table.numbers() == one.table.numbers()
@@ -119,7 +133,10 @@ fn gives_the_same_recording_in_the_second_version(rt: HostRuntime) -> Result<(),
         let again = second_recording(rt.alloc(), sketch)?;
         assert_eq!(rt; again.pool().len(), recording.pool().len());
         assert_eq!(rt; again.inputs().events(), recording.inputs().events());
-        assert!(rt; has_same_checkpoints(&again, &recording));
+        assert!(rt;
+            has_same_checkpoints(&again, &recording),
+            "another checkpoint"
+        );
     }
     Ok(())
 }
@@ -286,15 +303,9 @@ const BROKEN: [(u16, u32, Fault, &str); 28] = [
 #[test]
 fn refuses_each_broken_rule(rt: HostRuntime) -> Result<(), Fail> {
     for (place, word, fault, line) in BROKEN {
-        let mut text = STORED_RUN.first_text(rt.alloc(), &[])?;
-        put_word(&mut text, place, word);
-        let found = read(rt.alloc(), &text).err();
+        let found = fault_with(rt.alloc(), &STORED_RUN, &[(place, word)])?;
         assert_eq!(rt; found, Some(fault), "at {place}");
-        let written = match fault {
-            Fault::Memory => Vec::new(rt.alloc()),
-            _ => refusal(rt.alloc(), &fault)?,
-        };
-        assert_eq!(rt; written.as_slice(), line.as_bytes());
+        has_line(&rt, rt.alloc(), fault, line)?;
     }
     Ok(())
 }
@@ -316,27 +327,35 @@ fn refuses_events_out_of_range(rt: HostRuntime) -> Result<(), Fail> {
         ([(1048, 5), (1064, 4)], 1064),
     ];
     for (words, place) in rows {
-        let text = two_events(rt.alloc(), &words)?;
-        assert_eq!(rt; read(rt.alloc(), &text).err(), Some(Fault::Event(place)));
+        let found = fault_with(rt.alloc(), &TWO_EVENTS, &words)?;
+        assert_eq!(rt; found, Some(Fault::Event(place)));
     }
     Ok(())
 }
 
 #[test]
-fn refuses_a_text_cut_or_with_bytes_after_it(rt: HostRuntime) -> Result<(), Fail> {
-    let alloc = rt.alloc();
-    let mut text = STORED_RUN.first_text(alloc, &[])?;
+fn refuses_a_text_with_a_byte_after_it(rt: HostRuntime) -> Result<(), Fail> {
+    let mut text = STORED_RUN.first_text(rt.alloc(), &[])?;
     text.push(0)?;
-    assert_eq!(rt; read(alloc, &text).err(), Some(Fault::Trailing(9504)));
-    let line = refusal(alloc, &Fault::Trailing(9504))?;
-    assert_eq!(rt;
-        line.as_slice(),
-        "refused 8 trailing at byte 9504\n".as_bytes()
-    );
+    let fault = fault_of(rt.alloc(), &text);
+    assert_eq!(rt; fault, Some(Fault::Trailing(9504)));
+    let line = "refused 8 trailing at byte 9504\n";
+    has_line(&rt, rt.alloc(), Fault::Trailing(9504), line)
+}
+
+#[test]
+fn refuses_a_text_that_is_cut(rt: HostRuntime) -> Result<(), Fail> {
+    let mut text = STORED_RUN.first_text(rt.alloc(), &[])?;
     for len in [9503, 23, 0] {
         text.truncate(len);
-        assert_eq!(rt; read(alloc, &text).err(), Some(Fault::Short(len as u64)));
+        let fault = fault_of(rt.alloc(), &text);
+        assert_eq!(rt; fault, Some(Fault::Short(len as u64)));
     }
+    Ok(())
+}
+
+#[test]
+fn refuses_an_event_of_no_kind(rt: HostRuntime) -> Result<(), Fail> {
     let kind_six = Event {
         kind: 6,
         ..TIMER_SET
@@ -345,8 +364,8 @@ fn refuses_a_text_cut_or_with_bytes_after_it(rt: HostRuntime) -> Result<(), Fail
         events: &[kind_six],
         ..TWO_EVENTS
     };
-    let kind_six = one_event.first_text(alloc, &[])?;
-    assert_eq!(rt; read(alloc, &kind_six).err(), Some(Fault::Event(1048)));
+    let fault = fault_with(rt.alloc(), &one_event, &[])?;
+    assert_eq!(rt; fault, Some(Fault::Event(1048)));
     Ok(())
 }
 
@@ -370,15 +389,12 @@ fn gives_the_first_of_two_faults(rt: HostRuntime) -> Result<(), Fail> {
         ([(4, 3), (0, 0)], Fault::Magic(0)),
     ];
     for (words, fault) in rows {
-        let mut text = STORED_RUN.first_text(rt.alloc(), &[])?;
-        for (place, word) in words {
-            put_word(&mut text, place, word);
-        }
-        assert_eq!(rt; read(rt.alloc(), &text).err(), Some(fault));
+        let found = fault_with(rt.alloc(), &STORED_RUN, &words)?;
+        assert_eq!(rt; found, Some(fault));
     }
-    let mut text = two_events(rt.alloc(), &[(1056, 6), (1064, 1), (1068, 0x101)])?;
-    put_word(&mut text, 1080, 1);
-    assert_eq!(rt; read(rt.alloc(), &text).err(), Some(Fault::Event(1048)));
+    let words = [(1056, 6), (1064, 1), (1068, 0x101), (1080, 1)];
+    let found = fault_with(rt.alloc(), &TWO_EVENTS, &words)?;
+    assert_eq!(rt; found, Some(Fault::Event(1048)));
     Ok(())
 }
 

@@ -133,26 +133,36 @@ fn refuses_parts_by_the_first_fault_of_their_text(rt: HostRuntime) -> Result<(),
     Ok(())
 }
 
-#[test]
-fn counts_the_changes_before_a_fault(rt: HostRuntime) -> Result<(), Fail> {
-    let alloc = rt.alloc();
-    let mut pool = Pool::new(alloc);
-    pool.push(Page { words: [0; 256] })?;
-    let mut first = checkpoint(&rt, alloc, (0, 0, 0, 0, 3, 1))?;
-    first.table.set(900, 1);
-    // the same numbers stay, so that only the numbers of places 4 and 5 are changes
-    let mut last = checkpoint(&rt, alloc, (10, 0, 0, 0, 3, 1))?;
-    last.table.set(900, 1);
+/// A checkpoint at this count with page number 1 at the places 3 and 900.
+fn two_numbers(rt: &impl Abort, alloc: Global, count: u64) -> Result<Checkpoint, AllocError> {
+    let mut checkpoint = checkpoint(rt, alloc, (count, 0, 0, 0, 3, 1))?;
+    checkpoint.table.set(900, 1);
+    Ok(checkpoint)
+}
+
+/// Two checkpoints that have these numbers, so that only the numbers of the places 4 and 5 are changes.
+fn two_and_two_changes(rt: &impl Abort, alloc: Global) -> Result<Vec<Checkpoint>, AllocError> {
+    let mut checkpoints = Vec::new(alloc);
+    checkpoints.push(two_numbers(rt, alloc, 0)?)?;
+    let mut last = two_numbers(rt, alloc, 10)?;
     last.table.set(4, 1);
     last.table.set(5, 2);
-    let mut checkpoints = Vec::new(alloc);
-    checkpoints.push(first)?;
     checkpoints.push(last)?;
-    let none = Inputs::new(Vec::new(alloc))
-        .ok()
-        .ok_or("no inputs are in order")?;
+    Ok(checkpoints)
+}
+
+/// What is wrong with checkpoints over one page.
+fn fault_over_a_page(alloc: Global, checkpoints: Vec<Checkpoint>) -> Result<Option<Fault>, Fail> {
+    let pool = pool_of(alloc, 1)?;
+    let inputs = no_inputs(alloc)?;
+    Ok(Recording::from_parts(pool, inputs, checkpoints).err())
+}
+
+#[test]
+fn counts_the_changes_before_a_fault(rt: HostRuntime) -> Result<(), Fail> {
+    let checkpoints = two_and_two_changes(&rt, rt.alloc())?;
+    let fault = fault_over_a_page(rt.alloc(), checkpoints)?;
     // 24 and 1,024 bytes, checkpoint 0 with two changes, and checkpoint 1 with a lawful change before the other
-    let fault = Recording::from_parts(pool, none, checkpoints).err();
     assert_eq!(rt; fault, Some(Fault::Page(1048 + 160 + 144 + 8)));
     Ok(())
 }

@@ -1,8 +1,10 @@
 //! Texts of version 2: what is read is written, and each rule is broken once.
 
-use crate::tests::texts::put_word;
-use oberon_format::{Checkpoint, Fault, read, refusal, write};
+use crate::tests::texts::{fault_of, has_line, put_word, put_words};
+use oberon_format::{Checkpoint, Fault, Recording, read, write};
 use recording_texts::{Claim, EMPTY, JUMP, STORED_RUN, Sketch, ZEROS};
+use std::alloc::{AllocError, Global};
+use std::process::Abort;
 use std::test::Fail;
 
 /// Two pages; checkpoint 0, from byte 2072 on, with changes of the places 0, 7 and 1023 from byte 2216 on; checkpoint 1, from byte
@@ -29,13 +31,18 @@ const FIVE_CHANGES: Sketch<'static> = Sketch {
     ],
 };
 
+/// What the recording of a text is written as.
+fn text_again(alloc: Global, text: &[u8]) -> Result<Vec<u8>, Fail> {
+    let recording = read(alloc, text)?;
+    Ok(write(alloc, &recording)?)
+}
+
 #[test]
 fn writes_what_it_reads(rt: HostRuntime) -> Result<(), Fail> {
     let alloc = rt.alloc();
     for sketch in [STORED_RUN, FIVE_CHANGES, EMPTY] {
         let text = sketch.second_text(alloc, &[])?;
-        let recording = read(alloc, &text)?;
-        let again = write(alloc, &recording)?;
+        let again = text_again(alloc, &text)?;
         assert_eq!(rt; again.as_slice(), text.as_slice());
     }
     Ok(())
@@ -63,13 +70,21 @@ fn has_timers(first: &Checkpoint, last: &Checkpoint) -> bool {
         && last.sent.bytes() == [0x41, 0x42].as_slice()
 }
 
+/// Checks the two checkpoints of the five changes.
+fn has_five_changes(rt: &impl Abort, recording: &Recording) {
+    assert_eq!(rt; recording.count(), 2);
+    let (first, last) = (recording.checkpoint(0), recording.checkpoint(1));
+    assert!(rt; has_numbers(first, last), "another page number");
+    assert!(rt;
+        has_timers(first, last),
+        "another timer, or other bytes sent"
+    );
+}
+
 #[test]
 fn reads_tables_by_their_changes(rt: HostRuntime) -> Result<(), Fail> {
     let text = FIVE_CHANGES.second_text(rt.alloc(), &[])?;
-    let recording = read(rt.alloc(), &text)?;
-    assert_eq!(rt; recording.count(), 2);
-    assert!(rt; has_numbers(recording.checkpoint(0), recording.checkpoint(1)));
-    assert!(rt; has_timers(recording.checkpoint(0), recording.checkpoint(1)));
+    has_five_changes(&rt, &read(rt.alloc(), &text)?);
     Ok(())
 }
 
@@ -116,12 +131,21 @@ const BROKEN: [(u16, u32, Fault); 33] = [
     (2368, 1, Fault::Trailing(2401)),
 ];
 
+/// The first fault of the text of a sketch with these words at their places.
+fn fault_with(
+    alloc: Global,
+    sketch: &Sketch<'_>,
+    words: &[(u16, u32)],
+) -> Result<Option<Fault>, AllocError> {
+    let mut text = sketch.second_text(alloc, &[])?;
+    put_words(&mut text, words);
+    Ok(fault_of(alloc, &text))
+}
+
 #[test]
 fn refuses_each_broken_rule(rt: HostRuntime) -> Result<(), Fail> {
     for (place, word, fault) in BROKEN {
-        let mut text = FIVE_CHANGES.second_text(rt.alloc(), &[])?;
-        put_word(&mut text, place, word);
-        let found = read(rt.alloc(), &text).err();
+        let found = fault_with(rt.alloc(), &FIVE_CHANGES, &[(place, word)])?;
         assert_eq!(rt; found, Some(fault), "at {place}");
     }
     Ok(())
@@ -129,14 +153,10 @@ fn refuses_each_broken_rule(rt: HostRuntime) -> Result<(), Fail> {
 
 #[test]
 fn refuses_a_change_that_changes_nothing(rt: HostRuntime) -> Result<(), Fail> {
-    let alloc = rt.alloc();
-    let mut text = STORED_RUN.second_text(alloc, &[])?;
-    put_word(&mut text, 1196, 0);
     let fault = Fault::Page(1192);
-    assert_eq!(rt; read(alloc, &text).err(), Some(fault));
-    let line = refusal(alloc, &fault)?;
-    assert_eq!(rt; line.as_slice(), "refused 7 page at byte 1192\n".as_bytes());
-    Ok(())
+    let found = fault_with(rt.alloc(), &STORED_RUN, &[(1196, 0)])?;
+    assert_eq!(rt; found, Some(fault));
+    has_line(&rt, rt.alloc(), fault, "refused 7 page at byte 1192\n")
 }
 
 #[test]
@@ -160,62 +180,57 @@ fn gives_the_first_of_two_faults(rt: HostRuntime) -> Result<(), Fail> {
         ([(8, 1), (12, 65)], Fault::Event(1048)),
     ];
     for (words, fault) in rows {
-        let mut text = FIVE_CHANGES.second_text(rt.alloc(), &[])?;
-        for (place, word) in words {
-            put_word(&mut text, place, word);
-        }
-        assert_eq!(rt; read(rt.alloc(), &text).err(), Some(fault));
+        let found = fault_with(rt.alloc(), &FIVE_CHANGES, &words)?;
+        assert_eq!(rt; found, Some(fault));
     }
     Ok(())
 }
 
-/// The first fault of a text of the five changes whose checkpoint 0 has stop 5, cut to a length: short up to the end of the 144
-/// bytes of this checkpoint, and then its field.
-fn fault_of_field_cut_at(len: usize) -> Fault {
-    if len < 2216 {
-        Fault::Short(len as u64)
-    } else {
-        Fault::Checkpoint(2072)
+/// Checks the first fault of a text of the five changes with these words, cut to each length: short below the length at which
+/// the fault is there, and then the fault.
+fn is_short_below(
+    rt: &impl Abort,
+    alloc: Global,
+    words: &[(u16, u32)],
+    there: usize,
+    fault: Fault,
+) -> Result<(), Fail> {
+    let mut text = FIVE_CHANGES.second_text(alloc, &[])?;
+    put_words(&mut text, words);
+    for cut in 1..2403usize {
+        let len = 2402 - cut;
+        text.truncate(len);
+        let wanted = if len < there {
+            Fault::Short(len as u64)
+        } else {
+            fault
+        };
+        let found = fault_of(alloc, &text);
+        assert_eq!(rt; found, Some(wanted));
     }
-}
-
-/// The same where its second change has a number that is too large: short up to the end of its three changes.
-fn fault_of_change_cut_at(len: usize) -> Fault {
-    if len < 2240 {
-        Fault::Short(len as u64)
-    } else {
-        Fault::Page(2224)
-    }
+    Ok(())
 }
 
 #[test]
 fn refuses_a_text_cut_at_each_byte(rt: HostRuntime) -> Result<(), Fail> {
-    let alloc = rt.alloc();
-    let mut lawful = FIVE_CHANGES.second_text(alloc, &[])?;
-    let mut field = FIVE_CHANGES.second_text(alloc, &[])?;
-    put_word(&mut field, 2156, 5);
-    let mut change = FIVE_CHANGES.second_text(alloc, &[])?;
-    put_word(&mut change, 2228, 3);
-    for cut in 1..2403usize {
-        let len = 2402 - cut;
-        lawful.truncate(len);
-        assert_eq!(rt; read(alloc, &lawful).err(), Some(Fault::Short(len as u64)));
-        field.truncate(len);
-        assert_eq!(rt; read(alloc, &field).err(), Some(fault_of_field_cut_at(len)));
-        change.truncate(len);
-        assert_eq!(rt;
-            read(alloc, &change).err(),
-            Some(fault_of_change_cut_at(len))
-        );
+    let rows = [
+        ([].as_slice(), 2402, Fault::Trailing(0)),
+        // stop 5, behind the 144 bytes of checkpoint 0
+        (&[(2156, 5)], 2216, Fault::Checkpoint(2072)),
+        // a number too large in the second change of three
+        (&[(2228, 3)], 2240, Fault::Page(2224)),
+    ];
+    for (words, there, fault) in rows {
+        is_short_below(&rt, rt.alloc(), words, there, fault)?;
     }
     Ok(())
 }
 
 #[test]
 fn refuses_bytes_after_the_end(rt: HostRuntime) -> Result<(), Fail> {
-    let alloc = rt.alloc();
-    let mut text = STORED_RUN.second_text(alloc, &[])?;
+    let mut text = STORED_RUN.second_text(rt.alloc(), &[])?;
     text.push(0)?;
-    assert_eq!(rt; read(alloc, &text).err(), Some(Fault::Trailing(1344)));
+    let found = fault_of(rt.alloc(), &text);
+    assert_eq!(rt; found, Some(Fault::Trailing(1344)));
     Ok(())
 }

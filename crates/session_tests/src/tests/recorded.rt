@@ -1,6 +1,6 @@
 //! Sessions that are recorded or refused: worked examples.
 
-use super::{START, START_2};
+use super::{START, START_2, recording_of};
 use oberon_format::{MAX_COUNT, Recording, write};
 use oberon_session::{RecordFault, make_recording, read_session};
 use std::alloc::Global;
@@ -69,76 +69,119 @@ fn number_at(rt: &impl Abort, recording: &Recording, k: u32) -> u32 {
     recording.checkpoint(k).table.entry(1)
 }
 
-#[test]
-fn records_the_stored_run(rt: HostRuntime) -> Result<(), Fail> {
-    let alloc = rt.alloc();
-    let recording = recorded(alloc, "05000040", "100")?.map_err(|_| "a recording")?;
-    let mut want = [0; 1_344];
+/// The text of the stored run.
+fn stored_text() -> [u8; 1_344] {
+    let mut text = [0; 1_344];
     for (place, bytes) in STORED_RUN {
         for i in 0..4 {
-            want[place + i] = bytes[i];
+            text[place + i] = bytes[i];
         }
     }
-    want[1_276] = 100;
-    let text = write(alloc, &recording)?;
-    assert!(rt; text.as_slice() == want.as_slice());
+    text[1_276] = 100;
+    text
+}
+
+#[test]
+fn records_the_stored_run(rt: HostRuntime) -> Result<(), Fail> {
+    let recording = recording_of_page(rt.alloc(), "05000040", "100")?;
+    let text = write(rt.alloc(), &recording)?;
+    assert!(rt; text.as_slice() == stored_text().as_slice());
     Ok(())
+}
+
+/// The recording of a session whose first page begins with these digits, with checkpoints at these counts.
+fn recording_of_page(alloc: Global, hex: &str, counts: &str) -> Result<Recording, Fail> {
+    match recorded(alloc, hex, counts)? {
+        Ok(recording) => Ok(recording),
+        Err(_) => Err("a recording".into()),
+    }
+}
+
+/// Checks the recording of the program that stores to page 1.
+fn check_changed_page(rt: &impl Abort, recording: &Recording) {
+    assert!(rt; recording.pool().len() == 2 && recording.count() == 4);
+    for (k, number) in [(0, 0), (1, 2), (2, 0), (3, 0)] {
+        assert!(rt; number_at(rt, recording, k) == number);
+    }
+}
+
+/// How long the text of a recording is.
+fn text_length(alloc: Global, recording: &Recording) -> Result<usize, Fail> {
+    Ok(write(alloc, recording)?.len())
 }
 
 #[test]
 fn lays_a_page_that_changed(rt: HostRuntime) -> Result<(), Fail> {
-    let alloc = rt.alloc();
-    let recording = recorded(alloc, STORES, "2,4,5")?.map_err(|_| "a recording")?;
-    assert!(rt; recording.pool().len() == 2 && recording.count() == 4);
-    for (k, number) in [(0, 0), (1, 2), (2, 0), (3, 0)] {
-        assert!(rt; number_at(&rt, &recording, k) == number);
-    }
-    assert!(rt; write(alloc, &recording)?.len() == 2_672);
+    let recording = recording_of_page(rt.alloc(), STORES, "2,4,5")?;
+    check_changed_page(&rt, &recording);
+    assert!(rt; text_length(rt.alloc(), &recording)? == 2_672);
     Ok(())
 }
 
-#[test]
-fn records_a_timer_that_counts(rt: HostRuntime) -> Result<(), Fail> {
-    let alloc = rt.alloc();
-    let text = format!(in alloc;
-        "{START_2},\"rate\":10,\"phase\":9}},\"pages\":[],\"inputs\":[[25,\"timer\",100]],\"checkpoints\":[25,30]}}"
-    )?;
-    let session = read_session(alloc, text.as_bytes()).map_err(|_| "a session")?;
-    let recording = make_recording(alloc, &session).map_err(|_| "a recording")?;
+/// Checks a timer that counts each ten instructions from phase 9 on, and that is set to 100 at count 25.
+fn check_timer(rt: &impl Abort, recording: &Recording) {
     for (k, timer, phase) in [(0, 0, 9), (1, 3, 4), (2, 100, 9)] {
         assert!(rt; k < recording.count());
         let devices = &recording.checkpoint(k).devices;
         assert!(rt; devices.rate() == 10);
         assert!(rt; devices.timer() == timer && devices.phase() == phase);
     }
+}
+
+#[test]
+fn records_a_timer_that_counts(rt: HostRuntime) -> Result<(), Fail> {
+    let text = format!(in rt.alloc();
+        "{START_2},\"rate\":10,\"phase\":9}},\"pages\":[],\"inputs\":[[25,\"timer\",100]],\"checkpoints\":[25,30]}}"
+    )?;
+    check_timer(&rt, &recording_of(rt.alloc(), text.as_str())?);
     Ok(())
+}
+
+/// Checks how many bytes the last of two checkpoints says were sent.
+fn check_sent(rt: &impl Abort, recording: &Recording, sent: usize) {
+    assert!(rt; recording.count() == 2);
+    assert!(rt; recording.checkpoint(1).sent.bytes().len() == sent);
+}
+
+/// Why there is no recording of a session whose first page begins with these digits, with checkpoints at these counts.
+fn record_fault(alloc: Global, hex: &str, counts: &str) -> Result<Option<RecordFault>, Fail> {
+    Ok(recorded(alloc, hex, counts)?.err())
 }
 
 #[test]
 fn records_as_much_output_as_there_may_be(rt: HostRuntime) -> Result<(), Fail> {
-    let alloc = rt.alloc();
-    let recording = recorded(alloc, SENDS, "2097152")?.map_err(|_| "a recording")?;
-    assert!(rt; recording.count() == 2);
-    assert!(rt; recording.checkpoint(1).sent.bytes().len() == 1_048_576);
+    check_sent(
+        &rt,
+        &recording_of_page(rt.alloc(), SENDS, "2097152")?,
+        1_048_576,
+    );
     for counts in ["2097154", "1099511627776", "2097152,2097154"] {
-        let refused = recorded(alloc, SENDS, counts)?.err();
-        assert!(rt; refused == Some(RecordFault::Output));
+        assert!(rt; record_fault(rt.alloc(), SENDS, counts)? == Some(RecordFault::Output));
     }
     Ok(())
 }
 
+/// How many pages the recording has of the program that fills them, with a last checkpoint at this count.
+fn filled_pages(alloc: Global, last: u64) -> Result<u32, Fail> {
+    let counts = rounds_and(alloc, last)?;
+    Ok(
+        recording_of_page(alloc, FILLS, counts.as_str())?
+            .pool()
+            .len(),
+    )
+}
+
+/// Why there is no such recording.
+fn fill_fault(alloc: Global, last: u64) -> Result<Option<RecordFault>, Fail> {
+    let counts = rounds_and(alloc, last)?;
+    record_fault(alloc, FILLS, counts.as_str())
+}
+
 #[test]
 fn refuses_too_many_pages_and_output_first(rt: HostRuntime) -> Result<(), Fail> {
-    let alloc = rt.alloc();
-    let counts = rounds_and(alloc, 258_303)?;
-    let recording = recorded(alloc, FILLS, counts.as_str())?.map_err(|_| "a recording")?;
-    assert!(rt; recording.pool().len() == 64_513);
-    let counts = rounds_and(alloc, 262_402)?;
-    let refused = recorded(alloc, FILLS, counts.as_str())?.err();
-    assert!(rt; refused == Some(RecordFault::Pages));
-    let counts = rounds_and(alloc, MAX_COUNT)?;
-    let refused = recorded(alloc, FILLS, counts.as_str())?.err();
-    assert!(rt; refused == Some(RecordFault::Output));
+    assert!(rt; filled_pages(rt.alloc(), 258_303)? == 64_513);
+    assert!(rt; fill_fault(rt.alloc(), 262_402)? == Some(RecordFault::Pages));
+    assert!(rt; fill_fault(rt.alloc(), MAX_COUNT)? == Some(RecordFault::Output));
     Ok(())
 }
 
