@@ -1,13 +1,15 @@
 //! The program `refused_growth`: what stands after a growth was refused.
 //!
-//! It runs two small machines and reads texts with faults, and prints what it met. With ample memory nothing is refused, and
+//! It runs two small machines, reads texts with faults, checks a recording and records a session, and prints what it met. With ample memory nothing is refused, and
 //! what it then prints stands in the file `stdout`. `tests/refused-growth` runs it with each request for memory refused in turn.
 //! Where the library answers, nothing is taught by this crate: it is a test.
 #![tactic(auto)]
 
+mod checks;
 mod texts;
 mod trial;
 
+use checks::checks;
 use std::io;
 use texts::texts;
 use trial::Trial;
@@ -30,5 +32,6 @@ const WRITER: Trial = Trial {
 fn main(rt: HostRuntime) -> io::Result<()> {
     SENDER.run(&rt)?;
     WRITER.run(&rt)?;
-    texts(&rt)
+    texts(&rt)?;
+    checks(&rt)
 }

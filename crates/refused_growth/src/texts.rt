@@ -43,6 +43,23 @@ fn changed_text() -> [u8; CHANGED_LENGTH] {
     text
 }
 
+/// The length of a text of version 2 with one checkpoint more, which has no change.
+const STEPPING_LENGTH: usize = CHANGED_LENGTH + 144;
+
+/// That text with a checkpoint at count 1: its first instruction is a zero, which moves R0 to itself and sets Z.
+pub(crate) fn stepping_text() -> [u8; STEPPING_LENGTH] {
+    let mut text = [0; STEPPING_LENGTH];
+    for (there, byte) in text.iter_mut().zip(changed_text()) {
+        *there = byte;
+    }
+    text[16] = 2;
+    // the count, the program counter and the flags
+    text[CHANGED_LENGTH] = 1;
+    text[CHANGED_LENGTH + 76] = 1;
+    text[CHANGED_LENGTH + 80] = 4;
+    text
+}
+
 /// So many bytes from the front of a text, or all that it has.
 fn front(text: &[u8], length: usize) -> &[u8] {
     &text[..length.min(text.len())]
