@@ -64,9 +64,13 @@ class Page:
             raise RuntimeError(told["exceptionDetails"])
         return told["result"].get("value")
 
+    def resize(self, width: int, height: int) -> None:
+        """Gives the window a size."""
+        self._ask("Emulation.setDeviceMetricsOverride", width=width, height=height, deviceScaleFactor=1, mobile=False)
+
     def screenshot(self, width: int, height: int) -> bytes:
         """A picture of the page in a window of this size, as PNG."""
-        self._ask("Emulation.setDeviceMetricsOverride", width=width, height=height, deviceScaleFactor=1, mobile=False)
+        self.resize(width, height)
         self.answer("Promise.all([...document.images].map(it => it.decode()))")
         return base64.b64decode(self._ask("Page.captureScreenshot", format="png")["data"])
 

@@ -32,6 +32,31 @@ DOTS = """
 })()
 """
 
+WIDTHS = (420, 800, 1100, 1280, 1920)
+
+# What is wrong with how the blocks of a page lie: a page or a block too wide, and two blocks that overlap.
+FAULTS = """
+(() => {
+  const told = [];
+  const page = document.documentElement;
+  for (const it of document.querySelectorAll(".checkpoint, pre")) it.style.contentVisibility = "visible";
+  if (page.scrollWidth > innerWidth) told.push(`the page is ${page.scrollWidth} wide`);
+  const blocks = [...document.querySelectorAll("h1, h2, h3, p, pre, dl > div, img, figcaption")];
+  const boxes = blocks.map(it => it.getBoundingClientRect());
+  blocks.forEach((one, at) => {
+    const a = boxes[at];
+    if (a.right > innerWidth || one.scrollWidth > one.clientWidth + 1) told.push(`too wide: ${one.outerHTML.slice(0, 60)}`);
+    blocks.slice(0, at).forEach((other, before) => {
+      const b = boxes[before];
+      const wide = Math.min(a.right, b.right) - Math.max(a.left, b.left);
+      const high = Math.min(a.bottom, b.bottom) - Math.max(a.top, b.top);
+      if (wide > 0.5 && high > 0.5) told.push(`${other.outerHTML.slice(0, 60)} overlaps ${one.outerHTML.slice(0, 60)}`);
+    });
+  });
+  return told;
+})()
+"""
+
 
 class ReportTest(ToolTest):
     def report(self, text: bytes, name: str = "it.orsr") -> Path:
@@ -127,15 +152,26 @@ class ReportInBrowserTest(ReportTest):
             self.assertGreater(shot.convert("L").histogram()[0], 10000)
             self.assertTrue(page.printed().startswith(b"%PDF"))
 
+    def test_nothing_overlaps_in_windows_of_any_width(self) -> None:
+        words = [*[0xFFFFFFFF] * 17, 262143, 15, 0, 0xFFFFFFFF, 0xFFF, 0xFF, 0x073FF3FF, 0x1FF]
+        first = Claim(0, [0] * 25, b"", 0, 0, b"", {0: 1})
+        wide = Claim(1000000, words, b"A" * 16, 0xFFFFFFFF, 0xFFFFFFFE, b"A" * 400, {0: 1, 1000: 2})
+        laid = lay(2, [page(JUMP), page(1)], [(5, 3, 0x073FF3FF)], [first, wide])
+        for text in ((EXAMPLES / "face.orsr").read_bytes(), laid, STORED[:-1]):
+            with self.browser.page(self.report(text, "a" * 200 + ".orsr")) as opened:
+                for width in WIDTHS:
+                    opened.resize(width, 1000)
+                    self.assertEqual(opened.answer(FAULTS), [], f"{width} points")
+
     def test_a_false_recording(self) -> None:
         text = rejoining(9)
         with self.browser.page(self.report(text)) as page:
             self.assert_sound(page, "false checkpoint 1 at 2 part R5", "rgb(179, 38, 30)")
             self.assert_dots(page, text, [0])
-            self.assertEqual(page.answer("document.querySelector('#checkpoint-1 td.false').textContent"), "00000009")
+            self.assertEqual(page.answer("document.querySelector('#checkpoint-1 dd.false').textContent"), "00000009")
             self.assertIn("R5", page.answer("document.querySelector('#checkpoint-1 .claim').textContent"))
-            self.assertEqual(page.answer("document.querySelectorAll('td.false').length"), 1)
-            changed = "[...document.querySelectorAll('#checkpoint-2 td.changed')].map(it => it.textContent).join()"
+            self.assertEqual(page.answer("document.querySelectorAll('dd.false').length"), 1)
+            changed = "[...document.querySelectorAll('#checkpoint-2 dd.changed')].map(it => it.textContent).join()"
             self.assertEqual(page.answer(changed), "00000001")
 
     def test_refused_texts(self) -> None:
