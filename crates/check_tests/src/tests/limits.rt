@@ -31,15 +31,15 @@ fn divisor_stop(alloc: Global, count: u64) -> Result<Vec<u8>, Fail> {
     Ok(recording.first_text(alloc, &[])?)
 }
 
-/// Checks that a text of which only so many bytes are there is short.
+/// Checks that a text that is cut off is short at its end.
 fn is_short<R: Abort + Threads + Wait + Sync>(
     rt: &R,
     alloc: Global,
     text: &[u8],
-    length: usize,
 ) -> Result<(), Fail> {
+    let length = text.len();
     let line = format!(in alloc; "refused 1 short at byte {length}\n")?;
-    gives(rt, alloc, &text[..length], TWO, (line.as_bytes(), 2))
+    gives(rt, alloc, text, TWO, (line.as_bytes(), 2))
 }
 
 #[test]
@@ -47,7 +47,7 @@ fn a_text_cut_anywhere_is_short(rt: HostRuntime) -> Result<(), Fail> {
     let text = STORED_RUN.first_text(rt.alloc(), &[])?;
     assert_eq!(rt; text.len(), 9504);
     for length in 0..text.len() {
-        is_short(&rt, rt.alloc(), &text, length)?;
+        is_short(&rt, rt.alloc(), &text[..length])?;
     }
     let accepted = (b"accepted 1 checkpoints 100 steps\n".as_slice(), 0);
     gives(&rt, rt.alloc(), &text, TWO, accepted)
