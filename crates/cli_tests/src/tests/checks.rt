@@ -287,7 +287,8 @@ const BYTE_STORED: Sketch<'static> = Sketch {
     ],
 };
 
-const EXAMPLES: &[Example] = &[
+/// Operations and branches.
+const OPERATIONS: &[Example] = &[
     (EMPTY, &[], "accepted 0 checkpoints 0 steps\n", 0),
     (MOVE_FIVE, &[], "accepted 1 checkpoints 1000 steps\n", 0),
     (ADD_WITH_CARRY, &[], "accepted 1 checkpoints 1 steps\n", 0),
@@ -311,6 +312,10 @@ const EXAMPLES: &[Example] = &[
         "accepted 1 checkpoints 1 steps\n",
         0,
     ),
+];
+
+/// Machines that stop.
+const STOPS: &[Example] = &[
     (JUMP_OFF_THE_END, &[], "accepted 2 checkpoints 2 steps\n", 0),
     (
         JUMP_OFF_THE_END,
@@ -320,7 +325,10 @@ const EXAMPLES: &[Example] = &[
     ),
     (DIVISOR_STOP, &[], "accepted 2 checkpoints 9 steps\n", 0),
     (OFF_THE_END, &[], "accepted 1 checkpoints 262145 steps\n", 0),
-    (EQUAL_PAGES, &[], "accepted 1 checkpoints 10 steps\n", 0),
+];
+
+/// Inputs, and bytes that are sent.
+const INPUTS_AND_OUTPUT: &[Example] = &[
     (
         KEY_AT_A_CHECKPOINT,
         &[],
@@ -347,6 +355,11 @@ const EXAMPLES: &[Example] = &[
     ),
     (ONE_BYTE_SENT, &[], "accepted 2 checkpoints 4 steps\n", 0),
     (NO_BYTE_SENT, &[], "false checkpoint 2 at 4 part out\n", 1),
+];
+
+/// Memory that is written to, or is not.
+const WRITES: &[Example] = &[
+    (EQUAL_PAGES, &[], "accepted 1 checkpoints 10 steps\n", 0),
     (PAGE_WRITTEN, &[], "accepted 1 checkpoints 2 steps\n", 0),
     (
         PAGE_WRITTEN,
@@ -362,6 +375,10 @@ const EXAMPLES: &[Example] = &[
         1,
     ),
     (BYTE_STORED, &[], "accepted 1 checkpoints 1 steps\n", 0),
+];
+
+/// Machines that jump in place.
+const JUMPS_ALONE: &[Example] = &[
     (STORED_RUN, &[], "accepted 1 checkpoints 100 steps\n", 0),
     (
         STORED_RUN,
@@ -378,12 +395,31 @@ const EXAMPLES: &[Example] = &[
 ];
 
 #[test]
-fn gives_each_recording_its_line_whatever_the_workers_and_the_cut(
-    rt: HostRuntime,
-) -> Result<(), Fail> {
-    check_each(&rt, EXAMPLES)
+fn checks_operations(rt: HostRuntime) -> Result<(), Fail> {
+    check_each(&rt, OPERATIONS)
 }
 
+#[test]
+fn checks_stops(rt: HostRuntime) -> Result<(), Fail> {
+    check_each(&rt, STOPS)
+}
+
+#[test]
+fn checks_inputs_and_output(rt: HostRuntime) -> Result<(), Fail> {
+    check_each(&rt, INPUTS_AND_OUTPUT)
+}
+
+#[test]
+fn checks_writes(rt: HostRuntime) -> Result<(), Fail> {
+    check_each(&rt, WRITES)
+}
+
+#[test]
+fn checks_jumps(rt: HostRuntime) -> Result<(), Fail> {
+    check_each(&rt, JUMPS_ALONE)
+}
+
+/// Checks that each recording has its line, in both versions, whatever the workers and the cut.
 fn check_each(
     rt: &(impl Abort + AllocGlobal + Threads + Wait + Sync),
     examples: &[Example],
