@@ -1,14 +1,21 @@
 //! Numbers as the bytes of a text, lowest byte first.
 
+ghost use Rattle.std.specs.Prelude.{◌≡◌, ◌++◌, OnOk};
+ghost use Rattle.recording_texts.specs.Bytes.{word_bytes, words_bytes};
+
 use std::alloc::AllocError;
 
 /// Adds a number of four bytes.
-pub(crate) fn push_word(text: &mut Vec<u8>, word: u32) -> Result<(), AllocError> {
+pub(crate) fn push_word(text: &mut Vec<u8>, word: u32) -> Result<(), AllocError>
+    ensures { OnOk result (text.new.items ≡ text.old.items ++ word_bytes word) }
+{
     text.extend_from_slice(&word.to_le_bytes())
 }
 
 /// Adds numbers of four bytes.
-pub(crate) fn push_words(text: &mut Vec<u8>, words: &[u32]) -> Result<(), AllocError> {
+pub(crate) fn push_words(text: &mut Vec<u8>, words: &[u32]) -> Result<(), AllocError>
+    ensures { OnOk result (text.new.items ≡ text.old.items ++ words_bytes words.now) }
+{
     for word in words {
         push_word(text, *word)?;
     }

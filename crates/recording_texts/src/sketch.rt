@@ -1,5 +1,8 @@
 //! Recordings that are laid out as texts.
 
+ghost use Rattle.std.specs.Prelude.{◌≡◌, ◌+◌, IfOk, take};
+ghost use Rattle.recording_texts.specs.Header.{header_bytes};
+
 use crate::bytes::{push_word, push_words, put_word};
 use crate::claim::Claim;
 use crate::spot::Spot;
@@ -25,7 +28,11 @@ pub struct Sketch<'a> {
 
 impl<'a> Sketch<'a> {
     /// The same recording up to this checkpoint.
-    pub fn up_to(self, checkpoint: usize) -> Sketch<'a> {
+    pub fn up_to(self, checkpoint: usize) -> Sketch<'a>
+        ensures claims { result.claims.now ≡ take (checkpoint + 1) self.entry.claims.now }
+        ensures pages { result.pages ≡ self.entry.pages }
+        ensures events { result.events ≡ self.entry.events }
+    {
         let claims = self.claims;
         let count = checkpoint.saturating_add(1).min(claims.len());
         Sketch {
@@ -156,7 +163,9 @@ pub fn header(
     pages: u32,
     events: u32,
     checkpoints: u32,
-) -> Result<Vec<u8>, AllocError> {
+) -> Result<Vec<u8>, AllocError>
+    ensures { IfOk result (λ text. text.items ≡ header_bytes version pages events checkpoints) }
+{
     let mut text = Vec::new(alloc);
     text.extend_from_slice(b"ORSR")?;
     push_words(&mut text, &[version, pages, events, checkpoints, 0])?;
