@@ -6,7 +6,7 @@ mod parts;
 mod second;
 mod texts;
 
-use oberon_format::{Fault, Sent};
+use oberon_format::Fault;
 use std::test::Fail;
 
 /// The text of each fault.
@@ -46,12 +46,5 @@ fn shows_each_fault(rt: HostRuntime) -> Result<(), Fail> {
         let shown = format!(in rt.alloc(); "{fault}")?;
         assert_eq!(rt; shown.as_str(), text);
     }
-    Ok(())
-}
-
-#[test]
-fn shows_sent_bytes(rt: HostRuntime) -> Result<(), Fail> {
-    let sent = Sent::new(vec![in rt.alloc(); 0x41; 3]?);
-    assert_eq!(rt; sent.bytes(), [0x41, 0x41, 0x41].as_slice());
     Ok(())
 }

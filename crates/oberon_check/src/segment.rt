@@ -64,7 +64,7 @@ pub fn replay_segment(alloc: Global, r: &Recording, i: u32) -> Result<SegmentVer
     let to = r.checkpoint(i + 1);
     let devices = from.devices.copy();
     let mut machine = Machine::start(alloc, r.pool(), &from.table, from.cpu, devices)?;
-    let Ok(same) = machine.run_matching(r.inputs(), from.count, to.count, to.sent.bytes()) else {
+    let Ok(same) = machine.run_matching(r.inputs(), from.count, to.count, &to.sent) else {
         return Err(AllocError);
     };
     let part = first_difference(&machine, same, r.pool(), to);

@@ -14,12 +14,13 @@ use Rattle.oberon_format.specs.Changes.{changes}
 use Rattle.oberon_format.specs.CheckpointParts.{CheckpointParts, no_checkpoint}
 use Rattle.oberon_format.specs.Layout.{version}
 use Rattle.oberon_format.specs.Migration.{IsMigrated}
-use Rattle.oberon_format.specs.Recording.{RecordingParts, IsLawful, IsFit, output_of}
+use Rattle.oberon_format.specs.Formed.{IsFormed, AreFormed, AreWritable}
+use Rattle.oberon_format.specs.Recording.{RecordingParts, IsLawful, output_of}
 use Rattle.oberon_format.specs.inner.Spelling.{word_bytes, long_bytes, words_bytes, event_bytes, cpu_bytes, device_bytes, front_bytes, change_bytes, changes_bytes, changed_bytes, tail_bytes, checkpoint_bytes, checkpoints_bytes, header_bytes, spelling}
-use Rattle.oberon_format.specs.Text.{AreBytes, TextIn, Text}
+use Rattle.oberon_format.specs.Text.{AreBytes, IsLaidOut, TextIn, Text}
 use Rattle.oberon_format.proofs.Back.{same_text}
 use Rattle.oberon_format.proofs.One.{in_version, same_recording}
-use Rattle.oberon_format.proofs.Spelled.{spelled}
+use Rattle.oberon_format.proofs.Spelled.{laid_out, spelled, writable}
 
 -- the bytes of numbers are bytes
 byte_small : (i n : ℕ) → byte_at i n < 2 ^ 8
@@ -62,9 +63,9 @@ device_are d fits =
     join _ _ (join _ _ (join _ _ (join _ _ (join _ _ (join _ _ (word_are _) (word_are _)) (word_are _)) (word_are _)) (word_are _)) (word_are _))
     (join _ _ fits.codes (All-replicate (λ byte. byte < 2 ^ 8) (16 - length d.keys) 0 (omega arith)))
 
-front_are : (pool : List (List ℕ)) (c : CheckpointParts) → IsFit pool c → AreBytes (front_bytes c)
+front_are : (c : CheckpointParts) → IsFormed c → AreBytes (front_bytes c)
 unfolding front_bytes
-front_are pool c fits = join _ _ (join _ _ (join _ _ (long_are _) (cpu_are c.cpu)) (device_are c.devices fits.devices)) (word_are _)
+front_are c fits = join _ _ (join _ _ (join _ _ (long_are _) (cpu_are c.cpu)) (device_are c.devices fits.devices)) (word_are _)
 
 change_are : (change : Change) → AreBytes (change_bytes change)
 unfolding change_bytes
@@ -76,32 +77,36 @@ changed_are before c =
     let cs = changes before c.table in
     join _ _ (join _ _ (word_are _) (word_are _)) (join _ _ (word_are _) (all_are change_bytes cs (λ i d lt. change_are (get_or cs i d))))
 
-checkpoint_are : (pool : List (List ℕ)) (before : List ℕ) (c : CheckpointParts) → IsFit pool c → AreBytes (checkpoint_bytes VERSION before c)
+checkpoint_are : (before : List ℕ) (c : CheckpointParts) → IsFormed c → AreBytes (checkpoint_bytes VERSION before c)
 unfolding checkpoint_bytes tail_bytes
-checkpoint_are pool before c fits = join _ _ (front_are pool c fits) (changed_are before c)
+checkpoint_are before c fits = join _ _ (front_are c fits) (changed_are before c)
 
-checkpoints_are : (pool : List (List ℕ)) (before : List ℕ) (cs : List CheckpointParts) → ((i : ℕ) → i < length cs → IsFit pool (get_or cs i no_checkpoint)) → AreBytes (checkpoints_bytes VERSION before cs)
+checkpoints_are : (before : List ℕ) (cs : List CheckpointParts) → ((i : ℕ) → i < length cs → IsFormed (get_or cs i no_checkpoint)) → AreBytes (checkpoints_bytes VERSION before cs)
 unfolding checkpoints_bytes
-checkpoints_are pool before [] fits = All-nil (λ byte. byte < 2 ^ 8)
-checkpoints_are pool before (c ∷ cs) fits = join _ _ (checkpoint_are pool before c (fits 0 (omega arith))) (checkpoints_are pool c.table cs (λ i lt. fits (suc i) (omega arith)))
+checkpoints_are before [] fits = All-nil (λ byte. byte < 2 ^ 8)
+checkpoints_are before (c ∷ cs) fits = join _ _ (checkpoint_are before c (fits 0 (omega arith))) (checkpoints_are c.table cs (λ i lt. fits (suc i) (omega arith)))
 
 header_are : (r : RecordingParts) → AreBytes (header_bytes VERSION r)
 unfolding header_bytes
 header_are r = join _ _ (join _ _ (join _ _ (join _ _ (join _ _ (word_are _) (word_are _)) (word_are _)) (word_are _)) (word_are _)) (word_are _)
 
-output_are : (pool : List (List ℕ)) (cs : List CheckpointParts) → ((i : ℕ) → i < length cs → IsFit pool (get_or cs i no_checkpoint)) → AreBytes (output_of cs)
-output_are pool cs fits = all_are (λ (c : CheckpointParts). c.sent) cs (λ i d lt. subst (λ (c : CheckpointParts). AreBytes c.sent) (get_or_default cs i no_checkpoint d lt) (fits i lt).bytes)
+output_are : (cs : List CheckpointParts) → AreFormed cs → AreBytes (output_of cs)
+output_are cs formed = all_are (λ (c : CheckpointParts). c.sent) cs (λ i d lt. (formed i d lt).bytes)
 
-spelling_are : (r : RecordingParts) → IsLawful r → AreBytes (spelling VERSION r)
+spelling_are : (r : RecordingParts) → AreFormed r.checkpoints → AreBytes (spelling VERSION r)
 unfolding spelling
-spelling_are r lawful =
+spelling_are r formed =
     join _ _ (join _ _ (join _ _ (join _ _ (header_are r) (all_are words_bytes r.pool (λ i d lt. words_are_bytes (get_or r.pool i d)))) (all_are event_bytes r.inputs (λ i d lt. event_are (get_or r.inputs i d))))
-    (checkpoints_are r.pool zero_numbers r.checkpoints lawful.fit))
-    (output_are r.pool r.checkpoints lawful.fit)
+    (checkpoints_are zero_numbers r.checkpoints (λ i lt. formed i no_checkpoint lt)))
+    (output_are r.checkpoints formed)
+
+-- parts whose numbers fit have a text that is laid out of them
+pub text_of_parts : (r : RecordingParts) → AreWritable r → (text : List ℕ) × AreBytes text × IsLaidOut VERSION text r
+text_of_parts r fits = (spelling VERSION r, spelling_are r (λ i d lt. (fits.checkpoints i d lt).formed), laid_out r fits)
 
 -- a lawful recording has a text of the version that is written
 pub one_text : (r : RecordingParts) → IsLawful r → (text : List ℕ) × AreBytes text × TextIn VERSION text r
-one_text r lawful = (spelling VERSION r, spelling_are r lawful, spelled r lawful)
+one_text r lawful = (spelling VERSION r, spelling_are r (λ i d lt. ((writable r lawful).checkpoints i d lt).formed), spelled r lawful)
 
 -- what is read of the text that is written is what was written
 pub read_back : (r s : RecordingParts) (text : List ℕ) → TextIn VERSION text r → Text text s → s ≡ r

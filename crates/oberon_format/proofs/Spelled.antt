@@ -9,18 +9,18 @@ use Rattle.risc_devices.specs.DeviceState.{DeviceState, IsDeviceState, is_phase,
 use Rattle.risc_devices.specs.Input.{kind_of, value_of}
 use Rattle.risc_devices.proofs.InputLemmas.{kind_fits, value_fits, mouse_word_fits}
 use Rattle.risc_machine.specs.declared.event.Event.{Event}
-use Rattle.risc_machine.specs.MachineState.{CpuState, IsCpuState}
+use Rattle.risc_machine.specs.MachineState.{CpuState}
 use Rattle.risc_pages.specs.Pages.{IsPage}
 use Rattle.risc_pages.specs.Tables.{zero_numbers, IsTable}
 use Rattle.oberon_format.specs.declared.change.Change.{Change}
 use Rattle.oberon_format.specs.declared.layout.TheConstants.{MAGIC, VERSION, HEADER_LEN, PAGE_LEN, EVENT_LEN, CHANGE_LEN, FRONT_LEN, MAGIC_AT, VERSION_AT, PAGES_AT, EVENTS_AT, CHECKPOINTS_AT, LAST_AT, KIND_AT, VALUE_AT, REGISTERS_AT, AUXILIARY_AT, COUNTER_AT, FLAGS_AT, STOP_AT, TIMER_AT, SWITCHES_AT, LEDS_AT, MOUSE_AT, SERIAL_AT, WAITING_AT, KEYS_AT, SENT_AT, RATE_AT, PHASE_AT, CHANGE_COUNT_AT, CHANGES_AT, NUMBER_AT}
 use Rattle.oberon_format.specs.declared.ranges.TheConstants.{MAX_KEYS}
-use Rattle.recording_limits.specs.declared.limits.TheConstants.{MAX_OUTPUT}
 use Rattle.oberon_format.specs.Changes.{changes, no_change}
 use Rattle.oberon_format.specs.CheckpointParts.{CheckpointParts, no_checkpoint}
 use Rattle.oberon_format.specs.Layout.{word_at, version, pages, events, checkpoints, page_offset, event_start, event_offset, change_offset, checkpoint_size, start, output_offset}
 use Rattle.oberon_format.specs.PartFields.{changes_laid, start_laid}
-use Rattle.oberon_format.specs.Recording.{RecordingParts, IsLawful, IsFit, checkpoint_at, table_before, output_of}
+use Rattle.oberon_format.specs.Formed.{IsWritable, AreWritable}
+use Rattle.oberon_format.specs.Recording.{RecordingParts, IsLawful, checkpoint_at, table_before, output_of}
 use Rattle.oberon_format.specs.inner.Spelling.{word_bytes, long_bytes, words_bytes, event_bytes, cpu_bytes, device_bytes, front_bytes, change_bytes, changes_bytes, changed_bytes, tail_bytes, checkpoint_bytes, checkpoints_bytes, header_bytes, spelling}
 use Rattle.oberon_format.specs.Text.{IsEvent, IsCpu, IsDevices, IsFront, IsChange, IsChanged, IsCheckpoint, IsLaidOut, TextIn}
 use Rattle.oberon_format.proofs.ChangeLemmas.{change_in, changes-few, changes-lawful, changes-new}
@@ -54,9 +54,10 @@ pub length-event_bytes : (e : Event) → length (event_bytes e) ≡ EVENT_LEN
 unfolding event_bytes
 length-event_bytes e = simp (length-append, length-long_bytes, length-word_bytes)
 
-pub cpu_stands : (text : List ℕ) (offset : ℕ) (cpu : CpuState) → IsCpuState cpu → Stands text (offset + REGISTERS_AT) (cpu_bytes cpu) → IsCpu text offset cpu
+cpu_stands : (text : List ℕ) (offset : ℕ) (c : CheckpointParts) → IsWritable c → Stands text (offset + REGISTERS_AT) (cpu_bytes c.cpu) → IsCpu text offset c.cpu
 unfolding cpu_bytes
-cpu_stands text offset cpu p s =
+cpu_stands text offset c p s =
+    let cpu = c.cpu in
     let r = words_bytes cpu.r in
     let h = word_bytes cpu.h in
     let pc = word_bytes cpu.pc in
@@ -67,8 +68,8 @@ cpu_stands text offset cpu p s =
     let pl = length-word_bytes cpu.pc in
     let fl = length-word_bytes (flags_number cpu.flags) in
     let below = p.counter in
-    let stops = p.stops in
-    let len = p.count in
+    let stops = p.stop in
+    let len = p.formed.registers in
     let s4 = stands_left text (offset + REGISTERS_AT) (r ++ h ++ pc ++ f) st s in
     let s3 = stands_left text (offset + REGISTERS_AT) (r ++ h ++ pc) f s4 in
     let s2 = stands_left text (offset + REGISTERS_AT) (r ++ h) pc s3 in
@@ -77,8 +78,8 @@ cpu_stands text offset cpu p s =
     let l3 : REGISTERS_AT + length (r ++ h ++ pc) ≡ FLAGS_AT = omega (arith, length-append (r ++ h) pc) in
     let l4 : REGISTERS_AT + length (r ++ h ++ pc ++ f) ≡ STOP_AT = omega (arith, length-append (r ++ h ++ pc) f) in
     record {
-      registers = words_stand text (offset + REGISTERS_AT) cpu.r (wide cpu.r p.registers) (stands_left text (offset + REGISTERS_AT) r h s2);
-      h = word_stands text (offset + AUXILIARY_AT) cpu.h (stands_behind text offset REGISTERS_AT AUXILIARY_AT r h s2 l1) p.auxiliary;
+      registers = words_stand text (offset + REGISTERS_AT) cpu.r (wide cpu.r p.formed.words) (stands_left text (offset + REGISTERS_AT) r h s2);
+      h = word_stands text (offset + AUXILIARY_AT) cpu.h (stands_behind text offset REGISTERS_AT AUXILIARY_AT r h s2 l1) p.formed.auxiliary;
       pc = word_stands text (offset + COUNTER_AT) cpu.pc (stands_behind text offset REGISTERS_AT COUNTER_AT (r ++ h) pc s3 l2) (omega arith);
       flags = word_stands text (offset + FLAGS_AT) (flags_number cpu.flags) (stands_behind text offset REGISTERS_AT FLAGS_AT (r ++ h ++ pc) f s4 l3) (flags_wide cpu);
       stop = word_stands text (offset + STOP_AT) cpu.stop (stands_behind text offset REGISTERS_AT STOP_AT (r ++ h ++ pc ++ f) st s l4) (omega arith);
@@ -145,10 +146,11 @@ unfolding cpu_bytes
 length-cpu_bytes cpu len = simp (length-append, length-word_bytes, length-words_bytes) (omega arith)
 
 -- what a checkpoint begins with
-front_stands : (text : List ℕ) (offset : ℕ) (pool : List (List ℕ)) (c : CheckpointParts) → IsFit pool c → length c.sent ≤ MAX_OUTPUT → Stands text offset (front_bytes c) → IsFront text offset c
+front_stands : (text : List ℕ) (offset : ℕ) (c : CheckpointParts) → IsWritable c → Stands text offset (front_bytes c) → IsFront text offset c
 unfolding front_bytes
-front_stands text offset pool c p few s =
-    let bounded = p.bounded in
+front_stands text offset c p s =
+    let bounded = p.count in
+    let few = p.sent in
     let a = long_bytes c.count in
     let b = cpu_bytes c.cpu in
     let d = device_bytes c.devices in
@@ -157,23 +159,23 @@ front_stands text offset pool c p few s =
     let s2 = stands_left text offset (a ++ b) d s3 in
     let z1 = length-long_bytes c.count in
     let l1 : length a ≡ REGISTERS_AT = omega arith in
-    let z2 = length-cpu_bytes c.cpu p.cpu.count in
+    let z2 = length-cpu_bytes c.cpu p.formed.registers in
     let l2 : length (a ++ b) ≡ TIMER_AT = omega (arith, length-append a b) in
-    let z3 = length-device_bytes c.devices p.devices.keys in
+    let z3 = length-device_bytes c.devices p.formed.devices.keys in
     let l3 : length (a ++ b ++ d) ≡ SENT_AT = omega (arith, length-append (a ++ b) d) in
     record {
       count = long_stands text offset c.count (stands_left text offset a b s2) (omega arith);
-      cpu = cpu_stands text offset c.cpu p.cpu (stands_right text offset REGISTERS_AT a b s2 l1);
-      devices = device_stands text offset c.devices p.devices (stands_right text offset TIMER_AT (a ++ b) d s3 l2);
+      cpu = cpu_stands text offset c p (stands_right text offset REGISTERS_AT a b s2 l1);
+      devices = device_stands text offset c.devices p.formed.devices (stands_right text offset TIMER_AT (a ++ b) d s3 l2);
       sent = word_stands text (offset + SENT_AT) (length c.sent) (stands_right text offset SENT_AT (a ++ b ++ d) e s l3) (omega arith);
     }
 
 -- which is as long in each version
-length-front_bytes : (pool : List (List ℕ)) (c : CheckpointParts) → IsFit pool c → length (front_bytes c) ≡ FRONT_LEN
+length-front_bytes : (c : CheckpointParts) → IsWritable c → length (front_bytes c) ≡ FRONT_LEN
 unfolding front_bytes
-length-front_bytes pool c p =
-    let z2 = length-cpu_bytes c.cpu p.cpu.count in
-    let z3 = length-device_bytes c.devices p.devices.keys in
+length-front_bytes c p =
+    let z2 = length-cpu_bytes c.cpu p.formed.registers in
+    let z3 = length-device_bytes c.devices p.formed.devices.keys in
     simp (length-append, length-word_bytes, length-long_bytes) (omega arith)
 
 -- a change
@@ -233,23 +235,23 @@ changed_stands text offset before c devices table s =
     }
 
 -- a checkpoint of version 2
-checkpoint_stands : (text : List ℕ) (offset : ℕ) (pool : List (List ℕ)) (before : List ℕ) (c : CheckpointParts) → IsFit pool c → length c.sent ≤ MAX_OUTPUT
+checkpoint_stands : (text : List ℕ) (offset : ℕ) (before : List ℕ) (c : CheckpointParts) → IsWritable c
     → Stands text offset (checkpoint_bytes VERSION before c) → IsCheckpoint VERSION text offset before c
 unfolding checkpoint_bytes tail_bytes
-checkpoint_stands text offset pool before c p few s =
+checkpoint_stands text offset before c p s =
     let f = front_bytes c in
     let t = tail_bytes VERSION before c in
     record {
-      front = front_stands text offset pool c p few (stands_left text offset f t s);
+      front = front_stands text offset c p (stands_left text offset f t s);
       in_first = λ is. absurd (omega arith);
-      in_second = λ is. changed_stands text offset before c p.devices p.table (stands_right text offset FRONT_LEN f t s (length-front_bytes pool c p));
+      in_second = λ is. changed_stands text offset before c p.formed.devices p.formed.table (stands_right text offset FRONT_LEN f t s (length-front_bytes c p));
     }
 
 -- whose length its changes tell
-length-checkpoint_bytes : (pool : List (List ℕ)) (before : List ℕ) (c : CheckpointParts) → IsFit pool c → length (checkpoint_bytes VERSION before c) ≡ checkpoint_size VERSION (changes_laid VERSION before c)
+length-checkpoint_bytes : (before : List ℕ) (c : CheckpointParts) → IsWritable c → length (checkpoint_bytes VERSION before c) ≡ checkpoint_size VERSION (changes_laid VERSION before c)
 unfolding checkpoint_bytes tail_bytes changed_bytes changes_bytes
-length-checkpoint_bytes pool before c p =
-    let front = length-front_bytes pool c p in
+length-checkpoint_bytes before c p =
+    let front = length-front_bytes c p in
     let all = length-flat_map change_bytes CHANGE_LEN (changes before c.table) (λ i d h. length-change_bytes (get_or (changes before c.table) i d)) in
     simp (length-append, length-word_bytes) (omega arith)
 
@@ -268,7 +270,7 @@ length-header_bytes : (r : RecordingParts) → length (header_bytes VERSION r) �
 unfolding header_bytes
 length-header_bytes r = simp (length-append, length-word_bytes)
 
-header_stands : (text : List ℕ) (r : RecordingParts) → IsLawful r → Stands text 0 (header_bytes VERSION r) → Header text r
+header_stands : (text : List ℕ) (r : RecordingParts) → AreWritable r → Stands text 0 (header_bytes VERSION r) → Header text r
 unfolding header_bytes
 header_stands text r p s =
     let few_pages = p.pages in
@@ -298,13 +300,12 @@ header_stands text r p s =
       z = word_stands text LAST_AT 0 (stands_from text LAST_AT (a ++ b ++ d ++ e ++ f) g s l5) (omega arith);
     }
 
--- the bytes of a lawful recording are laid out as its text
-laid_out : (r : RecordingParts) → IsLawful r → IsLaidOut VERSION (spelling VERSION r) r
+-- the bytes of parts whose numbers fit are laid out as their text
+pub laid_out : (r : RecordingParts) → AreWritable r → IsLaidOut VERSION (spelling VERSION r) r
 unfolding spelling start_laid
 laid_out r p =
     let cs = r.checkpoints in
-    let fits : (i : ℕ) → i < length cs → IsFit r.pool (checkpoint_at r i) = p.fit in
-    let sent : (i : ℕ) → i < length cs → length (checkpoint_at r i).sent ≤ MAX_OUTPUT = λ i h. let le = sent_le cs i no_checkpoint h in let limit = p.output in omega arith in
+    let fits : (i : ℕ) → i < length cs → IsWritable (checkpoint_at r i) = λ i h. p.checkpoints i no_checkpoint h in
     let H = header_bytes VERSION r in
     let P = flat_map words_bytes r.pool in
     let E = flat_map event_bytes r.inputs in
@@ -321,7 +322,7 @@ laid_out r p =
     let ne = length r.inputs in
     let page_len : (i : ℕ) (d : List ℕ) → i < length r.pool → length (words_bytes (get_or r.pool i d)) ≡ PAGE_LEN = λ i d h. length-page_bytes (get_or r.pool i d) (p.pool i d h) in
     let event_len : (i : ℕ) (d : Event) → i < length r.inputs → length (event_bytes (get_or r.inputs i d)) ≡ EVENT_LEN = λ i d h. length-event_bytes (get_or r.inputs i d) in
-    let spaced : AreSpaced offset VERSION zero_numbers cs = λ k h. ap (λ (n : ℕ). offset k + n) (sym (length-checkpoint_bytes r.pool (table_before cs k) (checkpoint_at r k) (fits k h))) in
+    let spaced : AreSpaced offset VERSION zero_numbers cs = λ k h. ap (λ (n : ℕ). offset k + n) (sym (length-checkpoint_bytes (table_before cs k) (checkpoint_at r k) (fits k h))) in
     let l1 : length H ≡ HEADER_LEN = length-header_bytes r in
     let lp = length-flat_map words_bytes PAGE_LEN r.pool page_len in
     let le = length-flat_map event_bytes EVENT_LEN r.inputs event_len in
@@ -334,7 +335,7 @@ laid_out r p =
     let events_at = each_stands event_bytes EVENT_LEN text (page_offset np) r.inputs event_len (stands_from text (page_offset np) (H ++ P) E s3 l2) in
     let blocks = blocks_stand VERSION text offset zero_numbers cs spaced (stands_from text (offset 0) (H ++ P ++ E) C s4 l3) in
     let stand : (k : ℕ) → k < length cs → IsCheckpoint VERSION text (offset k) (table_before cs k) (checkpoint_at r k) =
-    λ k h. checkpoint_stands text (offset k) r.pool (table_before cs k) (checkpoint_at r k) (fits k h) (sent k h) (blocks k h) in
+    λ k h. checkpoint_stands text (offset k) (table_before cs k) (checkpoint_at r k) (fits k h) (blocks k h) in
     let found : (k : ℕ) → k ≤ length cs → start text k ≡ offset k = start-found VERSION text r refl header.v header.p header.e stand in
     let end : output_offset text ≡ offset (length cs) = ap (start text) header.k ∙ found (length cs) (omega arith) in
     record {
@@ -354,6 +355,36 @@ laid_out r p =
       output = ap (λ (k : ℕ). drop k text) end ∙ drop_at (H ++ P ++ E ++ C) O (offset (length cs)) l4;
     }
 
--- and so they are its text
+-- the numbers of a lawful recording fit
+pub writable : (r : RecordingParts) → IsLawful r → AreWritable r
+writable r p =
+    let cs = r.checkpoints in
+    let few_pages = p.pages in
+    let few_events = p.events in
+    let few_checkpoints = p.few in
+    let limit = p.output in
+    let fits : (i : ℕ) → i < length cs → IsWritable (checkpoint_at r i) =
+    λ i h.
+        let fit = p.fit i h in
+        let bounded = fit.bounded in
+        let counter = fit.cpu.counter in
+        let stops = fit.cpu.stops in
+        let le = sent_le cs i no_checkpoint h in
+        record {
+          formed = record { registers = fit.cpu.count; words = fit.cpu.registers; auxiliary = fit.cpu.auxiliary; devices = fit.devices; table = fit.table; bytes = fit.bytes };
+          count = omega arith;
+          counter = omega arith;
+          stop = omega arith;
+          sent = omega arith;
+        } in
+    record {
+      pool = p.pool;
+      pages = omega arith;
+      events = omega arith;
+      few = omega arith;
+      checkpoints = λ i d h. subst IsWritable (get_or_default cs i no_checkpoint d h) (fits i h);
+    }
+
+-- and so its bytes are its text
 pub spelled : (r : RecordingParts) → IsLawful r → TextIn VERSION (spelling VERSION r) r
-spelled r lawful = record { lawful = lawful; laid = laid_out r lawful }
+spelled r lawful = record { lawful = lawful; laid = laid_out r (writable r lawful) }

@@ -1,8 +1,10 @@
--- What the types of a checkpoint's parts say of them, lawful or not.
+-- What the types of parts say of them, lawful or not, and which parts have numbers that fit the fields of a text.
 use Rattle.std.specs.Prelude.{ℕ, ◌≡◌, ◌<◌, ◌^◌, All, List, length, slice_index}
 use Rattle.risc_devices.specs.DeviceState.{IsDeviceState}
+use Rattle.risc_pages.specs.Pages.{ArePages}
 use Rattle.risc_pages.specs.Tables.{IsTable}
 use Rattle.oberon_format.specs.CheckpointParts.{CheckpointParts}
+use Rattle.oberon_format.specs.Recording.{RecordingParts}
 
 -- sixteen registers that hold words, a word in H, devices in their ranges, a table of 1,024 numbers, and bytes that were sent
 pub record IsFormed (c : CheckpointParts) : Type 0 where
@@ -16,3 +18,21 @@ pub record IsFormed (c : CheckpointParts) : Type 0 where
 -- it is so of each checkpoint
 abbrev pub AreFormed : List CheckpointParts → Type 0
 AreFormed checkpoints = All IsFormed checkpoints
+
+-- its other numbers fit the fields of a text: the count its eight bytes, and the program counter, the stop and the number of bytes
+-- that were sent four bytes each
+pub record IsWritable (c : CheckpointParts) : Type 0 where
+  pub formed : IsFormed c
+  pub count : c.count < 2 ^ 64
+  pub counter : c.cpu.pc < 2 ^ 32
+  pub stop : c.cpu.stop < 2 ^ 32
+  pub sent : length c.sent < 2 ^ 32
+
+-- all numbers of a recording's parts fit the fields of a text, whether they are lawful or not: the pages are pages, and their
+-- number, that of the inputs and that of the checkpoints fit four bytes each. What an input holds always fits
+pub record AreWritable (r : RecordingParts) : Type 0 where
+  pub pool : ArePages r.pool
+  pub pages : length r.pool < 2 ^ 32
+  pub events : length r.inputs < 2 ^ 32
+  pub few : length r.checkpoints < 2 ^ 32
+  pub checkpoints : All IsWritable r.checkpoints

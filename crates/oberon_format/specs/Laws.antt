@@ -3,7 +3,7 @@ use Rattle.std.specs.Prelude.{ℕ, ◌≡◌, ◌≤◌, ◌<◌, ◌↔◌, Lis
 use Rattle.risc_machine.specs.InputOrder.{AreOrdered}
 use Rattle.risc_pages.specs.Pages.{ArePages}
 use Rattle.oberon_format.specs.declared.layout.TheConstants.{LONGEST_TEXT, VERSION}
-use Rattle.oberon_format.specs.Formed.{AreFormed}
+use Rattle.oberon_format.specs.Formed.{AreFormed, AreWritable}
 use Rattle.oberon_format.specs.Line.{IsNamedFault}
 use Rattle.oberon_format.specs.Migration.{IsMigrated}
 use Rattle.oberon_format.specs.PartFields.{fault_of_parts}
@@ -43,6 +43,10 @@ HasTextOrFault = (text : List ℕ) → AreBytes text → MatchOption (first_faul
 -- the first fault of a text is one of the eight, and never want of memory
 abbrev pub HasNamedFault : Type 0
 HasNamedFault = (text : List ℕ) → IfSome (first_fault_of text) IsNamedFault
+
+-- parts whose numbers fit their fields, lawful or not, have a text that is laid out of them
+abbrev pub HasTextOfParts : Type 0
+HasTextOfParts = (r : RecordingParts) → AreWritable r → (text : List ℕ) × AreBytes text × IsLaidOut VERSION text r
 
 -- a text that is laid out of parts, in the version that is written, has the fault of the parts
 abbrev pub HasFaultOfParts : Type 0

@@ -5,7 +5,6 @@ ghost use Rattle.risc_pages.specs.Tables.{zero_numbers};
 ghost use Rattle.oberon_format.specs.CheckpointParts.{checkpoint_parts};
 ghost use Rattle.oberon_format.specs.Recording.{table_before};
 
-use crate::sent::Sent;
 use risc_devices::Devices;
 use risc_machine::Cpu;
 use risc_pages::Table;
@@ -21,7 +20,7 @@ pub struct Checkpoint {
     /// The devices.
     pub devices: Devices,
     /// The bytes sent since the checkpoint before.
-    pub sent: Sent,
+    pub sent: Vec<u8>,
     /// The memory: the page number of each of its 1,024 places, over the recording's pool.
     pub table: Table,
 }

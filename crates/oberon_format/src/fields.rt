@@ -106,7 +106,7 @@ impl CheckpointFields {
             serial: devices.serial() as u32,
             waiting: devices.keys().len() as u32,
             keys: key_bytes(devices),
-            output: checkpoint.sent.bytes().len() as u64,
+            output: checkpoint.sent.len() as u64,
             rate: devices.rate(),
             phase: devices.phase(),
             changes: change_count(before, &checkpoint.table),

@@ -1,6 +1,6 @@
 //! What the types of a checkpoint's parts say of them. Each function here only reads.
 
-ghost use Rattle.std.specs.Prelude.{map};
+ghost use Rattle.std.specs.Prelude.{◌<◌, ◌^◌, All, map};
 ghost use Rattle.oberon_format.specs.CheckpointParts.{checkpoint_parts};
 ghost use Rattle.oberon_format.specs.Formed.{IsFormed, AreFormed};
 
@@ -12,7 +12,7 @@ pub(crate) fn formed_law(checkpoint: &Checkpoint)
 {
     let _cpu = &checkpoint.cpu;
     let _timer = checkpoint.devices.timer();
-    let _bytes = checkpoint.sent.bytes();
+    bytes_fit(&checkpoint.sent);
     let _numbers = checkpoint.table.numbers();
 }
 
@@ -24,3 +24,8 @@ pub(crate) fn all_formed_law(checkpoints: &[Checkpoint])
         formed_law(checkpoint);
     }
 }
+
+/// Each byte is a number below 256, as its type says.
+fn bytes_fit(bytes: &[u8])
+    ensures { All (λ byte. byte < 2 ^ 8) bytes.now }
+{}

@@ -1,7 +1,7 @@
 //! Laws of the format, over its definitions alone.
 
 ghost use Rattle.oberon_format.specs.Numbers.{HasNumbers};
-ghost use Rattle.oberon_format.specs.Laws.{HasOneRecording, HasOneText, HasOneTextAtMost, HasReadBack, HasWrittenBack, IsMigratedOnce, HasTextOrFault, HasFaultOfParts, HasNamedFault, HasLongestText, HasFaultWithin, IsMadeOfParts};
+ghost use Rattle.oberon_format.specs.Laws.{HasOneRecording, HasOneText, HasOneTextAtMost, HasReadBack, HasWrittenBack, IsMigratedOnce, HasTextOrFault, HasFaultOfParts, HasTextOfParts, HasNamedFault, HasLongestText, HasFaultWithin, IsMadeOfParts};
 
 /// Each length, offset and limit by its value.
 pub fn numbers_law()
@@ -56,6 +56,11 @@ pub fn longest_text_law()
 /// A text that is longer than `LONGEST_TEXT` bytes has the same first fault where it is cut off behind them.
 pub fn cut_text_law()
     ensures { HasFaultWithin }
+{}
+
+/// Parts whose numbers fit their fields, lawful or not, have a text of version 2 that is laid out of them.
+pub fn text_of_parts_law()
+    ensures { HasTextOfParts }
 {}
 
 /// A text of version 2 that is laid out of parts, lawful or not, has the first fault of these parts.

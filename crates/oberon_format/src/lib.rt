@@ -3,7 +3,8 @@
 //! A recording is a pool of pages, a list of inputs with their counts, and checkpoints that claim what the machine is at their
 //! counts. Each recording has exactly one text of version 2, and at most one of version 1; both formats are this project's own.
 //! Here a text of either version is read or refused with its first fault, a recording is made of parts or refused with the first
-//! fault of their text, and a recording is written. Whether a checkpoint's claim is true is not known here: `Defined` in `specs/` says what that means.
+//! fault of their text, and a recording is written. Whether a checkpoint's claim is true is not known here: `Defined` in `specs/`
+//! says what that means.
 #![tactic(auto)]
 
 mod change;
@@ -22,7 +23,6 @@ mod ranges;
 mod reading;
 mod recording;
 mod rules;
-mod sent;
 mod writing;
 
 pub use checkpoint::Checkpoint;
@@ -30,7 +30,7 @@ pub use fault::Fault;
 pub use laws::{
     cut_text_law, fault_of_parts_law, lawful_parts_law, longest_text_law, migrated_again_law,
     named_fault_law, numbers_law, one_recording_law, one_text_at_most_law, one_text_law,
-    read_back_law, text_or_fault_law, written_back_law,
+    read_back_law, text_of_parts_law, text_or_fault_law, written_back_law,
 };
 pub use layout::{LONGEST_TEXT, VERSION};
 pub use line::refusal;
@@ -39,5 +39,4 @@ pub use reading::read;
 pub use recording::Recording;
 pub use recording_limits::{LAST_CHECKPOINT, MAX_EVENTS, MAX_OUTPUT, MAX_PAGES};
 pub use risc_machine::MAX_COUNT;
-pub use sent::Sent;
 pub use writing::write;

@@ -27,7 +27,6 @@ use crate::layout::{
 use crate::number::{u32_at, u64_at};
 use crate::recording::Recording;
 use crate::rules::test_text;
-use crate::sent::Sent;
 use risc_devices::{Devices, Input};
 use risc_machine::{Cpu, Event, Flags, Inputs};
 use risc_pages::{Page, Pool, Table};
@@ -234,7 +233,7 @@ fn checkpoint_of(
     ensures rate { IfOk result (λ c. c.devices.rate ≡ later_word text.now (offset + RATE_AT)) }
     ensures phase { IfOk result (λ c. c.devices.phase ≡ later_word text.now (offset + PHASE_AT)) }
     ensures table { IfOk result (λ c. c.table ≡ table.now) }
-    ensures sent { IfOk result (λ c. c.sent ≡ slice_range text.now from (from + word_at text.now (offset + SENT_AT))) }
+    ensures sent { IfOk result (λ c. c.sent.items ≡ slice_range text.now from (from + word_at text.now (offset + SENT_AT))) }
 {
     let len = u32_at(text, offset + SENT_AT) as usize;
     let sent = Vec::from_slice(alloc, &text[from..from + len])?;
@@ -242,7 +241,7 @@ fn checkpoint_of(
         count: u64_at(text, offset),
         cpu: cpu_of(text, offset),
         devices: devices_of(text, offset),
-        sent: Sent::new(sent),
+        sent,
         table: table.copy(),
     })
 }

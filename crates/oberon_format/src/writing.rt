@@ -66,7 +66,7 @@ fn output_len(r: &Recording) -> usize
 {
     let mut total = 0;
     for k in 0..r.count() {
-        total += r.checkpoint(k).sent.bytes().len();
+        total += r.checkpoint(k).sent.len();
     }
     total
 }
@@ -173,13 +173,13 @@ fn push_devices(out: &mut Vec<u8>, devices: &Devices) -> Result<(), AllocError>
 /// Adds what a checkpoint begins with.
 #[tactic(auto, unfolding(crate::specs::inner::Spelling::front_bytes))]
 fn push_front(out: &mut Vec<u8>, checkpoint: &Checkpoint) -> Result<(), AllocError>
-    requires { length checkpoint.now.sent ≤ MAX_OUTPUT }
+    requires { length checkpoint.now.sent.items ≤ MAX_OUTPUT }
     ensures { OnOk result (out.new.items ≡ out.old.items ++ front_bytes (checkpoint_parts checkpoint.now)) }
 {
     push_long(out, checkpoint.count)?;
     push_cpu(out, &checkpoint.cpu)?;
     push_devices(out, &checkpoint.devices)?;
-    push_word(out, checkpoint.sent.bytes().len() as u32)
+    push_word(out, checkpoint.sent.len() as u32)
 }
 
 /// Adds the number of changes from one table to another, and each of them.
@@ -212,7 +212,7 @@ fn push_checkpoint(
     before: &Table,
     checkpoint: &Checkpoint,
 ) -> Result<(), AllocError>
-    requires { length checkpoint.now.sent ≤ MAX_OUTPUT }
+    requires { length checkpoint.now.sent.items ≤ MAX_OUTPUT }
     ensures { OnOk result (out.new.items ≡ out.old.items ++ checkpoint_bytes VERSION before.now (checkpoint_parts checkpoint.now)) }
 {
     push_front(out, checkpoint)?;
@@ -238,7 +238,7 @@ fn push_output(out: &mut Vec<u8>, r: &Recording) -> Result<(), AllocError>
     ensures { OnOk result (out.new.items ≡ out.old.items ++ output_of r.now.checkpoints) }
 {
     for k in 0..r.count() {
-        out.extend_from_slice(r.checkpoint(k).sent.bytes())?;
+        out.extend_from_slice(&r.checkpoint(k).sent)?;
     }
     Ok(())
 }

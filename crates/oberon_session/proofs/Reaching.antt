@@ -126,7 +126,7 @@ module _ {s : SessionParts} {k : ℕ} {laid : Laid} (checkpoints : List Checkpoi
             ∙ sym (laid_of-next s k)
 
         -- as much is sent as may be
-        module _ (room : length r.sent ≤ MAX_OUTPUT - sent) where
+        module _ (room : length r.sent.items ≤ MAX_OUTPUT - sent) where
           few-bytes : length (output_up_to s (count_of s (k + 1))) ≤ MAX_OUTPUT
           few-bytes = omega (arith, few-sent, whole-output, ap length reached.output)
 
@@ -137,7 +137,7 @@ module _ {s : SessionParts} {k : ℕ} {laid : Laid} (checkpoints : List Checkpoi
 
           -- the next checkpoint is recorded
           module _ (pages : length laid'.pool ≤ MAX_PAGES) (pool : ArePages laid'.pool)
-              (devices : IsDeviceState r.devices) (bytes : All (λ byte. byte < 2 ^ 8) r.sent) where
+              (devices : IsDeviceState r.devices) (bytes : All (λ byte. byte < 2 ^ 8) r.sent.items) where
             good : IsGoodNext s k
             good =
                 let sent-so = reached.output ∙ output-reached in
@@ -152,14 +152,14 @@ module _ {s : SessionParts} {k : ℕ} {laid : Laid} (checkpoints : List Checkpoi
                 }
 
             pub recorded-more : (items : List Checkpoint) (new : Checkpoint) → items ≡ checkpoints ++ new ∷ []
-                → checkpoint_parts new ≡ record { count = count; cpu = cpu_state r.cpu; devices = r.devices; sent = r.sent; table = laid'.table }
-                → (long : ℕ) → long ≡ sent + length r.sent → IsRecorded s (k + 1) laid' (map checkpoint_parts items) long
+                → checkpoint_parts new ≡ record { count = count; cpu = cpu_state r.cpu; devices = r.devices; sent = r.sent.items; table = laid'.table }
+                → (long : ℕ) → long ≡ sent + length r.sent.items → IsRecorded s (k + 1) laid' (map checkpoint_parts items) long
             recorded-more items new pushed new-so long long-so =
                 let after : Recorded s (k + 1) = recorded-next s lawful k within (recorded-so s laid (map checkpoint_parts checkpoints) sent k so) good in
                 let cpu = reached.cpu ∙ ap (λ (t : State). t.cpu) state-reached in
                 let devices-so = reached.devices ∙ ap (λ (t : State). t.devices) state-reached in
                 let is : checkpoint_parts new ≡ checkpoint_of s (k + 1) =
-                new-so ∙ checkpoint-is s k count (cpu_state r.cpu) r.devices r.sent laid'.table next cpu devices-so (reached.output ∙ output-reached) (ap (λ (l : Laid). l.table) laid-next) in
+                new-so ∙ checkpoint-is s k count (cpu_state r.cpu) r.devices r.sent.items laid'.table next cpu devices-so (reached.output ∙ output-reached) (ap (λ (l : Laid). l.table) laid-next) in
                 let all = ap (map checkpoint_parts) pushed ∙ map-append checkpoint_parts checkpoints (new ∷ [])
                 ∙ ap (λ (l : List CheckpointParts). l ++ checkpoint_parts new ∷ []) so.recorded
                 ∙ ap (λ (c : CheckpointParts). checkpoints_to s k ++ c ∷ []) is ∙ sym (checkpoints-more s k) in

@@ -1,6 +1,6 @@
 //! The recorder: the recording of a session.
 
-ghost use Rattle.std.specs.Prelude.{◌≡◌, ◌≢◌, ◌+◌, ◌<◌, ℕ, length, None, Some, IfOk, IfErr, OnOk};
+ghost use Rattle.std.specs.Prelude.{◌≡◌, ◌≢◌, ◌+◌, ◌<◌, ◌^◌, ℕ, All, length, None, Some, IfOk, IfErr, OnOk};
 ghost use Rattle.risc_devices.specs.DeviceState.{IsPhase};
 ghost use Rattle.oberon_format.specs.Defined.{IsTrueAt};
 ghost use Rattle.oberon_format.specs.Recording.{parts_of, IsLawful};
@@ -11,7 +11,7 @@ use crate::laying::{LaidPages, lay_first, lay_pages};
 use crate::record_fault::RecordFault;
 use crate::session::Session;
 use crate::way::reach;
-use oberon_format::{Checkpoint, MAX_OUTPUT, MAX_PAGES, Recording, Sent};
+use oberon_format::{Checkpoint, MAX_OUTPUT, MAX_PAGES, Recording};
 use risc_devices::Devices;
 use risc_machine::Inputs;
 use risc_pages::Pool;
@@ -56,7 +56,7 @@ fn begin(alloc: Global, session: &Session) -> Result<Recorder, RecordFault>
         count: 0,
         cpu: session.cpu(),
         devices: first_devices(session.rate(), session.phase()),
-        sent: Sent::new(Vec::new(alloc)),
+        sent: Vec::new(alloc),
         table: laid.table.copy(),
     };
     let mut checkpoints = Vec::with_capacity(alloc, session.counts().len() + 1)?;
@@ -100,7 +100,9 @@ fn record_next(
     if recorder.laid.pool.len() > MAX_PAGES {
         return Err(RecordFault::Pages);
     }
-    recorder.sent += reached.sent.bytes().len();
+    let sent: &[u8] = &reached.sent;
+    bytes_fit(sent);
+    recorder.sent += sent.len();
     // Each read of devices says that they are in their ranges.
     let _timer = reached.devices.timer();
     recorder.checkpoints.push(Checkpoint {
@@ -112,6 +114,11 @@ fn record_next(
     })?;
     Ok(())
 }
+
+/// Each byte is a number below 256, as its type says.
+fn bytes_fit(bytes: &[u8])
+    ensures { All (λ byte. byte < 2 ^ 8) bytes.now }
+{}
 
 /// The recording of all that was recorded.
 fn finish(alloc: Global, inputs: &Inputs, recorder: Recorder) -> Result<Recording, RecordFault>

@@ -9,7 +9,7 @@ ghost use Rattle.oberon_format.specs.CheckpointParts.{checkpoint_parts};
 ghost use Rattle.oberon_session.specs.inner.Progress.{HasReached, SendsTooMuch, sent_on};
 
 use crate::record_fault::RecordFault;
-use oberon_format::{Checkpoint, Sent};
+use oberon_format::Checkpoint;
 use risc_devices::Devices;
 use risc_machine::{Cpu, Inputs, Machine};
 use risc_pages::{Page, Pool};
@@ -23,7 +23,7 @@ const PIECE: u64 = 1_048_576;
 pub struct Reached {
     pub cpu: Cpu,
     pub devices: Devices,
-    pub sent: Sent,
+    pub sent: Vec<u8>,
     pub changed: Vec<(u16, Page)>,
 }
 
@@ -41,7 +41,7 @@ pub fn reach(
     requires stop { last.now.cpu.stop ≤ 4 }
     requires rises { last.now.count ≤ to }
     ensures reached { IfOk result (HasReached pool.now inputs.now (checkpoint_parts last.now) to) }
-    ensures room { IfOk result (λ reached. length reached.sent ≤ room) }
+    ensures room { IfOk result (λ reached. length reached.sent.items ≤ room) }
     ensures refused { IfErr result (SendsTooMuch room (sent_on pool.now inputs.now (checkpoint_parts last.now) to)) }
 {
     let mut machine = Machine::start(alloc, pool, &last.table, last.cpu, last.devices.copy())?;
@@ -52,7 +52,7 @@ pub fn reach(
     Ok(Reached {
         cpu,
         devices,
-        sent: Sent::new(sent),
+        sent,
         changed: delta.changed,
     })
 }

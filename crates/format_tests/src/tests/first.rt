@@ -109,7 +109,7 @@ fn is_same_checkpoint(other: &Checkpoint, one: &Checkpoint) -> bool {
         && other.cpu == one.cpu
         && are_same_devices(&other.devices, &one.devices)
         && other.devices.rate() == 0
-        && other.sent.bytes() == one.sent.bytes()
+        && other.sent.as_slice() == one.sent.as_slice()
         && other.table.numbers() == one.table.numbers()
 }
 
@@ -168,7 +168,7 @@ fn is_stored_end(last: &Checkpoint) -> bool {
         && last.cpu.r[0] == 5
         && last.cpu.pc == 100
         && last.devices.timer() == 0
-        && last.sent.bytes().is_empty()
+        && last.sent.is_empty()
         && last.table.entry(0) == 1
 }
 

@@ -1,6 +1,6 @@
 //! Recordings made of parts: each rule that parts can break, broken once.
 
-use oberon_format::{Checkpoint, Fault, Recording, Sent};
+use oberon_format::{Checkpoint, Fault, Recording};
 use risc_devices::{Devices, Input};
 use risc_machine::{Cpu, Event, Flags, Inputs};
 use risc_pages::{Page, Pool, Table};
@@ -33,7 +33,7 @@ fn checkpoint(rt: &impl Abort, alloc: Global, row: Row) -> Result<Checkpoint, Al
             stop,
         },
         devices: Devices::new(0, 0, 0, 0, 0, 0, 0, &[]).expect(rt, "the parts are in range"),
-        sent: Sent::new(vec![in alloc; 0; sent]?),
+        sent: vec![in alloc; 0; sent]?,
         table,
     })
 }

@@ -67,7 +67,7 @@ fn has_timers(first: &Checkpoint, last: &Checkpoint) -> bool {
         && first.devices.phase() == 24_999
         && last.devices.timer() == 9
         && last.devices.phase() == 9
-        && last.sent.bytes() == [0x41, 0x42].as_slice()
+        && last.sent.as_slice() == [0x41, 0x42].as_slice()
 }
 
 /// Checks the two checkpoints of the five changes.

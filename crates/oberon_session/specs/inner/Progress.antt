@@ -29,7 +29,7 @@ page_view c = (c.0, c.1.words)
 pub record IsReached (begun : List ℕ) (state : State) (sent : List ℕ) (r : Reached) : Type 0 where
   pub cpu : cpu_state r.cpu ≡ state.cpu
   pub devices : r.devices ≡ state.devices
-  pub output : r.sent ≡ sent
+  pub output : r.sent.items ≡ sent
   pub changed : map page_view r.changed.items ≡ changed_pages begun state.words
   pub range : IsCpuState state.cpu
   pub whole : length state.words ≡ 262144

@@ -140,7 +140,7 @@ fn records_a_timer_that_counts(rt: HostRuntime) -> Result<(), Fail> {
 /// Checks how many bytes the last of two checkpoints says were sent.
 fn check_sent(rt: &impl Abort, recording: &Recording, sent: usize) {
     assert!(rt; recording.count() == 2);
-    assert!(rt; recording.checkpoint(1).sent.bytes().len() == sent);
+    assert!(rt; recording.checkpoint(1).sent.len() == sent);
 }
 
 /// Why there is no recording of a session whose first page begins with these digits, with checkpoints at these counts.

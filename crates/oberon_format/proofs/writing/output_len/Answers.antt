@@ -8,6 +8,6 @@ overflow_add-total c =
     let cs = c.args.r.now.checkpoints in
     let k = c.loop-k.k in
     let below = length-flat_map-take (λ (x : CheckpointParts). x.sent) cs k no_checkpoint (omega arith) in
-    let own : length c.bytes.result.now ≡ length (get_or cs k no_checkpoint).sent = ap (λ (l : List ℕ). length l) c.bytes.ensures.sent ∙ ap (λ (x : CheckpointParts). length x.sent) c.checkpoint.ensures.checkpoint in
+    let own : length c.checkpoint.result.now.sent.items ≡ length (get_or cs k no_checkpoint).sent = ap (λ (x : CheckpointParts). length x.sent) c.checkpoint.ensures.checkpoint in
     let limit = c.checkpoint.ensures.lawful.output in
     omega arith

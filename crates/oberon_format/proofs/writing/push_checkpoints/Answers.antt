@@ -21,7 +21,7 @@ push_checkpoint-requires c =
     let e = c.index-checkpoints-k.result in
     let len = length-map cs checkpoint_parts in
     let below = sent_le (map checkpoint_parts cs) k no_checkpoint (omega arith) in
-    let own : length (get_or (map checkpoint_parts cs) k no_checkpoint).sent ≡ length e.sent = ap (λ (x : CheckpointParts). length x.sent) (checkpoint_at-is cs k e c.loop-k-test.true c.index-checkpoints-k.is) in
+    let own : length (get_or (map checkpoint_parts cs) k no_checkpoint).sent ≡ length e.sent.items = ap (λ (x : CheckpointParts). length x.sent) (checkpoint_at-is cs k e c.loop-k-test.true c.index-checkpoints-k.is) in
     let limit = c.requires in
     omega arith
 

@@ -23,9 +23,9 @@ returns-clause-recorded c =
     let s = c.args.session.now in
     let laid-so = c.in_ok-laid.ensures ∙ ap first_laid c.pages.ensures.pages in
     let table = c.copy.ensures ∙ ap (λ (l : Laid). l.table) laid-so in
-    let sent = c.new-2.ensures ∙ c.new.ensures.items in
+    let sent = c.new.ensures.items in
     let devices = c.first_devices.ensures ∙ ap₂ first_devices c.rate.ensures.rate c.phase.ensures.phase in
     let pushed = rw c.in_ok-checkpoints.ensures.items at c.in_ok-push.ensures.items in
     so-first s c.pages.ensures.lawful (laid_view c.in_ok-laid.laid) laid-so (map checkpoint_parts c.push.new.self.items)
     (ap (map checkpoint_parts) pushed
-    ∙ one-checkpoint s (cpu_state c.cpu.result) c.first_devices.result c.new-2.result c.copy.result c.cpu.ensures.cpu devices sent table)
+    ∙ one-checkpoint s (cpu_state c.cpu.result) c.first_devices.result c.new.result.items c.copy.result c.cpu.ensures.cpu devices sent table)

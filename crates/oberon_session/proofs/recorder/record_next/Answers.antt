@@ -56,11 +56,12 @@ returns-then-len-gt-MAX_PAGES-clause-refused c =
 pub returns-clause-recorded : goal.returns-clause-recorded
 returns-clause-recorded c =
     let laid-so = rw c.deref.ensures.value at c.in_ok-lay_pages.ensures in
+    let bytes = rw c.deref-sent.ensures.value at c.bytes_fit.ensures in
     let r = c.in_ok-reached.reached in
     let count : ℕ = get_or c.counts.result.now c.args.k 0 in
     recorded-more _ c.requires.recorded c.index-last.ensures c.counts.ensures.lawful c.requires.inside
     c.inputs.ensures.inputs (next-count c.args.session.now c.args.k c.counts.ensures.counts) c.in_ok-reached.ensures.reached laid-so c.in_ok-reached.ensures.room
-    (omega arith) c.len.ensures.pages c.timer-timer.ensures.ranges c.bytes.ensures.bytes
+    (omega arith) c.len.ensures.pages c.timer-timer.ensures.ranges bytes
     c.push.new.self.items _ c.in_ok-push.ensures.items
-    (ap (λ (table : List ℕ). record { count = count; cpu = cpu_state r.cpu; devices = r.devices; sent = r.sent; table = table }) c.copy.ensures)
-    (c.args.recorder.now.sent + length c.bytes.result.now) (ap (λ (l : List ℕ). c.args.recorder.now.sent + length l) c.bytes.ensures.sent)
+    (ap (λ (table : List ℕ). record { count = count; cpu = cpu_state r.cpu; devices = r.devices; sent = r.sent.items; table = table }) c.copy.ensures)
+    (c.args.recorder.now.sent + length c.deref-sent.result.now) (ap (λ (l : List ℕ). c.args.recorder.now.sent + length l) c.deref-sent.ensures.value)

@@ -22,7 +22,7 @@ returns-clause-reached c =
     record {
       cpu = c.in_ok-cpu.ensures.cpu ∙ ap (λ (s : State). s.cpu) state;
       devices = c.in_ok-cpu.ensures.devices ∙ ap (λ (s : State). s.devices) state;
-      output = c.new.ensures ∙ c.in_ok-sent.ensures.sent ∙ ap (λ (s : State). sent_of es from steps s) begun;
+      output = c.in_ok-sent.ensures.sent ∙ ap (λ (s : State). sent_of es from steps s) begun;
       changed = changes _ _ c.in_ok-cpu.delta.changed.items (rw (base, last-words) at delta);
       range = subst IsCpuState (c.in_ok-cpu.ensures.cpu ∙ ap (λ (s : State). s.cpu) state) c.in_ok-cpu.ensures.range;
       whole = ap (λ (l : List ℕ). length l) (sym last-words ∙ sym c.memory.ensures.words) ∙ c.owned-owned.ensures.memory.words;
