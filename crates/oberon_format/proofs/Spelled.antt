@@ -365,18 +365,18 @@ writable r p =
     let limit = p.output in
     let fits : (i : ℕ) → i < length cs → IsWritable (checkpoint_at r i) =
     λ i h.
-        let fit = p.fit i h in
-        let bounded = fit.bounded in
-        let counter = fit.cpu.counter in
-        let stops = fit.cpu.stops in
-        let le = sent_le cs i no_checkpoint h in
-        record {
-          formed = record { registers = fit.cpu.count; words = fit.cpu.registers; auxiliary = fit.cpu.auxiliary; devices = fit.devices; table = fit.table; bytes = fit.bytes };
-          count = omega arith;
-          counter = omega arith;
-          stop = omega arith;
-          sent = omega arith;
-        } in
+    let fit = p.fit i h in
+    let bounded = fit.bounded in
+    let counter = fit.cpu.counter in
+    let stops = fit.cpu.stops in
+    let le = sent_le cs i no_checkpoint h in
+    record {
+      formed = record { registers = fit.cpu.count; words = fit.cpu.registers; auxiliary = fit.cpu.auxiliary; devices = fit.devices; table = fit.table; bytes = fit.bytes };
+      count = omega arith;
+      counter = omega arith;
+      stop = omega arith;
+      sent = omega arith;
+    } in
     record {
       pool = p.pool;
       pages = omega arith;

@@ -14,7 +14,7 @@ const START: &str =
     "{\"format\":\"oberon-session\",\"version\":1,\"start\":{\"R\":[0,0,0,0,0,0,0,0,0,0,0,0,0,0,0,0],\"H\":0,\"PC\":0,\"flags\":0},";
 
 /// What follows, and the first fault of the whole.
-const FAULTS_AFTER_START: [(&str, SessionFault); 29] = [
+const FAULTS_AFTER_START: [(&str, SessionFault); 30] = [
     // one rule broken
     (
         "\"pages\":[{\"at\":0,\"hex\":\"05000040\"}],\"inputs\":[],\"checkpoints\":[100]",
@@ -35,6 +35,10 @@ const FAULTS_AFTER_START: [(&str, SessionFault); 29] = [
     (
         "\"pages\":[],\"inputs\":[],\"checkpoints\":[1e2]}",
         SessionFault::Shape,
+    ),
+    (
+        "\"pages\":[],\"inputs\":[],\"checkpoints\":[1e400]}",
+        SessionFault::Json,
     ),
     (
         "\"pages\":[],\"inputs\":[],\"checkpoints\":[\"1\"]}",
