@@ -51,13 +51,13 @@ start_members version = if version == 1 then 4 else 6
 abbrev pub start_of : ℕ → Data → Option Start
 start_of version json = do
   start ← exactly (start_members version) json
-  registers ← get (codes "R") start >>= numbers_of
-  sixteen ← only_if (length registers == 16) registers
   h ← get (codes "H") start >>= number_of
   pc ← get (codes "PC") start >>= number_of
   flags ← get (codes "flags") start >>= number_of
   rate ← since_2 version (codes "rate") start
   phase ← since_2 version (codes "phase") start
+  registers ← get (codes "R") start >>= numbers_of
+  sixteen ← only_if (length registers == 16) registers
   Some (record { registers = sixteen; h = h; pc = pc; flags = flags; rate = rate; phase = phase })
 
 -- an object of exactly a number, at, and a text, hex
@@ -97,17 +97,32 @@ pages_of json = items_of json >>= each page_of
 abbrev pub inputs_of : Data → Option (List InputNumbers)
 inputs_of json = items_of json >>= each input_of
 
+-- the version, and the values of the members that say something
+pub record Members : Type 0 where
+  pub version : ℕ
+  pub start : Data
+  pub pages : Data
+  pub inputs : Data
+  pub checkpoints : Data
+
 -- an object of exactly format and version, which are given, start, pages, inputs and checkpoints
-abbrev pub draft_of : Data → Option Draft
-draft_of json = do
+abbrev pub members_of : Data → Option Members
+members_of json = do
   session ← exactly 6 json
   format ← get (codes "format") session >>= text_of
   named ← only_if (bytes_eq format (codes "oberon-session")) format
   version ← get (codes "version") session >>= version_of
-  start ← get (codes "start") session >>= start_of version
-  pages ← get (codes "pages") session >>= pages_of
-  inputs ← get (codes "inputs") session >>= inputs_of
-  checkpoints ← get (codes "checkpoints") session >>= numbers_of
-  Some (record { start = start; pages = pages; inputs = inputs; checkpoints = checkpoints })
+  start ← get (codes "start") session
+  pages ← get (codes "pages") session
+  inputs ← get (codes "inputs") session
+  checkpoints ← get (codes "checkpoints") session
+  Some (record { version = version; start = start; pages = pages; inputs = inputs; checkpoints = checkpoints })
 
--- ---- what the program's values say
+abbrev pub draft_of : Data → Option Draft
+draft_of json = do
+  members ← members_of json
+  start ← start_of members.version members.start
+  pages ← pages_of members.pages
+  inputs ← inputs_of members.inputs
+  checkpoints ← numbers_of members.checkpoints
+  Some (record { start = start; pages = pages; inputs = inputs; checkpoints = checkpoints })

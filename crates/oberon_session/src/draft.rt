@@ -2,6 +2,8 @@
 
 ghost use Rattle.std.specs.Prelude.{◌≡◌, length};
 
+use serde_json::Value;
+
 /// An input: its count, the number of its kind, and its value.
 #[derive(Clone, Copy, Debug)]
 pub struct InputDraft {
@@ -15,6 +17,16 @@ pub struct InputDraft {
 pub struct PageDraft<'a> {
     pub at: u64,
     pub hex: &'a str,
+}
+
+/// The members of a session that say something: its version, and the values of the others.
+#[derive(Clone, Copy)]
+pub struct Members<'a> {
+    pub version: u64,
+    pub start: &'a Value,
+    pub pages: &'a Value,
+    pub inputs: &'a Value,
+    pub checkpoints: &'a Value,
 }
 
 /// The numbers of the first state.

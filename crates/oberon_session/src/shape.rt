@@ -2,29 +2,42 @@
 
 ghost use Rattle.std.specs.Prelude.{◌≡◌, map};
 ghost use Rattle.serde_json.specs.View.{view};
-ghost use Rattle.oberon_session.specs.inner.Drafts.{Gives, draft_view, input_view, page_view, start_view};
-ghost use Rattle.oberon_session.specs.Draft.{draft_of, input_of, inputs_of, kind_of, page_of, pages_of, since_2, start_members, start_of, version_of};
+ghost use Rattle.oberon_session.specs.inner.Drafts.{Gives, draft_view, input_view, members_view, page_view, start_view};
+ghost use Rattle.oberon_session.specs.Draft.{draft_of, input_of, inputs_of, kind_of, members_of, page_of, pages_of, since_2, start_members, start_of, version_of};
 
 use crate::SessionFault;
-use crate::draft::{Draft, InputDraft, PageDraft, StartDraft};
+use crate::draft::{Draft, InputDraft, Members, PageDraft, StartDraft};
 use crate::walk::{exactly, items, member, number, numbers, text};
 use serde_json::Value;
 use std::alloc::Global;
 
-/// The whole session.
+/// The whole session. Its members are looked up before anything is made of them: what would drop the first parts at
+/// each exit between costs the prover more than all the rest.
 pub fn read_draft<'a>(alloc: Global, value: &'a Value) -> Result<Draft<'a>, SessionFault>
     ensures { Gives draft_view (draft_of (view value.now)) result }
+{
+    let members = members(value)?;
+    Ok(Draft {
+        start: start(alloc, members.start, members.version)?,
+        pages: pages(alloc, members.pages)?,
+        inputs: inputs(alloc, members.inputs)?,
+        checkpoints: numbers(alloc, members.checkpoints)?,
+    })
+}
+
+fn members(value: &Value) -> Result<Members<'_>, SessionFault>
+    ensures { Gives members_view (members_of (view value.now)) result }
 {
     let session = exactly(value, 6)?;
     if text(member(session, "format")?)? != "oberon-session" {
         return Err(SessionFault::Shape);
     }
-    let version = version(member(session, "version")?)?;
-    Ok(Draft {
-        start: start(alloc, member(session, "start")?, version)?,
-        pages: pages(alloc, member(session, "pages")?)?,
-        inputs: inputs(alloc, member(session, "inputs")?)?,
-        checkpoints: numbers(alloc, member(session, "checkpoints")?)?,
+    Ok(Members {
+        version: version(member(session, "version")?)?,
+        start: member(session, "start")?,
+        pages: member(session, "pages")?,
+        inputs: member(session, "inputs")?,
+        checkpoints: member(session, "checkpoints")?,
     })
 }
 
@@ -44,17 +57,22 @@ fn start(alloc: Global, value: &Value, version: u64) -> Result<StartDraft, Sessi
     ensures { Gives start_view (start_of version (view value.now)) result }
 {
     let start = exactly(value, start_members(version))?;
+    let h = number(member(start, "H")?)?;
+    let pc = number(member(start, "PC")?)?;
+    let flags = number(member(start, "flags")?)?;
+    let rate = since_2(version, "rate", start)?;
+    let phase = since_2(version, "phase", start)?;
     let registers = numbers(alloc, member(start, "R")?)?;
     if registers.len() != 16 {
         return Err(SessionFault::Shape);
     }
     Ok(StartDraft {
         registers,
-        h: number(member(start, "H")?)?,
-        pc: number(member(start, "PC")?)?,
-        flags: number(member(start, "flags")?)?,
-        rate: since_2(version, "rate", start)?,
-        phase: since_2(version, "phase", start)?,
+        h,
+        pc,
+        flags,
+        rate,
+        phase,
     })
 }
 

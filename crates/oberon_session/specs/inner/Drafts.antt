@@ -6,7 +6,9 @@ use Rattle.oberon_session.specs.declared.draft.InputDraft.{InputDraft}
 use Rattle.oberon_session.specs.declared.draft.PageDraft.{PageDraft}
 use Rattle.oberon_session.specs.declared.draft.StartDraft.{StartDraft}
 use Rattle.oberon_session.specs.declared.draft.Draft.{Draft as DraftValue}
-use Rattle.oberon_session.specs.Draft.{Start, PageText, InputNumbers, Draft}
+use Rattle.oberon_session.specs.declared.draft.Members.{Members as MembersValue}
+use Rattle.oberon_session.specs.Draft.{Start, PageText, InputNumbers, Members, Draft}
+use Rattle.serde_json.specs.View.{view}
 use Rattle.oberon_session.specs.declared.digits.PlacedPage.{PlacedPage}
 use Rattle.oberon_session.specs.Digits.{PlacedWords}
 use Rattle.oberon_session.specs.SessionParts.{SessionParts}
@@ -31,6 +33,15 @@ page_view p = record { at = p.at; hex = p.hex.now }
 
 abbrev pub input_view : InputDraft → InputNumbers
 input_view i = record { count = i.count; kind = i.kind; value = i.value }
+
+abbrev pub members_view : MembersValue → Members
+members_view m = record {
+  version = m.version;
+  start = view m.start.now;
+  pages = view m.pages.now;
+  inputs = view m.inputs.now;
+  checkpoints = view m.checkpoints.now;
+}
 
 abbrev pub draft_view : DraftValue → Draft
 draft_view d = record {
