@@ -1,5 +1,6 @@
 -- What private functions and the insides of types say of themselves. No public contract and no law names anything of it, so none
 -- of it has to be believed.
 pub mod Comparing
+pub mod Names
 pub mod Tally
 pub mod Progress

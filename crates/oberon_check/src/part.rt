@@ -2,8 +2,9 @@
 //!
 //! Here live their names. In which order they stand, `specs/Difference.antt` says, and how they are compared lives in
 //! `difference`.
-ghost use Rattle.std.specs.Prelude.{Some};
+ghost use Rattle.std.specs.Prelude.{◌≡◌, ◌++◌, Some};
 ghost use Rattle.oberon_check.specs.Line.{part_name};
+ghost use Rattle.oberon_check.specs.inner.Names.{part_number};
 
 use std::fmt;
 
@@ -44,26 +45,40 @@ pub enum Part {
     Page(u16),
 }
 
+impl Part {
+    /// The name without the number that a register's and a page's ends with.
+    fn letters(&self) -> &'static str
+        ensures { part_name self.now ≡ result.now ++ part_number self.now }
+    {
+        match self {
+            Part::R(_) => "R",
+            Part::H => "H",
+            Part::Pc => "PC",
+            Part::Flags => "flags",
+            Part::Stop => "stop",
+            Part::Timer => "timer",
+            Part::Rate => "rate",
+            Part::Phase => "phase",
+            Part::Switches => "switches",
+            Part::Leds => "LEDs",
+            Part::Mouse => "mouse",
+            Part::Serial => "serial",
+            Part::Keys => "keys",
+            Part::Sent => "out",
+            Part::Page(_) => "page ",
+        }
+    }
+}
+
 impl fmt::Display for Part {
     ghost output = { λ p. Some (part_name p) };
 
     fn fmt<W: fmt::Write>(&self, f: &mut fmt::Formatter<W>) -> fmt::Result {
+        f.write_str(self.letters())?;
         match self {
-            Part::R(i) => write!(f, "R{i}"),
-            Part::H => write!(f, "H"),
-            Part::Pc => write!(f, "PC"),
-            Part::Flags => write!(f, "flags"),
-            Part::Stop => write!(f, "stop"),
-            Part::Timer => write!(f, "timer"),
-            Part::Rate => write!(f, "rate"),
-            Part::Phase => write!(f, "phase"),
-            Part::Switches => write!(f, "switches"),
-            Part::Leds => write!(f, "LEDs"),
-            Part::Mouse => write!(f, "mouse"),
-            Part::Serial => write!(f, "serial"),
-            Part::Keys => write!(f, "keys"),
-            Part::Sent => write!(f, "out"),
-            Part::Page(place) => write!(f, "page {place}"),
+            Part::R(i) => write!(f, "{i}"),
+            Part::Page(place) => write!(f, "{place}"),
+            _ => Ok(()),
         }
     }
 }

@@ -1,12 +1,15 @@
 //! The check of a text: its line, and the exit status.
 //!
 //! Here lives what is printed. How a text is read lives in `oberon_format`, and how a recording is checked in `check`.
-ghost use Rattle.std.specs.Prelude.{◌≡◌, ◌≤◌, IfOk};
+ghost use Rattle.std.specs.Prelude.{◌≡◌, ◌≢◌, ◌≤◌, IfOk};
 ghost use Rattle.oberon_check.specs.Headline.{IsLineOf};
+ghost use Rattle.oberon_check.specs.Line.{line_of, status_of};
+ghost use Rattle.oberon_format.specs.Line.{fault_line};
+ghost use Rattle.oberon_format.specs.declared.fault.Fault.{Fault};
 
 use crate::check::{CheckFault, check_recording};
 use crate::gate::Gate;
-use crate::verdict::{line, status};
+use crate::verdict::{Verdict, line, status};
 use oberon_format::{Fault, read, refusal};
 use std::alloc::Global;
 use std::sync::Wait;
@@ -38,18 +41,36 @@ pub fn check_bytes<R: Threads + Wait + Sync, G: Gate + Sync>(
     requires cut { 1 ≤ cut }
     ensures { IfOk result (λ report. IsLineOf bytes.now report.line.items report.status) }
 {
-    let r = match read(alloc, bytes) {
-        Ok(r) => r,
-        Err(Fault::Memory) => return Err(CheckFault::Memory),
-        Err(fault) => {
-            let line = refusal(alloc, &fault)?;
-            return Ok(Report { line, status: 2 });
+    match read(alloc, bytes) {
+        Ok(r) => {
+            let verdict = check_recording(rt, alloc, &r, workers, cut, gate)?;
+            answered(alloc, &verdict)
         }
-    };
-    let verdict = check_recording(rt, alloc, &r, workers, cut, gate)?;
-    let line = line(alloc, &verdict)?;
+        Err(fault) => refused(alloc, &fault),
+    }
+}
+
+fn answered(alloc: Global, verdict: &Verdict) -> Result<Report, CheckFault>
+    ensures line { IfOk result (λ report. report.line.items ≡ line_of verdict.now) }
+    ensures status { IfOk result (λ report. report.status ≡ status_of verdict.now) }
+{
     Ok(Report {
-        line,
-        status: status(&verdict),
+        line: line(alloc, verdict)?,
+        status: status(verdict),
+    })
+}
+
+/// The report on a text that is refused for this fault, unless the fault is that memory was wanting.
+fn refused(alloc: Global, fault: &Fault) -> Result<Report, CheckFault>
+    ensures fault { IfOk result (λ _. fault.now ≢ Fault.Memory) }
+    ensures line { IfOk result (λ report. report.line.items ≡ fault_line fault.now) }
+    ensures status { IfOk result (λ report. report.status ≡ 2) }
+{
+    if let Fault::Memory = fault {
+        return Err(CheckFault::Memory);
+    }
+    Ok(Report {
+        line: refusal(alloc, fault)?,
+        status: 2,
     })
 }
