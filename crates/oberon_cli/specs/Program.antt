@@ -61,7 +61,9 @@ program_shape =
 abbrev pub without_commands_app : App
 without_commands_app = record { top = program_shape; subs = [] }
 
+-- the program with the two commands that run the machine
+abbrev pub replaying_app : App
+replaying_app = with_subcommand (with_subcommand without_commands_app check_app.top) record_app.top
+
 abbrev pub program_app : App
-program_app =
-    with_subcommand (with_subcommand (with_subcommand (with_subcommand without_commands_app check_app.top)
-    record_app.top) screen_app.top) migrate_app.top
+program_app = with_subcommand (with_subcommand replaying_app screen_app.top) migrate_app.top

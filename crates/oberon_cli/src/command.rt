@@ -2,7 +2,7 @@
 //! What the words of a run ask for is in `words`.
 ghost use Rattle.std.specs.Prelude.{◌≡◌, IfOk, false};
 ghost use Rattle.clap.specs.Words.{app_of, rule_of};
-ghost use Rattle.oberon_cli.specs.Program.{at_rule, check_app, cut_rule, migrate_app, program_app, record_app, screen_app, without_commands_app, workers_rule};
+ghost use Rattle.oberon_cli.specs.Program.{at_rule, check_app, cut_rule, migrate_app, program_app, record_app, replaying_app, screen_app, without_commands_app, workers_rule};
 ghost use Rattle.clap.specs.declared.builder.command.Command.TheViews.{out-Command as fields_of};
 
 use clap::{Arg, ArgAction, Command, value_parser};
@@ -13,11 +13,20 @@ use std::alloc::{AllocError, Global};
 pub fn program<'a>(alloc: Global) -> Result<Command<'a>, AllocError>
     ensures app { IfOk result (λ command. app_of command ≡ program_app) }
 {
-    without_commands(alloc)?
-        .subcommand(check(alloc)?)?
-        .subcommand(record(alloc))?
-        .subcommand(screen(alloc)?)?
+    let screen = screen(alloc)?;
+    replaying(alloc)?
+        .subcommand(screen)?
         .subcommand(migrate(alloc))
+}
+
+/// The program with its first two commands, which run the machine.
+fn replaying<'a>(alloc: Global) -> Result<Command<'a>, AllocError>
+    ensures app { IfOk result (λ command. app_of command ≡ replaying_app) }
+{
+    let check = check(alloc)?;
+    without_commands(alloc)?
+        .subcommand(check)?
+        .subcommand(record(alloc))
 }
 
 /// The program's name, texts and settings.
