@@ -1,40 +1,26 @@
 -- The command line, as `clap` reads it: this project's own choice.
-use Rattle.std.specs.Prelude.{[], ◌∷◌, pos, Some, true, codes}
+use Rattle.std.specs.Prelude.{ℕ, List, [], ◌∷◌, pos, Some, true, codes}
 use Rattle.clap.specs.Walk.{Rule}
 use Rattle.clap.specs.Simple.{App, Shape, new_app, new_rule, new_shape, with_rule, with_subcommand}
 use Rattle.clap.specs.declared.builder.action.ArgAction.TheVariants.{Set}
 use Rattle.clap.specs.declared.builder.value_parser.ValueParser.TheVariants.{Signed}
 use Rattle.recording_limits.specs.declared.limits.TheConstants.{LAST_CHECKPOINT}
 
+-- an option that takes one value
+abbrev pub number_rule : List ℕ → Rule
+number_rule name = record (new_rule name) { long = Some name; action = Some Set; value_names = 1 }
+
 -- `--workers`, from 1 to 64, or 2
 abbrev pub workers_rule : Rule
-workers_rule = record (new_rule (codes "workers")) {
-  long = Some (codes "workers");
-  action = Some Set;
-  value_names = 1;
-  defaults = codes "2" ∷ [];
-  parser = Some (Signed (pos 1) (pos 64));
-}
+workers_rule = record (number_rule (codes "workers")) { defaults = codes "2" ∷ []; parser = Some (Signed (pos 1) (pos 64)) }
 
 -- `--cut`, from 1 to 4,096, or 1
 abbrev pub cut_rule : Rule
-cut_rule = record (new_rule (codes "cut")) {
-  long = Some (codes "cut");
-  action = Some Set;
-  value_names = 1;
-  defaults = codes "1" ∷ [];
-  parser = Some (Signed (pos 1) (pos LAST_CHECKPOINT));
-}
+cut_rule = record (number_rule (codes "cut")) { defaults = codes "1" ∷ []; parser = Some (Signed (pos 1) (pos LAST_CHECKPOINT)) }
 
 -- `--at`, from 0 to 4,096, required
 abbrev pub at_rule : Rule
-at_rule = record (new_rule (codes "at")) {
-  long = Some (codes "at");
-  action = Some Set;
-  value_names = 1;
-  required = true;
-  parser = Some (Signed (pos 0) (pos LAST_CHECKPOINT));
-}
+at_rule = record (number_rule (codes "at")) { required = true; parser = Some (Signed (pos 0) (pos LAST_CHECKPOINT)) }
 
 -- `check`, with its two options
 abbrev pub check_app : App

@@ -1,8 +1,9 @@
 //! The command line as `clap` is to read it: the commands, their options with ranges and defaults, and the texts of help.
 //! What the words of a run ask for is in `words`.
 ghost use Rattle.std.specs.Prelude.{◌≡◌, IfOk, false};
+ghost use Rattle.clap.specs.Simple.{new_app};
 ghost use Rattle.clap.specs.Words.{app_of, rule_of};
-ghost use Rattle.oberon_cli.specs.Program.{at_rule, check_app, cut_rule, migrate_app, program_app, record_app, replaying_app, screen_app, without_commands_app, workers_rule};
+ghost use Rattle.oberon_cli.specs.Program.{at_rule, check_app, cut_rule, migrate_app, number_rule, program_app, record_app, replaying_app, screen_app, without_commands_app, workers_rule};
 ghost use Rattle.clap.specs.declared.builder.command.Command.TheViews.{out-Command as fields_of};
 
 use clap::{Arg, ArgAction, Command, value_parser};
@@ -49,84 +50,111 @@ fn check<'a>(alloc: Global) -> Result<Command<'a>, AllocError>
     ensures app { IfOk result (λ command. app_of command ≡ check_app) }
     ensures local { IfOk result (λ command. (fields_of command).has_globals ≡ false) }
 {
-    Command::new(alloc, "check")
-        .about(
-            "Replays the recording on standard input and prints its verdict; done for no words at all, too",
-        )
-        .after_help("Example:\n  oberon_replay check --workers 4 <face.orsr")
-        .arg(workers(alloc))?
-        .arg(cut(alloc))
+    command(
+        alloc,
+        "check",
+        "Replays the recording on standard input and prints its verdict; done for no words at all, too",
+        "Example:\n  oberon_replay check --workers 4 <face.orsr",
+    )
+    .arg(workers(alloc))?
+    .arg(cut(alloc))
 }
 
 fn record<'a>(alloc: Global) -> Command<'a>
     ensures app { app_of result ≡ record_app }
     ensures local { (fields_of result).has_globals ≡ false }
 {
-    Command::new(alloc, "record")
-        .about(
-            "Runs the session on standard input, in JSON, and prints its recording, whose check is accepted",
-        )
-        .after_help("Example:\n  oberon_replay record <face.json >face.orsr")
+    command(
+        alloc,
+        "record",
+        "Runs the session on standard input, in JSON, and prints its recording, whose check is accepted",
+        "Example:\n  oberon_replay record <face.json >face.orsr",
+    )
 }
 
 fn screen<'a>(alloc: Global) -> Result<Command<'a>, AllocError>
     ensures app { IfOk result (λ command. app_of command ≡ screen_app) }
     ensures local { IfOk result (λ command. (fields_of command).has_globals ≡ false) }
 {
-    Command::new(alloc, "screen")
-        .about(
-            "Prints the screen that a checkpoint of the recording on standard input claims, as a PBM picture",
-        )
-        .after_help("Example:\n  oberon_replay screen --at 1 <face.orsr >face.pbm")
-        .arg(at(alloc))
+    command(
+        alloc,
+        "screen",
+        "Prints the screen that a checkpoint of the recording on standard input claims, as a PBM picture",
+        "Example:\n  oberon_replay screen --at 1 <face.orsr >face.pbm",
+    )
+    .arg(at(alloc))
 }
 
 fn migrate<'a>(alloc: Global) -> Command<'a>
     ensures app { app_of result ≡ migrate_app }
     ensures local { (fields_of result).has_globals ≡ false }
 {
-    Command::new(alloc, "migrate")
-        .about(
-            "Prints the recording on standard input as a text of the version that is written now",
-        )
-        .after_help("Example:\n  oberon_replay migrate <old.orsr >new.orsr")
+    command(
+        alloc,
+        "migrate",
+        "Prints the recording on standard input as a text of the version that is written now",
+        "Example:\n  oberon_replay migrate <old.orsr >new.orsr",
+    )
+}
+
+/// A command without options, with its texts of help.
+fn command<'a>(alloc: Global, name: &'a str, about: &'a str, example: &'a str) -> Command<'a>
+    ensures app { app_of result ≡ new_app name.entry.now }
+    ensures local { (fields_of result).has_globals ≡ false }
+{
+    Command::new(alloc, name).about(about).after_help(example)
 }
 
 fn workers<'a>(alloc: Global) -> Arg<'a>
     ensures rule { rule_of result ≡ workers_rule }
     ensures local { result.global ≡ false }
 {
-    Arg::new(alloc, "workers")
-        .long("workers")
-        .value_name("N")
-        .help("How many threads replay segments, from 1 to 64")
-        .action(ArgAction::Set)
-        .default_value("2")
-        .value_parser(value_parser!(u32).range(1..=64))
+    number(
+        alloc,
+        "workers",
+        "N",
+        "How many threads replay segments, from 1 to 64",
+    )
+    .default_value("2")
+    .value_parser(value_parser!(u32).range(1..=64))
 }
 
 fn cut<'a>(alloc: Global) -> Arg<'a>
     ensures rule { rule_of result ≡ cut_rule }
     ensures local { result.global ≡ false }
 {
-    Arg::new(alloc, "cut")
-        .long("cut")
-        .value_name("N")
-        .help("How many segments in a row a thread takes at once, from 1 to 4096")
-        .action(ArgAction::Set)
-        .default_value("1")
-        .value_parser(value_parser!(u32).range(1..=LAST_CHECKPOINT as i64))
+    number(
+        alloc,
+        "cut",
+        "N",
+        "How many segments in a row a thread takes at once, from 1 to 4096",
+    )
+    .default_value("1")
+    .value_parser(value_parser!(u32).range(1..=LAST_CHECKPOINT as i64))
 }
 
 fn at<'a>(alloc: Global) -> Arg<'a>
     ensures rule { rule_of result ≡ at_rule }
     ensures local { result.global ≡ false }
 {
-    Arg::new(alloc, "at")
-        .long("at")
-        .value_name("K")
-        .help("The number of the checkpoint, from 0 to 4096")
+    number(
+        alloc,
+        "at",
+        "K",
+        "The number of the checkpoint, from 0 to 4096",
+    )
+    .required(true)
+    .value_parser(value_parser!(u32).range(0..=LAST_CHECKPOINT as i64))
+}
+
+/// An option that takes a number, with its text of help; the range is not set yet.
+fn number<'a>(alloc: Global, name: &'a str, value_name: &'a str, help: &'a str) -> Arg<'a>
+    ensures rule { rule_of result ≡ number_rule name.entry.now }
+    ensures local { result.global ≡ false }
+{
+    Arg::new(alloc, name)
+        .long(name)
+        .value_name(value_name)
+        .help(help)
         .action(ArgAction::Set)
-        .required(true)
-        .value_parser(value_parser!(u32).range(0..=LAST_CHECKPOINT as i64))
 }
