@@ -1,8 +1,6 @@
 //! A text without fault, and texts with a fault, which have that fault whatever memory there is.
 
-ghost use Rattle.std.specs.Prelude.{◌<◌};
-
-use oberon_format::{Fault, read};
+use oberon_format::read;
 use std::io;
 
 /// The length of a text of version 1 with one page, one event and one checkpoint.
@@ -60,72 +58,79 @@ pub(crate) fn stepping_text() -> [u8; STEPPING_LENGTH] {
     text
 }
 
+/// A text that is cut off at a length and has another byte at a place: the length, the place, the byte. (`b'O'` at place 0
+/// leaves the byte as it is.)
+type Broken = (usize, usize, u8);
+
+/// Texts of version 1 with a fault.
+const FIRST: [Broken; 14] = [
+    (0, 0, b'O'),
+    (24, 0, b'O'),
+    (LENGTH - 1, 0, b'O'),
+    // the magic, the version, and each number of the header
+    (LENGTH, 0, b'o'),
+    (LENGTH, 4, 3),
+    (LENGTH, 11, 1),
+    (LENGTH, 15, 1),
+    (LENGTH, 16, 0),
+    (LENGTH, 20, 1),
+    // the kind of the event, the count of the checkpoint, and its first and its last page number
+    (LENGTH, 1_056, 6),
+    (LENGTH, 1_064, 1),
+    (LENGTH, 1_196, 2),
+    (LENGTH, 5_288, 2),
+    // the byte after the end
+    (LENGTH + 1, 0, b'O'),
+];
+
+/// Texts of version 2 with a fault.
+const SECOND: [Broken; 7] = [
+    // a text that ends inside its checkpoint and inside its change
+    (1_207, 0, b'O'),
+    (CHANGED_LENGTH - 1, 0, b'O'),
+    // the phase, which is 0 at rate 0, and the number of changes
+    (CHANGED_LENGTH, 1_200, 1),
+    (CHANGED_LENGTH, 1_205, 5),
+    // a change past the last place, to a page that is not in the pool, and to the page that stood there
+    (CHANGED_LENGTH, 1_209, 4),
+    (CHANGED_LENGTH, 1_212, 2),
+    (CHANGED_LENGTH, 1_212, 0),
+];
+
 /// So many bytes from the front of a text, or all that it has.
 fn front(text: &[u8], length: usize) -> &[u8] {
     &text[..length.min(text.len())]
 }
 
-/// Reads a text without fault of each version, and texts with each of the eight faults, and prints what came of each.
+/// Reads a text without fault of each version, and texts with each of the eight faults, and prints what comes of each.
 pub(crate) fn texts<H: AllocGlobal + Print>(rt: &H) -> io::Result<()> {
-    let text = sound_text();
-    match read(rt.alloc(), front(&text, LENGTH)) {
-        Ok(_) => println!(rt; "sound: read")?,
-        Err(fault) => println!(rt; "sound: {fault}")?,
+    show(rt, "sound", front(&sound_text(), LENGTH))?;
+    show(rt, "changed", &changed_text())?;
+    for broken in FIRST {
+        show_broken(rt, &mut sound_text(), broken)?;
     }
-    match read(rt.alloc(), &changed_text()) {
-        Ok(_) => println!(rt; "changed: read")?,
-        Err(fault) => println!(rt; "changed: {fault}")?,
+    for broken in SECOND {
+        show_broken(rt, &mut changed_text(), broken)?;
     }
-    show(rt, &[])?;
-    show(rt, front(&text, 24))?;
-    show(rt, front(&text, LENGTH - 1))?;
-    // the magic, the version, and each number of the header
-    show_broken(rt, 0, b'o')?;
-    show_broken(rt, 4, 3)?;
-    show_broken(rt, 11, 1)?;
-    show_broken(rt, 15, 1)?;
-    show_broken(rt, 16, 0)?;
-    show_broken(rt, 20, 1)?;
-    // the kind of the event, the count of the checkpoint, and its first and its last page number
-    show_broken(rt, 1_056, 6)?;
-    show_broken(rt, 1_064, 1)?;
-    show_broken(rt, 1_196, 2)?;
-    show_broken(rt, 5_288, 2)?;
-    show(rt, &text)?;
-    // version 2: a text that ends inside its checkpoint and inside its change; the phase, which is 0 at rate 0, and the number of
-    // changes; a change past the last place, to a page that is not in the pool, and to the page that stood there
-    show(rt, front(&changed_text(), 1_207))?;
-    show(rt, front(&changed_text(), CHANGED_LENGTH - 1))?;
-    show_broken_change(rt, 1_200, 1)?;
-    show_broken_change(rt, 1_205, 5)?;
-    show_broken_change(rt, 1_209, 4)?;
-    show_broken_change(rt, 1_212, 2)?;
-    show_broken_change(rt, 1_212, 0)
+    Ok(())
 }
 
-/// Prints the fault of the text of version 1 with another byte at a place.
-fn show_broken<H: AllocGlobal + Print>(rt: &H, place: usize, byte: u8) -> io::Result<()>
-    requires { place < 5292 }
-{
-    let mut text = sound_text();
-    text[place] = byte;
-    show(rt, front(&text, LENGTH))
+/// Prints what comes of a text once it is broken.
+fn show_broken<H: AllocGlobal + Print>(
+    rt: &H,
+    text: &mut [u8],
+    (length, place, byte): Broken,
+) -> io::Result<()> {
+    if let Some(there) = text.get_mut(place) {
+        *there = byte;
+    }
+    show(rt, "text", front(text, length))
 }
 
-/// Prints the fault of the text of version 2 with another byte at a place.
-fn show_broken_change<H: AllocGlobal + Print>(rt: &H, place: usize, byte: u8) -> io::Result<()>
-    requires { place < 1216 }
-{
-    let mut text = changed_text();
-    text[place] = byte;
-    show(rt, &text)
-}
-
-/// Prints the fault of a text.
-fn show<H: AllocGlobal + Print>(rt: &H, text: &[u8]) -> io::Result<()> {
+/// Prints the fault of a text under a name.
+fn show<H: AllocGlobal + Print>(rt: &H, name: &str, text: &[u8]) -> io::Result<()> {
     match read(rt.alloc(), text) {
-        Ok(_) => println!(rt; "text: read"),
-        Err(Fault::Memory) => println!(rt; "text: no memory"),
-        Err(fault) => println!(rt; "text: {fault}"),
+        Ok(_) => println!(rt; "{name}: read"),
+        Err(fault) => println!(rt; "{name}: {fault}"),
     }
 }
