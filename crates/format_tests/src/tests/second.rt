@@ -1,11 +1,12 @@
 //! Texts of version 2: what is read is written, and each rule is broken once.
 
-use crate::tests::texts::{fault_of, has_line, put_word, put_words};
+use crate::tests::texts::{
+    Turned, check_parts, check_rows, is_fault_of, is_line, is_refused, is_refused_with_a_byte_more,
+    put_words, row_of_another_fault,
+};
 use oberon_format::{Checkpoint, Fault, Recording, read, write};
 use recording_texts::{Claim, EMPTY, JUMP, STORED_RUN, Sketch, ZEROS};
 use std::alloc::{AllocError, Global};
-use std::process::Abort;
-use std::test::Fail;
 
 /// Two pages; checkpoint 0, from byte 2072 on, with changes of the places 0, 7 and 1023 from byte 2216 on; checkpoint 1, from byte
 /// 2240 on, with changes of the places 7 and 8 from byte 2384 on, a timer, and two bytes sent.
@@ -31,21 +32,50 @@ const FIVE_CHANGES: Sketch<'static> = Sketch {
     ],
 };
 
-/// What the recording of a text is written as.
-fn text_again(alloc: Global, text: &[u8]) -> Result<Vec<u8>, Fail> {
-    let recording = read(alloc, text)?;
-    Ok(write(alloc, &recording)?)
+/// The same by a call, since each place that names the constant is proved with all of its parts.
+fn five_changes() -> Sketch<'static> {
+    FIVE_CHANGES
+}
+
+/// The recording of the text of a sketch.
+fn second_recording(alloc: Global, sketch: &Sketch<'_>) -> Option<Recording> {
+    let text = sketch.second_text(alloc, &[]).ok()?;
+    read(alloc, &text).ok()
+}
+
+/// What the recording of the text of a sketch is written as.
+fn text_again(alloc: Global, sketch: &Sketch<'_>) -> Option<Vec<u8>> {
+    let recording = second_recording(alloc, sketch)?;
+    write(alloc, &recording).ok()
+}
+
+/// Whether the text of a sketch is what its recording is written as.
+fn is_written_again(alloc: Global, sketch: &Sketch<'_>) -> bool {
+    let Some(again) = text_again(alloc, sketch) else {
+        return false;
+    };
+    match sketch.second_text(alloc, &[]) {
+        Ok(text) => again.as_slice() == text.as_slice(),
+        Err(_) => false,
+    }
+}
+
+/// Recordings that have a text of version 2.
+const SKETCHES: [Sketch<'static>; 3] = [STORED_RUN, FIVE_CHANGES, EMPTY];
+
+/// The first row whose text is not written again, if there is one.
+fn row_of_another_text(alloc: Global) -> Option<usize> {
+    for (row, sketch) in SKETCHES.iter().enumerate() {
+        if !is_written_again(alloc, sketch) {
+            return Some(row);
+        }
+    }
+    None
 }
 
 #[test]
-fn writes_what_it_reads(rt: HostRuntime) -> Result<(), Fail> {
-    let alloc = rt.alloc();
-    for sketch in [STORED_RUN, FIVE_CHANGES, EMPTY] {
-        let text = sketch.second_text(alloc, &[])?;
-        let again = text_again(alloc, &text)?;
-        assert_eq!(rt; again.as_slice(), text.as_slice());
-    }
-    Ok(())
+fn writes_what_it_reads(rt: HostRuntime) {
+    check_rows(&rt, row_of_another_text(rt.alloc()));
 }
 
 /// Places, with the numbers that they have in the two tables of the five changes.
@@ -70,22 +100,32 @@ fn has_timers(first: &Checkpoint, last: &Checkpoint) -> bool {
         && last.sent.as_slice() == [0x41, 0x42].as_slice()
 }
 
-/// Checks the two checkpoints of the five changes.
-fn has_five_changes(rt: &impl Abort, recording: &Recording) {
-    assert_eq!(rt; recording.count(), 2);
+/// The part of this recording that is not that of the five changes, if there is one.
+fn part_unlike_five(recording: &Recording) -> Option<&'static str> {
+    if recording.count() != 2 {
+        return Some("number of checkpoints");
+    }
     let (first, last) = (recording.checkpoint(0), recording.checkpoint(1));
-    assert!(rt; has_numbers(first, last), "another page number");
-    assert!(rt;
-        has_timers(first, last),
-        "another timer, or other bytes sent"
-    );
+    if !has_numbers(first, last) {
+        return Some("page number");
+    }
+    if !has_timers(first, last) {
+        return Some("timer, or other bytes sent");
+    }
+    None
+}
+
+/// The same of the recording of the five changes' text.
+fn part_read_wrong(alloc: Global) -> Option<&'static str> {
+    match second_recording(alloc, &five_changes()) {
+        Some(recording) => part_unlike_five(&recording),
+        None => Some("answer"),
+    }
 }
 
 #[test]
-fn reads_tables_by_their_changes(rt: HostRuntime) -> Result<(), Fail> {
-    let text = FIVE_CHANGES.second_text(rt.alloc(), &[])?;
-    has_five_changes(&rt, &read(rt.alloc(), &text)?);
-    Ok(())
+fn reads_tables_by_their_changes(rt: HostRuntime) {
+    check_parts(&rt, part_read_wrong(rt.alloc()));
 }
 
 /// A word of the text of the five changes that breaks a rule, and the fault.
@@ -131,72 +171,67 @@ const BROKEN: [(u16, u32, Fault); 33] = [
     (2368, 1, Fault::Trailing(2401)),
 ];
 
-/// The first fault of the text of a sketch with these words at their places.
-fn fault_with(
-    alloc: Global,
-    sketch: &Sketch<'_>,
-    words: &[(u16, u32)],
-) -> Result<Option<Fault>, AllocError> {
-    let mut text = sketch.second_text(alloc, &[])?;
-    put_words(&mut text, words);
-    Ok(fault_of(alloc, &text))
-}
-
-#[test]
-fn refuses_each_broken_rule(rt: HostRuntime) -> Result<(), Fail> {
-    for (place, word, fault) in BROKEN {
-        let found = fault_with(rt.alloc(), &FIVE_CHANGES, &[(place, word)])?;
-        assert_eq!(rt; found, Some(fault), "at {place}");
+/// The first place that gives another fault, if there is one.
+fn place_of_another_fault(alloc: Global) -> Option<u16> {
+    let sketch = five_changes();
+    for (place, word, fault) in &BROKEN {
+        if !is_refused(alloc, 2, &sketch, &[(*place, *word)], *fault) {
+            return Some(*place);
+        }
     }
-    Ok(())
+    None
 }
 
 #[test]
-fn refuses_a_change_that_changes_nothing(rt: HostRuntime) -> Result<(), Fail> {
+fn refuses_each_broken_rule(rt: HostRuntime) {
+    if let Some(place) = place_of_another_fault(rt.alloc()) {
+        panic!(rt; "at {place}");
+    }
+}
+
+#[test]
+fn refuses_a_change_that_changes_nothing(rt: HostRuntime) {
     let fault = Fault::Page(1192);
-    let found = fault_with(rt.alloc(), &STORED_RUN, &[(1196, 0)])?;
-    assert_eq!(rt; found, Some(fault));
-    has_line(&rt, rt.alloc(), fault, "refused 7 page at byte 1192\n")
+    assert!(rt; is_refused(rt.alloc(), 2, &STORED_RUN, &[(1196, 0)], fault));
+    assert!(rt; is_line(rt.alloc(), fault, "refused 7 page at byte 1192\n"));
 }
+
+/// Words of the text of the five changes that break two rules, and the first fault.
+const TWO_FAULTS: [Turned; 8] = [
+    // a change of checkpoint 0, and a field of checkpoint 1
+    (&[(2220, 3), (2240, 0)], Fault::Page(2216)),
+    // a field of checkpoint 0, and its change
+    (&[(2156, 5), (2220, 3)], Fault::Checkpoint(2072)),
+    // the phase, and changes that aren't there
+    (&[(2208, 25_000), (2212, 1024)], Fault::Checkpoint(2072)),
+    // changes that aren't there, and the first of them
+    (&[(2212, 1024), (2220, 3)], Fault::Short(2402)),
+    // two changes
+    (&[(2236, 3), (2228, 3)], Fault::Page(2224)),
+    // a change of the last checkpoint, and output that isn't there
+    (&[(2368, 3), (2396, 3)], Fault::Page(2392)),
+    // the header's last number, and events that aren't there
+    (&[(20, 1), (12, 1_000)], Fault::Limit(20)),
+    // an event that is there in bytes of the pages, and checkpoints that aren't
+    (&[(8, 1), (12, 65)], Fault::Event(1048)),
+];
 
 #[test]
-fn gives_the_first_of_two_faults(rt: HostRuntime) -> Result<(), Fail> {
-    let rows = [
-        // a change of checkpoint 0, and a field of checkpoint 1
-        ([(2220, 3), (2240, 0)], Fault::Page(2216)),
-        // a field of checkpoint 0, and its change
-        ([(2156, 5), (2220, 3)], Fault::Checkpoint(2072)),
-        // the phase, and changes that aren't there
-        ([(2208, 25_000), (2212, 1024)], Fault::Checkpoint(2072)),
-        // changes that aren't there, and the first of them
-        ([(2212, 1024), (2220, 3)], Fault::Short(2402)),
-        // two changes
-        ([(2236, 3), (2228, 3)], Fault::Page(2224)),
-        // a change of the last checkpoint, and output that isn't there
-        ([(2368, 3), (2396, 3)], Fault::Page(2392)),
-        // the header's last number, and events that aren't there
-        ([(20, 1), (12, 1_000)], Fault::Limit(20)),
-        // an event that is there in bytes of the pages, and checkpoints that aren't
-        ([(8, 1), (12, 65)], Fault::Event(1048)),
-    ];
-    for (words, fault) in rows {
-        let found = fault_with(rt.alloc(), &FIVE_CHANGES, &words)?;
-        assert_eq!(rt; found, Some(fault));
-    }
-    Ok(())
+fn gives_the_first_of_two_faults(rt: HostRuntime) {
+    check_rows(
+        &rt,
+        row_of_another_fault(rt.alloc(), 2, &five_changes(), &TWO_FAULTS),
+    );
 }
 
-/// Checks the first fault of a text of the five changes with these words, cut to each length: short below the length at which
-/// the fault is there, and then the fault.
-fn is_short_below(
-    rt: &impl Abort,
+/// The greatest length at which the cut text has another fault than it was to have, if there is one: short below the length at which
+/// a fault is there, and then that fault.
+fn length_of_another_fault(
     alloc: Global,
-    words: &[(u16, u32)],
+    mut text: Vec<u8>,
     there: usize,
     fault: Fault,
-) -> Result<(), Fail> {
-    let mut text = FIVE_CHANGES.second_text(alloc, &[])?;
-    put_words(&mut text, words);
+) -> Option<usize> {
     for cut in 1..2403usize {
         let len = 2402 - cut;
         text.truncate(len);
@@ -205,32 +240,52 @@ fn is_short_below(
         } else {
             fault
         };
-        let found = fault_of(alloc, &text);
-        assert_eq!(rt; found, Some(wanted));
+        if !is_fault_of(alloc, &text, wanted) {
+            return Some(len);
+        }
     }
-    Ok(())
+    None
+}
+
+/// The text of the five changes with these words.
+fn five_changes_with(alloc: Global, words: &[(u16, u32)]) -> Result<Vec<u8>, AllocError> {
+    let mut text = five_changes().second_text(alloc, &[])?;
+    put_words(&mut text, words);
+    Ok(text)
+}
+
+/// Words that break a rule in the text of the five changes, the length of the text that shows it, and the fault.
+const BROKEN_AND_CUT: [(&[(u16, u32)], usize, Fault); 3] = [
+    (&[], 2402, Fault::Trailing(0)),
+    // stop 5, behind the 144 bytes of checkpoint 0
+    (&[(2156, 5)], 2216, Fault::Checkpoint(2072)),
+    // a number too large in the second change of three
+    (&[(2228, 3)], 2240, Fault::Page(2224)),
+];
+
+/// Where a cut text has another fault, if it has: the length that shows the fault, and the length of the cut text.
+fn cut_of_another_fault(alloc: Global) -> Option<(usize, usize)> {
+    for (words, there, fault) in BROKEN_AND_CUT {
+        match five_changes_with(alloc, words) {
+            Ok(text) => {
+                if let Some(len) = length_of_another_fault(alloc, text, there, fault) {
+                    return Some((there, len));
+                }
+            }
+            Err(_) => return Some((there, 2402)),
+        }
+    }
+    None
 }
 
 #[test]
-fn refuses_a_text_cut_at_each_byte(rt: HostRuntime) -> Result<(), Fail> {
-    let rows = [
-        ([].as_slice(), 2402, Fault::Trailing(0)),
-        // stop 5, behind the 144 bytes of checkpoint 0
-        (&[(2156, 5)], 2216, Fault::Checkpoint(2072)),
-        // a number too large in the second change of three
-        (&[(2228, 3)], 2240, Fault::Page(2224)),
-    ];
-    for (words, there, fault) in rows {
-        is_short_below(&rt, rt.alloc(), words, there, fault)?;
+fn refuses_a_text_cut_at_each_byte(rt: HostRuntime) {
+    if let Some((there, len)) = cut_of_another_fault(rt.alloc()) {
+        panic!(rt; "another fault of {len} bytes of {there}");
     }
-    Ok(())
 }
 
 #[test]
-fn refuses_bytes_after_the_end(rt: HostRuntime) -> Result<(), Fail> {
-    let mut text = STORED_RUN.second_text(rt.alloc(), &[])?;
-    text.push(0)?;
-    let found = fault_of(rt.alloc(), &text);
-    assert_eq!(rt; found, Some(Fault::Trailing(1344)));
-    Ok(())
+fn refuses_bytes_after_the_end(rt: HostRuntime) {
+    assert!(rt; is_refused_with_a_byte_more(rt.alloc(), 2, Fault::Trailing(1344)));
 }

@@ -1,9 +1,12 @@
 //! Bytes and words of a text that are turned, and the faults of texts.
 
 use oberon_format::{Fault, read, refusal};
-use std::alloc::Global;
+use recording_texts::{STORED_RUN, Sketch};
+use std::alloc::{AllocError, Global};
 use std::process::Abort;
-use std::test::Fail;
+
+/// Words that are turned, each at its place, and the first fault of the text that they are turned in.
+pub(crate) type Turned = (&'static [(u16, u32)], Fault);
 
 /// Sets one byte of a text, where it is there.
 pub(crate) fn put_byte(text: &mut Vec<u8>, place: usize, byte: u8) {
@@ -28,22 +31,95 @@ pub(crate) fn put_words(text: &mut Vec<u8>, words: &[(u16, u32)]) {
     }
 }
 
-/// The first fault of a text.
-pub(crate) fn fault_of(alloc: Global, text: &[u8]) -> Option<Fault> {
-    read(alloc, text).err()
+/// The text of a sketch in version 1 or 2.
+pub(crate) fn text_of(
+    alloc: Global,
+    version: u32,
+    sketch: &Sketch<'_>,
+) -> Result<Vec<u8>, AllocError> {
+    if version == 1 {
+        sketch.first_text(alloc, &[])
+    } else {
+        sketch.second_text(alloc, &[])
+    }
 }
 
-/// Checks the line of a fault.
-pub(crate) fn has_line(
-    rt: &impl Abort,
+/// Whether this is the first fault of a text.
+pub(crate) fn is_fault_of(alloc: Global, text: &[u8], fault: Fault) -> bool {
+    match read(alloc, text) {
+        Ok(_) => false,
+        Err(found) => found == fault,
+    }
+}
+
+/// Whether this is the first fault of the text of a sketch with these words at their places.
+pub(crate) fn is_refused(
     alloc: Global,
+    version: u32,
+    sketch: &Sketch<'_>,
+    words: &[(u16, u32)],
     fault: Fault,
-    line: &str,
-) -> Result<(), Fail> {
-    let written = match fault {
-        Fault::Memory => Vec::new(alloc),
-        _ => refusal(alloc, &fault)?,
-    };
-    assert_eq!(rt; written.as_slice(), line.as_bytes());
-    Ok(())
+) -> bool {
+    match text_of(alloc, version, sketch) {
+        Ok(mut text) => {
+            put_words(&mut text, words);
+            is_fault_of(alloc, &text, fault)
+        }
+        Err(_) => false,
+    }
+}
+
+/// The first row whose words give the text of a sketch another first fault, if there is one.
+pub(crate) fn row_of_another_fault(
+    alloc: Global,
+    version: u32,
+    sketch: &Sketch<'_>,
+    rows: &[Turned],
+) -> Option<usize> {
+    for (row, (words, fault)) in rows.iter().enumerate() {
+        if !is_refused(alloc, version, sketch, words, *fault) {
+            return Some(row);
+        }
+    }
+    None
+}
+
+/// Whether this is the first fault of the text of the stored run with a byte behind it.
+pub(crate) fn is_refused_with_a_byte_more(alloc: Global, version: u32, fault: Fault) -> bool {
+    match text_of(alloc, version, &STORED_RUN) {
+        Ok(mut text) => text.push(0).is_ok() && is_fault_of(alloc, &text, fault),
+        Err(_) => false,
+    }
+}
+
+/// The text of the stored run, of which only so many bytes are there.
+pub(crate) fn cut_text(alloc: Global, version: u32, len: usize) -> Result<Vec<u8>, AllocError> {
+    let mut text = text_of(alloc, version, &STORED_RUN)?;
+    text.truncate(len);
+    Ok(text)
+}
+
+/// Whether this is the line of a fault.
+pub(crate) fn is_line(alloc: Global, fault: Fault, line: &str) -> bool {
+    if let Fault::Memory = fault {
+        return false;
+    }
+    match refusal(alloc, &fault) {
+        Ok(written) => written.as_slice() == line.as_bytes(),
+        Err(_) => false,
+    }
+}
+
+/// Checks that there is no row that is wrong.
+pub(crate) fn check_rows(rt: &impl Abort, wrong: Option<usize>) {
+    if let Some(row) = wrong {
+        panic!(rt; "row {row}");
+    }
+}
+
+/// Checks that there is no part that is wrong.
+pub(crate) fn check_parts(rt: &impl Abort, wrong: Option<&'static str>) {
+    if let Some(part) = wrong {
+        panic!(rt; "another {part}");
+    }
 }
