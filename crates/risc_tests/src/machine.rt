@@ -2,7 +2,7 @@
 ghost use Rattle.std.specs.Prelude.{◌≡◌, ◌≤◌, ◌<◌, All, IfOk, length};
 
 use risc_devices::{Devices, Input};
-use risc_machine::{Cpu, Event, Flags, Inputs, MAX_COUNT, Machine, Unordered};
+use risc_machine::{Cpu, Event, Flags, Inputs, MAX_COUNT, Machine};
 use risc_pages::{Page, Pool, Table};
 use std::alloc::{AllocError, Global};
 use std::process::Abort;
@@ -22,7 +22,7 @@ struct Example {
 }
 
 /// What an example comes to. The flags are N, Z, C and V as a number.
-#[derive(Clone, Copy, Debug, PartialEq, Eq)]
+#[derive(Clone, Copy, PartialEq, Eq)]
 struct Outcome {
     registers: [u32; 4],
     pc: u32,
@@ -35,7 +35,7 @@ struct Outcome {
 }
 
 /// A timer with its rate and phase.
-#[derive(Clone, Copy, Debug, PartialEq, Eq)]
+#[derive(Clone, Copy, PartialEq, Eq)]
 struct Clock {
     timer: u32,
     rate: u32,
@@ -106,44 +106,44 @@ fn cpu_of(example: Example) -> Cpu
 }
 
 /// The example's machine.
-fn machine_of<'a>(rt: &impl Abort, alloc: Global, pool: &'a Pool, example: Example) -> Machine<'a>
+fn machine_of<'a>(alloc: Global, pool: &'a Pool, example: Example) -> Option<Machine<'a>>
     requires { length pool.now ≡ 1 }
 {
-    machine_at(rt, alloc, pool, example, UNCOUNTED)
+    machine_at(alloc, pool, example, UNCOUNTED)
 }
 
 /// The example's machine, with this clock.
 fn machine_at<'a>(
-    rt: &impl Abort,
     alloc: Global,
     pool: &'a Pool,
     example: Example,
     clock: Clock,
-) -> Machine<'a>
+) -> Option<Machine<'a>>
     requires { length pool.now ≡ 1 }
 {
-    let devices = Devices::new(clock.timer, clock.rate, clock.phase, 0, 0, 0, 0, &[]).expect(
-        rt,
-        "the phase is below the rate",
-    );
-    let table = first_place();
-    Machine::start(alloc, pool, &table, cpu_of(example), devices).expect(rt, "there is room")
+    let devices = Devices::new(clock.timer, clock.rate, clock.phase, 0, 0, 0, 0, &[]).ok()?;
+    Machine::start(alloc, pool, &first_place(), cpu_of(example), devices).ok()
 }
 
-/// Inputs of these counts, kinds and values.
-fn inputs_of(rt: &impl Abort, alloc: Global, rows: &[(u64, u8, u32)]) -> Result<Inputs, Unordered> {
+/// The list of inputs of these counts, kinds and values.
+fn events_of(alloc: Global, rows: &[(u64, u8, u32)]) -> Option<Vec<Event>> {
     let mut list = Vec::new(alloc);
     for (count, kind, value) in rows {
-        let input = Input::new(*kind, *value).expect(rt, "the input is in range");
+        let input = Input::new(*kind, *value).ok()?;
         let event = Event {
             count: *count,
             input,
         };
         if list.push(event).is_err() {
-            panic!(rt; "there is room");
+            return None;
         }
     }
-    Inputs::new(list)
+    Some(list)
+}
+
+/// Inputs of these counts, kinds and values, which are in order.
+fn inputs_of(alloc: Global, rows: &[(u64, u8, u32)]) -> Option<Inputs> {
+    Inputs::new(events_of(alloc, rows)?).ok()
 }
 
 /// N, Z, C and V as a number.
@@ -167,24 +167,41 @@ fn outcome_of(machine: &Machine, sent: usize) -> Outcome {
     }
 }
 
+/// How many bytes a machine sends in so many steps with these inputs.
+fn sent_by(
+    alloc: Global,
+    machine: &mut Machine<'_>,
+    rows: &[(u64, u8, u32)],
+    steps: u64,
+) -> Option<usize> {
+    let inputs = inputs_of(alloc, rows)?;
+    let mut sent = Vec::new(alloc);
+    if machine.run(&inputs, 0, steps, &mut sent).is_err() {
+        return None;
+    }
+    Some(sent.len())
+}
+
 /// What an example comes to after so many steps with these inputs.
-fn run_of(
-    rt: &impl Abort,
+fn run_of(alloc: Global, example: Example, rows: &[(u64, u8, u32)], steps: u64) -> Option<Outcome> {
+    let pool = pool_of(alloc, example).ok()?;
+    let mut machine = machine_of(alloc, &pool, example)?;
+    let sent = sent_by(alloc, &mut machine, rows, steps)?;
+    Some(outcome_of(&machine, sent))
+}
+
+/// Whether it comes to this.
+fn comes_to(
     alloc: Global,
     example: Example,
     rows: &[(u64, u8, u32)],
     steps: u64,
-) -> Outcome {
-    let pool = pool_of(alloc, example).expect(rt, "there is room");
-    let mut machine = machine_of(rt, alloc, &pool, example);
-    let mut sent = Vec::new(alloc);
-    match inputs_of(rt, alloc, rows) {
-        Ok(inputs) => machine
-            .run(&inputs, 0, steps, &mut sent)
-            .expect(rt, "there is room"),
-        Err(_) => panic!(rt; "the inputs are in order"),
+    want: Outcome,
+) -> bool {
+    match run_of(alloc, example, rows, steps) {
+        Some(outcome) => outcome == want,
+        None => false,
     }
-    outcome_of(&machine, sent.len())
 }
 
 const STILL: Outcome = Outcome {
@@ -217,7 +234,7 @@ fn loads_and_links(rt: HostRuntime) {
         timer: 7,
         ..STILL
     };
-    assert_eq!(rt; run_of(&rt, rt.alloc(), timer, &[(0, 1, 7)], 2), want);
+    assert!(rt; comes_to(rt.alloc(), timer, &[(0, 1, 7)], 2, want), "timer");
     let key = example_of([0x5100_FFDD, 0x9010_0000, 0, 0], [0; 4]);
     let want = Outcome {
         registers: [0, 0xFFFF_FFDD, 0, 0],
@@ -225,7 +242,7 @@ fn loads_and_links(rt: HostRuntime) {
         timer: 0,
         ..want
     };
-    assert_eq!(rt; run_of(&rt, rt.alloc(), key, &[(0, 4, 0x41)], 2), want);
+    assert!(rt; comes_to(rt.alloc(), key, &[(0, 4, 0x41)], 2, want), "key");
     let link = example_of([0, 0, 0xD700_000F, 0], [0, 0, 0, 0x40]);
     let want = Outcome {
         registers: [0, 0, 0, 0x0C],
@@ -233,7 +250,7 @@ fn loads_and_links(rt: HostRuntime) {
         flags: 0,
         ..want
     };
-    assert_eq!(rt; run_of(&rt, rt.alloc(), link, &[], 3), want);
+    assert!(rt; comes_to(rt.alloc(), link, &[], 3, want), "link");
 }
 
 #[test]
@@ -245,35 +262,47 @@ fn keeps_the_other_lanes(rt: HostRuntime) {
         word_64: 0x4433_2211,
         ..STILL
     };
-    assert_eq!(rt; run_of(&rt, rt.alloc(), load, &[], 1), want);
+    assert!(rt; comes_to(rt.alloc(), load, &[], 1, want), "load");
     let store = example_of([0xB200_0101, 0, 0, 0], [0, 0, 0xAA, 0]);
     let want = Outcome {
         registers: [0, 0, 0xAA, 0],
         word_64: 0x4433_AA11,
         ..want
     };
-    assert_eq!(rt; run_of(&rt, rt.alloc(), store, &[], 1), want);
+    assert!(rt; comes_to(rt.alloc(), store, &[], 1, want), "store");
+}
+
+/// Words that stop the machine, R1 before them, and where and by which number it stops.
+const STOPPERS: [(u32, u32, u32, u8); 5] = [
+    (0x000C_0000, 0, 0, 1),
+    (0x400B_0000, 0, 0, 2),
+    (0xC700_0001, 0x10_0000, 262_144, 3),
+    (0xA010_0000, 0x20_0000, 0, 4),
+    (0x8010_0000, 0x20_0000, 0, 4),
+];
+
+/// The first of these words that does not stop, or changes something else, if there is one.
+fn word_that_changes_more(alloc: Global) -> Option<u32> {
+    for (word, r1, pc, stop) in &STOPPERS {
+        let stopper = example_of([*word, 0, 0, 0], [5, *r1, 6, 0]);
+        let want = Outcome {
+            registers: [5, *r1, 6, 0],
+            pc: *pc,
+            stop: *stop,
+            word_64: 0x4433_2211,
+            ..STILL
+        };
+        if !comes_to(alloc, stopper, &[(2, 1, 7)], 9, want) {
+            return Some(*word);
+        }
+    }
+    None
 }
 
 #[test]
 fn stops_and_changes_nothing_else(rt: HostRuntime) {
-    let rows = [
-        (0x000C_0000, 0, 0, 1),
-        (0x400B_0000, 0, 0, 2),
-        (0xC700_0001, 0x10_0000, 262_144, 3),
-        (0xA010_0000, 0x20_0000, 0, 4),
-        (0x8010_0000, 0x20_0000, 0, 4),
-    ];
-    for (word, r1, pc, stop) in rows {
-        let stopper = example_of([word, 0, 0, 0], [5, r1, 6, 0]);
-        let want = Outcome {
-            registers: [5, r1, 6, 0],
-            pc,
-            stop,
-            word_64: 0x4433_2211,
-            ..STILL
-        };
-        assert_eq!(rt; run_of(&rt, rt.alloc(), stopper, &[(2, 1, 7)], 9), want);
+    if let Some(word) = word_that_changes_more(rt.alloc()) {
+        panic!(rt; "at {word:x}");
     }
 }
 
@@ -290,131 +319,156 @@ fn clock_of(machine: &Machine) -> Clock {
 
 /// The clock of an example, and its R0, after one run of so many steps.
 fn clock_after(
-    rt: &impl Abort,
     alloc: Global,
     example: Example,
     begin: Clock,
     rows: &[(u64, u8, u32)],
     steps: u64,
-) -> (Clock, u32) {
-    let pool = pool_of(alloc, example).expect(rt, "there is room");
-    let mut machine = machine_at(rt, alloc, &pool, example, begin);
-    let mut sent = Vec::new(alloc);
-    match inputs_of(rt, alloc, rows) {
-        Ok(inputs) => machine
-            .run(&inputs, 0, steps, &mut sent)
-            .expect(rt, "there is room"),
-        Err(_) => panic!(rt; "the inputs are in order"),
-    }
-    (clock_of(&machine), machine.cpu().r[0])
+) -> Option<(Clock, u32)> {
+    let pool = pool_of(alloc, example).ok()?;
+    let mut machine = machine_at(alloc, &pool, example, begin)?;
+    let _ = sent_by(alloc, &mut machine, rows, steps)?;
+    Some((clock_of(&machine), machine.cpu().r[0]))
 }
 
 /// The clock of an example, and its R0, after so many single steps.
 fn clock_by_steps(
-    rt: &impl Abort,
     alloc: Global,
     example: Example,
     begin: Clock,
     steps: u64,
-) -> (Clock, u32) {
-    let pool = pool_of(alloc, example).expect(rt, "there is room");
-    let mut machine = machine_at(rt, alloc, &pool, example, begin);
+) -> Option<(Clock, u32)> {
+    let pool = pool_of(alloc, example).ok()?;
+    let mut machine = machine_at(alloc, &pool, example, begin)?;
     for _ in 0..steps {
-        let _ = machine.step().expect(rt, "there is room");
+        if machine.step().is_err() {
+            return None;
+        }
     }
-    (clock_of(&machine), machine.cpu().r[0])
+    Some((clock_of(&machine), machine.cpu().r[0]))
 }
+
+/// Whether an example has this clock and this R0 after so many steps, in one run and by single steps.
+fn counts_to(
+    alloc: Global,
+    example: Example,
+    begin: Clock,
+    steps: u64,
+    want: (Clock, u32),
+) -> bool {
+    clock_after(alloc, example, begin, &[], steps) == Some(want)
+        && clock_by_steps(alloc, example, begin, steps) == Some(want)
+}
+
+/// Timer, rate and phase of a clock.
+type Numbers = (u32, u32, u32);
+
+/// A clock, steps, and the clock and R0 after them.
+type Counted = (Numbers, u64, Numbers, u32);
+
+/// The clock of a row.
+fn row_clock((timer, rate, phase): Numbers) -> Clock {
+    timer_clock(timer, rate, phase)
+}
+
+/// The first row to which an example does not count, if there is one.
+fn row_of_another_clock(alloc: Global, example: Example, rows: &[Counted]) -> Option<usize> {
+    for (row, (begin, steps, clock, r0)) in rows.iter().enumerate() {
+        let want = (row_clock(*clock), *r0);
+        if !counts_to(alloc, example, row_clock(*begin), *steps, want) {
+            return Some(row);
+        }
+    }
+    None
+}
+
+/// Checks that there is no row that is wrong.
+fn check_rows(rt: &impl Abort, wrong: Option<usize>) {
+    if let Some(row) = wrong {
+        panic!(rt; "row {row}");
+    }
+}
+
+/// What a jump to itself counts to.
+const COUNTED: [Counted; 4] = [
+    ((0, 10, 0), 25, (2, 10, 5), 0),
+    ((7, 1, 0), 3, (10, 1, 0), 0),
+    ((7, 0, 0), 25, (7, 0, 0), 0),
+    (
+        (0xFFFF_FFFF, 0xFFFF_FFFF, 0xFFFF_FFFE),
+        1,
+        (0, 0xFFFF_FFFF, 0),
+        0,
+    ),
+];
 
 #[test]
 fn counts_each_instruction(rt: HostRuntime) {
     let jump = example_of([JUMP, 0, 0, 0], [0; 4]);
-    let rows = [
-        (timer_clock(0, 10, 0), 25, timer_clock(2, 10, 5)),
-        (timer_clock(7, 1, 0), 3, timer_clock(10, 1, 0)),
-        (timer_clock(7, 0, 0), 25, timer_clock(7, 0, 0)),
-        (
-            timer_clock(0xFFFF_FFFF, 0xFFFF_FFFF, 0xFFFF_FFFE),
-            1,
-            timer_clock(0, 0xFFFF_FFFF, 0),
-        ),
-    ];
-    for (begin, steps, want) in rows {
-        assert_eq!(rt;
-            clock_after(&rt, rt.alloc(), jump, begin, &[], steps),
-            (want, 0)
-        );
-        assert_eq!(rt;
-            clock_by_steps(&rt, rt.alloc(), jump, begin, steps),
-            (want, 0)
-        );
-    }
+    check_rows(&rt, row_of_another_clock(rt.alloc(), jump, &COUNTED));
+}
+
+/// Whether a jump to itself has this clock after so many steps, where the timer is set to 100 at count 25.
+fn counts_from_a_set_timer(alloc: Global, steps: u64, want: Clock) -> bool {
+    let jump = example_of([JUMP, 0, 0, 0], [0; 4]);
+    clock_after(alloc, jump, timer_clock(0, 10, 0), &[(25, 1, 100)], steps) == Some((want, 0))
 }
 
 #[test]
 fn sets_the_timer_and_leaves_its_phase(rt: HostRuntime) {
-    let jump = example_of([JUMP, 0, 0, 0], [0; 4]);
-    let begin = timer_clock(0, 10, 0);
-    let rows = [(25, 1, 100)];
-    let before = clock_after(&rt, rt.alloc(), jump, begin, &rows, 25);
-    assert_eq!(rt; before, (timer_clock(2, 10, 5), 0));
-    let after = clock_after(&rt, rt.alloc(), jump, begin, &rows, 30);
-    assert_eq!(rt; after, (timer_clock(101, 10, 0), 0));
+    assert!(rt;
+        counts_from_a_set_timer(rt.alloc(), 25, timer_clock(2, 10, 5)),
+        "before"
+    );
+    assert!(rt;
+        counts_from_a_set_timer(rt.alloc(), 30, timer_clock(101, 10, 0)),
+        "after"
+    );
 }
 
-#[test]
-fn counts_no_instruction_that_stops(rt: HostRuntime) {
-    let words = [
-        0x000C_0000,
-        0x400B_0000,
-        0xC700_0001,
-        0xA010_0000,
-        0x8010_0000,
-    ];
-    let r1 = [0, 0, 0x10_0000, 0x20_0000, 0x20_0000];
-    for (word, r1) in words.into_iter().zip(r1) {
-        let stopper = example_of([word, 0, 0, 0], [5, r1, 6, 0]);
+/// The first of the words that stop whose last clock is not this one, if there is one: that of a jump out of memory is counted.
+fn word_of_another_clock(alloc: Global) -> Option<u32> {
+    for (word, r1, pc, _) in &STOPPERS {
+        let stopper = example_of([*word, 0, 0, 0], [5, *r1, 6, 0]);
         let last = timer_clock(4, 10, 9);
-        let want = if r1 == 0x10_0000 {
+        let want = if *pc == 262_144 {
             timer_clock(5, 10, 0)
         } else {
             last
         };
-        assert_eq!(rt;
-            clock_after(&rt, rt.alloc(), stopper, last, &[], 5),
-            (want, 5)
-        );
-        assert_eq!(rt;
-            clock_by_steps(&rt, rt.alloc(), stopper, last, 5),
-            (want, 5)
-        );
+        if !counts_to(alloc, stopper, last, 5, (want, 5)) {
+            return Some(*word);
+        }
+    }
+    None
+}
+
+#[test]
+fn counts_no_instruction_that_stops(rt: HostRuntime) {
+    if let Some(word) = word_of_another_clock(rt.alloc()) {
+        panic!(rt; "at {word:x}");
     }
 }
+
+/// What a program counts to that reads the timer for ever.
+const READ: [Counted; 4] = [
+    ((0, 1, 0), 2, (2, 1, 0), 1),
+    ((0, 1, 0), 4, (4, 1, 0), 3),
+    ((0, 2, 0), 4, (2, 2, 0), 1),
+    ((7, 0, 0), 4, (7, 0, 0), 7),
+];
 
 #[test]
 fn reads_the_timer_before_the_read_is_counted(rt: HostRuntime) {
     let reader = example_of([0x5100_FFC0, 0x8010_0000, 0xE7FF_FFFE, 0], [0; 4]);
-    let rows = [
-        (timer_clock(0, 1, 0), 2, (timer_clock(2, 1, 0), 1)),
-        (timer_clock(0, 1, 0), 4, (timer_clock(4, 1, 0), 3)),
-        (timer_clock(0, 2, 0), 4, (timer_clock(2, 2, 0), 1)),
-        (timer_clock(7, 0, 0), 4, (timer_clock(7, 0, 0), 7)),
-    ];
-    for (begin, steps, want) in rows {
-        assert_eq!(rt;
-            clock_after(&rt, rt.alloc(), reader, begin, &[], steps),
-            want
-        );
-        assert_eq!(rt; clock_by_steps(&rt, rt.alloc(), reader, begin, steps), want);
-    }
+    check_rows(&rt, row_of_another_clock(rt.alloc(), reader, &READ));
 }
 
 #[test]
 fn counts_an_instruction_that_sends(rt: HostRuntime) {
     let sender = example_of(SENDER, [0; 4]);
-    let begin = timer_clock(0, 3, 0);
     let want = (timer_clock(1, 3, 0), 0x41);
-    assert_eq!(rt; clock_after(&rt, rt.alloc(), sender, begin, &[], 3), want);
-    assert_eq!(rt; clock_by_steps(&rt, rt.alloc(), sender, begin, 3), want);
+    assert!(rt; counts_to(rt.alloc(), sender, timer_clock(0, 3, 0), 3, want));
 }
 
 #[test]
@@ -430,10 +484,7 @@ fn runs_off_the_end_and_stays_there(rt: HostRuntime) {
         flags: 4,
         ..STILL
     };
-    assert_eq!(rt;
-        run_of(&rt, rt.alloc(), empty, &[(300_000, 1, 7)], MAX_COUNT),
-        want
-    );
+    assert!(rt; comes_to(rt.alloc(), empty, &[(300_000, 1, 7)], MAX_COUNT, want));
 }
 
 #[test]
@@ -444,51 +495,77 @@ fn keeps_sixteen_of_seventeen_keys(rt: HostRuntime) {
         keys: 16,
         ..STILL
     };
-    assert_eq!(rt; run_of(&rt, rt.alloc(), jump, &[(0, 4, 9); 17], 1), want);
+    assert!(rt; comes_to(rt.alloc(), jump, &[(0, 4, 9); 17], 1, want));
 }
 
 /// Whether a run of these inputs from one count to another sends nothing.
-fn is_silent(
-    rt: &impl Abort,
-    machine: &mut Machine<'_>,
-    inputs: &Inputs,
-    from: u64,
-    to: u64,
-) -> bool
+fn is_silent(machine: &mut Machine<'_>, inputs: &Inputs, from: u64, to: u64) -> bool
     requires { from ≤ to }
 {
-    let same = machine.run_matching(inputs, from, to, &[]);
-    same.expect(rt, "there is room")
+    matches!(machine.run_matching(inputs, from, to, &[]), Ok(true))
+}
+
+/// Whether a machine takes keys of the counts 10 and 20 in a run from count 10 to 20, and those before count 10 are taken before.
+fn takes_keys_by_counts(alloc: Global, machine: &mut Machine<'_>) -> bool {
+    match inputs_of(alloc, &[(9, 1, 5), (10, 4, 0x41), (20, 4, 0x42)]) {
+        Some(inputs) => {
+            is_silent(machine, &inputs, 0, 10)
+                && machine.devices().keys().is_empty()
+                && is_silent(machine, &inputs, 10, 20)
+                && machine.devices().keys() == [0x41].as_slice()
+                && inputs.events().len() == 3
+        }
+        None => false,
+    }
+}
+
+/// The same of a jump to itself.
+fn jump_takes_keys_by_counts(alloc: Global) -> bool {
+    let jump = example_of([JUMP, 0, 0, 0], [0; 4]);
+    let Ok(pool) = pool_of(alloc, jump) else {
+        return false;
+    };
+    match machine_of(alloc, &pool, jump) {
+        Some(mut machine) => takes_keys_by_counts(alloc, &mut machine),
+        None => false,
+    }
 }
 
 #[test]
 fn takes_inputs_from_a_count_on(rt: HostRuntime) {
-    let jump = example_of([JUMP, 0, 0, 0], [0; 4]);
-    let pool = pool_of(rt.alloc(), jump).expect(&rt, "there is room");
-    let mut machine = machine_of(&rt, rt.alloc(), &pool, jump);
-    match inputs_of(&rt, rt.alloc(), &[(9, 1, 5), (10, 4, 0x41), (20, 4, 0x42)]) {
-        Ok(inputs) => {
-            assert!(rt; is_silent(&rt, &mut machine, &inputs, 0, 10));
-            assert!(rt; machine.devices().keys().is_empty());
-            assert!(rt; is_silent(&rt, &mut machine, &inputs, 10, 20));
-            assert!(rt; machine.devices().keys() == [0x41].as_slice());
-            assert!(rt; inputs.events().len() == 3);
-        }
-        Err(_) => panic!(rt; "the inputs are in order"),
-    }
+    assert!(rt; jump_takes_keys_by_counts(rt.alloc()));
 }
 
-/// Whether an example sends these bytes in four steps.
-fn matches(rt: &impl Abort, alloc: Global, sender: Example, expected: &[u8]) -> bool {
-    let pool = pool_of(alloc, sender).expect(rt, "there is room");
-    let mut machine = machine_of(rt, alloc, &pool, sender);
-    match inputs_of(rt, alloc, &[]) {
-        Ok(inputs) => {
-            let same = machine.run_matching(&inputs, 0, 4, expected);
-            same.expect(rt, "there is room")
+/// Whether a machine without inputs sends these bytes in four steps, if there is room to know.
+fn sends(alloc: Global, machine: &mut Machine<'_>, expected: &[u8]) -> Option<bool> {
+    let inputs = inputs_of(alloc, &[])?;
+    machine.run_matching(&inputs, 0, 4, expected).ok()
+}
+
+/// The same of the example that sends.
+fn matches(alloc: Global, expected: &[u8]) -> Option<bool> {
+    let sender = example_of(SENDER, [0; 4]);
+    let pool = pool_of(alloc, sender).ok()?;
+    let mut machine = machine_of(alloc, &pool, sender)?;
+    sends(alloc, &mut machine, expected)
+}
+
+/// Bytes, and whether they are what the example sends.
+const SENT: [(&[u8], bool); 4] = [
+    (&[0x41], true),
+    (&[], false),
+    (&[0x42], false),
+    (&[0x41, 0x41], false),
+];
+
+/// The first row that is compared wrongly, if there is one.
+fn row_of_another_answer(alloc: Global) -> Option<usize> {
+    for (row, (expected, is_sent)) in SENT.iter().enumerate() {
+        if matches(alloc, expected) != Some(*is_sent) {
+            return Some(row);
         }
-        Err(_) => panic!(rt; "the inputs are in order"),
     }
+    None
 }
 
 #[test]
@@ -500,51 +577,94 @@ fn sends_a_byte_and_compares_it(rt: HostRuntime) {
         word_64: 0x4433_2211,
         ..STILL
     };
-    assert_eq!(rt; run_of(&rt, rt.alloc(), sender, &[], 2), want);
+    assert!(rt; comes_to(rt.alloc(), sender, &[], 2, want), "before");
     let want = Outcome {
         pc: 3,
         sent: 1,
         ..want
     };
-    assert_eq!(rt; run_of(&rt, rt.alloc(), sender, &[], 4), want);
-    assert!(rt; matches(&rt, rt.alloc(), sender, &[0x41]));
-    assert!(rt; !matches(&rt, rt.alloc(), sender, &[]));
-    assert!(rt; !matches(&rt, rt.alloc(), sender, &[0x42]));
-    assert!(rt; !matches(&rt, rt.alloc(), sender, &[0x41, 0x41]));
+    assert!(rt; comes_to(rt.alloc(), sender, &[], 4, want), "after");
+    check_rows(&rt, row_of_another_answer(rt.alloc()));
+}
+
+/// Whether a machine owns the page that it stores to from its step on.
+fn owns_by_a_step(machine: &mut Machine<'_>) -> bool {
+    if machine.memory().owned(0) {
+        return false;
+    }
+    matches!(machine.step(), Ok(None)) && machine.memory().owned(0)
+}
+
+/// Whether a machine is closed with the processor and the devices that it has after a store, and one page that changed.
+fn closes(machine: Machine<'_>) -> bool {
+    match machine.close() {
+        Ok((cpu, devices, delta)) => {
+            cpu.r[2] == 5 && cpu.pc == 1 && devices.leds() == 0 && delta.changed.len() == 1
+        }
+        Err(_) => false,
+    }
+}
+
+/// What the example that stores does wrong, if something.
+fn fault_of_stores(alloc: Global) -> Option<&'static str> {
+    let stores = example_of([0xA200_0100, 0, 0, 0], [0, 0, 5, 0]);
+    let Ok(pool) = pool_of(alloc, stores) else {
+        return Some("the pool");
+    };
+    let Some(mut machine) = machine_of(alloc, &pool, stores) else {
+        return Some("the machine");
+    };
+    if !owns_by_a_step(&mut machine) {
+        return Some("the step");
+    }
+    if !closes(machine) {
+        return Some("the close");
+    }
+    None
 }
 
 #[test]
 fn steps_and_closes(rt: HostRuntime) {
-    let stores = example_of([0xA200_0100, 0, 0, 0], [0, 0, 5, 0]);
-    let pool = pool_of(rt.alloc(), stores).expect(&rt, "there is room");
-    let mut machine = machine_of(&rt, rt.alloc(), &pool, stores);
-    assert!(rt; !machine.memory().owned(0));
-    assert_eq!(rt; machine.step().expect(&rt, "there is room"), None);
-    assert!(rt; machine.memory().owned(0));
-    let (cpu, devices, delta) = machine.close().expect(&rt, "there is room");
-    assert_eq!(rt; (cpu.r[2], cpu.pc, devices.leds()), (5, 1, 0));
-    assert_eq!(rt; delta.changed.len(), 1);
+    if let Some(part) = fault_of_stores(rt.alloc()) {
+        panic!(rt; "wrong: {part}");
+    }
 }
 
 /// The place at which inputs are out of order, if there is one, and how many inputs there are or are handed back.
-fn wrong_place(rt: &impl Abort, alloc: Global, rows: &[(u64, u8, u32)]) -> (Option<usize>, usize) {
-    match inputs_of(rt, alloc, rows) {
-        Ok(inputs) => (None, inputs.events().len()),
-        Err(unordered) => (Some(unordered.at), unordered.list.len()),
+fn wrong_place(alloc: Global, rows: &[(u64, u8, u32)]) -> Option<(Option<usize>, usize)> {
+    let list = events_of(alloc, rows)?;
+    match Inputs::new(list) {
+        Ok(inputs) => Some((None, inputs.events().len())),
+        Err(unordered) => Some((Some(unordered.at), unordered.list.len())),
     }
+}
+
+/// Inputs, and the place at which they are out of order, if there is one.
+const ORDERS: [([(u64, u8, u32); 3], Option<usize>); 4] = [
+    ([(0, 1, 0), (5, 1, 0), (4, 1, 0)], Some(2)),
+    ([(7, 1, 0), (5, 1, 0), (6, 1, 0)], Some(1)),
+    ([(MAX_COUNT + 1, 1, 0), (0, 1, 0), (0, 1, 0)], Some(0)),
+    ([(0, 1, 0), (0, 1, 0), (MAX_COUNT, 1, 0)], None),
+];
+
+/// The first row that is handed back wrongly, if there is one.
+fn row_of_another_order(alloc: Global) -> Option<usize> {
+    for (row, (inputs, place)) in ORDERS.iter().enumerate() {
+        match wrong_place(alloc, inputs) {
+            Some((found, len)) => {
+                if found != *place || len != 3 {
+                    return Some(row);
+                }
+            }
+            None => return Some(row),
+        }
+    }
+    None
 }
 
 #[test]
 fn hands_back_inputs_that_are_out_of_order(rt: HostRuntime) {
-    let rows = [
-        ([(0, 1, 0), (5, 1, 0), (4, 1, 0)], Some(2)),
-        ([(7, 1, 0), (5, 1, 0), (6, 1, 0)], Some(1)),
-        ([(MAX_COUNT + 1, 1, 0), (0, 1, 0), (0, 1, 0)], Some(0)),
-        ([(0, 1, 0), (0, 1, 0), (MAX_COUNT, 1, 0)], None),
-    ];
-    for (row, want) in rows {
-        assert_eq!(rt; wrong_place(&rt, rt.alloc(), &row), (want, 3));
-    }
+    check_rows(&rt, row_of_another_order(rt.alloc()));
 }
 
 /// Seventeen keys at count 0, with the codes 1 to 17.
@@ -573,27 +693,47 @@ fn are_first_sixteen(keys: &[u8]) -> bool {
     keys == [1, 2, 3, 4, 5, 6, 7, 8, 9, 10, 11, 12, 13, 14, 15, 16].as_slice()
 }
 
+/// Whether a machine takes seventeen keys, and keeps the first sixteen in order.
+fn keeps_sixteen(alloc: Global, machine: &mut Machine<'_>) -> bool {
+    match inputs_of(alloc, &SEVENTEEN_KEYS) {
+        Some(inputs) => {
+            inputs.events().len() == 17
+                && is_silent(machine, &inputs, 0, 1)
+                && are_first_sixteen(machine.devices().keys())
+        }
+        None => false,
+    }
+}
+
+/// The same of a jump to itself.
+fn jump_keeps_sixteen(alloc: Global) -> bool {
+    let jump = example_of([JUMP, 0, 0, 0], [0; 4]);
+    let Ok(pool) = pool_of(alloc, jump) else {
+        return false;
+    };
+    match machine_of(alloc, &pool, jump) {
+        Some(mut machine) => keeps_sixteen(alloc, &mut machine),
+        None => false,
+    }
+}
+
 #[test]
 fn keeps_the_first_sixteen_keys_in_order(rt: HostRuntime) {
-    let jump = example_of([JUMP, 0, 0, 0], [0; 4]);
-    let pool = pool_of(rt.alloc(), jump).expect(&rt, "there is room");
-    let mut machine = machine_of(&rt, rt.alloc(), &pool, jump);
-    match inputs_of(&rt, rt.alloc(), &SEVENTEEN_KEYS) {
-        Ok(inputs) => {
-            assert!(rt; inputs.events().len() == 17);
-            assert!(rt; is_silent(&rt, &mut machine, &inputs, 0, 1));
-        }
-        Err(_) => panic!(rt; "the inputs are in order"),
+    assert!(rt; jump_keeps_sixteen(rt.alloc()));
+}
+
+/// The number of the refusal of inputs that fall, and its place.
+fn refusal_of_falling(alloc: Global) -> Option<(u8, usize)> {
+    let list = events_of(alloc, &[(1, 1, 0), (0, 1, 0)])?;
+    match Inputs::new(list) {
+        Ok(_) => None,
+        Err(unordered) => Some((unordered.number(), unordered.at)),
     }
-    assert!(rt; are_first_sixteen(machine.devices().keys()));
 }
 
 #[test]
 fn numbers_the_refusal_of_a_wrong_order(rt: HostRuntime) {
-    match inputs_of(&rt, rt.alloc(), &[(1, 1, 0), (0, 1, 0)]) {
-        Ok(_) => panic!(rt; "the counts fall"),
-        Err(unordered) => assert_eq!(rt; (unordered.number(), unordered.at), (1, 1)),
-    }
+    assert!(rt; refusal_of_falling(rt.alloc()) == Some((1, 1)));
 }
 
 /// An example that writes its own code, the steps after which it is looked at, and what it comes to.
@@ -714,35 +854,69 @@ fn rewritings() -> [Rewriting; 9] {
     ]
 }
 
-/// What an example comes to in two runs, the first of which ends after `cut` steps.
-fn run_in_two(rt: &impl Abort, alloc: Global, example: Example, cut: u64, steps: u64) -> Outcome {
-    let pool = pool_of(alloc, example).expect(rt, "there is room");
-    let mut machine = machine_of(rt, alloc, &pool, example);
-    match inputs_of(rt, alloc, &[]) {
-        Ok(inputs) => {
+/// Whether a machine without inputs sends nothing in two runs, the first of which ends after `cut` steps.
+fn is_silent_in_two(alloc: Global, machine: &mut Machine<'_>, cut: u64, steps: u64) -> bool {
+    match inputs_of(alloc, &[]) {
+        Some(inputs) => {
             let cut = cut.min(steps);
-            for (from, to) in [(0, cut), (cut, steps)] {
-                let same = machine.run_matching(&inputs, from, to, &[]);
-                assert!(rt; same.expect(rt, "there is room"));
-            }
+            is_silent(machine, &inputs, 0, cut) && is_silent(machine, &inputs, cut, steps)
         }
-        Err(_) => panic!(rt; "the inputs are in order"),
+        None => false,
     }
-    outcome_of(&machine, 0)
+}
+
+/// What an example comes to in two such runs.
+fn run_in_two(alloc: Global, example: Example, cut: u64, steps: u64) -> Option<Outcome> {
+    let pool = pool_of(alloc, example).ok()?;
+    let mut machine = machine_of(alloc, &pool, example)?;
+    if is_silent_in_two(alloc, &mut machine, cut, steps) {
+        Some(outcome_of(&machine, 0))
+    } else {
+        None
+    }
+}
+
+/// The first row that does not come to its outcome in one run, if there is one.
+fn row_of_another_outcome(alloc: Global) -> Option<usize> {
+    for (row, (example, steps, want)) in rewritings().iter().enumerate() {
+        if !comes_to(alloc, *example, &[], *steps, *want) {
+            return Some(row);
+        }
+    }
+    None
 }
 
 #[test]
 fn runs_code_that_it_wrote(rt: HostRuntime) {
-    for (example, steps, want) in rewritings() {
-        assert_eq!(rt; run_of(&rt, rt.alloc(), example, &[], steps), want);
+    check_rows(&rt, row_of_another_outcome(rt.alloc()));
+}
+
+/// Whether an example comes to its outcome in two runs, wherever the first of them ends.
+fn comes_to_in_two(alloc: Global, example: Example, steps: u64, want: Outcome) -> bool {
+    for cut in 0..steps {
+        match run_in_two(alloc, example, cut, steps) {
+            Some(outcome) => {
+                if outcome != want {
+                    return false;
+                }
+            }
+            None => return false,
+        }
     }
+    true
+}
+
+/// The first row that does not come to its outcome in two runs, if there is one.
+fn row_of_another_outcome_in_two(alloc: Global) -> Option<usize> {
+    for (row, (example, steps, want)) in rewritings().iter().enumerate() {
+        if !comes_to_in_two(alloc, *example, *steps, *want) {
+            return Some(row);
+        }
+    }
+    None
 }
 
 #[test]
 fn runs_code_that_it_wrote_across_a_checkpoint(rt: HostRuntime) {
-    for (example, steps, want) in rewritings() {
-        for cut in 0..steps {
-            assert_eq!(rt; run_in_two(&rt, rt.alloc(), example, cut, steps), want);
-        }
-    }
+    check_rows(&rt, row_of_another_outcome_in_two(rt.alloc()));
 }

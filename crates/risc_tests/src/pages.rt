@@ -1,12 +1,11 @@
 //! Tests of `risc_pages`: each public call once on its happy path, and what no clause says of them.
 
-ghost use Rattle.std.specs.Prelude.{◌≡◌, IfOk, IsTrue, length};
+ghost use Rattle.std.specs.Prelude.{IsTrue};
 ghost use Rattle.risc_pages.specs.Tables.{IsNamed};
 
 use risc_pages::{Memory, Page, Pool, Table};
-use std::alloc::{AllocError, Global};
+use std::alloc::Global;
 use std::process::Abort;
-use std::test::Fail;
 
 /// Whether each number of the table is that of a page.
 fn is_named(pool: &Pool, table: &Table) -> bool
@@ -26,68 +25,125 @@ fn full_of(word: u32) -> Page {
     Page { words: [word; 256] }
 }
 
-/// The pool of pages that are full of 7, of 8 and of 7.
-fn three_pages(rt: &HostRuntime) -> Result<Pool, AllocError>
-    ensures { IfOk result (λ pool. length pool ≡ 3) }
-{
-    let mut pool = Pool::new(rt.alloc());
-    pool.push(full_of(7))?;
-    pool.push(full_of(8))?;
-    pool.push(full_of(7))?;
-    Ok(pool)
+/// The pool of pages that are full of these words, at most three.
+fn pool_of(alloc: Global, words: &[u32]) -> Option<Pool> {
+    let mut pool = Pool::new(alloc);
+    for word in words {
+        if pool.len() > 2 || pool.push(full_of(*word)).is_err() {
+            return None;
+        }
+    }
+    Some(pool)
 }
 
 /// The table that names these pages at these places, and else the page of zeros.
-fn table_of(rt: &impl Abort, names: &[(u16, u32)]) -> Table {
+fn table_of(names: &[(u16, u32)]) -> Option<Table> {
     let mut table = Table::zeros();
     for (place, page_no) in names {
-        assert!(rt; *place < 1024);
+        if *place >= 1024 {
+            return None;
+        }
         table.set(*place, *page_no);
     }
-    table
+    Some(table)
 }
 
-#[test]
-fn pools_begin_empty(rt: HostRuntime) -> Result<(), Fail> {
-    let empty = Pool::new(rt.alloc());
-    assert_eq!(rt; empty.len(), 0);
-    assert!(rt; empty.is_empty());
-    assert_eq!(rt; empty.word(0, 255), 0);
-    Ok(())
-}
-
-/// The pool of pages that are full of 5 and of 6, with room for both from the start.
-fn two_pages(rt: &impl Abort, alloc: Global) -> Result<Pool, AllocError>
-    ensures { IfOk result (λ pool. length pool ≡ 2) }
-{
-    let mut pool = Pool::with_capacity(alloc, 2)?;
-    assert!(rt; pool.is_empty());
-    pool.push(full_of(5))?;
-    pool.push(full_of(6))?;
-    Ok(pool)
-}
-
-#[test]
-fn pools(rt: HostRuntime) -> Result<(), Fail> {
-    let pool = two_pages(&rt, rt.alloc())?;
-    assert_eq!(rt; pool.len(), 2);
-    for (page_no, word) in [(0, 0), (1, 5), (2, 6)] {
-        assert_eq!(rt; pool.word(page_no, 3), word, "at {page_no}");
-        let last = pool.page(page_no).words[255];
-        assert_eq!(rt; last, word, "at {page_no}");
+/// Checks that there is nothing that is wrong.
+fn check_parts(rt: &impl Abort, wrong: Option<&'static str>) {
+    if let Some(part) = wrong {
+        panic!(rt; "wrong: {part}");
     }
-    Ok(())
+}
+
+/// Whether a pool has no page but that of zeros.
+fn has_zeros_alone(pool: &Pool) -> bool {
+    pool.len() == 0 && pool.is_empty() && pool.word(0, 255) == 0
+}
+
+#[test]
+fn pools_begin_empty(rt: HostRuntime) {
+    assert!(rt; has_zeros_alone(&Pool::new(rt.alloc())));
+}
+
+/// The pool of pages that are full of 5 and of 6, with room for both from the start, if it is empty until they are pushed.
+fn two_pages(alloc: Global) -> Option<Pool> {
+    let mut pool = Pool::with_capacity(alloc, 2).ok()?;
+    if !pool.is_empty() || pool.push(full_of(5)).is_err() || pool.push(full_of(6)).is_err() {
+        return None;
+    }
+    Some(pool)
+}
+
+/// Numbers of pages, and the word that each is full of.
+const FULL: [(u32, u32); 3] = [(0, 0), (1, 5), (2, 6)];
+
+/// The first page that is not there or not full of its word, if there is one.
+fn page_of_another_word(pool: &Pool) -> Option<u32> {
+    for (page_no, word) in &FULL {
+        if *page_no > pool.len()
+            || pool.word(*page_no, 3) != *word
+            || pool.page(*page_no).words[255] != *word
+        {
+            return Some(*page_no);
+        }
+    }
+    None
+}
+
+/// The number of two pages, if there are so many, and the first of them that is wrong.
+fn two_pages_and_the_wrong_one(alloc: Global) -> Option<(u32, Option<u32>)> {
+    let pool = two_pages(alloc)?;
+    Some((pool.len(), page_of_another_word(&pool)))
+}
+
+#[test]
+fn pools(rt: HostRuntime) {
+    match two_pages_and_the_wrong_one(rt.alloc()) {
+        Some((2, None)) => {}
+        Some((pages, None)) => panic!(rt; "{pages} pages"),
+        Some((_, Some(page_no))) => panic!(rt; "at {page_no}"),
+        None => panic!(rt; "no pool that is empty at first"),
+    }
+}
+
+/// What is wrong with a table that is set at its last place, if something is.
+fn fault_of_table() -> Option<&'static str> {
+    let mut table = Table::zeros();
+    let first = table.copy();
+    table.set(1023, 6);
+    if table.entry(1023) != 6 {
+        return Some("the number that was set");
+    }
+    if table.entry(1022) != 0 {
+        return Some("the number before it");
+    }
+    if first.entry(1023) != 0 {
+        return Some("the copy");
+    }
+    if table.numbers()[1023] != 6 {
+        return Some("the numbers");
+    }
+    None
 }
 
 #[test]
 fn tables(rt: HostRuntime) {
-    let mut table = Table::zeros();
-    let first = table.copy();
-    table.set(1023, 6);
-    assert_eq!(rt; table.entry(1023), 6);
-    assert_eq!(rt; table.entry(1022), 0);
-    assert_eq!(rt; first.entry(1023), 0);
-    assert_eq!(rt; table.numbers()[1023], 6);
+    check_parts(&rt, fault_of_table());
+}
+
+/// Words of the pages of the pool of three pages.
+const THREE: [u32; 3] = [7, 8, 7];
+
+/// Places of a memory, and their pages of that pool: those of 7 and of 8.
+const NAMES: [(u16, u32); 2] = [(0, 1), (2, 2)];
+
+/// The memory of these pages at these places.
+fn memory_of(alloc: Global, pool: &Pool) -> Option<Memory<'_>> {
+    let table = table_of(&NAMES)?;
+    if !is_named(pool, &table) {
+        return None;
+    }
+    Memory::from_table(alloc, pool, &table).ok()
 }
 
 /// Whether this place has a page of its own, if it is one, and no other has.
@@ -122,114 +178,183 @@ fn has_words(memory: &Memory<'_>, words: &[(u32, u32)]) -> bool {
 }
 
 /// What is not as it was to be once a word of the third page is written, and written again.
-fn fault_of_writes(
-    alloc: Global,
-    memory: &mut Memory<'_>,
-) -> Result<Option<&'static str>, AllocError> {
+fn fault_of_writes(alloc: Global, memory: &mut Memory<'_>) -> Option<&'static str> {
     for value in [3, 4] {
-        memory.write(515, value)?;
+        if memory.write(515, value).is_err() {
+            return Some("room");
+        }
         if memory.read(515) != value {
-            return Ok(Some("the word"));
+            return Some("the word");
         }
         if !are_owned(memory, Some(2)) {
-            return Ok(Some("owned pages"));
+            return Some("owned pages");
         }
     }
-    let words = memory.words(alloc, 511, 6)?;
-    if words.as_slice() != [0, 8, 8, 8, 4, 8].as_slice() {
-        return Ok(Some("the words around it"));
+    match memory.words(alloc, 511, 6) {
+        Ok(words) => {
+            if words.as_slice() == [0, 8, 8, 8, 4, 8].as_slice() {
+                None
+            } else {
+                Some("the words around it")
+            }
+        }
+        Err(_) => Some("room"),
     }
-    Ok(None)
+}
+
+/// The same of the memory over this pool, and what is not as it was to be before.
+fn fault_of_memory(alloc: Global, pool: &Pool) -> Option<&'static str> {
+    let Some(mut memory) = memory_of(alloc, pool) else {
+        return Some("the memory");
+    };
+    if !are_owned(&memory, None) {
+        return Some("a page is owned at the start");
+    }
+    if !has_words(&memory, &WORDS) {
+        return Some("another word at the start");
+    }
+    fault_of_writes(alloc, &mut memory)
+}
+
+/// The same of the memory over the pool of three pages, which keeps its words.
+fn fault_of_owning(alloc: Global) -> Option<&'static str> {
+    let Some(pool) = pool_of(alloc, &THREE) else {
+        return Some("the pool");
+    };
+    if let Some(part) = fault_of_memory(alloc, &pool) {
+        return Some(part);
+    }
+    if pool.len() < 2 || pool.word(2, 3) != 8 {
+        return Some("a word of the pool");
+    }
+    None
 }
 
 #[test]
-fn a_write_owns_one_page(rt: HostRuntime) -> Result<(), Fail> {
-    let pool = three_pages(&rt)?;
-    let table = table_of(&rt, &[(0, 1), (2, 2)]);
-    assert!(rt; is_named(&pool, &table));
-    let mut memory = Memory::from_table(rt.alloc(), &pool, &table)?;
-    assert!(rt; are_owned(&memory, None), "a page is owned at the start");
-    assert!(rt; has_words(&memory, &WORDS), "another word at the start");
-    assert_eq!(rt; fault_of_writes(rt.alloc(), &mut memory)?, None);
-    assert_eq!(rt; pool.word(2, 3), 8);
-    Ok(())
+fn a_write_owns_one_page(rt: HostRuntime) {
+    check_parts(&rt, fault_of_owning(rt.alloc()));
 }
 
-/// The first difference of a memory from these pages at these places, if each is one of the pool.
-fn difference_from(
-    rt: &impl Abort,
-    memory: &Memory<'_>,
-    pool: &Pool,
-    names: &[(u16, u32)],
-) -> Option<u16> {
-    let table = table_of(rt, names);
-    assert!(rt; is_named(pool, &table));
-    memory.first_difference(pool, &table)
+/// Whether the first difference of a memory from these pages at these places, each one of the pool, is this.
+fn differs_at(memory: &Memory<'_>, pool: &Pool, names: &[(u16, u32)], place: Option<u16>) -> bool {
+    match table_of(names) {
+        Some(table) => is_named(pool, &table) && memory.first_difference(pool, &table) == place,
+        None => false,
+    }
 }
 
-/// The pool of pages that are full of 8, of 0 and of 7.
-fn other_pages(rt: &HostRuntime) -> Result<Pool, AllocError> {
-    let mut pool = Pool::new(rt.alloc());
-    pool.push(full_of(8))?;
-    pool.push(full_of(0))?;
-    pool.push(full_of(7))?;
-    Ok(pool)
-}
-
-/// Pages of the pool of three pages, by their places, and the first place at which the pages of 7 and of 8 at the places 0 and 2
-/// differ from them.
-const DIFFERENCES: [(&[(u16, u32)], Option<u16>); 3] = [
-    (&[(0, 1), (2, 2)], None),
-    // another number of a page that has the same words
-    (&[(0, 3), (2, 2)], None),
-    (&[(0, 1), (2, 1), (9, 1)], Some(2)),
+/// Pages of the pool of three pages, by their places, the first place at which the pages of 7 and of 8 at the places 0 and 2
+/// differ from them, and what they are.
+const DIFFERENCES: [(&[(u16, u32)], Option<u16>, &str); 3] = [
+    (&[(0, 1), (2, 2)], None, "the same pages"),
+    (
+        &[(0, 3), (2, 2)],
+        None,
+        "another number of a page that has the same words",
+    ),
+    (&[(0, 1), (2, 1), (9, 1)], Some(2), "another page"),
 ];
 
-#[test]
-fn contents_are_compared(rt: HostRuntime) -> Result<(), Fail> {
-    let pool = three_pages(&rt)?;
-    let table = table_of(&rt, &[(0, 1), (2, 2)]);
-    assert!(rt; is_named(&pool, &table));
-    let memory = Memory::from_table(rt.alloc(), &pool, &table)?;
-    for (names, place) in DIFFERENCES {
-        assert!(rt; difference_from(&rt, &memory, &pool, names) == place);
+/// What a memory is compared with wrongly, if there is something.
+fn fault_of_comparing(memory: &Memory<'_>, pool: &Pool, other: &Pool) -> Option<&'static str> {
+    for (names, place, what) in &DIFFERENCES {
+        if !differs_at(memory, pool, names, *place) {
+            return Some(what);
+        }
     }
-    // pages of another pool name the same content
-    let other = other_pages(&rt)?;
-    assert!(rt; difference_from(&rt, &memory, &other, &[(0, 3), (1, 2), (2, 1)]) == None);
-    Ok(())
+    if !differs_at(memory, other, &[(0, 3), (1, 2), (2, 1)], None) {
+        return Some("pages of another pool that name the same content");
+    }
+    None
+}
+
+/// The same of the memory over this pool, and of the pool of pages that are full of 8, of 0 and of 7.
+fn fault_of_pages(alloc: Global, pool: &Pool) -> Option<&'static str> {
+    let Some(other) = pool_of(alloc, &[8, 0, 7]) else {
+        return Some("the other pool");
+    };
+    match memory_of(alloc, pool) {
+        Some(memory) => fault_of_comparing(&memory, pool, &other),
+        None => Some("the memory"),
+    }
+}
+
+/// The same over the pool of three pages.
+fn fault_of_three_pages(alloc: Global) -> Option<&'static str> {
+    match pool_of(alloc, &THREE) {
+        Some(pool) => fault_of_pages(alloc, &pool),
+        None => Some("the pool"),
+    }
 }
 
 #[test]
-fn a_write_makes_a_difference(rt: HostRuntime) -> Result<(), Fail> {
-    let pool = three_pages(&rt)?;
-    let table = table_of(&rt, &[(0, 1), (2, 2)]);
-    assert!(rt; is_named(&pool, &table));
-    let mut memory = Memory::from_table(rt.alloc(), &pool, &table)?;
-    memory.write(1023 * 256, 1)?;
-    assert_eq!(rt; memory.first_difference(&pool, &table), Some(1023));
-    Ok(())
+fn contents_are_compared(rt: HostRuntime) {
+    check_parts(&rt, fault_of_three_pages(rt.alloc()));
+}
+
+/// Whether a write to the last place is the first difference of a memory over this pool.
+fn is_difference_made(alloc: Global, pool: &Pool) -> bool {
+    match memory_of(alloc, pool) {
+        Some(mut memory) => {
+            memory.write(1023 * 256, 1).is_ok() && differs_at(&memory, pool, &NAMES, Some(1023))
+        }
+        None => false,
+    }
+}
+
+/// The same over the pool of three pages.
+fn is_difference_made_of_three(alloc: Global) -> bool {
+    match pool_of(alloc, &THREE) {
+        Some(pool) => is_difference_made(alloc, &pool),
+        None => false,
+    }
 }
 
 #[test]
-fn changes_rise(rt: HostRuntime) -> Result<(), Fail> {
-    let pool = three_pages(&rt)?;
-    let table = table_of(&rt, &[(0, 1), (2, 2)]);
-    assert!(rt; is_named(&pool, &table));
-    let mut memory = Memory::from_table(rt.alloc(), &pool, &table)?;
-    for (word_no, value) in [(262143, 5), (0, 1), (512, 9), (513, 9), (0, 7), (512, 8)] {
-        memory.write(word_no, value)?;
-    }
+fn a_write_makes_a_difference(rt: HostRuntime) {
+    assert!(rt; is_difference_made_of_three(rt.alloc()));
+}
 
-    // The page at place 0 was written and holds its old words again.
-    let delta = memory.close()?;
-    let mut listed = Vec::new(rt.alloc());
-    for (place, page) in &delta.changed {
-        listed.push((*place, page.words[0], page.words[1], page.words[255]))?;
+/// Words, and the values that are written there in turn. The page at place 0 holds its old words again in the end.
+const WRITES: [(u32, u32); 6] = [(262_143, 5), (0, 1), (512, 9), (513, 9), (0, 7), (512, 8)];
+
+/// Whether a page that changed is at this place, and has these words first and last.
+fn is_change((place, page): &(u16, Page), at: u16, first: u32, second: u32, last: u32) -> bool {
+    *place == at && page.words[0] == first && page.words[1] == second && page.words[255] == last
+}
+
+/// Whether these are the pages that the writes changed, in the order of their places.
+fn are_changes(changed: &[(u16, Page)]) -> bool {
+    changed.len() == 2
+        && is_change(&changed[0], 2, 8, 9, 8)
+        && is_change(&changed[1], 1023, 0, 0, 5)
+}
+
+/// Whether they are what a memory over this pool is left with.
+fn has_rising_changes(alloc: Global, pool: &Pool) -> bool {
+    let Some(mut memory) = memory_of(alloc, pool) else {
+        return false;
+    };
+    for (word_no, value) in &WRITES {
+        if *word_no >= 262_144 || memory.write(*word_no, *value).is_err() {
+            return false;
+        }
     }
-    assert_eq!(rt;
-        listed.as_slice(),
-        [(2, 8, 9, 8), (1023, 0, 0, 5)].as_slice()
-    );
-    Ok(())
+    match memory.close() {
+        Ok(delta) => are_changes(delta.changed.as_slice()),
+        Err(_) => false,
+    }
+}
+
+/// The same over the pool of three pages.
+fn has_rising_changes_of_three(alloc: Global) -> bool {
+    match pool_of(alloc, &THREE) {
+        Some(pool) => has_rising_changes(alloc, &pool),
+        None => false,
+    }
+}
+
+#[test]
+fn changes_rise(rt: HostRuntime) {
+    assert!(rt; has_rising_changes_of_three(rt.alloc()));
 }
