@@ -1,11 +1,9 @@
 //! Sessions that are recorded or refused: worked examples.
 
-use super::{START, START_2, recording_of};
+use super::{START, START_2, check_parts, recording_of};
 use oberon_format::{MAX_COUNT, Recording, write};
 use oberon_session::{RecordFault, make_recording, read_session};
 use std::alloc::Global;
-use std::process::Abort;
-use std::test::Fail;
 
 /// MOV R0, 5; a store of R0 to word 256; MOV R0, 0; a store of R0 to word 256; a jump to itself.
 const STORES: &str = "05000040000410a000000040000410a0ffffffe7";
@@ -40,33 +38,49 @@ const STORED_RUN: [(usize, [u8; 4]); 9] = [
     (1_208, [5, 0, 0, 0]),
 ];
 
-/// What comes of a session whose first page begins with these digits, with checkpoints at these counts.
-fn recorded(
-    alloc: Global,
-    hex: &str,
-    counts: &str,
-) -> Result<Result<Recording, RecordFault>, Fail> {
+/// The text of a session whose first page begins with these digits, with checkpoints at these counts.
+fn text_of(alloc: Global, hex: &str, counts: &str) -> Option<String> {
     let text = format!(in alloc;
         "{START}\"pages\":[{{\"at\":0,\"hex\":\"{hex}\"}}],\"inputs\":[],\"checkpoints\":[{counts}]}}"
-    )?;
-    let session = read_session(alloc, text.as_bytes()).map_err(|_| "a session")?;
-    Ok(make_recording(alloc, &session))
+    );
+    text.ok()
+}
+
+/// The recording of such a session.
+fn recording_of_page(alloc: Global, hex: &str, counts: &str) -> Option<Recording> {
+    let text = text_of(alloc, hex, counts)?;
+    recording_of(alloc, text.as_str())
+}
+
+/// Whether there is no recording of the session of a text, for this reason.
+fn is_refused(alloc: Global, text: &str, fault: RecordFault) -> bool {
+    match read_session(alloc, text.as_bytes()) {
+        Ok(session) => make_recording(alloc, &session).err() == Some(fault),
+        Err(_) => false,
+    }
+}
+
+/// The same of a session whose first page begins with these digits, with checkpoints at these counts.
+fn is_page_refused(alloc: Global, hex: &str, counts: &str, fault: RecordFault) -> bool {
+    match text_of(alloc, hex, counts) {
+        Some(text) => is_refused(alloc, text.as_str(), fault),
+        None => false,
+    }
 }
 
 /// The counts after each of 63 rounds of the program that fills pages, and one more.
-fn rounds_and(alloc: Global, last: u64) -> Result<String, Fail> {
+fn rounds_and(alloc: Global, last: u64) -> Option<String> {
     let mut counts = String::new(alloc);
     for round in 1..64u64 {
         let count = 2 + 4_100 * round;
-        counts = format!(in alloc; "{counts}{count},")?;
+        counts = format!(in alloc; "{counts}{count},").ok()?;
     }
-    Ok(format!(in alloc; "{counts}{last}")?)
+    format!(in alloc; "{counts}{last}").ok()
 }
 
-/// The page number that place 1 has at checkpoint k.
-fn number_at(rt: &impl Abort, recording: &Recording, k: u32) -> u32 {
-    assert!(rt; k < recording.count());
-    recording.checkpoint(k).table.entry(1)
+/// Whether place 1 has this page number at checkpoint k.
+fn has_number(recording: &Recording, k: u32, number: u32) -> bool {
+    k < recording.count() && recording.checkpoint(k).table.entry(1) == number
 }
 
 /// The text of the stored run.
@@ -81,108 +95,138 @@ fn stored_text() -> [u8; 1_344] {
     text
 }
 
-#[test]
-fn records_the_stored_run(rt: HostRuntime) -> Result<(), Fail> {
-    let recording = recording_of_page(rt.alloc(), "05000040", "100")?;
-    let text = write(rt.alloc(), &recording)?;
-    assert!(rt; text.as_slice() == stored_text().as_slice());
-    Ok(())
-}
-
-/// The recording of a session whose first page begins with these digits, with checkpoints at these counts.
-fn recording_of_page(alloc: Global, hex: &str, counts: &str) -> Result<Recording, Fail> {
-    match recorded(alloc, hex, counts)? {
-        Ok(recording) => Ok(recording),
-        Err(_) => Err("a recording".into()),
-    }
-}
-
-/// Checks the recording of the program that stores to page 1.
-fn check_changed_page(rt: &impl Abort, recording: &Recording) {
-    assert!(rt; recording.pool().len() == 2 && recording.count() == 4);
-    for (k, number) in [(0, 0), (1, 2), (2, 0), (3, 0)] {
-        assert!(rt; number_at(rt, recording, k) == number);
-    }
-}
-
-/// How long the text of a recording is.
-fn text_length(alloc: Global, recording: &Recording) -> Result<usize, Fail> {
-    Ok(write(alloc, recording)?.len())
-}
-
-#[test]
-fn lays_a_page_that_changed(rt: HostRuntime) -> Result<(), Fail> {
-    let recording = recording_of_page(rt.alloc(), STORES, "2,4,5")?;
-    check_changed_page(&rt, &recording);
-    assert!(rt; text_length(rt.alloc(), &recording)? == 2_672);
-    Ok(())
-}
-
-/// Checks a timer that counts each ten instructions from phase 9 on, and that is set to 100 at count 25.
-fn check_timer(rt: &impl Abort, recording: &Recording) {
-    for (k, timer, phase) in [(0, 0, 9), (1, 3, 4), (2, 100, 9)] {
-        assert!(rt; k < recording.count());
-        let devices = &recording.checkpoint(k).devices;
-        assert!(rt; devices.rate() == 10);
-        assert!(rt; devices.timer() == timer && devices.phase() == phase);
+/// Whether a recording is written as the text of the stored run.
+fn is_stored_run(alloc: Global, recording: &Recording) -> bool {
+    match write(alloc, recording) {
+        Ok(text) => text.as_slice() == stored_text().as_slice(),
+        Err(_) => false,
     }
 }
 
 #[test]
-fn records_a_timer_that_counts(rt: HostRuntime) -> Result<(), Fail> {
-    let text = format!(in rt.alloc();
+fn records_the_stored_run(rt: HostRuntime) {
+    let recording = recording_of_page(rt.alloc(), "05000040", "100").expect(&rt, "a recording");
+    assert!(rt; is_stored_run(rt.alloc(), &recording));
+}
+
+/// Whether the page numbers are those of the program that stores to page 1.
+fn has_changed_page(recording: &Recording) -> bool {
+    recording.pool().len() == 2
+        && recording.count() == 4
+        && has_number(recording, 0, 0)
+        && has_number(recording, 1, 2)
+        && has_number(recording, 2, 0)
+        && has_number(recording, 3, 0)
+}
+
+/// Whether the text of a recording has this length.
+fn is_written_in(alloc: Global, recording: &Recording, length: usize) -> bool {
+    match write(alloc, recording) {
+        Ok(text) => text.len() == length,
+        Err(_) => false,
+    }
+}
+
+/// What is wrong with the recording of the program that stores to page 1, if something is.
+fn fault_of_stores(alloc: Global) -> Option<&'static str> {
+    let Some(recording) = recording_of_page(alloc, STORES, "2,4,5") else {
+        return Some("the recording");
+    };
+    if !has_changed_page(&recording) {
+        return Some("the pages");
+    }
+    if !is_written_in(alloc, &recording, 2_672) {
+        return Some("the length of the text");
+    }
+    None
+}
+
+#[test]
+fn lays_a_page_that_changed(rt: HostRuntime) {
+    check_parts(&rt, fault_of_stores(rt.alloc()));
+}
+
+/// Whether the timer counts each ten instructions and has this value and this phase at checkpoint k.
+fn has_timer(recording: &Recording, k: u32, timer: u32, phase: u32) -> bool {
+    if k >= recording.count() {
+        return false;
+    }
+    let devices = &recording.checkpoint(k).devices;
+    devices.rate() == 10 && devices.timer() == timer && devices.phase() == phase
+}
+
+/// Whether a timer counts each ten instructions from phase 9 on, and is set to 100 at count 25.
+fn has_set_timer(recording: &Recording) -> bool {
+    has_timer(recording, 0, 0, 9)
+        && has_timer(recording, 1, 3, 4)
+        && has_timer(recording, 2, 100, 9)
+}
+
+/// The recording of a session with such a timer.
+fn timer_recording(alloc: Global) -> Option<Recording> {
+    let text = format!(in alloc;
         "{START_2},\"rate\":10,\"phase\":9}},\"pages\":[],\"inputs\":[[25,\"timer\",100]],\"checkpoints\":[25,30]}}"
-    )?;
-    check_timer(&rt, &recording_of(rt.alloc(), text.as_str())?);
-    Ok(())
-}
-
-/// Checks how many bytes the last of two checkpoints says were sent.
-fn check_sent(rt: &impl Abort, recording: &Recording, sent: usize) {
-    assert!(rt; recording.count() == 2);
-    assert!(rt; recording.checkpoint(1).sent.len() == sent);
-}
-
-/// Why there is no recording of a session whose first page begins with these digits, with checkpoints at these counts.
-fn record_fault(alloc: Global, hex: &str, counts: &str) -> Result<Option<RecordFault>, Fail> {
-    Ok(recorded(alloc, hex, counts)?.err())
+    );
+    recording_of(alloc, text.ok()?.as_str())
 }
 
 #[test]
-fn records_as_much_output_as_there_may_be(rt: HostRuntime) -> Result<(), Fail> {
-    check_sent(
-        &rt,
-        &recording_of_page(rt.alloc(), SENDS, "2097152")?,
-        1_048_576,
-    );
-    for counts in ["2097154", "1099511627776", "2097152,2097154"] {
-        assert!(rt; record_fault(rt.alloc(), SENDS, counts)? == Some(RecordFault::Output));
+fn records_a_timer_that_counts(rt: HostRuntime) {
+    let recording = timer_recording(rt.alloc()).expect(&rt, "a recording");
+    assert!(rt; has_set_timer(&recording));
+}
+
+/// Whether the last of two checkpoints says that so many bytes were sent.
+fn has_sent(recording: &Recording, sent: usize) -> bool {
+    recording.count() == 2 && recording.checkpoint(1).sent.len() == sent
+}
+
+/// Counts of checkpoints up to which too many bytes are sent.
+const TOO_MUCH: [&str; 3] = ["2097154", "1099511627776", "2097152,2097154"];
+
+/// The first of these counts that does not refuse the program that sends, if there is one.
+fn counts_not_refused(alloc: Global) -> Option<&'static str> {
+    for counts in &TOO_MUCH {
+        if !is_page_refused(alloc, SENDS, counts, RecordFault::Output) {
+            return Some(counts);
+        }
     }
-    Ok(())
+    None
+}
+
+#[test]
+fn records_as_much_output_as_there_may_be(rt: HostRuntime) {
+    let recording = recording_of_page(rt.alloc(), SENDS, "2097152").expect(&rt, "a recording");
+    assert!(rt; has_sent(&recording, 1_048_576));
+    check_parts(&rt, counts_not_refused(rt.alloc()));
 }
 
 /// How many pages the recording has of the program that fills them, with a last checkpoint at this count.
-fn filled_pages(alloc: Global, last: u64) -> Result<u32, Fail> {
+fn filled_pages(alloc: Global, last: u64) -> Option<u32> {
     let counts = rounds_and(alloc, last)?;
-    Ok(
-        recording_of_page(alloc, FILLS, counts.as_str())?
-            .pool()
-            .len(),
-    )
+    let recording = recording_of_page(alloc, FILLS, counts.as_str())?;
+    Some(recording.pool().len())
 }
 
-/// Why there is no such recording.
-fn fill_fault(alloc: Global, last: u64) -> Result<Option<RecordFault>, Fail> {
-    let counts = rounds_and(alloc, last)?;
-    record_fault(alloc, FILLS, counts.as_str())
+/// Whether there is no such recording, for this reason.
+fn is_fill_refused(alloc: Global, last: u64, fault: RecordFault) -> bool {
+    match rounds_and(alloc, last) {
+        Some(counts) => is_page_refused(alloc, FILLS, counts.as_str(), fault),
+        None => false,
+    }
 }
 
 #[test]
-fn refuses_too_many_pages_and_output_first(rt: HostRuntime) -> Result<(), Fail> {
-    assert!(rt; filled_pages(rt.alloc(), 258_303)? == 64_513);
-    assert!(rt; fill_fault(rt.alloc(), 262_402)? == Some(RecordFault::Pages));
-    assert!(rt; fill_fault(rt.alloc(), MAX_COUNT)? == Some(RecordFault::Output));
-    Ok(())
+fn refuses_too_many_pages_and_output_first(rt: HostRuntime) {
+    assert!(rt; filled_pages(rt.alloc(), 258_303) == Some(64_513));
+    assert!(rt;
+        is_fill_refused(rt.alloc(), 262_402, RecordFault::Pages),
+        "pages"
+    );
+    assert!(rt;
+        is_fill_refused(rt.alloc(), MAX_COUNT, RecordFault::Output),
+        "output"
+    );
 }
 
 /// The number and the name of each fault.
@@ -192,23 +236,47 @@ const NAMES: [(RecordFault, Option<u8>, &str); 3] = [
     (RecordFault::Memory, None, "memory"),
 ];
 
-#[test]
-fn numbers_and_names_faults_of_recordings(rt: HostRuntime) {
-    for (fault, number, name) in NAMES {
-        assert!(rt; fault.number() == number, "{name}");
-        assert_eq!(rt; fault.name(), name);
+/// The name of the first fault that has another number or another name, if there is one.
+fn name_of_another_fault() -> Option<&'static str> {
+    for (fault, number, name) in &NAMES {
+        if fault.number() != *number || fault.name() != *name {
+            return Some(name);
+        }
     }
+    None
 }
 
 #[test]
-fn shows_each_fault_of_recordings(rt: HostRuntime) -> Result<(), Fail> {
-    for (fault, text) in [
-        (RecordFault::Output, "the session sends too much"),
-        (RecordFault::Pages, "the session changes too many pages"),
-        (RecordFault::Memory, "no memory"),
-    ] {
-        let shown = format!(in rt.alloc(); "{fault}")?;
-        assert_eq!(rt; shown.as_str(), text);
+fn numbers_and_names_faults_of_recordings(rt: HostRuntime) {
+    check_parts(&rt, name_of_another_fault());
+}
+
+/// The text of each fault.
+const TEXTS: [(RecordFault, &str); 3] = [
+    (RecordFault::Output, "the session sends too much"),
+    (RecordFault::Pages, "the session changes too many pages"),
+    (RecordFault::Memory, "no memory"),
+];
+
+/// Whether a fault is shown so.
+fn is_shown(alloc: Global, fault: RecordFault, text: &str) -> bool {
+    match format!(in alloc; "{fault}") {
+        Ok(shown) => shown.as_str() == text,
+        Err(_) => false,
     }
-    Ok(())
+}
+
+/// The text of the first fault that is shown otherwise, if there is one.
+fn text_not_shown(alloc: Global) -> Option<&'static str> {
+    for (fault, text) in &TEXTS {
+        if !is_shown(alloc, *fault, text) {
+            return Some(text);
+        }
+    }
+    None
+}
+
+#[test]
+fn shows_each_fault_of_recordings(rt: HostRuntime) {
+    check_parts(&rt, text_not_shown(rt.alloc()));
 }
