@@ -15,34 +15,62 @@ fn feed(rt: &impl Abort, devices: &mut Devices, kind: u8, value: u32) {
     devices.take(input);
 }
 
+/// Kinds, values, and whether there is such an input.
+const INPUTS: [(u8, u32, bool); 13] = [
+    (0, 0, false),
+    (1, 0xFFFF_FFFF, true),
+    (2, 4095, true),
+    (2, 4096, false),
+    (3, 0x073F_F3FF, true),
+    (3, 0x0800_0000, false),
+    (3, 0x0000_0400, false),
+    (3, 0x0040_0000, false),
+    (4, 255, true),
+    (4, 256, false),
+    (5, 255, true),
+    (5, 256, false),
+    (6, 0, false),
+];
+
+/// Whether there is an input of a kind's number and a value exactly if it is wanted.
+fn is_taken_as_wanted(kind: u8, value: u32, is_wanted: bool) -> bool {
+    match Input::new(kind, value) {
+        Ok(input) => is_wanted && input.kind() == kind && input.value() == value,
+        Err(fault) => !is_wanted && fault == RangeFault && fault.number() == 1,
+    }
+}
+
+/// The kind and the value of the first input that is not taken as wanted, if there is one.
+fn input_taken_wrong() -> Option<(u8, u32)> {
+    for (kind, value, is_wanted) in &INPUTS {
+        if !is_taken_as_wanted(*kind, *value, *is_wanted) {
+            return Some((*kind, *value));
+        }
+    }
+    None
+}
+
 #[test]
 fn takes_inputs_in_their_ranges_alone(rt: HostRuntime) {
-    let rows = [
-        (0, 0, false),
-        (1, 0xFFFF_FFFF, true),
-        (2, 4095, true),
-        (2, 4096, false),
-        (3, 0x073F_F3FF, true),
-        (3, 0x0800_0000, false),
-        (3, 0x0000_0400, false),
-        (3, 0x0040_0000, false),
-        (4, 255, true),
-        (4, 256, false),
-        (5, 255, true),
-        (5, 256, false),
-        (6, 0, false),
-    ];
-    for (kind, value, want) in rows {
-        match Input::new(kind, value) {
-            Ok(input) => {
-                assert!(rt; want, "kind {kind} took {value}");
-                assert!(rt; (input.kind(), input.value()) == (kind, value));
-            }
-            Err(fault) => {
-                assert!(rt; !want, "kind {kind} refused {value}");
-                assert!(rt; (fault, fault.number()) == (RangeFault, 1));
-            }
+    if let Some((kind, value)) = input_taken_wrong() {
+        panic!(rt; "kind {kind}, value {value}");
+    }
+}
+
+/// The first word that is read otherwise, if there is one, where these words are read in turn.
+fn word_read_wrong(devices: &mut Devices, rows: &[(u8, u32)]) -> Option<u8> {
+    for (word, want) in rows {
+        if *word >= 16 || devices.read(*word) != *want {
+            return Some(*word);
         }
+    }
+    None
+}
+
+/// Checks that there is no word that is wrong.
+fn check_words(rt: &impl Abort, wrong: Option<u8>) {
+    if let Some(word) = wrong {
+        panic!(rt; "word {word}");
     }
 }
 
@@ -51,21 +79,17 @@ fn reads_a_key_that_waits(rt: HostRuntime) {
     let mut devices = idle(&rt, 0);
     feed(&rt, &mut devices, 4, 0x41);
     let rows = [(6, 0x1000_0000), (7, 0x41), (6, 0), (7, 0)];
-    for (word, want) in rows {
-        assert_eq!(rt; devices.read(word), want, "word {word}");
-    }
+    check_words(&rt, word_read_wrong(&mut devices, &rows));
 }
 
 #[test]
 fn reads_a_byte_of_the_serial_line(rt: HostRuntime) {
     let mut devices = idle(&rt, 0);
     feed(&rt, &mut devices, 5, 0x55);
-    assert_eq!(rt; devices.serial(), 0x155);
+    assert!(rt; devices.serial() == 0x155, "before");
     let rows = [(3, 3), (2, 0x55), (3, 2), (2, 0x55)];
-    for (word, want) in rows {
-        assert_eq!(rt; devices.read(word), want, "word {word}");
-    }
-    assert_eq!(rt; devices.serial(), 0x55);
+    check_words(&rt, word_read_wrong(&mut devices, &rows));
+    assert!(rt; devices.serial() == 0x55, "after");
 }
 
 #[test]
@@ -78,50 +102,59 @@ fn keeps_sixteen_keys_of_seventeen(rt: HostRuntime) {
     assert_eq!(rt; devices.keys(), &want[..]);
 }
 
+/// Words in turn, and what is read there.
+const OTHER_WORDS: [(u8, u32); 16] = [
+    (0, 7),
+    (1, 0xA5C),
+    (2, 0),
+    (3, 2),
+    (4, 255),
+    (5, 1),
+    (6, 0x0712_3045),
+    (7, 0),
+    (8, 0),
+    (9, 0),
+    (10, 0),
+    (11, 0),
+    (12, 0),
+    (13, 0),
+    (14, 0),
+    (15, 0),
+];
+
 #[test]
 fn reads_the_other_words(rt: HostRuntime) {
     let mut devices = idle(&rt, 0);
     feed(&rt, &mut devices, 3, 0x0712_3045);
     feed(&rt, &mut devices, 1, 7);
     feed(&rt, &mut devices, 2, 0xA5C);
-    let wants = [
-        7,
-        0xA5C,
-        0,
-        2,
-        255,
-        1,
-        0x0712_3045,
-        0,
-        0,
-        0,
-        0,
-        0,
-        0,
-        0,
-        0,
-        0,
-    ];
-    for word in 0..16 {
-        assert_eq!(rt; devices.read(word), wants[word as usize], "word {word}");
+    check_words(&rt, word_read_wrong(&mut devices, &OTHER_WORDS));
+}
+
+/// Words and values that are written there in turn, the byte that is sent, and the LEDs after it.
+const WRITES: [(u8, u32, Option<u8>, u8); 5] = [
+    (0, 0xFFFF_FFFF, None, 0),
+    (1, 0x0000_01A5, None, 0xA5),
+    (2, 0x0000_0141, Some(0x41), 0xA5),
+    (6, 0x0712_3045, None, 0xA5),
+    (15, 1, None, 0xA5),
+];
+
+/// The first word whose write sends something else or leaves other LEDs, if there is one.
+fn word_written_wrong(devices: &mut Devices) -> Option<u8> {
+    for (word, value, sent, leds) in &WRITES {
+        if *word >= 16 || devices.write(*word, *value) != *sent || devices.leds() != *leds {
+            return Some(*word);
+        }
     }
+    None
 }
 
 #[test]
 fn writes_leds_and_sends(rt: HostRuntime) {
     let mut devices = idle(&rt, 0);
-    let rows = [
-        (0, 0xFFFF_FFFF, None, 0),
-        (1, 0x0000_01A5, None, 0xA5),
-        (2, 0x0000_0141, Some(0x41), 0xA5),
-        (6, 0x0712_3045, None, 0xA5),
-        (15, 1, None, 0xA5),
-    ];
-    for (word, value, sent, leds) in rows {
-        assert_eq!(rt; devices.write(word, value), sent, "word {word}");
-        assert_eq!(rt; devices.leds(), leds);
-    }
-    assert_eq!(rt; (devices.timer(), devices.mouse()), (0, 0));
+    check_words(&rt, word_written_wrong(&mut devices));
+    assert!(rt; devices.timer() == 0 && devices.mouse() == 0);
 }
 
 /// Rate, phase, switches, mouse word, serial word and keys of devices, of which one is out of its range.
@@ -171,8 +204,8 @@ fn makes_devices_of_the_largest_parts(rt: HostRuntime) {
 }
 
 /// Devices with this timer, rate and phase, and nothing else.
-fn timer_devices(rt: &impl Abort, timer: u32, rate: u32, phase: u32) -> Devices {
-    Devices::new(timer, rate, phase, 0, 0, 0, 0, &[]).expect(rt, "the phase is below the rate")
+fn timer_devices((timer, rate, phase): (u32, u32, u32)) -> Option<Devices> {
+    Devices::new(timer, rate, phase, 0, 0, 0, 0, &[]).ok()
 }
 
 /// The timer, rate and phase of devices.
@@ -181,61 +214,69 @@ fn clock_of(devices: &Devices) -> (u32, u32, u32) {
 }
 
 /// The same once so many instructions were counted, one by one.
-fn counted_slowly(
-    rt: &impl Abort,
-    (timer, rate, phase): (u32, u32, u32),
-    count: u64,
-) -> (u32, u32, u32) {
-    let mut devices = timer_devices(rt, timer, rate, phase);
+fn counted_slowly(clock: (u32, u32, u32), count: u64) -> Option<(u32, u32, u32)> {
+    let mut devices = timer_devices(clock)?;
     for _ in 0..count {
         devices.tick();
     }
-    clock_of(&devices)
+    Some(clock_of(&devices))
 }
 
 /// The same once they were counted at once.
-fn counted_at_once(
-    rt: &impl Abort,
-    (timer, rate, phase): (u32, u32, u32),
-    count: u64,
-) -> (u32, u32, u32) {
-    let mut devices = timer_devices(rt, timer, rate, phase);
+fn counted_at_once(clock: (u32, u32, u32), count: u64) -> Option<(u32, u32, u32)> {
+    let mut devices = timer_devices(clock)?;
     devices.tick_times(count);
-    clock_of(&devices)
+    Some(clock_of(&devices))
+}
+
+/// Timer, rate and phase, instructions, and the three after they are counted.
+const COUNTED: [((u32, u32, u32), u64, (u32, u32, u32)); 6] = [
+    ((0, 10, 0), 25, (2, 10, 5)),
+    ((7, 0, 0), 25, (7, 0, 0)),
+    ((7, 1, 0), 3, (10, 1, 0)),
+    ((0xFFFF_FFFF, 3, 2), 1, (0, 3, 0)),
+    ((0xFFFF_FFFE, 3, 1), 8, (1, 3, 0)),
+    (
+        (0xFFFF_FFFF, 0xFFFF_FFFF, 0xFFFF_FFFE),
+        1,
+        (0, 0xFFFF_FFFF, 0),
+    ),
+];
+
+/// The first row that is counted otherwise, if there is one.
+fn row_counted_wrong() -> Option<usize> {
+    for (row, (before, count, after)) in COUNTED.iter().enumerate() {
+        if counted_slowly(*before, *count) != Some(*after)
+            || counted_at_once(*before, *count) != Some(*after)
+        {
+            return Some(row);
+        }
+    }
+    None
 }
 
 #[test]
 fn counts_instructions_one_by_one_and_at_once(rt: HostRuntime) {
-    let rows = [
-        ((0, 10, 0), 25, (2, 10, 5)),
-        ((7, 0, 0), 25, (7, 0, 0)),
-        ((7, 1, 0), 3, (10, 1, 0)),
-        ((0xFFFF_FFFF, 3, 2), 1, (0, 3, 0)),
-        ((0xFFFF_FFFE, 3, 1), 8, (1, 3, 0)),
-        (
-            (0xFFFF_FFFF, 0xFFFF_FFFF, 0xFFFF_FFFE),
-            1,
-            (0, 0xFFFF_FFFF, 0),
-        ),
-    ];
-    for (before, count, after) in rows {
-        assert_eq!(rt; counted_slowly(&rt, before, count), after);
-        assert_eq!(rt; counted_at_once(&rt, before, count), after);
+    if let Some(row) = row_counted_wrong() {
+        panic!(rt; "row {row}");
     }
-    let most = counted_at_once(&rt, (0, 10, 5), u64::MAX);
-    assert_eq!(rt; most, (0x9999_999A, 10, 0));
+    let most = counted_at_once((0, 10, 5), u64::MAX);
+    assert!(rt;
+        most == Some((0x9999_999A, 10, 0)),
+        "as many as there can be"
+    );
 }
 
 #[test]
 fn keeps_the_phase_where_the_timer_is_set(rt: HostRuntime) {
-    let mut devices = timer_devices(&rt, 7, 10, 9);
+    let mut devices = timer_devices((7, 10, 9)).expect(&rt, "the phase is below the rate");
     feed(&rt, &mut devices, 1, 100);
-    assert_eq!(rt;
-        (devices.timer(), devices.rate(), devices.phase()),
-        (100, 10, 9)
-    );
+    assert!(rt; clock_of(&devices) == (100, 10, 9), "once it is set");
     devices.tick();
-    assert_eq!(rt; (devices.timer(), devices.phase()), (101, 0));
+    assert!(rt;
+        devices.timer() == 101 && devices.phase() == 0,
+        "one instruction later"
+    );
 }
 
 /// Whether a picture has the head of a display's, and one byte after it that isn't 0.
