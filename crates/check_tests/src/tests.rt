@@ -5,6 +5,7 @@ mod checked;
 mod claims;
 mod counted;
 mod gates;
+mod held;
 mod jumps;
 mod limits;
 mod lines;

@@ -2,6 +2,7 @@
 
 use oberon_check::{FreeGate, Gate, check_bytes};
 use oberon_format::{Fault, migrate, refusal};
+use recording_texts::{Sketch, Spot};
 use std::alloc::Global;
 use std::process::Abort;
 use std::sync::Wait;
@@ -9,7 +10,7 @@ use std::test::Fail;
 use std::thread::Threads;
 
 /// Workers and segments in a job.
-#[derive(Clone, Copy, Debug, PartialEq, Eq)]
+#[derive(Clone, Copy)]
 pub(crate) struct Crew {
     pub workers: u32,
     pub cut: u32,
@@ -29,6 +30,19 @@ pub(crate) fn checked<R: Threads + Wait + Sync, G: Gate + Sync>(
     }
     let report = check_bytes(rt, alloc, text, workers, cut, gate)?;
     Ok((report.line, report.status))
+}
+
+/// Checks the line and the status of a recording's text of version 1, with these numbers turned, and those of its migration.
+pub(crate) fn text_gives<R: Abort + Threads + Wait + Sync>(
+    rt: &R,
+    alloc: Global,
+    recording: &Sketch<'_>,
+    turned: &[(Spot, u32)],
+    crew: Crew,
+    expected: (&[u8], u8),
+) -> Result<(), Fail> {
+    let text = recording.first_text(alloc, turned)?;
+    gives(rt, alloc, &text, crew, expected)
 }
 
 /// Checks the line and the status of a text by so many workers, whose jobs begin at once, and those of its migration.
@@ -56,7 +70,7 @@ fn is_answered<R: Abort + Threads + Wait + Sync>(
 ) -> Result<(), Fail> {
     let (written, ended) = checked(rt, alloc, text, crew, &FreeGate)?;
     is_line(rt, written.as_slice(), line);
-    assert_eq!(rt; ended, status);
+    assert!(rt; ended == status, "status {ended} in place of {status}");
     Ok(())
 }
 
@@ -67,7 +81,7 @@ fn is_refused(
     fault: Fault,
     (line, status): (&[u8], u8),
 ) -> Result<(), Fail> {
-    assert_eq!(rt; status, 2);
+    assert!(rt; status == 2, "refused in place of status {status}");
     match fault {
         Fault::Memory => Err("no memory".into()),
         _ => {

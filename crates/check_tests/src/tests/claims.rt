@@ -2,8 +2,10 @@
 ghost use Rattle.std.specs.Prelude.{◌≡◌, All, IfOk, vec_len};
 ghost use Rattle.oberon_claims.specs.Pass.{fresh_pass};
 
+use super::gates::counters;
 use oberon_claims::{Claims, Ledger, Pass};
 use std::alloc::{AllocError, Global};
+use std::process::Abort;
 use std::sync::atomic::{AtomicU64, Ordering};
 use std::test::Fail;
 use std::thread::{Threads, map_vec};
@@ -40,25 +42,38 @@ fn answers_by_hand(alloc: Global) -> Result<([Option<u32>; 8], Ledger), Fail> {
     Ok((answers, claims.finish(passes)))
 }
 
+/// Checks what passes were answered, each call in turn.
+fn are_answers(rt: &impl Abort, answers: &[Option<u32>], wanted: &[Option<u32>]) {
+    assert!(rt; answers.len() == wanted.len(), "another number of answers");
+    for call in 0..answers.len() {
+        assert!(rt; answers[call] == wanted[call], "answer {call}");
+    }
+}
+
+/// Checks what a book comes to: how many jobs were taken, and the least segment told.
+fn comes_to(rt: &impl Abort, ledger: Ledger, taken: u32, least: Option<u32>) {
+    assert!(rt; ledger.taken == taken, "another number of jobs taken");
+    assert!(rt; ledger.least == least, "another least segment");
+}
+
+/// What two passes are to be answered.
+const TO_TWO: [Option<u32>; 8] = [
+    Some(0),
+    Some(1),
+    Some(2),
+    None,
+    None,
+    Some(5),
+    Some(3),
+    Some(3),
+];
+
 /// Two passes share three jobs: claims past the end, and looks that see what the other pass told.
 #[test]
 fn claims_by_hand(rt: HostRuntime) -> Result<(), Fail> {
     let (answers, ledger) = answers_by_hand(rt.alloc())?;
-    let expected = [
-        Some(0),
-        Some(1),
-        Some(2),
-        None,
-        None,
-        Some(5),
-        Some(3),
-        Some(3),
-    ];
-    for (call, (found, wanted)) in answers.iter().zip(&expected).enumerate() {
-        assert_eq!(rt; *found, *wanted, "answer {call}");
-    }
-    assert_eq!(rt; ledger.taken, 3);
-    assert_eq!(rt; ledger.least, Some(3));
+    are_answers(&rt, &answers, &TO_TWO);
+    comes_to(&rt, ledger, 3, Some(3));
     Ok(())
 }
 
@@ -84,11 +99,8 @@ fn answers_without_jobs(alloc: Global) -> Result<([Option<u32>; 3], Ledger), Fai
 #[test]
 fn no_jobs(rt: HostRuntime) -> Result<(), Fail> {
     let (answers, ledger) = answers_without_jobs(rt.alloc())?;
-    for (call, found) in answers.iter().enumerate() {
-        assert_eq!(rt; *found, None, "answer {call}");
-    }
-    assert_eq!(rt; ledger.taken, 0);
-    assert_eq!(rt; ledger.least, None);
+    are_answers(&rt, &answers, &[None, None, None]);
+    comes_to(&rt, ledger, 0, None);
     Ok(())
 }
 
@@ -151,33 +163,33 @@ fn work_all<R: Threads + Sync>(
     )
 }
 
-/// What a book of 4,096 jobs comes to, which eight threads share.
+/// What a book of 4,096 jobs comes to, which eight threads share, and how many of them met another.
 fn ledger_of_eight<R: Threads + Sync>(
     rt: &R,
     alloc: Global,
     marks: &[AtomicU64],
-    met: &AtomicU64,
-) -> Result<Ledger, Fail> {
+) -> Result<(Ledger, u64), AllocError> {
     let (claims, passes) = Claims::new(alloc, 4096, 8)?;
     let begun = AtomicU64::new(0);
-    let passes = work_all(rt, &claims, passes, marks, &begun, met)?;
-    Ok(claims.finish(passes))
+    let met = AtomicU64::new(0);
+    let passes = work_all(rt, &claims, passes, marks, &begun, &met)?;
+    Ok((claims.finish(passes), met.load(Ordering::SeqCst)))
+}
+
+/// Checks that each job was taken once.
+fn are_taken_once(rt: &impl Abort, marks: &[AtomicU64]) {
+    for (job, mark) in marks.iter().enumerate() {
+        assert!(rt; mark.load(Ordering::SeqCst) == 1, "job {job}");
+    }
 }
 
 /// Eight threads share 4,096 jobs: each sees another at work, each job is taken once, and the least segment told is known.
 #[test]
 fn eight_threads_share_all_jobs(rt: HostRuntime) -> Result<(), Fail> {
-    let mut marks = Vec::new(rt.alloc());
-    for _job in 0..4096 {
-        marks.push(AtomicU64::new(0))?;
-    }
-    let met = AtomicU64::new(0);
-    let ledger = ledger_of_eight(&rt, rt.alloc(), marks.as_slice(), &met)?;
-    assert_eq!(rt; met.load(Ordering::SeqCst), 8);
-    assert_eq!(rt; ledger.taken, 4096);
-    assert_eq!(rt; ledger.least, Some(700));
-    for (job, mark) in marks.iter().enumerate() {
-        assert_eq!(rt; mark.load(Ordering::SeqCst), 1, "job {job}");
-    }
+    let marks = counters(rt.alloc(), 4096)?;
+    let (ledger, met) = ledger_of_eight(&rt, rt.alloc(), marks.as_slice())?;
+    assert!(rt; met == 8, "{met} threads met another");
+    comes_to(&rt, ledger, 4096, Some(700));
+    are_taken_once(&rt, marks.as_slice());
     Ok(())
 }

@@ -2,10 +2,9 @@
 
 use super::checked::{Crew, checked};
 use super::gates::counters;
-use super::jumps::{FALSE_LEDS, LIT_LEDS, jump_recording};
+use super::jumps::{FALSE_LEDS, LIT_LEDS, jump_recording, jumps};
 use oberon_check::{Gate, Verdict, check_recording};
 use oberon_format::Recording;
-use recording_texts::JUMPS;
 use std::alloc::Global;
 use std::sync::Wait;
 use std::sync::atomic::{AtomicU64, Ordering};
@@ -28,12 +27,26 @@ impl Gate for CountingGate<'_> {
 
 /// Whether each of so many jobs has begun once, and no other has begun.
 fn each_begun_once(begun: &[AtomicU64], jobs: u32) -> bool {
-    begun.iter().enumerate().all(|(job, begun)| begun.load(Ordering::SeqCst)
-        == u64::from(job < jobs as usize))
+    for (job, begun) in begun.iter().enumerate() {
+        if begun.load(Ordering::SeqCst) != u64::from(job < jobs as usize) {
+            return false;
+        }
+    }
+    true
 }
 
-/// The segments in a job, and how many jobs ten segments are then.
-const CUTS: [(u32, u32); 3] = [(1, 10), (4, 3), (100, 1)];
+/// The workers, the segments in a job, and how many jobs ten segments are then.
+const CREWS: [(u32, u32, u32); 9] = [
+    (1, 1, 10),
+    (2, 1, 10),
+    (64, 1, 10),
+    (1, 4, 3),
+    (2, 4, 3),
+    (64, 4, 3),
+    (1, 100, 1),
+    (2, 100, 1),
+    (64, 100, 1),
+];
 
 /// The verdict by so many workers, where each of the recording's jobs begins once and no other does.
 fn counted_verdict<R: Threads + Wait + Sync>(
@@ -58,15 +71,22 @@ fn counted_verdict<R: Threads + Wait + Sync>(
     Ok(verdict)
 }
 
+/// The same of ten jumps, two checkpoints of which are false.
+fn verdict_of_jumps<R: Threads + Wait + Sync>(
+    rt: &R,
+    alloc: Global,
+    crew: Crew,
+    jobs: u32,
+) -> Result<Verdict, Fail> {
+    let r = jump_recording(alloc, 10, &LIT_LEDS)?;
+    counted_verdict(rt, alloc, &r, crew, jobs)
+}
+
 #[test]
 fn two_false_checkpoints(rt: HostRuntime) -> Result<(), Fail> {
-    let r = jump_recording(rt.alloc(), 10, &LIT_LEDS)?;
-    for (cut, jobs) in CUTS {
-        for workers in [1, 2, 64] {
-            let crew = Crew { workers, cut };
-            let verdict = counted_verdict(&rt, rt.alloc(), &r, crew, jobs)?;
-            assert_eq!(rt; verdict, FALSE_LEDS);
-        }
+    for (workers, cut, jobs) in CREWS {
+        let verdict = verdict_of_jumps(&rt, rt.alloc(), Crew { workers, cut }, jobs)?;
+        assert!(rt; verdict == FALSE_LEDS, "{workers} workers, cut {cut}");
     }
     Ok(())
 }
@@ -85,22 +105,33 @@ fn counted_line<R: Threads + Wait + Sync>(
         begun: begun.as_slice(),
     };
     let (line, status) = checked(rt, alloc, text, crew, &gate)?;
-    let expected = (b"false checkpoint 3 at 30 part LEDs\n".as_slice(), 1);
+    let named = line.as_slice() == b"false checkpoint 3 at 30 part LEDs\n".as_slice();
     Ok((
-        (line.as_slice(), status) == expected,
+        named && status == 1,
         each_begun_once(begun.as_slice(), jobs),
     ))
 }
 
+/// The same of the text of ten jumps, two checkpoints of which are false.
+fn line_of_jumps<R: Threads + Wait + Sync>(
+    rt: &R,
+    alloc: Global,
+    crew: Crew,
+    jobs: u32,
+) -> Result<(bool, bool), Fail> {
+    let text = jumps(10).first_text(alloc, &LIT_LEDS)?;
+    counted_line(rt, alloc, text.as_slice(), crew, jobs)
+}
+
 #[test]
 fn lines_of_two_false_checkpoints(rt: HostRuntime) -> Result<(), Fail> {
-    let text = JUMPS.first_text(rt.alloc(), &LIT_LEDS)?;
-    for (cut, jobs) in CUTS {
-        for workers in [1, 2, 64] {
-            let crew = Crew { workers, cut };
-            let found = counted_line(&rt, rt.alloc(), text.as_slice(), crew, jobs)?;
-            assert_eq!(rt; found, (true, true), "{workers} workers, cut {cut}");
-        }
+    for (workers, cut, jobs) in CREWS {
+        let (named, once) = line_of_jumps(&rt, rt.alloc(), Crew { workers, cut }, jobs)?;
+        assert!(rt; named, "another line by {workers} workers, cut {cut}");
+        assert!(rt;
+            once,
+            "a job is lost, or begins twice, by {workers} workers, cut {cut}"
+        );
     }
     Ok(())
 }

@@ -14,6 +14,18 @@ pub(crate) struct Hold<'a> {
     pub awaits: &'a [u32],
 }
 
+/// Two jobs wait for each other.
+pub(crate) const EACH_OTHER: [Hold<'static>; 2] = [
+    Hold {
+        job: 0,
+        awaits: &[1],
+    },
+    Hold {
+        job: 1,
+        awaits: &[0],
+    },
+];
+
 /// Marks each job that begins, holds some, and counts those that it let go on because the others began.
 #[derive(Drop)]
 pub(crate) struct HoldingGate<'a> {
@@ -30,9 +42,18 @@ impl HoldingGate<'_> {
         }
     }
 
+    fn have_begun(&self, jobs: &[u32]) -> bool {
+        for job in jobs {
+            if !self.has_begun(*job) {
+                return false;
+            }
+        }
+        true
+    }
+
     fn hold(&self, awaits: &[u32]) {
         for _ in 0..TURNS {
-            if awaits.iter().all(|job| self.has_begun(*job)) {
+            if self.have_begun(awaits) {
                 self.met.fetch_add(1, Ordering::SeqCst);
                 return;
             }

@@ -1,11 +1,11 @@
 //! Texts that are cut off, and texts that stand at a limit or past it.
 
-use super::checked::{Crew, gives};
+use super::checked::{Crew, gives, text_gives};
 use oberon_format::{MAX_COUNT, Recording, read};
 use recording_texts::{Claim, FIRST_PAGE, ONE_BYTE_SENT, STORED_RUN, Sketch, ZEROS, header};
 use risc_devices::Devices;
 use risc_machine::{Cpu, Machine};
-use std::alloc::Global;
+use std::alloc::{AllocError, Global};
 use std::process::Abort;
 use std::sync::Wait;
 use std::test::Fail;
@@ -16,20 +16,32 @@ const TWO: Crew = Crew {
     cut: 64,
 };
 
-/// A division by zero, which stops the machine, and a checkpoint at this count.
-fn divisor_stop(alloc: Global, count: u64) -> Result<Vec<u8>, Fail> {
-    let end = Claim {
-        count,
-        stop: 2,
-        ..FIRST_PAGE
-    };
-    let recording = Sketch {
-        pages: &[&[0x400B_0000]],
-        events: &[],
-        claims: &[FIRST_PAGE, end],
-    };
-    Ok(recording.first_text(alloc, &[])?)
-}
+/// A division by zero, which stops the machine, and a checkpoint at the last count.
+const STOPPED: Sketch<'static> = Sketch {
+    pages: &[&[0x400B_0000]],
+    events: &[],
+    claims: &[
+        FIRST_PAGE,
+        Claim {
+            count: MAX_COUNT,
+            stop: 2,
+            ..FIRST_PAGE
+        },
+    ],
+};
+
+/// The same with the checkpoint at the count after.
+const STOPPED_TOO_LATE: Sketch<'static> = Sketch {
+    claims: &[
+        FIRST_PAGE,
+        Claim {
+            count: MAX_COUNT + 1,
+            stop: 2,
+            ..FIRST_PAGE
+        },
+    ],
+    ..STOPPED
+};
 
 /// Checks that a text that is cut off is short at its end.
 fn is_short<R: Abort + Threads + Wait + Sync>(
@@ -45,7 +57,7 @@ fn is_short<R: Abort + Threads + Wait + Sync>(
 #[test]
 fn a_text_cut_anywhere_is_short(rt: HostRuntime) -> Result<(), Fail> {
     let text = STORED_RUN.first_text(rt.alloc(), &[])?;
-    assert_eq!(rt; text.len(), 9504);
+    assert!(rt; text.len() == 9504, "another length");
     for length in 0..text.len() {
         is_short(&rt, rt.alloc(), &text[..length])?;
     }
@@ -53,56 +65,87 @@ fn a_text_cut_anywhere_is_short(rt: HostRuntime) -> Result<(), Fail> {
     gives(&rt, rt.alloc(), &text, TWO, accepted)
 }
 
-#[test]
-fn a_byte_of_output_too_few_or_one_too_many(rt: HostRuntime) -> Result<(), Fail> {
-    let alloc = rt.alloc();
-    let mut text = ONE_BYTE_SENT.first_text(alloc, &[])?;
-    assert_eq!(rt; text.len(), 13_733);
-    let accepted = (b"accepted 2 checkpoints 4 steps\n".as_slice(), 0);
-    gives(&rt, alloc, &text, TWO, accepted)?;
-    text.push(0)?;
-    let trailing = (b"refused 8 trailing at byte 13733\n".as_slice(), 2);
-    gives(&rt, alloc, &text, TWO, trailing)?;
-    text.truncate(13_732);
-    let short = (b"refused 1 short at byte 13732\n".as_slice(), 2);
-    gives(&rt, alloc, &text, TWO, short)
-}
-
-/// Pages, events and checkpoints of a header, and the line that it gives with nothing behind it.
-const HEADERS: [(u32, u32, u32, &[u8]); 4] = [
-    (65_537, 0, 1, b"refused 4 limit at byte 8\n"),
-    (0, 1_000_001, 1, b"refused 4 limit at byte 12\n"),
-    (0, 0, 4_098, b"refused 4 limit at byte 16\n"),
-    (65_536, 1_000_000, 4_097, b"refused 1 short at byte 24\n"),
+/// Lengths to which the text of one byte sent is cut or filled up, its own length first, and what it gives then.
+const LENGTHS: [(usize, (&[u8], u8)); 3] = [
+    (13_733, (b"accepted 2 checkpoints 4 steps\n", 0)),
+    (13_734, (b"refused 8 trailing at byte 13733\n", 2)),
+    (13_732, (b"refused 1 short at byte 13732\n", 2)),
 ];
 
+/// Checks the text of one byte sent: its length, and what it gives at another one, cut or filled up with bytes of 0.
+fn gives_at_length<R: Abort + Threads + Wait + Sync>(
+    rt: &R,
+    alloc: Global,
+    length: usize,
+    expected: (&[u8], u8),
+) -> Result<(), Fail> {
+    let mut text = ONE_BYTE_SENT.first_text(alloc, &[])?;
+    assert!(rt; text.len() == 13_733, "another length");
+    text.resize(length, 0)?;
+    gives(rt, alloc, &text, TWO, expected)
+}
+
 #[test]
-fn headers_at_the_limits_and_past_them(rt: HostRuntime) -> Result<(), Fail> {
-    for (pages, events, checkpoints, line) in HEADERS {
-        let text = header(rt.alloc(), 1, pages, events, checkpoints)?;
-        assert_eq!(rt; text.len(), 24);
-        gives(&rt, rt.alloc(), &text, TWO, (line, 2))?;
+fn a_byte_of_output_too_few_or_one_too_many(rt: HostRuntime) -> Result<(), Fail> {
+    for (length, expected) in LENGTHS {
+        gives_at_length(&rt, rt.alloc(), length, expected)?;
     }
     Ok(())
 }
 
-/// As many checkpoints as there can be, one after each step. The memory is zeros alone, so each step moves R0 to itself, which sets Z.
-fn text_of_most_checkpoints(alloc: Global) -> Result<Vec<u8>, Fail> {
-    let mut claims = vec![in alloc; ZEROS]?;
-    for count in 1..=4096u32 {
-        claims.push(Claim {
-            count: u64::from(count),
-            pc: count,
-            flags: 4,
-            ..ZEROS
-        })?;
+/// Pages, events and checkpoints of a header, and the line that it gives with nothing behind it.
+const HEADERS: [((u32, u32, u32), &[u8]); 4] = [
+    ((65_537, 0, 1), b"refused 4 limit at byte 8\n"),
+    ((0, 1_000_001, 1), b"refused 4 limit at byte 12\n"),
+    ((0, 0, 4_098), b"refused 4 limit at byte 16\n"),
+    ((65_536, 1_000_000, 4_097), b"refused 1 short at byte 24\n"),
+];
+
+/// Checks the line of a header, of 24 bytes, with nothing behind it.
+fn header_gives<R: Abort + Threads + Wait + Sync>(
+    rt: &R,
+    alloc: Global,
+    (pages, events, checkpoints): (u32, u32, u32),
+    line: &[u8],
+) -> Result<(), Fail> {
+    let text = header(alloc, 1, pages, events, checkpoints)?;
+    assert!(rt; text.len() == 24, "another length");
+    gives(rt, alloc, &text, TWO, (line, 2))
+}
+
+#[test]
+fn headers_at_the_limits_and_past_them(rt: HostRuntime) -> Result<(), Fail> {
+    for (numbers, line) in HEADERS {
+        header_gives(&rt, rt.alloc(), numbers, line)?;
     }
+    Ok(())
+}
+
+/// After a step that moved R0 to itself, which sets Z, but for the count and the program counter.
+const MOVED: Claim<'static> = Claim { flags: 4, ..ZEROS };
+
+/// As many checkpoints as there can be, one after each step. The memory is zeros alone, so each step moves R0 to itself.
+fn most_claims(alloc: Global) -> Result<Vec<Claim<'static>>, AllocError> {
+    let mut claims = Vec::new(alloc);
+    claims.push(ZEROS)?;
+    for count in 1..=4096u32 {
+        let mut claim = MOVED;
+        claim.count = u64::from(count);
+        claim.pc = count;
+        claims.push(claim)?;
+    }
+    Ok(claims)
+}
+
+/// The text of as many checkpoints as there can be.
+fn text_of_most_checkpoints(alloc: Global) -> Result<Vec<u8>, AllocError> {
+    let claims = most_claims(alloc)?;
     let recording = Sketch {
         pages: &[],
         events: &[],
         claims: claims.as_slice(),
     };
-    Ok(recording.first_text(alloc, &[])?)
+    recording.first_text(alloc, &[])
 }
 
 /// What such a text gives.
@@ -128,11 +171,8 @@ fn the_last_count_and_the_one_after(rt: HostRuntime) -> Result<(), Fail> {
         0,
     );
     let after = (b"refused 6 checkpoint at byte 5276\n".as_slice(), 2);
-    for (count, expected) in [(MAX_COUNT, last), (MAX_COUNT + 1, after)] {
-        let text = divisor_stop(rt.alloc(), count)?;
-        gives(&rt, rt.alloc(), &text, TWO, expected)?;
-    }
-    Ok(())
+    text_gives(&rt, rt.alloc(), &STOPPED, &[], TWO, last)?;
+    text_gives(&rt, rt.alloc(), &STOPPED_TOO_LATE, &[], TWO, after)
 }
 
 /// Whether a machine's memory is what the recording's first checkpoint claims.
@@ -189,11 +229,16 @@ fn run_to_the_last_count(alloc: Global, r: &Recording) -> Result<Option<&'static
     Ok(difference_at_stop(&machine, r, cpu, sent.as_slice()))
 }
 
+/// What has changed besides the stop where a division by zero has stopped the machine.
+fn changed_after_the_stop(alloc: Global) -> Result<Option<&'static str>, Fail> {
+    let text = STOPPED.first_text(alloc, &[])?;
+    let r = read(alloc, text.as_slice())?;
+    run_to_the_last_count(alloc, &r)
+}
+
 #[test]
 fn a_stopped_machine_runs_to_the_last_count(rt: HostRuntime) -> Result<(), Fail> {
-    let text = divisor_stop(rt.alloc(), MAX_COUNT)?;
-    let r = read(rt.alloc(), text.as_slice())?;
-    let difference = run_to_the_last_count(rt.alloc(), &r)?;
-    assert_eq!(rt; difference, None);
+    let changed = changed_after_the_stop(rt.alloc())?.unwrap_or("");
+    assert!(rt; changed.is_empty(), "{changed}");
     Ok(())
 }

@@ -1,10 +1,17 @@
 //! The names of parts, the texts of faults, and the lines of texts.
 
-use super::checked::{Crew, gives};
-use super::jumps::GIVEN_H;
+use super::checked::{Crew, gives, text_gives};
+use super::jumps::{GIVEN_H, jumps};
 use oberon_check::{CheckFault, CollectFault, Part};
-use recording_texts::JUMPS;
+use std::alloc::{AllocError, Global};
+use std::fmt::Display;
 use std::test::Fail;
+
+/// Whether a value is printed as this text.
+fn is_printed<D: Display>(alloc: Global, value: &D, text: &str) -> Result<bool, AllocError> {
+    let printed = format!(in alloc; "{value}")?;
+    Ok(printed.as_str() == text)
+}
 
 /// Parts and their names.
 const NAMES: [(Part, &str); 15] = [
@@ -25,22 +32,29 @@ const NAMES: [(Part, &str); 15] = [
     (Part::Page(1023), "page 1023"),
 ];
 
+/// All of them.
+fn names() -> &'static [(Part, &'static str)] {
+    &NAMES
+}
+
 #[test]
 fn names_of_parts(rt: HostRuntime) -> Result<(), Fail> {
-    for (part, name) in NAMES {
-        assert_eq!(rt; format!(in rt.alloc(); "{part}")?.as_str(), name);
+    for (part, name) in names() {
+        assert!(rt; is_printed(rt.alloc(), part, *name)?, "{name}");
     }
     Ok(())
 }
 
+/// Faults and their texts.
+const TEXTS: [(CollectFault, &str); 2] = [
+    (CollectFault::Double(3), "segment 3 has two verdicts"),
+    (CollectFault::Missing(4095), "segment 4095 has no verdict"),
+];
+
 #[test]
 fn texts_of_faults(rt: HostRuntime) -> Result<(), Fail> {
-    let alloc = rt.alloc();
-    for (fault, expected) in [
-        (CollectFault::Double(3), "segment 3 has two verdicts"),
-        (CollectFault::Missing(4095), "segment 4095 has no verdict"),
-    ] {
-        assert_eq!(rt; format!(in alloc; "{fault}")?.as_str(), expected);
+    for (fault, text) in TEXTS {
+        assert!(rt; is_printed(rt.alloc(), &fault, text)?, "{text}");
     }
     Ok(())
 }
@@ -53,11 +67,8 @@ fn numbers_of_faults(rt: HostRuntime) {
 
 #[test]
 fn text_of_wanting_memory(rt: HostRuntime) -> Result<(), Fail> {
-    let memory = CheckFault::Memory;
-    assert_eq!(rt;
-        format!(in rt.alloc(); "{memory}")?.as_str(),
-        "there is no memory"
-    );
+    let same = is_printed(rt.alloc(), &CheckFault::Memory, "there is no memory")?;
+    assert!(rt; same, "another text");
     Ok(())
 }
 
@@ -65,15 +76,15 @@ fn text_of_wanting_memory(rt: HostRuntime) -> Result<(), Fail> {
 fn lines_of_texts(rt: HostRuntime) -> Result<(), Fail> {
     let alloc = rt.alloc();
     let false_h = (b"false checkpoint 2 at 20 part H\n".as_slice(), 1);
-    let text = JUMPS.up_to(3).first_text(alloc, &GIVEN_H)?;
-    gives(&rt, alloc, &text, Crew { workers: 1, cut: 1 }, false_h)?;
-    let crew = Crew {
+    let three = jumps(3);
+    let one = Crew { workers: 1, cut: 1 };
+    text_gives(&rt, alloc, &three, &GIVEN_H, one, false_h)?;
+    let many = Crew {
         workers: 64,
         cut: 2,
     };
     let accepted = (b"accepted 3 checkpoints 30 steps\n".as_slice(), 0);
-    let text = JUMPS.up_to(3).first_text(alloc, &[])?;
-    gives(&rt, alloc, &text, crew, accepted)?;
+    text_gives(&rt, alloc, &three, &[], many, accepted)?;
     let short = (b"refused 1 short at byte 0\n".as_slice(), 2);
     gives(&rt, alloc, b"", Crew { workers: 2, cut: 1 }, short)
 }

@@ -1,10 +1,10 @@
 //! Worked examples of segments and of what their verdicts come to.
 ghost use Rattle.std.specs.Prelude.{◌≡◌, All, IfOk};
 
-use super::jumps::{FALSE_H, GIVEN_H, jump_recording};
+use super::jumps::{FALSE_H, GIVEN_H, Written, jump_recording, jumps};
 use oberon_check::{CollectFault, Part, SegmentVerdict, Verdict, collect, replay_segment};
-use oberon_format::{Recording, read};
-use recording_texts::EMPTY;
+use oberon_format::Recording;
+use recording_texts::{EMPTY, Sketch, Spot};
 use std::alloc::{AllocError, Global};
 use std::test::Fail;
 
@@ -27,6 +27,38 @@ fn verdicts_of(
     Ok(verdicts)
 }
 
+/// Whether verdicts name these segments and parts, in this order.
+pub(crate) fn are_findings(verdicts: &[SegmentVerdict], expected: &[(u32, Option<Part>)]) -> bool {
+    if verdicts.len() != expected.len() {
+        return false;
+    }
+    for (verdict, (segment, part)) in verdicts.iter().zip(expected) {
+        if verdict.segment() != *segment || verdict.part() != *part {
+            return false;
+        }
+    }
+    true
+}
+
+/// Whether the verdicts of the first three segments name these segments and parts, in this order.
+fn has_findings(
+    alloc: Global,
+    r: &Recording,
+    expected: &[(u32, Option<Part>)],
+) -> Result<bool, AllocError> {
+    let verdicts = verdicts_of(alloc, r, &[0, 1, 2])?;
+    Ok(are_findings(verdicts.as_slice(), expected))
+}
+
+#[test]
+fn segments_of_a_false_h(rt: HostRuntime) -> Result<(), Fail> {
+    let r = jump_recording(rt.alloc(), 3, &GIVEN_H)?;
+    let expected = [(0, None), (1, Some(Part::H)), (2, None)];
+    let same = has_findings(rt.alloc(), &r, &expected)?;
+    assert!(rt; same, "another segment or part");
+    Ok(())
+}
+
 /// What the verdicts of these segments, in this order, come to.
 fn collect_some(
     alloc: Global,
@@ -37,31 +69,20 @@ fn collect_some(
     Ok(collect(r, verdicts.as_slice()))
 }
 
-/// Whether verdicts name these segments and parts, in this order.
-pub(crate) fn are_findings(verdicts: &[SegmentVerdict], expected: &[(u32, Option<Part>)]) -> bool {
-    verdicts.len() == expected.len()
-        && verdicts.iter().zip(expected).all(|(verdict, row)| (verdict.segment(), verdict.part())
-            == *row)
-}
-
-#[test]
-fn segments_of_a_false_h(rt: HostRuntime) -> Result<(), Fail> {
-    let r = jump_recording(rt.alloc(), 3, &GIVEN_H)?;
-    let verdicts = verdicts_of(rt.alloc(), &r, &[0, 1, 2])?;
-    let expected = [(0, None), (1, Some(Part::H)), (2, None)];
-    let same = are_findings(verdicts.as_slice(), &expected);
-    assert!(rt; same, "another segment or part");
-    Ok(())
-}
-
-/// Whether the verdicts of these segments, in this order, come to this.
+/// Whether the verdicts of these segments, in this order, come to this, in a recording with these numbers turned.
 fn come_to(
     alloc: Global,
-    r: &Recording,
+    (recording, turned): (Sketch<'_>, &[(Spot, u32)]),
     segments: &[u32],
     expected: Result<Verdict, CollectFault>,
-) -> Result<bool, AllocError> {
-    Ok(collect_some(alloc, r, segments)? == expected)
+) -> Result<bool, Fail> {
+    let written = Written {
+        recording,
+        turned,
+        version: 1,
+    };
+    let r = written.recording(alloc)?;
+    Ok(collect_some(alloc, &r, segments)? == expected)
 }
 
 /// Segments of the recording with a false H, in the order of their verdicts, and what these come to.
@@ -75,9 +96,9 @@ const COLLECTED: [(&[u32], Result<Verdict, CollectFault>); 5] = [
 
 #[test]
 fn collect_by_hand(rt: HostRuntime) -> Result<(), Fail> {
-    let r = jump_recording(rt.alloc(), 3, &GIVEN_H)?;
+    let recording = (jumps(3), GIVEN_H.as_slice());
     for (row, (segments, expected)) in COLLECTED.iter().enumerate() {
-        let same = come_to(rt.alloc(), &r, segments, *expected)?;
+        let same = come_to(rt.alloc(), recording, segments, *expected)?;
         assert!(rt; same, "row {row}");
     }
     Ok(())
@@ -89,25 +110,23 @@ const ALL_HOLD: [(u32, &[u32], u64); 2] = [(3, &[2, 0, 1], 30), (0, &[], 0)];
 #[test]
 fn collect_where_all_hold(rt: HostRuntime) -> Result<(), Fail> {
     for (checkpoints, segments, steps) in ALL_HOLD {
-        let r = jump_recording(rt.alloc(), checkpoints as usize, &[])?;
+        let recording = (jumps(checkpoints as usize), [].as_slice());
         let accepted = Verdict::Accepted { checkpoints, steps };
-        let same = come_to(rt.alloc(), &r, segments, Ok(accepted))?;
+        let same = come_to(rt.alloc(), recording, segments, Ok(accepted))?;
         assert!(rt; same, "of {checkpoints} segments");
     }
     Ok(())
 }
 
+/// The verdict where there is no segment.
+const NOTHING: Verdict = Verdict::Accepted {
+    checkpoints: 0,
+    steps: 0,
+};
+
 #[test]
 fn collect_nothing_of_a_recording_without_pages(rt: HostRuntime) -> Result<(), Fail> {
-    let text = EMPTY.first_text(rt.alloc(), &[])?;
-    let r = read(rt.alloc(), &text)?;
-    let accepted = Verdict::Accepted {
-        checkpoints: 0,
-        steps: 0,
-    };
-    assert!(rt;
-        come_to(rt.alloc(), &r, &[], Ok(accepted))?,
-        "another verdict"
-    );
+    let same = come_to(rt.alloc(), (EMPTY, &[]), &[], Ok(NOTHING))?;
+    assert!(rt; same, "another verdict");
     Ok(())
 }

@@ -62,9 +62,9 @@ const TIMERS: [(u32, (u32, u32, u32), Option<Part>); 6] = [
 
 #[test]
 fn differences_of_timers(rt: HostRuntime) -> Result<(), Fail> {
-    for (before, claimed, part) in TIMERS {
-        let found = part_of_timer(rt.alloc(), claimed, before)?;
-        assert_eq!(rt; found, part);
+    for (row, (before, claimed, part)) in TIMERS.iter().enumerate() {
+        let found = part_of_timer(rt.alloc(), *claimed, *before)?;
+        assert!(rt; found == *part, "row {row}");
     }
     Ok(())
 }
