@@ -1,7 +1,7 @@
 -- Numbers as the bytes of a text, lowest byte first, as docs/formats.md has them.
-use Rattle.std.specs.Prelude.{ℕ, List}
-use Rattle.std.specs.Int.{w32, to_le_bytes}
-use Rattle.std.specs.List.{flat_map}
+use Rattle.std.specs.Prelude.{ℕ, zero, suc, List, [], ◌∷◌, ◌++◌, ◌+◌, min, slice_index_or, slice_set}
+use Rattle.std.specs.Int.{w32, w64, to_le_bytes}
+use Rattle.std.specs.List.{flat_map, fold}
 
 -- the four bytes of a number
 abbrev pub word_bytes : ℕ → List ℕ
@@ -10,3 +10,26 @@ word_bytes word = to_le_bytes w32 word
 -- the bytes of each number, one after the other
 abbrev pub words_bytes : List ℕ → List ℕ
 words_bytes words = flat_map word_bytes words
+
+-- the eight bytes of a number
+abbrev pub long_bytes : ℕ → List ℕ
+long_bytes count = to_le_bytes w64 count
+
+-- a length, as the greatest number of four bytes where it is greater
+abbrev pub length_number : ℕ → ℕ
+length_number len = min len 0xFFFFFFFF
+
+-- so many numbers: those of the list, and then zeros
+unfoldable pub padded : List ℕ → ℕ → List ℕ
+padded numbers zero = []
+padded numbers (suc n) = padded numbers n ++ slice_index_or numbers n 0 ∷ []
+
+-- each number at its place, where there is such a place; of two at one place the later one stands
+abbrev pub set_numbers : List ℕ → List (ℕ × ℕ) → List ℕ
+set_numbers words numbers = fold (λ ws n. slice_set ws n.0 n.1) words numbers
+
+-- the text with the four bytes of a number at a place, as far as the text goes
+abbrev pub put_word : List ℕ → ℕ → ℕ → List ℕ
+put_word text place word =
+    let byte : ℕ → ℕ = λ i. slice_index_or (word_bytes word) i 0 in
+    slice_set (slice_set (slice_set (slice_set text place (byte 0)) (place + 1) (byte 1)) (place + 2) (byte 2)) (place + 3) (byte 3)

@@ -1,7 +1,7 @@
 //! Numbers as the bytes of a text, lowest byte first.
 
-ghost use Rattle.std.specs.Prelude.{◌≡◌, ◌++◌, OnOk};
-ghost use Rattle.recording_texts.specs.Bytes.{word_bytes, words_bytes};
+ghost use Rattle.std.specs.Prelude.{◌≡◌, ◌++◌, ◌<◌, ◌^◌, OnOk, slice_set};
+ghost use Rattle.recording_texts.specs.Bytes.{length_number, long_bytes, put_word, set_numbers, word_bytes, words_bytes};
 
 use std::alloc::AllocError;
 
@@ -22,18 +22,58 @@ pub(crate) fn push_words(text: &mut Vec<u8>, words: &[u32]) -> Result<(), AllocE
     Ok(())
 }
 
+/// Adds a number of eight bytes.
+pub(crate) fn push_long(text: &mut Vec<u8>, number: u64) -> Result<(), AllocError>
+    ensures { OnOk result (text.new.items ≡ text.old.items ++ long_bytes number) }
+{
+    text.extend_from_slice(&number.to_le_bytes())
+}
+
+/// A length, as the greatest number of four bytes where it is greater.
+pub(crate) fn number_of(length: usize) -> u32
+    ensures { result ≡ length_number length }
+{
+    u32::try_from(length).unwrap_or(u32::MAX)
+}
+
 /// Puts a number of four bytes at a place, as far as the text goes.
-pub(crate) fn put_word(text: &mut [u8], place: usize, word: u32) {
-    for (there, byte) in text.iter_mut().skip(place).zip(word.to_le_bytes()) {
-        *there = byte;
+pub(crate) fn put_word(text: &mut [u8], place: usize, word: u32)
+    requires { place < 2 ^ 32 }
+    ensures { text.new ≡ put_word text.old place word }
+{
+    let [first, second, third, fourth] = word.to_le_bytes();
+    put(text, place, first);
+    put(text, place + 1, second);
+    put(text, place + 2, third);
+    put(text, place + 3, fourth);
+}
+
+/// Puts a byte at a place, if there is such a place.
+#[tactic(auto, using(crate::proofs::Lists::past))]
+fn put(text: &mut [u8], place: usize, byte: u8)
+    ensures { text.new ≡ slice_set text.old place byte }
+{
+    if place < text.len() {
+        text[place] = byte;
     }
 }
 
 /// Sets words by their places, where there are such places.
-pub(crate) fn set_words(words: &mut [u32], numbers: &[(u16, u32)]) {
+#[tactic(auto, using(crate::proofs::Lists::one_more))]
+pub(crate) fn set_numbers(words: &mut [u32], numbers: &[(u16, u32)])
+    ensures { words.new ≡ set_numbers words.old numbers.now }
+{
     for (place, number) in numbers {
-        if let Some(there) = words.get_mut(usize::from(*place)) {
-            *there = *number;
-        }
+        set_number(words, usize::from(*place), *number);
+    }
+}
+
+/// Sets a word, if there is such a place.
+#[tactic(auto, using(crate::proofs::Lists::past))]
+fn set_number(words: &mut [u32], place: usize, number: u32)
+    ensures { words.new ≡ slice_set words.old place number }
+{
+    if place < words.len() {
+        words[place] = number;
     }
 }

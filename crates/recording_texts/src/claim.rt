@@ -1,7 +1,11 @@
 //! What a checkpoint claims.
 
-use crate::bytes::{push_word, push_words, set_words};
-use std::alloc::AllocError;
+ghost use Rattle.std.specs.Prelude.{◌≡◌, ◌++◌, ◌+◌, ◌<◌, ◌≤◌, IfOk, OnOk, slice_index_or, vec_len};
+ghost use Rattle.recording_texts.specs.Bytes.{padded};
+ghost use Rattle.recording_texts.specs.Claims.{change_at, changes_below, device_bytes, fields_bytes, first_bytes, key_bytes, page_numbers, processor_bytes, second_bytes};
+
+use crate::bytes::{number_of, push_long, push_word, push_words, set_numbers};
+use std::alloc::{AllocError, Global};
 
 /// What a checkpoint claims. A text of version 1 has no places for the timer's rate and phase, and leaves them out.
 #[derive(Clone, Copy)]
@@ -55,24 +59,60 @@ pub const FIRST_PAGE: Claim<'static> = Claim {
 };
 
 impl Claim<'_> {
-    /// Adds the 132 bytes that a checkpoint begins with in both versions.
-    pub(crate) fn push_fields(&self, text: &mut Vec<u8>) -> Result<(), AllocError> {
-        text.extend_from_slice(&self.count.to_le_bytes())?;
-        self.push_processor(text)?;
-        self.push_devices(text)?;
-        push_length(text, self.sent.len())
+    /// The checkpoint as version 1 has it, with its whole table.
+    #[tactic(auto, unfolding(crate::specs::Claims::first_bytes))]
+    pub(crate) fn first(&self, alloc: Global) -> Result<Vec<u8>, AllocError>
+        ensures { IfOk result (λ bytes. bytes.items ≡ first_bytes self.now) }
+    {
+        let mut bytes = self.fields(alloc)?;
+        push_words(&mut bytes, &self.page_numbers())?;
+        Ok(bytes)
+    }
+
+    /// The checkpoint as version 2 has it, with the changes of the table before it.
+    #[tactic(auto, unfolding(crate::specs::Claims::second_bytes))]
+    pub(crate) fn second(&self, alloc: Global, before: &[u32; 1024]) -> Result<Vec<u8>, AllocError>
+        ensures { IfOk result (λ bytes. bytes.items ≡ second_bytes before.now self.now) }
+    {
+        let mut changes = changes(alloc, before, &self.page_numbers())?;
+        let mut bytes = self.fields(alloc)?;
+        push_words(
+            &mut bytes,
+            &[self.rate, self.phase, (changes.len() / 8) as u32],
+        )?;
+        bytes.append(&mut changes)?;
+        Ok(bytes)
+    }
+
+    /// The 132 bytes that a checkpoint begins with in both versions.
+    #[tactic(auto, unfolding(crate::specs::Claims::fields_bytes))]
+    fn fields(&self, alloc: Global) -> Result<Vec<u8>, AllocError>
+        ensures { IfOk result (λ bytes. bytes.items ≡ fields_bytes self.now) }
+    {
+        let mut bytes = Vec::new(alloc);
+        push_long(&mut bytes, self.count)?;
+        self.push_processor(&mut bytes)?;
+        self.push_devices(&mut bytes)?;
+        push_word(&mut bytes, number_of(self.sent.len()))?;
+        Ok(bytes)
     }
 
     /// Adds the registers, H, the program counter, the flags and the stop.
-    fn push_processor(&self, text: &mut Vec<u8>) -> Result<(), AllocError> {
+    #[tactic(auto, unfolding(crate::specs::Claims::processor_bytes))]
+    fn push_processor(&self, bytes: &mut Vec<u8>) -> Result<(), AllocError>
+        ensures { OnOk result (bytes.new.items ≡ bytes.old.items ++ processor_bytes self.now) }
+    {
         let mut registers = [0; 16];
-        set_words(&mut registers, self.registers);
-        push_words(text, &registers)?;
-        push_words(text, &[self.h, self.pc, self.flags, self.stop])
+        set_numbers(&mut registers, self.registers);
+        push_words(bytes, &registers)?;
+        push_words(bytes, &[self.h, self.pc, self.flags, self.stop])
     }
 
     /// Adds the devices but for the timer's rate and phase.
-    fn push_devices(&self, text: &mut Vec<u8>) -> Result<(), AllocError> {
+    #[tactic(auto, unfolding(crate::specs::Claims::device_bytes))]
+    fn push_devices(&self, bytes: &mut Vec<u8>) -> Result<(), AllocError>
+        ensures { OnOk result (bytes.new.items ≡ bytes.old.items ++ device_bytes self.now) }
+    {
         let words = [
             self.timer,
             self.switches,
@@ -80,57 +120,70 @@ impl Claim<'_> {
             self.mouse,
             self.serial,
         ];
-        push_words(text, &words)?;
-        push_length(text, self.keys.len())?;
-        let mut keys = [0u8; 16];
-        for (there, key) in keys.iter_mut().zip(self.keys) {
-            *there = *key;
-        }
-        text.extend_from_slice(&keys)
-    }
-
-    /// Adds the page numbers of all places, as version 1 has them.
-    pub(crate) fn push_table(&self, text: &mut Vec<u8>) -> Result<(), AllocError> {
-        push_words(text, &self.page_numbers())
-    }
-
-    /// Adds the timer's rate and phase, and the places at which the table isn't what it was, as version 2 has them.
-    pub(crate) fn push_changes(
-        &self,
-        text: &mut Vec<u8>,
-        before: &[u32; 1024],
-    ) -> Result<(), AllocError> {
-        push_words(text, &[self.rate, self.phase])?;
-        let numbers = self.page_numbers();
-        push_word(text, changes_between(before, &numbers))?;
-        let mut place = 0u32;
-        for (old, new) in before.iter().zip(&numbers) {
-            if old != new {
-                push_words(text, &[place, *new])?;
-            }
-            place = place.saturating_add(1);
-        }
-        Ok(())
+        push_words(bytes, &words)?;
+        push_keys(bytes, self.keys)
     }
 
     /// The page numbers of all places.
-    pub(crate) fn page_numbers(&self) -> [u32; 1024] {
+    pub(crate) fn page_numbers(&self) -> [u32; 1024]
+        ensures { result ≡ page_numbers self.now }
+    {
         let mut numbers = [0; 1024];
-        set_words(&mut numbers, self.table);
+        set_numbers(&mut numbers, self.table);
         numbers
     }
 }
 
-/// Adds a length as a number of four bytes.
-fn push_length(text: &mut Vec<u8>, length: usize) -> Result<(), AllocError> {
-    push_word(text, u32::try_from(length).unwrap_or(u32::MAX))
+/// Adds how many keys wait, and 16 keys, zeros after those.
+#[tactic(auto, unfolding(crate::specs::Claims::key_bytes))]
+fn push_keys(bytes: &mut Vec<u8>, keys: &[u8]) -> Result<(), AllocError>
+    ensures { OnOk result (bytes.new.items ≡ bytes.old.items ++ key_bytes keys.now) }
+{
+    push_word(bytes, number_of(keys.len()))?;
+    push_sixteen(bytes, keys)
 }
 
-/// At how many places two tables differ.
-fn changes_between(before: &[u32; 1024], after: &[u32; 1024]) -> u32 {
-    let mut changes = 0u32;
-    for (old, new) in before.iter().zip(after) {
-        changes = changes.saturating_add(u32::from(old != new));
+/// Adds 16 keys.
+fn push_sixteen(bytes: &mut Vec<u8>, keys: &[u8]) -> Result<(), AllocError>
+    ensures { OnOk result (bytes.new.items ≡ bytes.old.items ++ padded keys.now 16) }
+{
+    for i in 0..16 {
+        bytes.push(key_at(keys, i))?;
     }
-    changes
+    Ok(())
+}
+
+fn key_at(keys: &[u8], i: usize) -> u8
+    ensures { result ≡ slice_index_or keys.now i 0 }
+{
+    if i < keys.len() { keys[i] } else { 0 }
+}
+
+/// The places at which two tables differ, each with its new page number.
+fn changes(alloc: Global, before: &[u32; 1024], after: &[u32; 1024]) -> Result<Vec<u8>, AllocError>
+    ensures changes { IfOk result (λ changes. changes.items ≡ changes_below before.now after.now 1024) }
+    ensures len { IfOk result (λ changes. vec_len changes ≤ 8192) }
+{
+    let mut changes = Vec::new(alloc);
+    for place in 0..1024 {
+        push_change(&mut changes, before, after, place)?;
+    }
+    Ok(changes)
+}
+
+/// Adds a place with its new page number, if two tables differ there.
+fn push_change(
+    changes: &mut Vec<u8>,
+    before: &[u32; 1024],
+    after: &[u32; 1024],
+    place: usize,
+) -> Result<(), AllocError>
+    requires { place < 1024 }
+    ensures change { OnOk result (changes.new.items ≡ changes.old.items ++ change_at before.now after.now place) }
+    ensures len { OnOk result (vec_len changes.new ≤ vec_len changes.old + 8) }
+{
+    if before[place] == after[place] {
+        return Ok(());
+    }
+    push_words(changes, &[place as u32, after[place]])
 }

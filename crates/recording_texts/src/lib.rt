@@ -2,8 +2,7 @@
 //!
 //! Only tests use it. It stands on no other crate, `oberon_format` least of all, and lays the bytes out by itself, as
 //! `docs/formats.md` has them: what the product reads and writes is compared with its texts. It asks of no recording
-//! whether it is lawful or true. It promises the bytes of numbers and headers, and the front of a recording; of whole texts it
-//! promises nothing.
+//! whether it is lawful or true. It promises what it lays out, byte by byte.
 #![tactic(auto)]
 
 mod bytes;

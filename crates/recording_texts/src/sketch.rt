@@ -1,11 +1,15 @@
 //! Recordings that are laid out as texts.
 
-ghost use Rattle.std.specs.Prelude.{◌≡◌, ◌+◌, IfOk, take};
+ghost use Rattle.std.specs.Prelude.{◌≡◌, ◌++◌, ◌+◌, IfOk, OnOk, replicate, slice_index_or, take};
+ghost use Rattle.std.specs.List.{flat_map};
+ghost use Rattle.recording_texts.specs.Claims.{first_bytes, second_bytes};
 ghost use Rattle.recording_texts.specs.Header.{header_bytes};
+ghost use Rattle.recording_texts.specs.Spots.{turned_first, turned_second};
+ghost use Rattle.recording_texts.specs.Layout.{event_bytes, first_claims, first_text, front_bytes, output_bytes, page_bytes, pages_bytes, second_claims, second_text};
 
-use crate::bytes::{push_word, push_words, put_word};
+use crate::bytes::{number_of, push_long, push_word, push_words};
 use crate::claim::Claim;
-use crate::spot::Spot;
+use crate::spot::{Spot, turn_first, turn_pages, turn_second};
 use std::alloc::{AllocError, Global};
 
 /// An input, at its count.
@@ -42,22 +46,24 @@ impl<'a> Sketch<'a> {
     }
 
     /// The text of version 1, where these numbers stand in place of those that are claimed.
-    pub fn first_text(&self, alloc: Global, turned: &[(Spot, u32)]) -> Result<Vec<u8>, AllocError> {
+    #[tactic(auto, unfolding(crate::specs::Layout::first_text))]
+    pub fn first_text(&self, alloc: Global, turned: &[(Spot, u32)]) -> Result<Vec<u8>, AllocError>
+        ensures { IfOk result (λ text. text.items ≡ first_text self.now turned.now) }
+    {
         let mut text = self.front(alloc, 1, turned)?;
-        self.push_first_claims(&mut text, turned)?;
-        self.push_output(&mut text)?;
+        push_first_claims(alloc, &mut text, self.claims, turned)?;
+        push_output(&mut text, self.claims)?;
         Ok(text)
     }
 
     /// The text of version 2, where these numbers stand in place of those that are claimed.
-    pub fn second_text(
-        &self,
-        alloc: Global,
-        turned: &[(Spot, u32)],
-    ) -> Result<Vec<u8>, AllocError> {
+    #[tactic(auto, unfolding(crate::specs::Layout::second_text))]
+    pub fn second_text(&self, alloc: Global, turned: &[(Spot, u32)]) -> Result<Vec<u8>, AllocError>
+        ensures { IfOk result (λ text. text.items ≡ second_text self.now turned.now) }
+    {
         let mut text = self.front(alloc, 2, turned)?;
-        self.push_second_claims(&mut text, turned)?;
-        self.push_output(&mut text)?;
+        push_second_claims(alloc, &mut text, self.claims, turned)?;
+        push_output(&mut text, self.claims)?;
         Ok(text)
     }
 
@@ -67,93 +73,145 @@ impl<'a> Sketch<'a> {
         alloc: Global,
         version: u32,
         turned: &[(Spot, u32)],
-    ) -> Result<Vec<u8>, AllocError> {
-        let pages = number_of(self.pages);
-        let events = number_of(self.events);
-        let checkpoints = number_of(self.claims);
-        let mut text = header(alloc, version, pages, events, checkpoints)?;
-        self.push_pages(&mut text)?;
-        for (spot, number) in turned {
-            if let Some(place) = spot.place_in_pages() {
-                put_word(&mut text, place, *number);
-            }
-        }
-        self.push_events(&mut text)?;
+    ) -> Result<Vec<u8>, AllocError>
+        ensures { IfOk result (λ text. text.items ≡ front_bytes version self.now turned.now) }
+    {
+        let mut text = self.with_pages(alloc, version)?;
+        turn_pages(&mut text, turned);
+        push_events(&mut text, self.events)?;
         Ok(text)
     }
 
-    /// Adds the pages, each with zeros up to its end.
-    fn push_pages(&self, text: &mut Vec<u8>) -> Result<(), AllocError> {
-        for page in self.pages {
-            push_words(text, page)?;
-            for _ in page.len()..256 {
-                push_word(text, 0)?;
-            }
-        }
-        Ok(())
-    }
-
-    /// Adds the events.
-    fn push_events(&self, text: &mut Vec<u8>) -> Result<(), AllocError> {
-        for event in self.events {
-            text.extend_from_slice(&event.count.to_le_bytes())?;
-            push_words(text, &[event.kind, event.value])?;
-        }
-        Ok(())
-    }
-
-    /// Adds the checkpoints as version 1 has them, with these numbers turned.
-    fn push_first_claims(
-        &self,
-        text: &mut Vec<u8>,
-        turned: &[(Spot, u32)],
-    ) -> Result<(), AllocError> {
-        for (k, claim) in self.claims.iter().enumerate() {
-            let start = text.len();
-            claim.push_fields(text)?;
-            claim.push_table(text)?;
-            for (spot, number) in turned {
-                if let Some(offset) = spot.offset_in_first(k) {
-                    put_word(text, start.saturating_add(offset), *number);
-                }
-            }
-        }
-        Ok(())
-    }
-
-    /// Adds the checkpoints as version 2 has them, with these numbers turned.
-    fn push_second_claims(
-        &self,
-        text: &mut Vec<u8>,
-        turned: &[(Spot, u32)],
-    ) -> Result<(), AllocError> {
-        let mut before = [0; 1024];
-        for (k, claim) in self.claims.iter().enumerate() {
-            let start = text.len();
-            claim.push_fields(text)?;
-            claim.push_changes(text, &before)?;
-            before = claim.page_numbers();
-            for (spot, number) in turned {
-                if let Some(offset) = spot.offset_in_second(k) {
-                    put_word(text, start.saturating_add(offset), *number);
-                }
-            }
-        }
-        Ok(())
-    }
-
-    /// Adds all bytes that were sent.
-    fn push_output(&self, text: &mut Vec<u8>) -> Result<(), AllocError> {
-        for claim in self.claims {
-            text.extend_from_slice(claim.sent)?;
-        }
-        Ok(())
+    /// The header and the pages.
+    #[tactic(auto, unfolding(crate::specs::Layout::pages_bytes))]
+    fn with_pages(&self, alloc: Global, version: u32) -> Result<Vec<u8>, AllocError>
+        ensures { IfOk result (λ text. text.items ≡ pages_bytes version self.now) }
+    {
+        let pages = number_of(self.pages.len());
+        let events = number_of(self.events.len());
+        let checkpoints = number_of(self.claims.len());
+        let mut text = header(alloc, version, pages, events, checkpoints)?;
+        push_pages(&mut text, self.pages)?;
+        Ok(text)
     }
 }
 
-/// How many there are, as a number of four bytes.
-fn number_of<T>(all: &[T]) -> u32 {
-    u32::try_from(all.len()).unwrap_or(u32::MAX)
+/// Adds the pages.
+fn push_pages(text: &mut Vec<u8>, pages: &[&[u32]]) -> Result<(), AllocError>
+    ensures { OnOk result (text.new.items ≡ text.old.items ++ flat_map (λ page. page_bytes page.now) pages.now) }
+{
+    for page in pages {
+        push_page(text, page)?;
+    }
+    Ok(())
+}
+
+/// Adds a page, with zeros up to its end.
+fn push_page(text: &mut Vec<u8>, words: &[u32]) -> Result<(), AllocError>
+    ensures { OnOk result (text.new.items ≡ text.old.items ++ page_bytes words.now) }
+{
+    for i in 0..256 {
+        push_word(text, word_at(words, i))?;
+    }
+    Ok(())
+}
+
+fn word_at(words: &[u32], i: usize) -> u32
+    ensures { result ≡ slice_index_or words.now i 0 }
+{
+    if i < words.len() { words[i] } else { 0 }
+}
+
+/// Checkpoint k as version 2 has it, after one with this table, with these numbers turned.
+fn second_claim(
+    alloc: Global,
+    claim: &Claim,
+    before: &[u32; 1024],
+    k: usize,
+    turned: &[(Spot, u32)],
+) -> Result<Vec<u8>, AllocError>
+    ensures { IfOk result (λ bytes. bytes.items ≡ turned_second k turned.now (second_bytes before.now claim.now)) }
+{
+    let mut bytes = claim.second(alloc, before)?;
+    turn_second(&mut bytes, k, turned);
+    Ok(bytes)
+}
+
+/// Adds the events.
+fn push_events(text: &mut Vec<u8>, events: &[Event]) -> Result<(), AllocError>
+    ensures { OnOk result (text.new.items ≡ text.old.items ++ flat_map event_bytes events.now) }
+{
+    for event in events {
+        push_event(text, event)?;
+    }
+    Ok(())
+}
+
+fn push_event(text: &mut Vec<u8>, event: &Event) -> Result<(), AllocError>
+    ensures { OnOk result (text.new.items ≡ text.old.items ++ event_bytes event.now) }
+{
+    push_long(text, event.count)?;
+    push_words(text, &[event.kind, event.value])
+}
+
+/// Adds all bytes that were sent.
+fn push_output(text: &mut Vec<u8>, claims: &[Claim]) -> Result<(), AllocError>
+    ensures { OnOk result (text.new.items ≡ text.old.items ++ output_bytes claims.now) }
+{
+    for claim in claims {
+        text.extend_from_slice(claim.sent)?;
+    }
+    Ok(())
+}
+
+/// Adds the checkpoints as version 1 has them, with these numbers turned.
+#[tactic(auto, using(crate::proofs::Laid::one_first_more))]
+fn push_first_claims(
+    alloc: Global,
+    text: &mut Vec<u8>,
+    claims: &[Claim],
+    turned: &[(Spot, u32)],
+) -> Result<(), AllocError>
+    ensures { OnOk result (text.new.items ≡ text.old.items ++ first_claims turned.now 0 claims.now) }
+{
+    for k in 0..claims.len() {
+        let mut bytes = first_claim(alloc, &claims[k], k, turned)?;
+        text.append(&mut bytes)?;
+    }
+    Ok(())
+}
+
+/// Checkpoint k as version 1 has it, with these numbers turned.
+fn first_claim(
+    alloc: Global,
+    claim: &Claim,
+    k: usize,
+    turned: &[(Spot, u32)],
+) -> Result<Vec<u8>, AllocError>
+    ensures { IfOk result (λ bytes. bytes.items ≡ turned_first k turned.now (first_bytes claim.now)) }
+{
+    let mut bytes = claim.first(alloc)?;
+    turn_first(&mut bytes, k, turned);
+    Ok(bytes)
+}
+
+/// Adds the checkpoints as version 2 has them, with these numbers turned.
+#[tactic(auto, using(crate::proofs::Laid::one_second_more, crate::proofs::Laid::table_of_one_more))]
+fn push_second_claims(
+    alloc: Global,
+    text: &mut Vec<u8>,
+    claims: &[Claim],
+    turned: &[(Spot, u32)],
+) -> Result<(), AllocError>
+    ensures { OnOk result (text.new.items ≡ text.old.items ++ second_claims turned.now 0 (replicate 1024 0) claims.now) }
+{
+    let mut before = [0; 1024];
+    for k in 0..claims.len() {
+        let mut bytes = second_claim(alloc, &claims[k], &before, k, turned)?;
+        text.append(&mut bytes)?;
+        before = claims[k].page_numbers();
+    }
+    Ok(())
 }
 
 /// The header of a text: its version, and how many pages, events and checkpoints it has.

@@ -1,5 +1,10 @@
 //! Places of a text at which a single number is turned.
 
+ghost use Rattle.std.specs.Prelude.{◌≡◌, ◌<◌, ◌^◌, IfSome};
+ghost use Rattle.recording_texts.specs.Spots.{offset_if, offset_in_both, offset_in_first, offset_in_second, place_in_pages, put_if, turned_first, turned_pages, turned_second};
+
+use crate::bytes::put_word;
+
 /// Where a number of four bytes stands.
 #[derive(Clone, Copy)]
 pub enum Spot {
@@ -27,7 +32,10 @@ use Spot::{Flags, H, Keys, Leds, Phase, Place, Rate, Register, Stop, Waiting, Wo
 
 impl Spot {
     /// Where the number stands in the text, if it is one of a page.
-    pub(crate) fn place_in_pages(self) -> Option<usize> {
+    pub(crate) fn place_in_pages(self) -> Option<usize>
+        ensures place { result ≡ place_in_pages self }
+        ensures bound { IfSome result (λ place. place < 2 ^ 32) }
+    {
         match self {
             Word(page, word) => Some(24 + 1024 * usize::from(page) + 4 * usize::from(word)),
             _ => None,
@@ -35,7 +43,10 @@ impl Spot {
     }
 
     /// Where the number stands in checkpoint k of a text of version 1, from the checkpoint's first byte.
-    pub(crate) fn offset_in_first(self, k: usize) -> Option<usize> {
+    pub(crate) fn offset_in_first(self, k: usize) -> Option<usize>
+        ensures offset { result ≡ offset_in_first self k }
+        ensures bound { IfSome result (λ offset. offset < 2 ^ 32) }
+    {
         let Place(of, place) = self else {
             return self.offset_in_both(k);
         };
@@ -43,7 +54,10 @@ impl Spot {
     }
 
     /// Where the number stands in checkpoint k of a text of version 2, from the checkpoint's first byte.
-    pub(crate) fn offset_in_second(self, k: usize) -> Option<usize> {
+    pub(crate) fn offset_in_second(self, k: usize) -> Option<usize>
+        ensures offset { result ≡ offset_in_second self k }
+        ensures bound { IfSome result (λ offset. offset < 2 ^ 32) }
+    {
         match self {
             Rate(of) => offset_if(of, k, 132),
             Phase(of) => offset_if(of, k, 136),
@@ -52,7 +66,10 @@ impl Spot {
     }
 
     /// Where the number stands among the 132 bytes that checkpoint k begins with in both versions.
-    fn offset_in_both(self, k: usize) -> Option<usize> {
+    fn offset_in_both(self, k: usize) -> Option<usize>
+        ensures offset { result ≡ offset_in_both self k }
+        ensures bound { IfSome result (λ offset. offset < 2 ^ 32) }
+    {
         let (of, offset) = match self {
             Register(of, number) => (of, 8 + 4 * usize::from(number)),
             H(of) => (of, 72),
@@ -68,10 +85,52 @@ impl Spot {
 }
 
 /// The offset, if the number is one of checkpoint k.
-fn offset_if(of: u16, k: usize, offset: usize) -> Option<usize> {
+fn offset_if(of: u16, k: usize, offset: usize) -> Option<usize>
+    ensures { result ≡ offset_if of k offset }
+{
     if usize::from(of) == k {
         Some(offset)
     } else {
         None
+    }
+}
+
+/// Turns the numbers that stand in pages, in a text that goes up to their end.
+#[tactic(auto, using(crate::proofs::Lists::one_more))]
+pub(crate) fn turn_pages(text: &mut [u8], turned: &[(Spot, u32)])
+    ensures { text.new ≡ turned_pages turned.now text.old }
+{
+    for (spot, number) in turned {
+        put_if(text, spot.place_in_pages(), *number);
+    }
+}
+
+/// Turns the numbers that stand in checkpoint k of a text of version 1.
+#[tactic(auto, using(crate::proofs::Lists::one_more))]
+pub(crate) fn turn_first(bytes: &mut [u8], k: usize, turned: &[(Spot, u32)])
+    ensures { bytes.new ≡ turned_first k turned.now bytes.old }
+{
+    for (spot, number) in turned {
+        put_if(bytes, spot.offset_in_first(k), *number);
+    }
+}
+
+/// Turns the numbers that stand in checkpoint k of a text of version 2.
+#[tactic(auto, using(crate::proofs::Lists::one_more))]
+pub(crate) fn turn_second(bytes: &mut [u8], k: usize, turned: &[(Spot, u32)])
+    ensures { bytes.new ≡ turned_second k turned.now bytes.old }
+{
+    for (spot, number) in turned {
+        put_if(bytes, spot.offset_in_second(k), *number);
+    }
+}
+
+/// Puts a number at a place, if there is one.
+fn put_if(bytes: &mut [u8], place: Option<usize>, number: u32)
+    requires { IfSome place (λ p. p < 2 ^ 32) }
+    ensures { bytes.new ≡ put_if bytes.old place number }
+{
+    if let Some(place) = place {
+        put_word(bytes, place, number);
     }
 }

@@ -1,0 +1,3 @@
+-- What the proofs of this crate stand on.
+mod Laid
+mod Lists

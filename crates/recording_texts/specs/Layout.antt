@@ -1,0 +1,49 @@
+-- The bytes of a whole text, as docs/formats.md has them, with some of its numbers turned.
+use Rattle.std.specs.Prelude.{ℕ, suc, List, [], ◌∷◌, ◌++◌, length, replicate}
+use Rattle.std.specs.List.{flat_map}
+use Rattle.recording_texts.specs.Bytes.{length_number, long_bytes, padded, words_bytes}
+use Rattle.recording_texts.specs.Header.{header_bytes}
+use Rattle.recording_texts.specs.Spots.{turned_first, turned_pages, turned_second}
+use Rattle.recording_texts.specs.Claims.{first_bytes, page_numbers, second_bytes}
+use Rattle.recording_texts.specs.declared.claim.Claim.{Claim}
+use Rattle.recording_texts.specs.declared.sketch.Event.{Event}
+use Rattle.recording_texts.specs.declared.sketch.Sketch.{Sketch}
+use Rattle.recording_texts.specs.declared.spot.Spot.{Spot}
+
+-- 256 words of a page, zeros after those that are given
+abbrev pub page_bytes : List ℕ → List ℕ
+page_bytes words = words_bytes (padded words 256)
+
+abbrev pub event_bytes : Event → List ℕ
+event_bytes event = long_bytes event.count ++ words_bytes (event.kind ∷ event.value ∷ [])
+
+-- the header and the pages
+unfoldable pub pages_bytes : ℕ → Sketch → List ℕ
+pages_bytes version sketch =
+    header_bytes version (length_number (length sketch.pages.now)) (length_number (length sketch.events.now)) (length_number (length sketch.claims.now))
+    ++ flat_map (λ page. page_bytes page.now) sketch.pages.now
+
+-- with the numbers of pages turned, and the events
+abbrev pub front_bytes : ℕ → Sketch → List (Spot × ℕ) → List ℕ
+front_bytes version sketch turned = turned_pages turned (pages_bytes version sketch) ++ flat_map event_bytes sketch.events.now
+
+-- the checkpoints from the one of number k on
+abbrev pub first_claims : List (Spot × ℕ) → ℕ → List Claim → List ℕ
+first_claims turned k [] = []
+first_claims turned k (claim ∷ claims) = turned_first k turned (first_bytes claim) ++ first_claims turned (suc k) claims
+
+-- after one with this table
+abbrev pub second_claims : List (Spot × ℕ) → ℕ → List ℕ → List Claim → List ℕ
+second_claims turned k before [] = []
+second_claims turned k before (claim ∷ claims) =
+    turned_second k turned (second_bytes before claim) ++ second_claims turned (suc k) (page_numbers claim) claims
+
+-- all bytes that were sent
+abbrev pub output_bytes : List Claim → List ℕ
+output_bytes claims = flat_map (λ (claim : Claim). claim.sent.now) claims
+
+unfoldable pub first_text : Sketch → List (Spot × ℕ) → List ℕ
+first_text sketch turned = front_bytes 1 sketch turned ++ first_claims turned 0 sketch.claims.now ++ output_bytes sketch.claims.now
+
+unfoldable pub second_text : Sketch → List (Spot × ℕ) → List ℕ
+second_text sketch turned = front_bytes 2 sketch turned ++ second_claims turned 0 (replicate 1024 0) sketch.claims.now ++ output_bytes sketch.claims.now
