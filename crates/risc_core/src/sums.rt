@@ -1,5 +1,5 @@
 //! Sums and differences of words, with their carry and overflow: operations 8 and 9 of formats F0 and F1.
-ghost use Rattle.std.specs.Prelude.{◌≡◌, ◌&&◌, not, ◌≤ℤ◌, ◌^◌, ◌-◌, pos, negsuc};
+ghost use Rattle.std.specs.Prelude.{◌≡◌, ◌&&◌, not, ◌≤ℤ◌, ◌^◌, ◌-◌, ◌+◌, ◌%◌, pos, negsuc};
 ghost use Rattle.risc_core.specs.Word.{bit, differ, one_if, signed};
 ghost use Rattle.risc_core.specs.Arithmetic.{overflows, sum_with, difference_with};
 
@@ -101,6 +101,16 @@ const fn difference_overflows(b: u32, c: u32, value: u32) -> bool
     negative != is_set(c, 31) && negative != is_set(value, 31)
 }
 
+/// Whether the difference of two words, of which this is the value, is not the signed value of any word: the value is below 0,
+/// and the first word not below the other, or the reverse. One machine instruction less than by the signs.
+#[inline(always)]
+const fn plain_difference_overflows(b: u32, c: u32, value: u32) -> bool
+    requires { value ≡ (b + (2 ^ 32 - c)) % 2 ^ 32 }
+    ensures { result ≡ (differ (bit b 31) (bit c 31) && differ (bit b 31) (bit value 31)) }
+{
+    (b.cast_signed() < c.cast_signed()) != (value.cast_signed() < 0)
+}
+
 /// The difference of two words.
 #[inline(always)]
 const fn plain_difference(b: u32, c: u32) -> Sum
@@ -110,7 +120,7 @@ const fn plain_difference(b: u32, c: u32) -> Sum
     Sum {
         value,
         carry: b < c,
-        overflow: difference_overflows(b, c, value),
+        overflow: plain_difference_overflows(b, c, value),
     }
 }
 
