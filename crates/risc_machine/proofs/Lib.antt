@@ -1,6 +1,7 @@
 pub mod OrderLemmas
 pub mod LaneLemmas
 pub mod StoredLemmas
+pub mod TimerLemmas
 pub mod DeviceLemmas
 pub mod DueLemmas
 pub mod RunLemmas
