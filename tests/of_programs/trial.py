@@ -1,0 +1,172 @@
+"""Records a program with a checkpoint at each count and with few, and compares all that is said of it.
+
+With a checkpoint at each count the machine begins anew at each instruction, so nothing that it decoded or put off is left
+from the one before. With few checkpoints it runs on. Both have to come to the same states, and the check and the C replayers,
+which are other emulators, have to accept all of them.
+"""
+
+import re
+import subprocess
+from collections.abc import Iterator, Mapping, Sequence
+from dataclasses import dataclass, replace
+from pathlib import Path
+from tempfile import TemporaryDirectory
+
+from galluspa.command import Refused
+from galluspa.program import ACCEPTED
+from galluspa.recording import PAGE_BYTES, Checkpoint, Recording, read
+from galluspa.sessions import Session
+
+DENSE, FEW, ONE = "a checkpoint at each count", "a few checkpoints", "one checkpoint at the end"
+WORKERS = (1, 4)
+FALSE_LINE = re.compile(r"false checkpoint \d+ at (\d+) part (.*)")
+FIELDS = ("h", "pc", "flags", "stop", "timer", "rate", "phase", "switches", "leds", "mouse", "serial", "keys")
+PART_NAMES = {"h": "H", "pc": "PC", "leds": "LEDs"}
+
+
+@dataclass(frozen=True)
+class Case:
+    """A program: its name, its session without checkpoints, for how many counts it runs, and a few of these counts."""
+
+    name: str
+    session: Session
+    counts: int
+    few: list[int]
+
+    @property
+    def file_name(self) -> str:
+        """The name as that of a file."""
+        return re.sub(r"[^\w-]+", "-", self.name)
+
+
+@dataclass(frozen=True)
+class Finding:
+    """Something that is not as it has to be: the count and the part where that shows first, and what showed it."""
+
+    count: int
+    part: str
+    shown_by: str
+
+    def __str__(self) -> str:
+        return f"count {self.count}, part {self.part}: {self.shown_by}"
+
+
+@dataclass(frozen=True)
+class Witnesses:
+    """The program that is tried, and the C replayers by their names."""
+
+    program: Path
+    replayers: Mapping[str, Path]
+
+    def record(self, case: Case, checkpoints: Sequence[int]) -> bytes:
+        """The recording of a program with checkpoints at these counts."""
+        session = replace(case.session, checkpoints=list(checkpoints))
+        ran = subprocess.run([self.program, "record"], input=session.text().encode(), stdout=subprocess.PIPE, check=False)
+        if ran.returncode != ACCEPTED:
+            raise Refused(f"{case.name}: record ended with status {ran.returncode} and {ran.stdout[:100]!r}")
+        return ran.stdout
+
+    def recordings(self, case: Case) -> dict[str, bytes]:
+        """The three recordings of a program, by what checkpoints they have."""
+        counts = {DENSE: range(1, case.counts + 1), FEW: case.few, ONE: [case.counts]}
+        return {name: self.record(case, checkpoints) for name, checkpoints in counts.items()}
+
+
+def findings(witnesses: Witnesses, case: Case, texts: Mapping[str, bytes], folder: Path) -> list[Finding]:
+    """All that is wrong with the recordings of a program, the smallest count first."""
+    with TemporaryDirectory(dir=folder) as own:
+        files = {name: Path(own) / f"{at}.orsr" for at, name in enumerate(texts)}
+        for name, text in texts.items():
+            files[name].write_bytes(text)
+        found = [
+            *_states_apart(read(texts[DENSE]), {name: read(text) for name, text in texts.items() if name != DENSE}),
+            *_checks(witnesses, case, files),
+            *_replays(witnesses, case, files),
+        ]
+    return sorted(found, key=lambda finding: finding.count)
+
+
+def _checks(witnesses: Witnesses, case: Case, files: Mapping[str, Path]) -> Iterator[Finding]:
+    """What the program's check finds, with one worker and with several."""
+    for name, path in files.items():
+        for workers in WORKERS:
+            with path.open("rb") as file:
+                words = [witnesses.program, "check", "--workers", str(workers)]
+                ran = subprocess.run(words, stdin=file, stdout=subprocess.PIPE, check=False)
+            line = ran.stdout.decode("ascii", "replace").rstrip("\n")
+            yield from _of_line(case, line, f"check --workers {workers} of the recording with {name}")
+
+
+def _replays(witnesses: Witnesses, case: Case, files: Mapping[str, Path]) -> Iterator[Finding]:
+    """What the C replayers find."""
+    for replayer, path in witnesses.replayers.items():
+        ran = subprocess.run([path, *files.values()], stdout=subprocess.PIPE, check=False)
+        lines = ran.stdout.decode("ascii", "replace").splitlines()
+        for at, name in enumerate(files):
+            line = lines[at] if at < len(lines) else f"no line, and status {ran.returncode}"
+            yield from _of_line(case, line, f"{replayer} on the recording with {name}")
+
+
+def _of_line(case: Case, line: str, shown_by: str) -> Iterator[Finding]:
+    """What a line finds; a line that is neither accepted nor false is one of count 0."""
+    if false := FALSE_LINE.fullmatch(line):
+        yield Finding(int(false[1]), false[2], shown_by)
+    elif not re.fullmatch(rf"accepted \d+ checkpoints {case.counts} steps", line):
+        yield Finding(0, "none", f"{shown_by} printed {line!r}")
+
+
+def _states_apart(dense: Recording, others: Mapping[str, Recording]) -> Iterator[Finding]:
+    """The first checkpoint of each recording that differs from the one at the same count of the dense recording."""
+    lengths = [0]
+    for checkpoint in dense.checkpoints[1:]:
+        lengths.append(lengths[-1] + len(checkpoint.output))
+    all_sent = b"".join(checkpoint.output for checkpoint in dense.checkpoints)
+    for name, other in others.items():
+        sent = b""
+        for checkpoint in other.checkpoints:
+            sent += checkpoint.output
+            wanted = dense.checkpoints[checkpoint.count]
+            part = _first_difference(dense, wanted, other, checkpoint)
+            if not part and sent != all_sent[: lengths[checkpoint.count]]:
+                part = "out"
+            if part:
+                yield Finding(checkpoint.count, part, f"the recording with {name} differs from that with {DENSE}")
+                break
+
+
+def _first_difference(dense: Recording, wanted: Checkpoint, other: Recording, claimed: Checkpoint) -> str:
+    """The first part in which two checkpoints differ but for what was sent; empty if there is none."""
+    registers = zip(wanted.registers, claimed.registers, strict=True)
+    parts = [f"R{at}" for at, (one, two) in enumerate(registers) if one != two]
+    parts += [PART_NAMES.get(field, field) for field in FIELDS if getattr(wanted, field) != getattr(claimed, field)]
+    if not parts:
+        numbers = enumerate(zip(wanted.table, claimed.table, strict=True))
+        parts = [f"page {at}" for at, (one, two) in numbers if (one or two) and dense.page(one) != other.page(two)]
+    return parts[0] if parts else ""
+
+
+def smallest_apart(witnesses: Witnesses, case: Case, found: Finding) -> Finding:
+    """A finding, or one of a smaller count: the first at which a run without checkpoints on the way is another."""
+    dense = read(witnesses.record(case, range(1, found.count + 1)))
+    for count in range(1, found.count):
+        alone = read(witnesses.record(case, [count]))
+        for apart in _states_apart(dense, {f"one checkpoint at {count}": alone}):
+            return apart
+    return found
+
+
+def altered(text: bytes, checkpoint: int, register: int) -> bytes:
+    """A recording with the lowest bit of a register turned at a checkpoint."""
+    at = read(text).checkpoints[checkpoint].start + 8 + 4 * register
+    return text[:at] + bytes([text[at] ^ 1]) + text[at + 1 :]
+
+
+def memory_of(words: Mapping[int, int] | Sequence[int]) -> bytes:
+    """A memory that begins with these words, or has them at these places."""
+    placed = words if isinstance(words, Mapping) else dict(enumerate(words))
+    memory = bytearray(-(-4 * (max(placed) + 1) // PAGE_BYTES) * PAGE_BYTES)
+    for at, word in placed.items():
+        memory[4 * at : 4 * at + 4] = word.to_bytes(4, "little")
+    return bytes(memory)
+
+
