@@ -1,0 +1,9 @@
+use Rattle.std.proofs.Common.{arith}
+use Rattle.risc_devices.proofs.InputLemmas.{kind_fits}
+use Rattle.galluspa.proofs.advance.event_at.Goals as goal
+
+pub returns-then-kind-gt5-clause-range : goal.returns-then-kind-gt5-clause-range
+returns-then-kind-gt5-clause-range c = λ lawful.
+    let small = kind_fits c.args.kind c.args.value lawful in
+    let large = c.if-kind-gt5.true in
+    omega arith

@@ -1,0 +1,11 @@
+use Rattle.std.proofs.Common.{◌≡◌, ◌<◌, ◌+◌, ℕ, List, get_or, length}
+use Rattle.risc_pages.specs.Pages.{page_at}
+use Rattle.galluspa.proofs.words.paged.Given as goal
+
+abbrev pub invariant-loop-place : goal.invariant-loop-place
+invariant-loop-place l = record {
+  pages : length l.pool ≡ l.place;
+  each : (k : ℕ) (d : List ℕ) → k < length l.pool → page_at l.words k ≡ get_or l.pool k d;
+  places : length l.table ≡ 1024;
+  number : (k d : ℕ) → k < l.place → get_or l.table k d ≡ k + 1;
+}

@@ -1,0 +1,7 @@
+-- What a caller in C gets. Read it in this order:
+pub mod Raw
+pub mod Advance
+pub mod Claim
+pub mod Record
+pub mod Migrate
+pub mod Laws

@@ -1,0 +1,13 @@
+-- What the command `migrate` answers.
+use Rattle.std.specs.Prelude.{◌≡◌, ◌⊎◌, ℕ, List}
+use Rattle.oberon_format.specs.Migration.{IsMigrated}
+use Rattle.oberon_check.specs.Headline.{IsLineOfFault}
+
+-- the input is the text of a recording, and this is that recording's text in the version that is written
+pub record IsReadMigration (input text : List ℕ) (status : ℕ) : Type 0 where
+  pub migrated : IsMigrated input text
+  pub status_is : status ≡ 0
+
+-- the answer on an input: its migration, or the line of its first fault
+abbrev pub IsMigration : List ℕ → List ℕ → ℕ → Type 0
+IsMigration input text status = IsReadMigration input text status ⊎ IsLineOfFault input text status

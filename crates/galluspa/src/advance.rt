@@ -1,0 +1,130 @@
+//! A run of a machine in the memory of a caller.
+ghost use Rattle.std.specs.Prelude.{◌≡◌, ◌≢◌, ◌≤◌, IfErr, IfNone, IfOk, IfSome, OnErr, OnOk, length, map, take};
+ghost use Rattle.galluspa.specs.Advance.{HasRun, IsInRange, SendsMore};
+ghost use Rattle.galluspa.specs.Raw.{AreEvents, AreNoEvents, raw_input};
+ghost use Rattle.risc_devices.specs.InputKind.{IsInput};
+
+use crate::raw::{RawInput, RawState, cpu_of, devices_of, state_of};
+use crate::refusal::{DONE, NO_ROOM, OUT_OF_MEMORY, OUT_OF_RANGE, Refusal};
+use crate::words::{WORDS, copy_words, paged};
+use risc_devices::Input;
+use risc_machine::{Event, Inputs, Machine};
+use std::alloc::Global;
+
+/// The event of an input at a count, if its kind and its value are in their ranges.
+fn event_at(count: u64, kind: u32, value: u32) -> Option<Event>
+    ensures event { IfSome result (λ event. raw_input event ≡ record { count = count; kind = kind; value = value }) }
+    ensures range { IfNone result (¬ (IsInput kind value)) }
+{
+    if kind > 5 {
+        return None;
+    }
+    match Input::new(kind as u8, value) {
+        Ok(input) => Some(Event { count, input }),
+        Err(_) => None,
+    }
+}
+
+/// The events of inputs whose kinds and values are in their ranges.
+fn events_of(alloc: Global, inputs: &[RawInput]) -> Result<Vec<Event>, Refusal>
+    ensures events { IfOk result (λ events. map raw_input events.items ≡ inputs.now) }
+    ensures refusal { IfErr result (λ refusal. refusal ≢ Refusal.Room) }
+    ensures range { IfErr result (λ refusal. refusal ≡ Refusal.Range → AreNoEvents inputs.now) }
+{
+    let mut events = Vec::new(alloc);
+    for input in inputs {
+        let Some(event) = event_at(input.count, input.kind, input.value) else {
+            return Err(Refusal::Range);
+        };
+        events.push(event)?;
+    }
+    Ok(events)
+}
+
+/// The inputs of a caller, if each is in its range and their counts are in order.
+fn inputs_of(alloc: Global, inputs: &[RawInput]) -> Result<Inputs, Refusal>
+    ensures events { IfOk result (λ events. AreEvents inputs.now events) }
+    ensures refusal { IfErr result (λ refusal. refusal ≢ Refusal.Room) }
+    ensures range { IfErr result (λ refusal. refusal ≡ Refusal.Range → AreNoEvents inputs.now) }
+{
+    match Inputs::new(events_of(alloc, inputs)?) {
+        Ok(inputs) => Ok(inputs),
+        Err(_) => Err(Refusal::Range),
+    }
+}
+
+/// Runs a machine up to a count, and returns the bytes that it sends, of which there are at most `room`.
+fn run(
+    alloc: Global,
+    state: &mut RawState,
+    words: &mut [u32],
+    inputs: &[RawInput],
+    to: u64,
+    room: usize,
+) -> Result<Vec<u8>, Refusal>
+    ensures run { IfOk result (λ sent. HasRun inputs.now to state.old words.old state.new words.new sent.items) }
+    ensures room { IfOk result (λ sent. length sent.items ≤ room) }
+    ensures unchanged { OnErr result ((state.new ≡ state.old) × (words.new ≡ words.old)) }
+    ensures no_room { IfErr result (λ refusal.
+        refusal ≡ Refusal.Room → SendsMore inputs.now to state.old words.old room) }
+    ensures in_range { OnOk result (IsInRange inputs.now to state.old words.old) }
+    ensures range { IfErr result (λ refusal.
+        refusal ≡ Refusal.Range → ¬ (IsInRange inputs.now to state.old words.old)) }
+{
+    if words.len() != WORDS || to < state.count {
+        return Err(Refusal::Range);
+    }
+    let Some(cpu) = cpu_of(state) else {
+        return Err(Refusal::Range);
+    };
+    let Some(devices) = devices_of(state) else {
+        return Err(Refusal::Range);
+    };
+    let inputs = inputs_of(alloc, inputs)?;
+    let (pool, table) = paged(alloc, words)?;
+    let mut machine = Machine::start(alloc, &pool, &table, cpu, devices)?;
+    let mut sent = Vec::new(alloc);
+    let Ok(()) = machine.run(&inputs, state.count, to, &mut sent) else {
+        return Err(Refusal::Memory);
+    };
+    if sent.len() > room {
+        return Err(Refusal::Room);
+    }
+    *state = state_of(to, machine.cpu(), machine.devices());
+    copy_words(machine.memory(), words);
+    Ok(sent)
+}
+
+/// Runs a machine from the count of its state up to the count `to`, and writes what it sends to the front of `sent`; or returns
+/// the number of a refusal, and writes nothing.
+pub fn advance(
+    alloc: Global,
+    state: &mut RawState,
+    words: &mut [u32],
+    inputs: &[RawInput],
+    to: u64,
+    sent: &mut [u8],
+    sent_count: &mut usize,
+) -> u8
+    ensures run { result ≡ DONE →
+        HasRun inputs.now to state.old words.old state.new words.new (take sent_count.new sent.new) }
+    ensures room { result ≡ DONE → sent_count.new ≤ length sent.old }
+    ensures unchanged { result ≢ DONE → (state.new ≡ state.old) × (words.new ≡ words.old) }
+    ensures unsent { result ≢ DONE → (sent.new ≡ sent.old) × (sent_count.new ≡ sent_count.old) }
+    ensures no_room { result ≡ NO_ROOM → SendsMore inputs.now to state.old words.old (length sent.old) }
+    ensures in_range { result ≡ DONE → IsInRange inputs.now to state.old words.old }
+    ensures range { result ≡ OUT_OF_RANGE → ¬ (IsInRange inputs.now to state.old words.old) }
+    ensures codes { result ≤ OUT_OF_MEMORY }
+{
+    match run(alloc, state, words, inputs, to, sent.len()) {
+        Ok(bytes) => {
+            let (front, _) = sent.split_at_mut(bytes.len());
+            front.copy_from_slice(&bytes);
+            *sent_count = bytes.len();
+            DONE
+        }
+        Err(Refusal::Range) => OUT_OF_RANGE,
+        Err(Refusal::Room) => NO_ROOM,
+        Err(Refusal::Memory) => OUT_OF_MEMORY,
+    }
+}

@@ -1,0 +1,29 @@
+//! An answer of bytes with its status, and how it gets into a caller's memory.
+ghost use Rattle.std.specs.Prelude.{◌≡◌, ◌<◌, ◌≤◌, length, take, vec_len};
+
+/// Bytes with their status.
+#[derive(Drop)]
+pub struct Answer {
+    /// A line, or a recording.
+    pub bytes: Vec<u8>,
+    /// 0 done or accepted, 1 false, 2 refused.
+    pub status: u8,
+}
+
+/// Writes an answer to the front of `out` with its status, if there is room, and returns its length. An empty
+/// answer, which there never is, counts as out of memory.
+pub fn put(answer: &Answer, out: &mut [u8], status: &mut u8) -> usize
+    ensures len { result ≡ vec_len answer.now.bytes }
+    ensures bytes { 0 < result → result ≤ length out.old → take result out.new ≡ answer.now.bytes.items }
+    ensures status { 0 < result → result ≤ length out.old → status.new ≡ answer.now.status }
+    ensures no_room { length out.old < result → (out.new ≡ out.old) × (status.new ≡ status.old) }
+    ensures empty { result ≡ 0 → (out.new ≡ out.old) × (status.new ≡ status.old) }
+{
+    let len = answer.bytes.len();
+    if len > 0 && len <= out.len() {
+        let (front, _) = out.split_at_mut(len);
+        front.copy_from_slice(&answer.bytes);
+        *status = answer.status;
+    }
+    len
+}

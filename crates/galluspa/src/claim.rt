@@ -1,0 +1,39 @@
+//! What a checkpoint of a recording claims, in the memory of a caller.
+ghost use Rattle.std.specs.Prelude.{◌≡◌, ◌≢◌, ◌≤◌, length};
+ghost use Rattle.galluspa.specs.Claim.{HasNoCheckpoint, IsClaim, IsNoRecording};
+
+use crate::raw::{RawState, state_of};
+use crate::refusal::{DONE, NO_CHECKPOINT, NO_RECORDING, NO_ROOM, OUT_OF_MEMORY, OUT_OF_RANGE};
+use crate::words::{WORDS, copy_words};
+use oberon_format::{Fault, read};
+use risc_pages::Memory;
+use std::alloc::Global;
+
+/// Writes what checkpoint `at` of a recording claims; or returns the number of a refusal, and writes nothing.
+pub fn claim(alloc: Global, text: &[u8], at: u32, state: &mut RawState, words: &mut [u32]) -> u8
+    ensures claim { result ≡ DONE → IsClaim text.now at state.new words.new }
+    ensures unchanged { result ≢ DONE → (state.new ≡ state.old) × (words.new ≡ words.old) }
+    ensures range { result ≡ OUT_OF_RANGE → length words.old ≢ WORDS }
+    ensures no_recording { result ≡ NO_RECORDING → IsNoRecording text.now }
+    ensures no_checkpoint { result ≡ NO_CHECKPOINT → HasNoCheckpoint text.now at }
+    ensures codes { (result ≢ NO_ROOM) × (result ≤ NO_CHECKPOINT) }
+{
+    if words.len() != WORDS {
+        return OUT_OF_RANGE;
+    }
+    let recording = match read(alloc, text) {
+        Ok(recording) => recording,
+        Err(Fault::Memory) => return OUT_OF_MEMORY,
+        Err(_) => return NO_RECORDING,
+    };
+    if at >= recording.count() {
+        return NO_CHECKPOINT;
+    }
+    let checkpoint = recording.checkpoint(at);
+    let Ok(memory) = Memory::from_table(alloc, recording.pool(), &checkpoint.table) else {
+        return OUT_OF_MEMORY;
+    };
+    *state = state_of(checkpoint.count, &checkpoint.cpu, &checkpoint.devices);
+    copy_words(&memory, words);
+    DONE
+}

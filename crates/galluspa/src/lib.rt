@@ -1,0 +1,150 @@
+//! Galluspa as a static library for C: it checks, records and migrates recordings, reads what a checkpoint claims, and advances
+//! a machine. `include/galluspa.h` declares its functions, and `docs/from-c.md` shows them at work.
+//!
+//! Each function takes all that it needs in slices of the caller's memory, and keeps nothing: there are no handles, and nothing
+//! has to be freed. A machine lives with the caller as plain numbers: a `RawState` and its 262,144 words. The slices of one call
+//! must not overlap, and no pointer is null, not even that of an empty slice. Nothing else is asked of the caller: each number is
+//! tested, and one that is out of its range is refused.
+#![tactic(auto)]
+
+ghost use Rattle.std.specs.Prelude.{◌≡◌, ◌≢◌, ◌<◌, ◌≤◌, length, take};
+ghost use Rattle.oberon_check.specs.Headline.{IsLineOf};
+ghost use Rattle.galluspa.specs.Advance.{HasRun, IsInRange, SendsMore};
+ghost use Rattle.galluspa.specs.Claim.{HasNoCheckpoint, IsClaim, IsNoRecording};
+ghost use Rattle.galluspa.specs.Migrate.{IsMigration};
+ghost use Rattle.galluspa.specs.Record.{IsRecord};
+
+mod advance;
+mod answer;
+mod check;
+mod claim;
+mod laws;
+mod migrate;
+mod raw;
+mod record;
+mod refusal;
+mod words;
+
+use crate::answer::put;
+pub use laws::frame_law;
+pub use raw::{RawInput, RawState};
+pub use refusal::{DONE, NO_CHECKPOINT, NO_RECORDING, NO_ROOM, OUT_OF_MEMORY, OUT_OF_RANGE};
+use std::alloc::Global;
+pub use words::WORDS;
+
+/// Checks a recording: writes its verdict line, with the line feed, to the front of `line`, and to `status` 0 if it is accepted,
+/// 1 if it is false and 2 if the bytes are no recording. The line and the status are those that the program prints.
+///
+/// Returns the length of the line. If that is more than `line` has room for, nothing is written. Returns 0 if memory ran out;
+/// nothing is written then, either.
+#[unsafe(no_mangle)]
+pub extern "C" fn galluspa_check(
+    alloc: Global,
+    text: &[u8],
+    line: &mut [u8],
+    status: &mut u8,
+) -> usize
+    ensures line { 0 < result → result ≤ length line.old → IsLineOf text.now (take result line.new) status.new }
+    ensures no_room { length line.old < result → (line.new ≡ line.old) × (status.new ≡ status.old) }
+    ensures no_memory { result ≡ 0 → (line.new ≡ line.old) × (status.new ≡ status.old) }
+{
+    match check::answer_to(alloc, text) {
+        Ok(answer) => put(&answer, line, status),
+        Err(_) => 0,
+    }
+}
+
+/// Records a session: writes its recording to the front of `out`, and status 0; or the line of the refusal, and status 2. The
+/// bytes and the status are those of the command `record`.
+///
+/// Returns the length of what is written, as `galluspa_check` does.
+#[unsafe(no_mangle)]
+pub extern "C" fn galluspa_record(
+    alloc: Global,
+    session: &[u8],
+    out: &mut [u8],
+    status: &mut u8,
+) -> usize
+    ensures recording { 0 < result → result ≤ length out.old → IsRecord session.now (take result out.new) status.new }
+    ensures no_room { length out.old < result → (out.new ≡ out.old) × (status.new ≡ status.old) }
+    ensures no_memory { result ≡ 0 → (out.new ≡ out.old) × (status.new ≡ status.old) }
+{
+    match record::answer_to(alloc, session) {
+        Ok(answer) => put(&answer, out, status),
+        Err(_) => 0,
+    }
+}
+
+/// Migrates a recording: writes it, in the version of the format that is written now, to the front of `out`, and status 0; or
+/// the line of the first rule that the bytes break, and status 2. The recording isn't replayed.
+///
+/// Returns the length of what is written, as `galluspa_check` does.
+#[unsafe(no_mangle)]
+pub extern "C" fn galluspa_migrate(
+    alloc: Global,
+    text: &[u8],
+    out: &mut [u8],
+    status: &mut u8,
+) -> usize
+    ensures migrated { 0 < result → result ≤ length out.old → IsMigration text.now (take result out.new) status.new }
+    ensures no_room { length out.old < result → (out.new ≡ out.old) × (status.new ≡ status.old) }
+    ensures no_memory { result ≡ 0 → (out.new ≡ out.old) × (status.new ≡ status.old) }
+{
+    match migrate::answer_to(alloc, text) {
+        Ok(answer) => put(&answer, out, status),
+        Err(_) => 0,
+    }
+}
+
+/// Reads what checkpoint `at` of a recording claims, its state and its words, and returns 0 (`DONE`). Whether the claim is true is
+/// not tested. Checkpoint 0 is the recording's first state.
+///
+/// Otherwise nothing is written, and the result is 1 (`OUT_OF_RANGE`) if `words` is not of 262,144 words, 3 (`OUT_OF_MEMORY`) if
+/// memory ran out, 4 (`NO_RECORDING`) if the bytes are no recording, and 5 (`NO_CHECKPOINT`) if the recording has no such
+/// checkpoint.
+#[unsafe(no_mangle)]
+pub extern "C" fn galluspa_claim(
+    alloc: Global,
+    text: &[u8],
+    at: u32,
+    state: &mut RawState,
+    words: &mut [u32],
+) -> u8
+    ensures claim { result ≡ DONE → IsClaim text.now at state.new words.new }
+    ensures unchanged { result ≢ DONE → (state.new ≡ state.old) × (words.new ≡ words.old) }
+    ensures range { result ≡ OUT_OF_RANGE → length words.old ≢ WORDS }
+    ensures no_recording { result ≡ NO_RECORDING → IsNoRecording text.now }
+    ensures no_checkpoint { result ≡ NO_CHECKPOINT → HasNoCheckpoint text.now at }
+    ensures codes { (result ≢ NO_ROOM) × (result ≤ NO_CHECKPOINT) }
+{
+    claim::claim(alloc, text, at, state, words)
+}
+
+/// Runs a machine from the count of its state up to the count `to`, with the inputs of these counts and perhaps others, and
+/// returns 0 (`DONE`). The bytes that it sends are written to the front of `sent`, and their number to `sent_count`.
+///
+/// Otherwise nothing is written, and the result is 1 (`OUT_OF_RANGE`) if `words` is not of 262,144 words, `to` is below the count
+/// of the state, a number of the state or of an input is out of its range, or the inputs' counts fall or are above 2^40; 2
+/// (`NO_ROOM`) if the machine sends more bytes than `sent` has room for; and 3 (`OUT_OF_MEMORY`) if memory ran out.
+#[unsafe(no_mangle)]
+pub extern "C" fn galluspa_advance(
+    alloc: Global,
+    state: &mut RawState,
+    words: &mut [u32],
+    inputs: &[RawInput],
+    to: u64,
+    sent: &mut [u8],
+    sent_count: &mut usize,
+) -> u8
+    ensures run { result ≡ DONE →
+        HasRun inputs.now to state.old words.old state.new words.new (take sent_count.new sent.new) }
+    ensures room { result ≡ DONE → sent_count.new ≤ length sent.old }
+    ensures unchanged { result ≢ DONE → (state.new ≡ state.old) × (words.new ≡ words.old) }
+    ensures unsent { result ≢ DONE → (sent.new ≡ sent.old) × (sent_count.new ≡ sent_count.old) }
+    ensures no_room { result ≡ NO_ROOM → SendsMore inputs.now to state.old words.old (length sent.old) }
+    ensures in_range { result ≡ DONE → IsInRange inputs.now to state.old words.old }
+    ensures range { result ≡ OUT_OF_RANGE → ¬ (IsInRange inputs.now to state.old words.old) }
+    ensures codes { result ≤ OUT_OF_MEMORY }
+{
+    advance::advance(alloc, state, words, inputs, to, sent, sent_count)
+}

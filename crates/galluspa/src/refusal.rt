@@ -1,0 +1,53 @@
+//! Why a call on a machine was refused, and the number that a caller in C gets.
+use std::alloc::{AllocError, AllocFailed};
+
+/// The call did what it is for.
+pub const DONE: u8 = 0;
+
+/// A number is out of its range, a slice is not of its length, or inputs are out of order.
+pub const OUT_OF_RANGE: u8 = 1;
+
+/// More bytes are sent than there is room for.
+pub const NO_ROOM: u8 = 2;
+
+/// An allocation failed.
+pub const OUT_OF_MEMORY: u8 = 3;
+
+/// The bytes are no recording.
+pub const NO_RECORDING: u8 = 4;
+
+/// The recording has no such checkpoint.
+pub const NO_CHECKPOINT: u8 = 5;
+
+/// Why a machine was not advanced.
+#[derive(Clone, Copy)]
+pub enum Refusal {
+    /// A number is out of its range, a slice is not of its length, or inputs are out of order.
+    Range,
+    /// More bytes are sent than there is room for.
+    Room,
+    /// An allocation failed.
+    Memory,
+}
+
+impl From<AllocError> for Refusal {
+    ghost use Rattle.std.specs.Prelude.{◌≡◌};
+    ghost use Rattle.galluspa.specs.declared.refusal.Refusal.{Refusal};
+
+    ghost from_gives = { λ _ refusal. refusal ≡ Refusal.Memory };
+
+    fn from(_failure: AllocError) -> Refusal {
+        Refusal::Memory
+    }
+}
+
+impl<T: Drop> From<AllocFailed<T>> for Refusal {
+    ghost use Rattle.std.specs.Prelude.{◌≡◌};
+    ghost use Rattle.galluspa.specs.declared.refusal.Refusal.{Refusal};
+
+    ghost from_gives = { λ _ refusal. refusal ≡ Refusal.Memory };
+
+    fn from(_failure: AllocFailed<T>) -> Refusal {
+        Refusal::Memory
+    }
+}
