@@ -13,7 +13,10 @@ from PIL import Image
 from samples import EXAMPLES, PROGRAM, TOP, ToolTest, run, tool
 
 SHOWING = [*sorted((TOP / "docs/lessons").glob("*.md")), TOP / "docs/recording-your-system.md", TOP / "docs/suites.md"]
-LINKING = [TOP / "README.md", *sorted(TOP.glob("*/README.md")), *sorted(TOP.glob("docs/*.md")), *sorted(TOP.glob("docs/lessons/*.md"))]
+LINKING = [
+    TOP / "README.md", *sorted(TOP.glob("*/README.md")), EXAMPLES / "suite/README.md", *sorted(TOP.glob("docs/*.md")),
+    *sorted(TOP.glob("docs/lessons/*.md")),
+]
 CONSOLE = re.compile(r"^```console\n(.*?)^```$", re.DOTALL | re.MULTILINE)
 TABLE = re.compile(r"^<!-- (tools/listing .*) -->\n((?:\|.*\n)+)", re.MULTILINE)
 LINK = re.compile(r"\]\(([^)#:]+)(?:#[^)]*)?\)")
