@@ -13,11 +13,13 @@ MISTAKES = (
     ("case 4: is = m->c | m->z; break;", "case 4: is = m->c; break;", ["branches/bhi", "branches/bls"]),
     ("case 11:\n        if ((int32_t)c < 1)", "case 11:\n        if (!c)",
      ["stops/divisor-below-0", "stops/divisor-below-0-u", "stops/divisor-im-u-v", "stops/divisor-im-v"]),
-    ("m->v = ((b ^ c) & (x ^ b)) >> 31;", "m->v = ((b ^ c) & (x ^ c)) >> 31;", ["operations/mov-h-and-flags", "operations/sub", "operations/sub-after-a-carry"]),
+    ("m->v = ((b ^ c) & (x ^ b)) >> 31;", "m->v = ((b ^ c) & (x ^ c)) >> 31;",
+     ["operations/mov-h-and-flags", "operations/sub", "operations/sub-after-a-carry"]),
     ("(m->r[a] & 255) << shift", "(m->r[a] & 255)", ["memory/stb"]),
     ("case 5: return 1;", "case 5: return 0;", ["devices/disk"]),
     ("if (m->waiting < KEYS) m->keys", "if (m->waiting < KEYS - 1) m->keys", ["devices/keys"]),
-    ("case 2: m->serial &= 255; return m->serial;", "case 2: return m->serial & 255;", ["devices/serial", "devices/status"]),
+    ("case 2: m->serial &= 255; return m->serial;", "case 2: return m->serial & 255;",
+     ["devices/serial", "devices/status"]),
     ("step(m); if (!m->stop) tick(m);", "step(m); tick(m);", ["stops/inputs"]),
     ("{ m->pc = next; return; }", "{ m->pc = next; if (w >> 28 & 1) put(m, 15, 4 * next); return; }",
      [f"branches/b{name}" for name in "cc cs eq ge gt hi le ls lt mi ne no pl vc vs".split()]),
@@ -69,13 +71,16 @@ class CoverageTest(ToolTest):
 
     def test_the_page(self) -> None:
         self.file("suite/it.orsr", STORED)
-        for suite, headline in ((SUITE, f"{len(CELLS)} of {len(CELLS)} exercised"), (self.folder / "suite", f"3 of {len(CELLS)} exercised")):
+        every = len(CELLS)
+        for suite, seen in ((SUITE, every), (self.folder / "suite", 3)):
             ran = tool("coverage", suite, "--page", self.folder / "page.html")
             self.assertEqual((ran.status, ran.errors), (0, ""))
             with browser.browser() as running, running.page(self.folder / "page.html") as opened:
-                self.assertEqual((opened.errors, opened.answer("document.querySelector('h1').innerText")), ([], headline))
-                missing = len(CELLS) - int(headline.split()[0])
-                self.assertEqual(opened.answer("document.querySelectorAll('td.missing').length"), missing)
+                self.assertEqual(opened.errors, [])
+                self.assertTrue(all(url.startswith(("file:", "data:")) for url in opened.requests), opened.requests)
+                headline = opened.answer("document.querySelector('h1').innerText")
+                self.assertEqual(headline, f"{seen} of {every} exercised")
+                self.assertEqual(opened.answer("document.querySelectorAll('td.missing').length"), every - seen)
                 for scheme in ("light", "dark"):
                     opened.prefer(scheme)
                     for width in browser.WIDTHS:

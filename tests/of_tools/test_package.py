@@ -45,8 +45,8 @@ class PackageTest(ToolTest):
 
     def dpkg(self, *words: object) -> Ran:
         """Runs dpkg on the clean root."""
-        forced = ["--force-depends", "--force-not-root", "--force-script-chrootless"]
-        return run(["dpkg", f"--root={self.folder}/root", *forced, *words], env={**os.environ, "PATH": f"{os.environ['PATH']}:/usr/sbin:/sbin"})
+        environment = {**os.environ, "PATH": f"{os.environ['PATH']}:/usr/sbin:/sbin"}
+        return run(["dpkg", f"--root={self.folder}/root", "--force-depends", *words], env=environment)
 
     def clean_root(self) -> set[str]:
         """A root without any package, and the files in it."""
@@ -88,12 +88,13 @@ class PackageTest(ToolTest):
         self.assertEqual((ran.status, ran.errors), (0, ""))
         self.assertIn(b"face.orsr: accepted", ran.output)
         library = next(prefix.rglob("libgalluspa.so")).parent
-        words = ["cc", "-O2", f"-I{prefix}/include", shared / "examples/c/check.c", library / "libgalluspa.a", "-o", self.folder / "check"]
-        self.assertEqual(run(words).errors, "")
-        ran = run([self.folder / "check", EXAMPLES / "face.orsr"])
-        self.assertEqual((ran.output, ran.status), (f"{EXAMPLES}/face.orsr: accepted 4 checkpoints 20000000 steps\n".encode(), 0))
-        ran = run(["python3", shared / "examples/c/check.py", library / "libgalluspa.so", EXAMPLES / "face.orsr"])
-        self.assertIn(b"accepted 4 checkpoints", ran.output)
+        source, program = shared / "examples/c/check.c", self.folder / "check"
+        self.assertEqual(run(["cc", f"-I{prefix}/include", source, library / "libgalluspa.a", "-o", program]).errors, "")
+        face = EXAMPLES / "face.orsr"
+        line = f"{face}: accepted 4 checkpoints 20000000 steps\n".encode()
+        for words in ([program], ["python3", shared / "examples/c/check.py", library / "libgalluspa.so"]):
+            ran = run([*words, face])
+            self.assertEqual((ran.output, ran.status), (line, 0))
         for name in ("oberon_replay", "galluspa-suite", "galluspa-slice"):
             self.assertTrue((prefix / f"share/man/man1/{name}.1.gz").is_file())
         self.assertEqual(self.completed(prefix, "oberon_replay", "re"), ["record"])
@@ -104,6 +105,6 @@ class PackageTest(ToolTest):
 
     def completed(self, prefix: Path, *words: str) -> list[str]:
         """What bash offers after these words, of which the last is not yet whole."""
-        script = f"source {prefix}/share/bash-completion/completions/{words[0]}; COMP_WORDS=({' '.join(words)}); COMP_CWORD={len(words) - 1}; " \
-                 "_galluspa; echo \"${COMPREPLY[@]}\""
+        typed = f"COMP_WORDS=({' '.join(words)}); COMP_CWORD={len(words) - 1}"
+        script = f'source {prefix}/share/bash-completion/completions/{words[0]}; {typed}; _galluspa; echo "${{COMPREPLY[@]}}"'
         return run(["bash", "-c", script]).output.decode().split()

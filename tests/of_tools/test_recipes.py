@@ -163,7 +163,8 @@ class SlurmTest(RecipesTest):
             SlurmdSpoolDir={it}/spool\nSlurmctldPidFile={it}/slurmctld.pid\nSlurmdPidFile={it}/slurmd.pid
             SlurmctldLogFile={it}/slurmctld.log\nSlurmdLogFile={it}/slurmd.log\nSlurmctldPort={free_port()}\nSlurmdPort={free_port()}
             ProctrackType=proctrack/linuxproc\nTaskPlugin=task/none\nSelectType=select/cons_tres\nSelectTypeParameters=CR_CPU
-            SchedulerType=sched/builtin\nSchedulerParameters=batch_sched_delay=0,sched_interval=1,sched_min_interval=0\nMinJobAge=2\nNodeName={host} NodeAddr=127.0.0.1 CPUs={os.cpu_count()} State=UNKNOWN
+            SchedulerType=sched/builtin\nSchedulerParameters=batch_sched_delay=0,sched_interval=1,sched_min_interval=0
+            MinJobAge=2\nNodeName={host} NodeAddr=127.0.0.1 CPUs={os.cpu_count()} State=UNKNOWN
             PartitionName=main Nodes=ALL Default=YES State=UP\n""".replace("            ", ""))
         for name in ("state", "spool"):
             (it / name).mkdir()

@@ -41,14 +41,15 @@ WORDS = [f"{word} (FFFF{0xC0 + 4 * word:02X})" for word in range(16)]
 ADDRESSES = ["offset above 0", "offset 0", "offset below 0", "sum below 0", "sum past FFFFFF"]
 
 TABLES = [
-    Table("operations", "Each operation with a register (R) or an immediate operand (im), and with the bits u and v.", OPERATIONS, OPERANDS),
+    Table("operations", "Each operation with a register (R) or an immediate operand (im), and with the bits u and v.",
+          OPERATIONS, OPERANDS),
     Table("results", "N and Z as a register is written: by an operation, a load, or a link.", [*WITHOUT_FLOATS, "LDR", "LDB", "link"],
           ["negative", "zero", "positive"], frozenset({("LDB", "negative"), ("link", "negative"), ("link", "zero")})),
     Table("carry and overflow", "C and V after a sum and a difference, without a carry and with one.",
           ["ADD", "ADD with carry", "SUB", "SUB with carry"], ["neither", "C", "V", "C and V"]),
     Table("shifts", "By how many bits, before the count is taken modulo 32.", OPERATIONS[1:4], ["by 0", "by 1 to 31", "by more"]),
-    Table("branches", "Each condition taken and not, to a register and by an offset, with a link and without. A branch to the next word "
-          "counts for none, as both ways lead there.", BRANCHES, TARGETS,
+    Table("branches", "Each condition taken and not, to a register and by an offset, with a link and without. A branch to the "
+          "next word counts for none, as both ways lead there.", BRANCHES, TARGETS,
           frozenset({*(("B", it) for it in TARGETS if it.endswith("not")), *(("BNO", it) for it in TARGETS if it.endswith("taken"))})),
     Table("targets", "Where branches that are taken lead.", ["forward", "back", "to itself", "R15 with a link"], ["taken"]),
     Table("memory", "Loads and stores of words and bytes in RAM: the two low bits of the address, and how it is made.", MOVES,

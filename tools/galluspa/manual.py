@@ -12,6 +12,7 @@ from pathlib import Path
 from galluspa.command import Parser
 
 PREFIX = "galluspa-"
+STATUS = "0 if all is well, 1 if something that was looked at is not, and 2, after one line on standard error, for bad input."
 
 
 @dataclass(frozen=True)
@@ -57,7 +58,8 @@ def page(tool: Tool, date: str) -> str:
     lines = [
         f".Dd {date}", f".Dt {tool.command.upper()} 1", ".Os", ".Sh NAME", f".Nm {tool.command}",
         f".Nd {_escaped(about[0].lower() + about[1:])}",
-        ".Sh SYNOPSIS", ".Nm", *(f".Op {_flags(it)}" for it in tool.options), *(f".Ar {_metavar(it)}{' ..' * bool(it.nargs)}" for it in tool.operands),
+        ".Sh SYNOPSIS", ".Nm", *(f".Op {_flags(it)}" for it in tool.options),
+        *(f".Ar {_metavar(it)}{' ..' * bool(it.nargs)}" for it in tool.operands),
         ".Sh DESCRIPTION", *_prose(" ".join(tool.words.description.split())), ".Bl -tag -width Ds",
     ]
     for it in [*tool.operands, *tool.options]:
@@ -65,8 +67,7 @@ def page(tool: Tool, date: str) -> str:
             lines += [f".It {_flags(it) if it.option_strings else 'Ar ' + _metavar(it)}", *_prose(_sentence(it.help))]
     example = tool.words.epilog.split("\n", 1)[1].strip().replace(f"tools/{tool.name}", tool.command)
     return "\n".join([
-        *lines, ".El", ".Sh EXIT STATUS",
-        *_prose("0 where all is well, 1 where something that was looked at is not, and 2, after one line on standard error, for bad input."),
+        *lines, ".El", ".Sh EXIT STATUS", *_prose(STATUS),
         ".Sh EXAMPLES", f".Dl {_escaped(example)}", ".Sh SEE ALSO", ".Xr oberon_replay 1", "",
     ])
 
@@ -118,7 +119,8 @@ complete -o default -F _galluspa @NAMES@
 def completion(tools: list[Tool], commands: dict[str, list[str]]) -> str:
     """The completion for bash: of the program's commands with their options, and of the tools' options."""
     options = {**commands, **{it.command: [option for action in it.options for option in action.option_strings] for it in tools}}
-    cases = [f"        {name}) COMPREPLY=($(compgen -W '{' '.join(words)}' -- \"$word\")) ;;" for name, words in options.items() if words]
+    given = {name: " ".join(words) for name, words in options.items() if words}
+    cases = [f"        {name}) COMPREPLY=($(compgen -W '{words}' -- \"$word\")) ;;" for name, words in given.items()]
     names = " ".join(["oberon_replay", *(it.command for it in tools)])
     replaced = {"@COMMANDS@": " ".join([*commands, "help", "--help"]), "@CASES@": "\n".join(cases), "@NAMES@": names}
     text = COMPLETION

@@ -100,7 +100,10 @@ def architecture() -> str:
 def tarball(files: list[File], folder: str, when: int) -> bytes:
     """The files as a tarball, in a folder; the same files and the same time give the same bytes."""
     out = io.BytesIO()
-    with gzip.GzipFile(fileobj=out, mode="wb", mtime=0) as packed, tarfile.open(fileobj=packed, mode="w", format=tarfile.GNU_FORMAT) as tar:
+    with (
+        gzip.GzipFile(fileobj=out, mode="wb", mtime=0) as packed,
+        tarfile.open(fileobj=packed, mode="w", format=tarfile.GNU_FORMAT) as tar,
+    ):
         for it in sorted(files, key=lambda file: file.path):
             info = tarfile.TarInfo(f"{folder}/{it.path}")
             info.size, info.mode, info.mtime = len(it.content), 0o755 if it.is_run else 0o644, when
@@ -108,7 +111,7 @@ def tarball(files: list[File], folder: str, when: int) -> bytes:
     return out.getvalue()
 
 
-def lay(files: list[File], root: Path) -> None:
+def write_tree(files: list[File], root: Path) -> None:
     """Writes the files below a folder."""
     for it in files:
         path = root / it.path
@@ -119,7 +122,7 @@ def lay(files: list[File], root: Path) -> None:
 
 def debian(files: list[File], version: str, room: Path, when: int) -> bytes:
     """The files as a package of Debian, laid out in a room of its own."""
-    lay([File(f"usr/{it.path}", it.content, it.is_run) for it in files], room / "tree")
+    write_tree([File(f"usr/{it.path}", it.content, it.is_run) for it in files], room / "tree")
     sums = "".join(f"{hashlib.md5(it.content).hexdigest()}  usr/{it.path}\n" for it in files)
     size = sum(len(it.content) for it in files) // 1024
     control = f"""Package: galluspa
@@ -135,12 +138,13 @@ Description: proved emulator and checker of Project Oberon's RISC5 workstation
  A program that records sessions of the workstation and checks recordings of
  them, with tools around it and a library for C.
 """
-    lay([File("control", control.encode()), File("md5sums", sums.encode()), File("triggers", b"activate-noawait ldconfig\n")],
-        room / "tree/DEBIAN")
+    of_package = {"control": control.encode(), "md5sums": sums.encode(), "triggers": b"activate-noawait ldconfig\n"}
+    write_tree([File(name, content) for name, content in of_package.items()], room / "tree/DEBIAN")
     for path in [room / "tree", *(room / "tree").rglob("*")]:
         path.chmod(0o755 if path.is_dir() else path.stat().st_mode)
     words = ["dpkg-deb", "--root-owner-group", "--build", str(room / "tree"), str(room / "it.deb")]
-    made = subprocess.run(words, stdout=subprocess.PIPE, stderr=subprocess.STDOUT, check=False, env={"SOURCE_DATE_EPOCH": str(when), "PATH": "/usr/bin:/bin"})
+    environment = {"SOURCE_DATE_EPOCH": str(when), "PATH": "/usr/bin:/bin"}
+    made = subprocess.run(words, stdout=subprocess.PIPE, stderr=subprocess.STDOUT, check=False, env=environment)
     if made.returncode:
         raise Refused(f"dpkg-deb: {made.stdout.decode('utf-8', 'replace').strip().splitlines()[-1]}")
     return (room / "it.deb").read_bytes()
