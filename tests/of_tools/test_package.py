@@ -7,10 +7,18 @@ import tempfile
 import unittest
 from pathlib import Path
 
+from galluspa.command import Refused
 from galluspa.manual import page, tools_of
-from samples import EXAMPLES, STORED, TOOLS, TOP, Ran, ToolTest, run, tool
+from galluspa.packages import library_folder
+from samples import EXAMPLES, STORED, TOOLS, Ran, ToolTest, run, tool
 
-BUILT = TOP / "out"
+
+def is_built() -> bool:
+    """Whether the library is there."""
+    try:
+        return library_folder(None).is_dir()
+    except Refused:
+        return False
 
 
 class WordsTest(ToolTest):
@@ -31,10 +39,10 @@ class WordsTest(ToolTest):
 
     def test_refuses_bad_input(self) -> None:
         self.assert_refused(tool("package"), "--into")
-        self.assert_refused(tool("package", "--into", self.folder, "--library", self.folder), "no library in")
+        self.assert_refused(tool("package", "--into", self.folder, "--library", self.folder), "libgalluspa.so are not in")
 
 
-@unittest.skipUnless((BUILT / "lib/libgalluspa.so").exists(), "no library in out: run examples/c/install out first")
+@unittest.skipUnless(is_built(), "the library is not built: run examples/c/install out first")
 class PackageTest(ToolTest):
     @classmethod
     def setUpClass(cls) -> None:

@@ -8,6 +8,7 @@ from dataclasses import dataclass
 from importlib.machinery import SourceFileLoader
 from importlib.util import module_from_spec, spec_from_loader
 from pathlib import Path
+from types import ModuleType
 
 from galluspa.command import Parser
 
@@ -40,16 +41,18 @@ class Tool:
 
 
 def tools_of(folder: Path) -> list[Tool]:
-    """The tools in a folder: files that can be run, each with a function `parser`."""
+    """The tools for users in a folder: files that can be run and have a function `parser`."""
     paths = (path for path in sorted(folder.iterdir()) if path.is_file() and path.stat().st_mode & 0o111)
-    return [_tool(path) for path in paths]
+    scripts = ((path.name, _script(path)) for path in paths)
+    return [Tool(name, script.__doc__.split("\n")[0], script.parser()) for name, script in scripts if hasattr(script, "parser")]
 
 
-def _tool(path: Path) -> Tool:
+def _script(path: Path) -> ModuleType:
+    """The module of a file that is no part of a package."""
     loader = SourceFileLoader(f"tool_{path.name}", str(path))
     module = module_from_spec(spec_from_loader(loader.name, loader))
     loader.exec_module(module)
-    return Tool(path.name, module.__doc__.split("\n")[0], module.parser())
+    return module
 
 
 def page(tool: Tool, date: str) -> str:
@@ -87,7 +90,7 @@ def _metavar(action: argparse.Action) -> str:
 
 
 def _escaped(text: str) -> str:
-    return text.replace("\\", "\\e")
+    return text.replace("\\", "\\e").replace("--", "\\-\\-")
 
 
 def _prose(text: str) -> Iterator[str]:

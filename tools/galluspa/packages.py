@@ -19,9 +19,20 @@ LAUNCHER = """#!/bin/sh
 exec /usr/bin/python3 -B "$(dirname "$(readlink -f "$0")")/../share/galluspa/tools/{name}" "$@"
 """
 LIBRARIES = ("libgalluspa.a", "libgalluspa.so")
+BUILT = ("crates/galluspa/out", "out/lib")
 FOLDERS = ("tools", "examples", "bench", "docs")
 TEXTS = ("README.md", "CHANGELOG.md", "LICENSE")
-ONLY_HERE = {"__pycache__", "out", "package", "packages.py", "manual.py"}
+ONLY_HERE = {"__pycache__", "out", "build-library", "package", "packages.py", "manual.py"}
+
+
+def library_folder(given: Path | None) -> Path:
+    """The folder that was given, or else the first in which both libraries were built."""
+    folders = [given] if given else [TOP / folder for folder in BUILT]
+    for folder in folders:
+        if all((folder / name).is_file() for name in LIBRARIES):
+            return folder
+    names = " and ".join(LIBRARIES)
+    raise Refused(f"{names} are not in {folders[0]}: build them (examples/c/install FOLDER), and name FOLDER/lib with --library")
 
 
 @dataclass(frozen=True)
@@ -47,8 +58,8 @@ class Contents:
         tools = [it for it in tools_of(TOP / "tools") if it.name not in ONLY_HERE]
         yield File("bin/oberon_replay", read_file(self.program.path), True)
         yield from (File(f"bin/{it.command}", LAUNCHER.format(name=it.name).encode(), True) for it in tools)
-        yield from (File(f"lib/{_multiarch()}/{name}", read_file(self.library / "lib" / name)) for name in LIBRARIES)
-        yield File("include/galluspa.h", read_file(self.library / "include/galluspa.h"))
+        yield from (File(f"lib/{_multiarch()}/{name}", read_file(self.library / name)) for name in LIBRARIES)
+        yield File("include/galluspa.h", read_file(TOP / "include/galluspa.h"))
         yield from self._words_of(tools)
         for folder in FOLDERS:
             yield from _tree(TOP / folder, f"share/galluspa/{folder}")
