@@ -1,7 +1,7 @@
-"""The recipes of docs/suites.md, run as they stand there: GNU parallel over ssh to two accounts, a Slurm job array, and make.
+"""The recipes of docs/suites.md, run as they stand there: GNU parallel over ssh to two accounts, Slurm job arrays, and make.
 
-Servers listen on 127.0.0.1 alone, on ports that are free, with keys made for the test; accounts, processes and files are removed at
-its end. What Debian's packages don't give is skipped, and said.
+Servers listen on ports of 127.0.0.1 that are free, with keys made for the test; accounts, processes and files are removed at
+its end. Where a package can't be had, the test is skipped and says so.
 """
 
 import os
@@ -53,8 +53,10 @@ class RecipesTest(ToolTest):
         missing = [COMMANDS[it] for it in commands if not shutil.which(it, path=FOUND)]
         if not missing:
             return
+        if Path("/run/systemd/system").exists():
+            self.skipTest(f"{', '.join(missing)} would be started as services if this test installed them")
         words = ["apt-get", "-qq", "install", "-y", "--no-install-recommends", *missing]
-        environment = {**os.environ, "DEBIAN_FRONTEND": "noninteractive", "RUNLEVEL": "1"}
+        environment = {**os.environ, "DEBIAN_FRONTEND": "noninteractive"}
         subprocess.run(["apt-get", "-qq", "update"], check=False, **QUIET)
         subprocess.run(words, check=False, timeout=300, env=environment, **QUIET)
         if left := [it for it in commands if not shutil.which(it, path=FOUND)]:
@@ -162,7 +164,8 @@ class SlurmTest(RecipesTest):
             AuthType=auth/munge\nAuthInfo=socket={it}/munge.socket\nCredType=cred/munge\nStateSaveLocation={it}/state
             SlurmdSpoolDir={it}/spool\nSlurmctldPidFile={it}/slurmctld.pid\nSlurmdPidFile={it}/slurmd.pid
             SlurmctldLogFile={it}/slurmctld.log\nSlurmdLogFile={it}/slurmd.log\nSlurmctldPort={free_port()}\nSlurmdPort={free_port()}
-            ProctrackType=proctrack/linuxproc\nTaskPlugin=task/none\nSelectType=select/cons_tres\nSelectTypeParameters=CR_CPU
+            ProctrackType=proctrack/linuxproc\nTaskPlugin=task/none
+            CommunicationParameters=NoInAddrAny,NoCtldInAddrAny\nSelectType=select/cons_tres\nSelectTypeParameters=CR_CPU
             SchedulerType=sched/builtin\nSchedulerParameters=batch_sched_delay=0,sched_interval=1,sched_min_interval=0
             MinJobAge=2\nNodeName={host} NodeAddr=127.0.0.1 CPUs={os.cpu_count()} State=UNKNOWN
             PartitionName=main Nodes=ALL Default=YES State=UP\n""".replace("            ", ""))
