@@ -2,10 +2,8 @@
 
 import base64
 import hashlib
-import re
 from collections.abc import Iterator
 from dataclasses import dataclass, field
-from functools import cached_property
 from itertools import islice
 from pathlib import Path
 
@@ -15,14 +13,12 @@ from markupsafe import Markup
 from galluspa import recording, states
 from galluspa.instructions import instruction
 from galluspa.pictures import Screens, screens
-from galluspa.program import ACCEPTED, FALSE, REFUSED, Answer, Program
+from galluspa.program import ACCEPTED, REFUSED, Answer, Program
 from galluspa.recording import PAGE_BYTES, PLACES, WORDS_IN_PAGE, Checkpoint, Recording
 from galluspa.states import Part
 
 INPUTS_IN_BLOCK = 500
 BYTES_AROUND = 128
-FALSE_LINE = re.compile(r"false checkpoint (\d+) at \d+ part (.+)")
-REFUSED_LINE = re.compile(r"refused \d+ \w+ at byte (\d+)")
 
 
 @dataclass(frozen=True)
@@ -76,19 +72,13 @@ class Report:
         answer = program.check(text)
         return Report(name, text, program, answer, None if answer.status == REFUSED else recording.read(text))
 
-    @cached_property
-    def false_claim(self) -> tuple[int, str] | None:
-        """The first false checkpoint and its first false part, where the program's line names them."""
-        told = FALSE_LINE.fullmatch(self.answer.line) if self.answer.status == FALSE else None
-        return (int(told[1]), told[2]) if told else None
-
     def html(self) -> Iterator[str]:
         """The page, piece by piece."""
         folder = Path(__file__).resolve().parent
         templates = Environment(loader=FileSystemLoader(folder), autoescape=True, trim_blocks=True, lstrip_blocks=True,
                                 undefined=StrictUndefined)
         templates.globals["marks"] = self._marks
-        false_at, false_part = self.false_claim or (None, None)
+        false_at, false_part = self.answer.false_claim or (None, None)
         return templates.get_template("report.html.j2").generate(
             name=self.name,
             size=len(self.text),
@@ -165,14 +155,14 @@ class Report:
 
     def _marks(self, shown: Shown, part: Part) -> Markup:
         """The class of a part's cell."""
-        names = ["changed"] * part.is_changed + ["false"] * (self.false_claim == (shown.number, part.name))
+        names = ["changed"] * part.is_changed + ["false"] * (self.answer.false_claim == (shown.number, part.name))
         return Markup(f' class="{" ".join(names)}"') if names else Markup("")
 
     def _claimed(self) -> list[str]:
         """What the first false checkpoint claims of its first false part."""
-        if not self.false_claim:
+        if not self.answer.false_claim:
             return []
-        number, name = self.false_claim
+        number, name = self.answer.false_claim
         checkpoint = self.recording.checkpoints[number]
         if name.startswith("page "):
             place = int(name.removeprefix("page "))
@@ -187,10 +177,9 @@ class Report:
             yield "\n".join(f"{taken.count:>13,}  {states.event(taken)}" for taken in block)
 
     def _fault(self) -> Fault | None:
-        told = REFUSED_LINE.fullmatch(self.answer.line)
-        if self.answer.status != REFUSED or not told:
+        if not self.answer.fault:
             return None
-        at = int(told[1])
+        at = self.answer.fault[1]
         start = max(0, at - BYTES_AROUND) & -16
         content = self.text[start : at + BYTES_AROUND & -16]
         lines = [_marked(line, at - start - 16 * row) for row, line in enumerate(states.hexdump(content, start))]
