@@ -14,7 +14,7 @@ from tempfile import TemporaryDirectory
 
 from galluspa.command import Refused
 from galluspa.program import ACCEPTED
-from galluspa.recording import PAGE_BYTES, Checkpoint, Recording, read
+from galluspa.recording import PAGE_BYTES, Checkpoint, Recording, read, write
 from galluspa.sessions import Session
 
 DENSE, FEW, ONE = "a checkpoint at each count", "a few checkpoints", "one checkpoint at the end"
@@ -157,8 +157,11 @@ def smallest_apart(witnesses: Witnesses, case: Case, found: Finding) -> Finding:
 
 def altered(text: bytes, checkpoint: int, register: int) -> bytes:
     """A recording with the lowest bit of a register turned at a checkpoint."""
-    at = read(text).checkpoints[checkpoint].start + 8 + 4 * register
-    return text[:at] + bytes([text[at] ^ 1]) + text[at + 1 :]
+    recording = read(text)
+    claimed = recording.checkpoints[checkpoint]
+    registers = [value ^ (at == register) for at, value in enumerate(claimed.registers)]
+    recording.checkpoints[checkpoint] = replace(claimed, registers=tuple(registers))
+    return write(recording)
 
 
 def memory_of(words: Mapping[int, int] | Sequence[int]) -> bytes:

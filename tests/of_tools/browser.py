@@ -14,6 +14,31 @@ from pathlib import Path
 FLAGS = ("--headless=new", "--no-sandbox", "--disable-gpu", "--hide-scrollbars", "--no-first-run", "--disable-extensions",
          "--disable-background-networking", "--host-resolver-rules=MAP * ~NOTFOUND", "--force-device-scale-factor=1")
 
+WIDTHS = (420, 800, 1100, 1280, 1920)
+
+# What is wrong with how the blocks of a page lie: a page or a block too wide, and two blocks that overlap.
+FAULTS = """
+(() => {
+  const told = [];
+  const page = document.documentElement;
+  for (const it of document.querySelectorAll(".checkpoint, .case, pre")) it.style.contentVisibility = "visible";
+  if (page.scrollWidth > innerWidth) told.push(`the page is ${page.scrollWidth} wide`);
+  const blocks = [...document.querySelectorAll("h1, h2, h3, p, pre, table, dl > div, img, figcaption")];
+  const boxes = blocks.map(it => it.getBoundingClientRect());
+  blocks.forEach((one, at) => {
+    const a = boxes[at];
+    if (a.right > innerWidth || one.scrollWidth > one.clientWidth + 1) told.push(`too wide: ${one.outerHTML.slice(0, 60)}`);
+    blocks.slice(0, at).forEach((other, before) => {
+      const b = boxes[before];
+      const wide = Math.min(a.right, b.right) - Math.max(a.left, b.left);
+      const high = Math.min(a.bottom, b.bottom) - Math.max(a.top, b.top);
+      if (wide > 0.5 && high > 0.5) told.push(`${other.outerHTML.slice(0, 60)} overlaps ${one.outerHTML.slice(0, 60)}`);
+    });
+  });
+  return told;
+})()
+"""
+
 
 class Pipe:
     """The pipe to a browser: what it is asked, and what it tells."""
@@ -67,6 +92,10 @@ class Page:
     def resize(self, width: int, height: int) -> None:
         """Gives the window a size."""
         self._ask("Emulation.setDeviceMetricsOverride", width=width, height=height, deviceScaleFactor=1, mobile=False)
+
+    def prefer(self, scheme: str) -> None:
+        """Lets the reader prefer a color scheme: light or dark."""
+        self._ask("Emulation.setEmulatedMedia", features=[{"name": "prefers-color-scheme", "value": scheme}])
 
     def screenshot(self, width: int, height: int) -> bytes:
         """A picture of the page in a window of this size, as PNG."""

@@ -6,9 +6,12 @@ import struct
 import subprocess
 import tempfile
 import unittest
+from array import array
 from collections.abc import Iterable, Sequence
 from dataclasses import dataclass
 from pathlib import Path
+
+from galluspa.recording import PLACES, Checkpoint, Event, Recording, write
 
 TOP = Path(__file__).resolve().parents[2]
 TOOLS = TOP / "tools"
@@ -64,7 +67,7 @@ def page(*words: int) -> bytes:
 
 @dataclass(frozen=True)
 class Claim:
-    """A checkpoint to lay out: 132 bytes of fields but for the output's length, rate and phase, output, and places' pages."""
+    """A checkpoint to lay out: R0 to R15 and nine words from H to the serial byte, rate and phase, output, and places' pages."""
 
     count: int
     words: Sequence[int]
@@ -74,33 +77,18 @@ class Claim:
     output: bytes
     pages: dict[int, int]
 
-    def front(self) -> bytes:
-        """The fields that both versions share."""
-        return struct.pack("<Q25I", self.count, *self.words) + struct.pack(
-            "<I16sI", len(self.keys), self.keys, len(self.output)
-        )
+    def checkpoint(self) -> Checkpoint:
+        """The same as a checkpoint of a recording."""
+        others = dict(zip(("h", "pc", "flags", "stop", "timer", "switches", "leds", "mouse", "serial"), self.words[16:], strict=True))
+        table = array("I", [self.pages.get(place, 0) for place in range(PLACES)])
+        return Checkpoint(count=self.count, registers=tuple(self.words[:16]), **others, rate=self.rate, phase=self.phase,
+                          keys=self.keys, output=self.output, table=table)
 
 
 def lay(version: int, pool: Sequence[bytes], events: Sequence[tuple], claims: Sequence[Claim]) -> bytes:
     """The text of a recording in a version; rate and phase are left out in version 1."""
-    header = struct.pack("<4s5I", b"ORSR", version, len(pool), len(events), len(claims), 0)
-    laid = [struct.pack("<QII", *event) for event in events]
-    before: dict[int, int] = {}
-    for claim in claims:
-        tail = _table(claim.pages) if version == 1 else _changes(claim, before)
-        laid += [claim.front(), tail]
-        before = claim.pages
-    return b"".join([header, *pool, *laid, *(claim.output for claim in claims)])
-
-
-def _table(pages: dict[int, int]) -> bytes:
-    return struct.pack("<1024I", *(pages.get(place, 0) for place in range(1024)))
-
-
-def _changes(claim: Claim, before: dict[int, int]) -> bytes:
-    places = [place for place in range(1024) if claim.pages.get(place, 0) != before.get(place, 0)]
-    pairs = [struct.pack("<2I", place, claim.pages.get(place, 0)) for place in places]
-    return struct.pack("<3I", claim.rate, claim.phase, len(pairs)) + b"".join(pairs)
+    checkpoints = [claim.checkpoint() for claim in claims]
+    return write(Recording(version, b"".join(pool), [Event(*event) for event in events], checkpoints))
 
 
 def rejoining(claimed: int) -> bytes:

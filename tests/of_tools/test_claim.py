@@ -1,6 +1,6 @@
 """tools/claim: false recordings made of true ones."""
 
-from samples import PROGRAM, STORED, ToolTest, record, rejoining, run, session, tool
+from samples import JUMP, PROGRAM, STORED, ToolTest, record, rejoining, run, session, tool
 
 
 class ClaimTest(ToolTest):
@@ -9,10 +9,23 @@ class ClaimTest(ToolTest):
 
     def test_each_part_can_be_claimed_falsely(self) -> None:
         stored = self.file("stored.orsr", STORED)
-        for name in (*(f"R{at}" for at in range(16)), "H", "PC", "flags", "timer", "switches", "LEDs"):
-            ran = tool("claim", stored, "--at", 1, "--set", f"{name}=0xF")
-            self.assertEqual(ran.errors, "")
-            self.assertEqual(run([PROGRAM], ran.output).output.decode(), f"false checkpoint 1 at 100 part {name}\n")
+        newer = self.file("newer.orsr", run([PROGRAM, "migrate"], STORED).output)
+        for name in (*(f"R{at}" for at in range(16)), "H", "PC", "flags", "timer", "switches", "LEDs", "mouse", "serial", "stop"):
+            value = "4" if name == "stop" else "0xF"
+            for recorded in (stored, newer):
+                ran = tool("claim", recorded, "--at", 1, "--set", f"{name}={value}")
+                self.assertEqual(ran.errors, "")
+                self.assertEqual(ran.output[4], recorded.read_bytes()[4])
+                self.assertEqual(run([PROGRAM], ran.output).output.decode(), f"false checkpoint 1 at 100 part {name}\n")
+
+    def test_rate_and_phase_are_claimed_in_version_2(self) -> None:
+        timed = session([JUMP], [7])
+        timed["start"].update(rate=10, phase=3)
+        recorded = self.file("timed.orsr", record({**timed, "version": 2}))
+        for name, value in (("rate", 11), ("phase", 9)):
+            ran = tool("claim", recorded, "--at", 1, "--set", f"{name}={value}")
+            self.assertEqual(run([PROGRAM], ran.output).output.decode(), f"false checkpoint 1 at 7 part {name}\n")
+            self.assert_refused(tool("claim", self.file("it.orsr", STORED), "--at", 1, "--set", f"{name}=1"), "of version 1")
 
     def test_a_false_claim_that_rejoins(self) -> None:
         true = self.file("rejoin.orsr", record(session([0x45000001, 0xE7FFFFFE], [2, 4])))

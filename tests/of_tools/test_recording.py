@@ -7,7 +7,7 @@ from dataclasses import replace
 
 from galluspa import recording
 from galluspa.command import Refused
-from samples import EXAMPLES, STORED, Claim, lay, page
+from samples import EXAMPLES, STORED, Claim, lay, page, record, session
 
 FIELDS = ("h", "pc", "flags", "stop", "timer", "switches", "leds", "mouse", "serial")
 
@@ -54,6 +54,18 @@ class RecordingTest(unittest.TestCase):
         self.assertEqual([it.start for it in second.checkpoints], [1048, 1200])
         moved = [replace(it, start=0) for it in second.checkpoints]
         self.assertEqual(moved, [replace(it, start=0) for it in first.checkpoints])
+
+    def test_what_the_program_wrote_is_written_again(self) -> None:
+        timed = session([0x5100FFC8, 0xA1100000, 0xE7FFFFFD], range(1, 40), [(3, "mouse", 0x73FF3FF), (9, "key", 65), (9, "serial", 66)])
+        timed["start"].update(rate=7, phase=6)
+        for text in (
+            (EXAMPLES / "face.orsr").read_bytes(),
+            (EXAMPLES / "face-version-1.orsr").read_bytes(),
+            record({**timed, "version": 2}),
+            record((EXAMPLES / "clock.json").read_bytes()),
+            STORED,
+        ):
+            self.assertEqual(recording.write(recording.read(text)), text)
 
     def test_memory_is_read_through_the_table(self) -> None:
         face = recording.read((EXAMPLES / "face.orsr").read_bytes())

@@ -32,32 +32,6 @@ DOTS = """
 })()
 """
 
-WIDTHS = (420, 800, 1100, 1280, 1920)
-
-# What is wrong with how the blocks of a page lie: a page or a block too wide, and two blocks that overlap.
-FAULTS = """
-(() => {
-  const told = [];
-  const page = document.documentElement;
-  for (const it of document.querySelectorAll(".checkpoint, pre")) it.style.contentVisibility = "visible";
-  if (page.scrollWidth > innerWidth) told.push(`the page is ${page.scrollWidth} wide`);
-  const blocks = [...document.querySelectorAll("h1, h2, h3, p, pre, dl > div, img, figcaption")];
-  const boxes = blocks.map(it => it.getBoundingClientRect());
-  blocks.forEach((one, at) => {
-    const a = boxes[at];
-    if (a.right > innerWidth || one.scrollWidth > one.clientWidth + 1) told.push(`too wide: ${one.outerHTML.slice(0, 60)}`);
-    blocks.slice(0, at).forEach((other, before) => {
-      const b = boxes[before];
-      const wide = Math.min(a.right, b.right) - Math.max(a.left, b.left);
-      const high = Math.min(a.bottom, b.bottom) - Math.max(a.top, b.top);
-      if (wide > 0.5 && high > 0.5) told.push(`${other.outerHTML.slice(0, 60)} overlaps ${one.outerHTML.slice(0, 60)}`);
-    });
-  });
-  return told;
-})()
-"""
-
-
 class ReportTest(ToolTest):
     def report(self, text: bytes, name: str = "it.orsr") -> Path:
         """The page of a text."""
@@ -159,9 +133,9 @@ class ReportInBrowserTest(ReportTest):
         laid = lay(2, [page(JUMP), page(1)], [(5, 3, 0x073FF3FF)], [first, wide])
         for text in ((EXAMPLES / "face.orsr").read_bytes(), laid, STORED[:-1]):
             with self.browser.page(self.report(text, "a" * 200 + ".orsr")) as opened:
-                for width in WIDTHS:
+                for width in browser.WIDTHS:
                     opened.resize(width, 1000)
-                    self.assertEqual(opened.answer(FAULTS), [], f"{width} points")
+                    self.assertEqual(opened.answer(browser.FAULTS), [], f"{width} points")
 
     def test_a_false_recording(self) -> None:
         text = rejoining(9)

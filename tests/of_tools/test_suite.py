@@ -1,16 +1,21 @@
-"""tools/suite: TAP, expectations, statuses."""
+"""tools/suite: TAP, expectations, statuses, earlier runs, JUnit's XML, and the page."""
 
+import base64
+import io
+import json
 import os
 import pty
+import re
 import subprocess
+from xml.etree import ElementTree
 
-from samples import EXAMPLES, STORED, TOOLS, TOP, ToolTest, rejoining, run, tool
+from PIL import Image
+
+import browser
+from samples import EXAMPLES, PROGRAM, STORED, TOOLS, TOP, ToolTest, rejoining, run, tool
 
 
-class SuiteTest(ToolTest):
-    def test_helps(self) -> None:
-        self.assert_helps("suite")
-
+class SuitesTest(ToolTest):
     def suite(self) -> None:
         """A folder of recordings with as many kinds of answers."""
         self.file("a.orsr", STORED)
@@ -18,6 +23,11 @@ class SuiteTest(ToolTest):
         self.file("b/false.expect", "# R5 is 1\n\nfalse checkpoint 1 at 2 part R5\n")
         self.file("c/short.orsr", STORED[:-1])
         self.file("c/short.expect", "refused 1\n")
+
+
+class SuiteTest(SuitesTest):
+    def test_helps(self) -> None:
+        self.assert_helps("suite")
 
     def test_prints_tap_in_order(self) -> None:
         self.suite()
@@ -79,3 +89,131 @@ class SuiteTest(ToolTest):
         self.assertEqual(ran.status, 1)
         ran = tool("suite", self.folder, "--program", TOP / "tests/of_tools/nothing")
         self.assert_refused(ran, "no program at")
+
+    def test_names_that_are_no_text(self) -> None:
+        (self.folder / os.fsdecode(b"\xff #1.orsr")).write_bytes(STORED)
+        ran = tool("suite", self.folder, "--junit", self.folder / "it.xml", "--keep", self.folder / "it.json")
+        self.assertIn(b"ok 1 - \\xff \\#1.orsr: accepted", ran.output)
+        self.assertEqual((ran.status, ran.errors), (0, ""))
+
+
+class EarlierRunTest(SuitesTest):
+    def since(self, before: str) -> list[str]:
+        """What is told of a suite since an earlier run."""
+        ran = tool("suite", self.folder, "--changed-since", self.file("before.json", before))
+        self.assertEqual(ran.errors, "")
+        return [line for line in ran.output.decode().splitlines() if re.match(r"# [a-z]", line)]
+
+    def kept(self) -> dict:
+        """A run of the suite, as it is kept."""
+        self.suite()
+        self.assertEqual(tool("suite", self.folder, "--keep", self.folder / "kept.json").status, 0)
+        return json.loads((self.folder / "kept.json").read_text())
+
+    def test_nothing_changed(self) -> None:
+        kept = self.kept()
+        for recording in kept["recordings"].values():
+            recording["seconds"] = 1000
+        told = [f"# nothing changed since {self.folder}/before.json, and nothing got slower"]
+        self.assertEqual(self.since(json.dumps(kept)), told)
+
+    def test_what_changed_came_went_and_got_slower(self) -> None:
+        kept = self.kept()
+        recordings = kept["recordings"]
+        self.assertEqual(list(recordings), ["a.orsr", "b/false.orsr", "c/short.orsr"])
+        self.assertEqual(recordings["b/false.orsr"]["answered"], "false checkpoint 1 at 2 part R5")
+        recordings["a.orsr"].update(answered="accepted 1 checkpoints 99 steps", seconds=1000)
+        recordings["b/false.orsr"].update(sha256="0" * 64, seconds=1000)
+        recordings["gone.orsr"] = recordings.pop("c/short.orsr")
+        self.assertEqual(self.since(json.dumps(kept)), [
+            "# changed a.orsr: accepted 1 checkpoints 100 steps, was accepted 1 checkpoints 99 steps",
+            "# rewritten b/false.orsr: other bytes, the same answer",
+            "# new c/short.orsr: refused 1 short at byte 9503",
+            "# gone gone.orsr: refused 1 short at byte 9503",
+        ])
+
+    def test_what_got_slower(self) -> None:
+        slow = self.file("slow", f"#!/bin/sh\nsleep 0.3\nexec {PROGRAM} \"$@\"\n")
+        slow.chmod(0o755)
+        kept = self.kept()
+        for recording in kept["recordings"].values():
+            recording["seconds"] = 0.01
+        before = self.file("before.json", json.dumps(kept))
+        ran = tool("suite", self.folder, "--changed-since", before, "--program", slow)
+        self.assertEqual(ran.output.count(b"# slower"), 3)
+        self.assertRegex(ran.output, rb"# slower a.orsr: \d+\.\d\d s, was 0.01 s\n")
+
+    def test_refuses_what_is_no_run(self) -> None:
+        self.suite()
+        for text in ("", "[]", "{}", '{"format": "galluspa-suite-run", "version": 2, "recordings": {}}',
+                     '{"format": "galluspa-suite-run", "version": 1, "recordings": {"a": {"answered": 1}}}',
+                     '{"format": "galluspa-suite-run", "version": 1, "recordings": []}', "[" * 100000):
+            self.assert_refused(tool("suite", self.folder, "--changed-since", self.file("it.json", text)), "it.json: not a run")
+        self.assert_refused(tool("suite", self.folder, "--changed-since", self.folder / "none"), "No such file")
+
+
+class JUnitTest(SuitesTest):
+    def test_writes_what_ci_systems_read(self) -> None:
+        self.suite()
+        self.file("a.expect", "accepted 10\n")
+        ran = tool("suite", self.folder, "--junit", self.folder / "it.xml")
+        self.assertEqual((ran.status, ran.errors), (1, ""))
+        suite = ElementTree.parse(self.folder / "it.xml").getroot()[0]
+        self.assertEqual((suite.get("tests"), suite.get("failures"), suite.get("errors")), ("3", "1", "0"))
+        self.assertEqual([it.get("name") for it in suite], ["a.orsr", "b/false.orsr", "c/short.orsr"])
+        self.assertTrue(all(float(it.get("time")) >= 0 for it in suite))
+        self.assertEqual(suite[0].find("failure").text, "expected accepted 10, answered accepted 1 checkpoints 100 steps")
+        self.assertEqual(suite[2].find("system-out").text, "refused 1 short at byte 9503")
+
+    def test_says_where_it_cannot_be_written(self) -> None:
+        self.suite()
+        for option in ("--junit", "--keep", "--page"):
+            ran = tool("suite", self.folder, option, self.folder / "none/it")
+            self.assertEqual((ran.status, ran.errors.splitlines()), (2, [f"suite: {self.folder}/none/it: No such file or directory"]))
+
+
+class PageTest(SuitesTest):
+    @classmethod
+    def setUpClass(cls) -> None:
+        cls.browser = cls.enterClassContext(browser.browser())
+
+    def test_the_page(self) -> None:
+        self.suite()
+        self.file("face.orsr", (EXAMPLES / "face.orsr").read_bytes())
+        self.file("long/" + "n" * 120 + ".orsr", STORED)
+        self.file("a.expect", "accepted 10\n")
+        before = self.file("before.json", '{"format": "galluspa-suite-run", "version": 1, "recordings": {}}')
+        ran = tool("suite", self.folder, "--page", self.folder / "page.html", "--changed-since", before)
+        self.assertEqual((ran.status, ran.errors), (1, ""))
+        with self.browser.page(self.folder / "page.html") as page:
+            self.assertEqual(page.errors, [])
+            self.assertTrue(all(url.startswith(("file:", "data:")) for url in page.requests), page.requests)
+            self.assertEqual(page.answer("document.querySelector('h1').innerText"), "4 of 5 as expected")
+            names = page.answer("[...document.querySelectorAll('.case h3')].map(it => it.innerText)")
+            self.assertEqual(names[:4], ["a.orsr", "b/false.orsr", "c/short.orsr", "face.orsr"])
+            self.assertEqual(page.answer("document.querySelectorAll('.case.bad').length"), 1)
+            self.assertEqual(page.answer("document.querySelectorAll('#changes li').length"), 5)
+            self.assertEqual(page.answer("document.querySelectorAll('.case .none').length"), 1)
+            for scheme, ground in (("light", "rgb(255, 255, 255)"), ("dark", "rgb(23, 24, 26)")):
+                page.prefer(scheme)
+                self.assertEqual(page.answer("getComputedStyle(document.body).backgroundColor"), ground)
+                for width in browser.WIDTHS:
+                    page.resize(width, 1000)
+                    self.assertEqual(page.answer(browser.FAULTS), [], f"{width} points, {scheme}")
+            self.assert_thumbnail(page)
+
+    def assert_thumbnail(self, page: browser.Page) -> None:
+        """The small picture of the face has its dots, a sixteenth of them in each of its own."""
+        shown = page.answer("document.querySelector('img[alt$=\"of face.orsr\"]').src").partition(",")[2]
+        small = Image.open(io.BytesIO(base64.b64decode(shown)))
+        drawn = Image.open(io.BytesIO(run([PROGRAM, "screen", "--at", 4], (EXAMPLES / "face.orsr").read_bytes()).output))
+        self.assertEqual(small.size, (256, 192))
+        darkness = sum(255 - value for value in small.tobytes()) / 255 * 16
+        self.assertAlmostEqual(darkness, drawn.convert("L").histogram()[0], delta=2000)
+
+    def test_wants_its_libraries_only_for_a_page(self) -> None:
+        self.suite()
+        bare = ["/usr/bin/python3", "-B", "-S", TOOLS / "suite", self.folder]
+        self.assertEqual(run(bare).status, 0)
+        self.assert_refused(run([*bare, "--page", self.folder / "it.html"]), "apt-get install python3-pil python3-jinja2")
+

@@ -1,10 +1,12 @@
 """What the tools' commands share: the words that they take, how they read files, and how they end."""
 
 import argparse
+import importlib
 import os
 import sys
 from collections.abc import Callable, Sequence
 from pathlib import Path
+from types import ModuleType
 from typing import NoReturn
 
 
@@ -76,6 +78,22 @@ def progress(told: str, is_last: bool = False) -> None:
     """Renews the line of progress on standard error, where there is a terminal to see it."""
     if sys.stderr.isatty():
         print(f"\033[K{told}", end="\n" if is_last else "\r", file=sys.stderr, flush=True)
+
+
+def write_file(path: str | Path, content: bytes) -> None:
+    """Writes a file, or writes it anew."""
+    try:
+        Path(path).write_bytes(content)
+    except OSError as error:
+        raise Refused(f"{path}: {error.strerror}") from error
+
+
+def with_libraries(name: str) -> ModuleType:
+    """A module that stands on libraries: imported only where it is wanted, so that all else does without them."""
+    try:
+        return importlib.import_module(name)
+    except ModuleNotFoundError as error:
+        raise Refused(f"{sys.executable} has no {error.name}: apt-get install python3-pil python3-jinja2") from error
 
 
 def run(main: Callable[[Sequence[str]], int]) -> NoReturn:

@@ -2,14 +2,14 @@
 
 import hashlib
 import io
-import struct
+from array import array
 from concurrent.futures import ThreadPoolExecutor
-from dataclasses import dataclass
+from dataclasses import dataclass, replace
 
 from PIL import Image
 
 from galluspa.program import Program
-from galluspa.recording import DISPLAY_END, DISPLAY_START, PAGE_BYTES, PLACES, Checkpoint, Recording
+from galluspa.recording import DISPLAY_END, DISPLAY_START, PAGE_BYTES, Checkpoint, Recording, write
 
 AT_A_TIME = 4
 
@@ -35,13 +35,13 @@ def screens(program: Program, read: Recording) -> Screens:
 
 
 def display_alone(read: Recording, checkpoint: Checkpoint) -> bytes:
-    """A recording of one state whose display is that of a checkpoint, and all else 0: so that drawing one screen of many
+    """A recording of one state, that of a checkpoint with its display and no other memory: so that drawing one screen of many
     does not want the whole text read again."""
     first = DISPLAY_START // PAGE_BYTES
     pages = [read.page(number) for number in checkpoint.table[first:]]
-    header = struct.pack("<4s5I", b"ORSR", 1, len(pages), 0, 1, 0)
-    numbers = struct.pack(f"<{PLACES}I", *[0] * first, *range(1, len(pages) + 1))
-    return b"".join([header, *pages, bytes(132), numbers])
+    table = array("I", [*[0] * first, *range(1, len(pages) + 1)])
+    alone = replace(checkpoint, count=0, output=b"", table=table)
+    return write(Recording(2, b"".join(pages), [], [alone]))
 
 
 def png(pbm: bytes) -> bytes:

@@ -1,7 +1,7 @@
-"""Reads lawful recordings, of versions 1 and 2, as docs/formats.md lays them out.
+"""Reads and writes recordings, of versions 1 and 2, as docs/formats.md lays them out.
 
 Whether a text is lawful says the program, and only it: ask it first (`lawful` does). A text that the program would refuse
-is refused here too, or read in some way, but never with a traceback.
+is refused here too, or read in some way, but never with a traceback. What is written is lawful where its numbers are.
 """
 
 import struct
@@ -17,6 +17,7 @@ PLACES = 1024
 PAGE_BYTES = 1024
 WORDS_IN_PAGE = 256
 NO_PAGE = bytes(PAGE_BYTES)
+NO_TABLE = array("I", [0] * PLACES)
 DISPLAY_START = 0xE7F00
 DISPLAY_END = 0xFFF00
 
@@ -43,10 +44,9 @@ class Event:
 class Checkpoint:
     """What is claimed of the machine at a count, with the bytes sent since the checkpoint before.
 
-    `start` is the offset of its first byte in the text. A recording of version 1 has rate and phase 0.
+    A recording of version 1 has rate and phase 0. `start` is the offset of its first byte in the text that it was read from.
     """
 
-    start: int
     count: int
     registers: tuple[int, ...]
     h: int
@@ -63,6 +63,7 @@ class Checkpoint:
     keys: bytes
     output: bytes
     table: array
+    start: int = 0
 
 
 @dataclass(frozen=True)
@@ -70,7 +71,7 @@ class Recording:
     """A recording: its version, its pool of pages, its inputs and its checkpoints, the first state among them."""
 
     version: int
-    pool: memoryview
+    pool: memoryview | bytes
     events: list[Event]
     checkpoints: list[Checkpoint]
 
@@ -146,7 +147,7 @@ class _Claim:
 
 
 def _claims(text: bytes, version: int, start: int, number: int) -> list[_Claim]:
-    table = array("I", bytes(4 * PLACES))
+    table = NO_TABLE
     claims = []
     for _ in range(number):
         tail = start + _STATE.size
@@ -187,7 +188,6 @@ def _with_output(text: bytes, claims: list[_Claim]) -> Iterator[Checkpoint]:
         count, *words, keys, length = claim.fields
         h, pc, flags, stop, timer, switches, leds, mouse, serial, waiting = words[16:]
         yield Checkpoint(
-            start=claim.start,
             count=count,
             registers=tuple(words[:16]),
             h=h,
@@ -204,5 +204,41 @@ def _with_output(text: bytes, claims: list[_Claim]) -> Iterator[Checkpoint]:
             keys=keys[:waiting],
             output=text[sent : sent + length],
             table=claim.table,
+            start=claim.start,
         )
         sent += length
+
+
+def write(recording: Recording) -> bytes:
+    """The text of a recording, in its version; in version 1 there is no place for rate and phase."""
+    header = _HEADER.pack(
+        b"ORSR", recording.version, recording.pages, len(recording.events), len(recording.checkpoints), 0
+    )
+    events = [_EVENT.pack(event.count, event.kind, event.value) for event in recording.events]
+    claims, before = [], NO_TABLE
+    for checkpoint in recording.checkpoints:
+        claims += [_front(checkpoint), _tail(recording.version, checkpoint, before)]
+        before = checkpoint.table
+    output = [checkpoint.output for checkpoint in recording.checkpoints]
+    return b"".join([header, recording.pool, *events, *claims, *output])
+
+
+def _front(checkpoint: Checkpoint) -> bytes:
+    """The fields that both versions share."""
+    it = checkpoint
+    words = (it.h, it.pc, it.flags, it.stop, it.timer, it.switches, it.leds, it.mouse, it.serial)
+    return _STATE.pack(it.count, *it.registers, *words, len(it.keys), it.keys, len(it.output))
+
+
+def _tail(version: int, checkpoint: Checkpoint, before: array) -> bytes:
+    """The whole table; or rate, phase and the changes of the table before."""
+    after = checkpoint.table
+    if version == 1:
+        return _bytes(after)
+    places = [] if after == before else [at for at in range(PLACES) if after[at] != before[at]]
+    changes = array("I", [number for at in places for number in (at, after[at])])
+    return _COUNTING.pack(checkpoint.rate, checkpoint.phase, len(places)) + _bytes(changes)
+
+
+def _bytes(words: array) -> bytes:
+    return struct.pack(f"<{len(words)}I", *words)

@@ -1,0 +1,75 @@
+"""The stretches of a recording between two of its checkpoints, as recordings of their own, and the line that theirs make."""
+
+import re
+from array import array
+from bisect import bisect_left
+from collections.abc import Iterable
+from dataclasses import dataclass, replace
+from operator import attrgetter
+
+from galluspa.command import Refused
+from galluspa.recording import Checkpoint, Event, Recording
+
+_ACCEPTED = re.compile(r"accepted (\d+) checkpoints (\d+) steps")
+_FALSE = re.compile(r"false checkpoint (\d+) at (\d+) part (.+)")
+
+
+def stretch(read: Recording, first: int, last: int) -> Recording:
+    """The recording from one checkpoint to a later one: what the first claims is its first state, counts and inputs begin at 0
+    again, and its pool has the pages that it names, in the order in which it names them."""
+    begin, end = read.checkpoints[first].count, read.checkpoints[last].count
+    from_here, up_to = (bisect_left(read.events, count, key=attrgetter("count")) for count in (begin, end))
+    numbers = {0: 0}
+    checkpoints = [
+        replace(claim, count=claim.count - begin, output=claim.output if at else b"", table=_renumbered(claim, numbers))
+        for at, claim in enumerate(read.checkpoints[first : last + 1])
+    ]
+    pool = b"".join(read.page(number) for number in numbers if number)
+    return Recording(2, pool, [Event(event.count - begin, event.kind, event.value) for event in read.events[from_here:up_to]], checkpoints)
+
+
+def _renumbered(claim: Checkpoint, numbers: dict[int, int]) -> array:
+    return array("I", [numbers.setdefault(number, len(numbers)) for number in claim.table])
+
+
+@dataclass(frozen=True)
+class Found:
+    """What the line of a stretch says: the first false checkpoint by its number in the whole recording and its first false
+    part; or neither, where all were found true."""
+
+    first: int
+    last: int
+    false: int | None = None
+    part: str = ""
+
+
+def found(read: Recording, first: int, last: int, line: str) -> Found | None:
+    """What a line says of the stretch between two checkpoints; None where it can't be the line of that stretch."""
+    begin = read.checkpoints[first].count
+    if accepted := _ACCEPTED.fullmatch(line):
+        is_whole = (int(accepted[1]), int(accepted[2])) == (last - first, read.checkpoints[last].count - begin)
+        return Found(first, last) if is_whole else None
+    told = _FALSE.fullmatch(line)
+    false = first + int(told[1]) if told else 0
+    if not first < false <= last or read.checkpoints[false].count - begin != int(told[2]):
+        return None
+    return Found(first, last, false, told[3])
+
+
+def joined(read: Recording, lines: Iterable[Found]) -> Found:
+    """What the lines of stretches say of the whole recording: the least false checkpoint, once all before it were looked at."""
+    lines = list(lines)
+    last = len(read.checkpoints) - 1
+    least = min((it for it in lines if it.false is not None), key=lambda it: it.false, default=Found(0, last))
+    looked_at = set[int]().union(*(range(it.first + 1, it.last + 1) for it in lines))
+    for number in range(1, (last if least.false is None else least.false) + 1):
+        if number not in looked_at:
+            raise Refused(f"no line is of the stretch from checkpoint {number - 1} to {number}")
+    return Found(0, last, least.false, least.part)
+
+
+def line(read: Recording, whole: Found) -> str:
+    """The line of a recording by what was found of it."""
+    at = whole.last if whole.false is None else whole.false
+    count = read.checkpoints[at].count
+    return f"accepted {at} checkpoints {count} steps" if whole.false is None else f"false checkpoint {at} at {count} part {whole.part}"

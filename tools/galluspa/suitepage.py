@@ -1,0 +1,84 @@
+"""The page of a suite: each recording with its last screen, its line and its time."""
+
+import base64
+import io
+from collections import defaultdict
+from collections.abc import Iterator, Sequence
+from concurrent.futures import ThreadPoolExecutor
+from dataclasses import dataclass
+from pathlib import Path
+
+from jinja2 import Environment, FileSystemLoader, StrictUndefined
+from PIL import Image
+
+from galluspa import recording
+from galluspa.command import Refused, read_file
+from galluspa.pictures import display_alone
+from galluspa.program import ACCEPTED, Program
+from galluspa.runs import Change
+from galluspa.suites import Outcome
+
+THUMBNAIL = (256, 192)
+
+
+@dataclass(frozen=True)
+class Shown:
+    """A recording as the page shows it; the picture is base64, and empty where there is no screen."""
+
+    name: str
+    expected: str
+    answered: str
+    seconds: float
+    is_ok: bool
+    picture: str
+    changes: list[str]
+
+
+def templates() -> Environment:
+    """The templates of pages, which refuse what they are not given."""
+    folder = Path(__file__).resolve().parent
+    return Environment(loader=FileSystemLoader(folder), autoescape=True, trim_blocks=True, lstrip_blocks=True,
+                       undefined=StrictUndefined)
+
+
+def page(program: Program, name: str, outcomes: Sequence[Outcome], jobs: int, changes: list[Change] | None) -> Iterator[str]:
+    """The page, piece by piece: what is not as expected comes first."""
+    wrong = sum(not it.is_ok for it in outcomes)
+    headline = f"{len(outcomes) - wrong} of {len(outcomes)} as expected"
+    ordered = sorted(outcomes, key=lambda it: it.is_ok)
+    return templates().get_template("suite.html.j2").generate(
+        name=name,
+        headline=headline,
+        is_good=not wrong,
+        seconds=f"{sum(it.seconds for it in outcomes):.1f}",
+        changes=changes,
+        shown=_shown(program, ordered, jobs, changes or []),
+    )
+
+
+def _shown(program: Program, outcomes: Sequence[Outcome], jobs: int, changes: list[Change]) -> Iterator[Shown]:
+    kinds = defaultdict(list)
+    for change in changes:
+        kinds[change.name].append(change.kind)
+
+    def shown(it: Outcome) -> Shown:
+        picture = base64.b64encode(thumbnail(program, it.case.path)).decode()
+        return Shown(it.case.name, it.case.expected, it.answered, it.seconds, it.is_ok, picture, kinds[it.case.name])
+
+    with ThreadPoolExecutor(jobs) as pool:
+        yield from pool.map(shown, outcomes)
+
+
+def thumbnail(program: Program, path: Path) -> bytes:
+    """The last screen of a recording, small, as PNG; empty where the program shows none."""
+    try:
+        read = recording.lawful(program, str(path), read_file(path))
+        drawn = program.screen(display_alone(read, read.checkpoints[-1]), 0)
+    except Refused:
+        return b""
+    if drawn.status != ACCEPTED:
+        return b""
+    out = io.BytesIO()
+    small = Image.open(io.BytesIO(drawn.output)).convert("L").resize(THUMBNAIL, Image.Resampling.BOX)
+    small.save(out, "PNG", optimize=True)
+    return out.getvalue()
