@@ -4,20 +4,27 @@ import base64
 import hashlib
 from collections.abc import Iterator
 from dataclasses import dataclass, field
+from functools import cached_property
 from itertools import islice
 from pathlib import Path
 
 from jinja2 import Environment, FileSystemLoader, StrictUndefined
 from markupsafe import Markup
 
-from galluspa import recording, states
+from galluspa import explanation, recording, states
+from galluspa.command import Refused
+from galluspa.explanation import FalseClaim, explain_false
+from galluspa.faults import explain_fault
 from galluspa.instructions import instruction
-from galluspa.pictures import Screens, screens
+from galluspa.library import Library
+from galluspa.pictures import Screens, screens, set_off
 from galluspa.program import ACCEPTED, REFUSED, Answer, Program
 from galluspa.recording import PAGE_BYTES, PLACES, WORDS_IN_PAGE, Checkpoint, Recording
 from galluspa.states import Part
+from galluspa.tracing import Run
 
 INPUTS_IN_BLOCK = 500
+STEPS = 1000
 BYTES_AROUND = 128
 
 
@@ -49,10 +56,11 @@ class Line:
 
 @dataclass(frozen=True)
 class Fault:
-    """Where a text is refused: the byte, whether the text ends there, and the lines around it."""
+    """Where a text is refused: the byte, whether the text ends there, the field and its rule, and the lines around the byte."""
 
     at: int
     is_end: bool
+    told: list[str]
     lines: list[Line]
 
 
@@ -65,12 +73,27 @@ class Report:
     program: Program
     answer: Answer
     recording: Recording | None
+    library: str | None = None
 
     @staticmethod
-    def of(program: Program, name: str, text: bytes) -> "Report":
-        """The report on a text, after the program has judged it."""
+    def of(program: Program, name: str, text: bytes, library: str | None = None) -> "Report":
+        """The report on a text, after the program has judged it; what is false about it says the library, where it is found."""
         answer = program.check(text)
-        return Report(name, text, program, answer, None if answer.status == REFUSED else recording.read(text))
+        return Report(name, text, program, answer, None if answer.status == REFUSED else recording.read(text), library)
+
+    @cached_property
+    def false(self) -> FalseClaim | None:
+        """What is false about a false recording; None of any other, and where there is no library."""
+        if not self.answer.false_claim:
+            return None
+        try:
+            library = Library.find(self.library)
+        except Refused:
+            if self.library:
+                raise
+            return None
+        run = Run.of_answer(library, self.text, self.recording, self.answer)
+        return explain_false(run, self.program, self.recording, self.answer.false_claim, STEPS)
 
     def html(self) -> Iterator[str]:
         """The page, piece by piece."""
@@ -90,6 +113,9 @@ class Report:
             false_at=false_at,
             false_part=false_part,
             claimed=self._claimed(),
+            differing=self.false,
+            explanation=explanation,
+            pictures=self._pictures(),
             shown=self._shown() if self.recording else (),
             inputs=self._inputs() if self.recording else (),
         )
@@ -98,7 +124,11 @@ class Report:
         """The lines of a text that tells the line, the first state, and what changed at each checkpoint."""
         yield self.answer.line
         if fault := self._fault():
+            yield from fault.told
             yield from (line.before + line.marked + line.after for line in fault.lines)
+        if self.false:
+            yield from explanation.plain(self.false)
+            yield ""
         if not self.recording:
             return
         before = None
@@ -171,6 +201,14 @@ class Report:
             return list(states.hexdump(checkpoint.output, 0)) or ["no byte"]
         return [part.text for part in self._parts(checkpoint, None) if part.name == name]
 
+    def _pictures(self) -> list[tuple[str, str]]:
+        """The claimed screen and the machine's where they differ, with their names: base64, the dots that differ set off."""
+        if not self.false or not self.false.screens:
+            return []
+        it = self.false.screens
+        drawn = (set_off(it.claimed, it.defined), set_off(it.defined, it.claimed))
+        return [(name, base64.b64encode(content).decode()) for name, content in zip(("claimed", "the machine"), drawn)]
+
     def _inputs(self) -> Iterator[str]:
         events = iter(self.recording.events)
         while block := list(islice(events, INPUTS_IN_BLOCK)):
@@ -180,12 +218,13 @@ class Report:
         if not self.answer.fault:
             return None
         at = self.answer.fault[1]
+        told = list(explain_fault(self.text, *self.answer.fault).plain())
         start = max(0, at - BYTES_AROUND) & -16
         content = self.text[start : at + BYTES_AROUND & -16]
         lines = [_marked(line, at - start - 16 * row) for row, line in enumerate(states.hexdump(content, start))]
         if at == start + len(content) and at % 16 == 0:
             lines.append(_marked(f"{at:08X}  ", 0))
-        return Fault(at, at >= len(self.text), lines)
+        return Fault(at, at >= len(self.text), told, lines)
 
 
 def _marked(line: str, column: int) -> Line:
