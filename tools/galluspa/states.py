@@ -25,6 +25,17 @@ def values(checkpoint: Checkpoint) -> dict[str, int | list[int]]:
     }
 
 
+def value(name: str, number: int | list[int]) -> str:
+    """A part of a state, by its name and its number or numbers, as it is written."""
+    if name in ("PC", "timer", "rate", "phase"):
+        return f"{number}"
+    if name == "flags":
+        return flags(number)
+    if name == "keys":
+        return " ".join(f"{key:02X}" for key in number) or "none"
+    return STOPS[number] if name == "stop" and number < len(STOPS) else f"{number:08X}"
+
+
 def registers(checkpoint: Checkpoint, before: Checkpoint | None) -> list[Part]:
     """R0 to R15."""
     olds = before.registers if before else checkpoint.registers
