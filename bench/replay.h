@@ -59,42 +59,64 @@ static int differs(const Machine *m, const uint8_t *c, const uint32_t *table, co
     return *part != 0;
 }
 
-/* Prints the line of a recording, and returns 0 if it is accepted. */
-static int replay(const uint8_t *text, Run *run) {
-    uint64_t pages = number(text + 8, 4), many = number(text + 12, 4), checkpoints = number(text + 16, 4);
-    uint32_t *pool = malloc(1024 * pages + 1), table[PAGES] = {0};
-    Event *events = malloc(sizeof(Event) * many + 1);
-    Machine m = {.memory = calloc(WORDS, 4)};
-    if (!pool || !events || !m.memory) die("no memory");
-    load_words(pool, text + HEADER, PAGE * pages);
-    const uint8_t *event = text + HEADER + 1024 * pages, *first = event + 16 * many, *output = first;
-    for (uint64_t k = 0; k < checkpoints; k++) output += length_of(output);
-    for (uint64_t i = 0; i < many; i++, event += 16)
-        events[i] = (Event){number(event, 8), (uint32_t)number(event + 8, 4), (uint32_t)number(event + 12, 4)};
+/* A recording that was read: its pool, inputs and first checkpoint, the bytes sent, and the table of the checkpoint looked at. */
+typedef struct {
+    uint32_t *pool, table[PAGES];
+    Event *events;
+    size_t many;
+    uint64_t checkpoints;
+    const uint8_t *first, *output;
+} Recording;
+
+static Recording open_recording(const uint8_t *text) {
+    uint64_t pages = number(text + 8, 4);
+    Recording r = {.many = number(text + 12, 4), .checkpoints = number(text + 16, 4)};
+    r.pool = malloc(1024 * pages + 1);
+    r.events = malloc(sizeof(Event) * r.many + 1);
+    if (!r.pool || !r.events) die("no memory");
+    load_words(r.pool, text + HEADER, PAGE * pages);
+    const uint8_t *event = text + HEADER + 1024 * pages;
+    for (size_t i = 0; i < r.many; i++, event += 16)
+        r.events[i] = (Event){number(event, 8), (uint32_t)number(event + 8, 4), (uint32_t)number(event + 12, 4)};
+    r.first = r.output = event;
+    for (uint64_t k = 0; k < r.checkpoints; k++) r.output += length_of(r.output);
+    return r;
+}
+
+/* Gives a machine the first state of a recording. */
+static void begin(Recording *r, Machine *m) {
     uint32_t f[FIELDS];
-    load_parts(f, first);
-    memcpy(m.r, f, sizeof m.r);
-    m.h = f[16]; m.pc = f[17]; m.n = f[18] >> 3; m.z = f[18] >> 2 & 1; m.c = f[18] >> 1 & 1; m.v = f[18] & 1; m.stop = (uint8_t)f[19];
-    m.timer = f[20]; m.rate = f[21]; m.phase = f[22]; m.switches = f[23]; m.leds = f[24]; m.mouse = f[25]; m.serial = f[26];
-    m.waiting = f[27];
-    memcpy(m.keys, first + 112, KEYS);
-    change(table, first);
-    for (uint32_t p = 0; p < PAGES; p++) memcpy(m.memory + PAGE * p, page_of(pool, table[p]), 4 * PAGE);
-    const uint8_t *c = first;
+    if (!(m->memory = calloc(WORDS, 4))) die("no memory");
+    load_parts(f, r->first);
+    memcpy(m->r, f, sizeof m->r);
+    m->h = f[16]; m->pc = f[17]; m->n = f[18] >> 3; m->z = f[18] >> 2 & 1; m->c = f[18] >> 1 & 1; m->v = f[18] & 1;
+    m->stop = (uint8_t)f[19]; m->timer = f[20]; m->rate = f[21]; m->phase = f[22]; m->switches = f[23]; m->leds = f[24];
+    m->mouse = f[25]; m->serial = f[26]; m->waiting = f[27];
+    memcpy(m->keys, r->first + 112, KEYS);
+    change(r->table, r->first);
+    for (uint32_t p = 0; p < PAGES; p++) memcpy(m->memory + PAGE * p, page_of(r->pool, r->table[p]), 4 * PAGE);
+}
+
+/* Prints the line of a recording, and returns 0 if it is accepted. */
+__attribute__((unused)) static int replay(const uint8_t *text, Run *run) {
+    Recording r = open_recording(text);
+    Machine m = {0};
+    begin(&r, &m);
+    const uint8_t *c = r.first, *output = r.output;
     uint64_t at = 0;
     size_t next = 0;
     int is_false = 0;
-    for (uint32_t k = 1; k < checkpoints; k++) {
+    for (uint32_t k = 1; k < r.checkpoints; k++) {
         c += length_of(c);
-        change(table, c);
+        change(r.table, c);
         m.sent_length = 0;
-        run(&m, events, many, &next, at, number(c, 8));
+        run(&m, r.events, r.many, &next, at, number(c, 8));
         at = number(c, 8);
-        if ((is_false = differs(&m, c, table, output, pool, k))) break;
+        if ((is_false = differs(&m, c, r.table, output, r.pool, k))) break;
         output += number(c + 128, 4);
     }
-    if (!is_false) printf("accepted %" PRIu64 " checkpoints %" PRIu64 " steps\n", checkpoints - 1, at);
-    free(m.memory); free(m.sent); free(events); free(pool);
+    if (!is_false) printf("accepted %" PRIu64 " checkpoints %" PRIu64 " steps\n", r.checkpoints - 1, at);
+    free(m.memory); free(m.sent); free(r.events); free(r.pool);
     return is_false;
 }
 
@@ -110,7 +132,7 @@ static uint8_t *read_file(const char *path) {
 }
 
 /* Replays the recordings that the arguments name, each from nothing, and returns 1 if one of them is false. */
-static int replay_files(int argc, char **argv, Run *run) {
+__attribute__((unused)) static int replay_files(int argc, char **argv, Run *run) {
     int is_false = 0;
     if (argc < 2) die("usage: replay FILE ..");
     for (int i = 1; i < argc; i++) {

@@ -31,6 +31,15 @@ class Parser(argparse.ArgumentParser):
         """Adds the option that names the program to ask."""
         self.add_argument("--program", metavar="PATH", help="the program to ask; if left out, what this repository built")
 
+    def take_library(self) -> None:
+        """Adds the option that names the shared library to call."""
+        self.add_argument(
+            "--library", metavar="PATH",
+            help="the shared library to call, libgalluspa.so; if left out, GALLUSPA_LIBRARY names it, or it is the first "
+                 "that is found in lib/ beside the tools' folder, in crates/galluspa/out/ or out/lib/ of this repository, "
+                 "and where the system looks for libraries",
+        )
+
 
 def whole(least: int, most: int) -> Callable[[str], int]:
     """A reader of whole numbers in a range, decimal or with 0x in front, for an option."""
@@ -63,6 +72,12 @@ def read_file(path: str | Path) -> bytes:
         return Path(path).read_bytes()
     except OSError as error:
         raise Refused(f"{path}: {error.strerror}") from error
+
+
+def progress(told: str, is_last: bool = False) -> None:
+    """Renews the line of progress on standard error, where there is a terminal to see it."""
+    if sys.stderr.isatty():
+        print(f"\033[K{told}", end="\n" if is_last else "\r", file=sys.stderr, flush=True)
 
 
 def write_file(path: str | Path, content: bytes) -> None:

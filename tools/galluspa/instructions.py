@@ -4,6 +4,7 @@ A mark (') behind a mnemonic is bit u: with the carry, of words without sign, or
 bytes: LDB and STB stand beside LDR and STR here. Numbers are decimal, or hexadecimal with an H at their end.
 """
 
+from collections.abc import Sequence
 from dataclasses import dataclass
 
 OPERATIONS = "MOV LSL ASR ROR AND ANN IOR XOR ADD SUB MUL DIV FAD FSB FML FDV".split()
@@ -11,6 +12,7 @@ SIGNS = " ← → rot & & or xor + - * div".split(" ")
 CONDITIONS = ("MI", "EQ", "CS", "VS", "LS", "LT", "LE", "", "PL", "NE", "CC", "VC", "HI", "GE", "GT", "NO")
 FLAGS = ("N", "Z", "C", "V", "C or Z", "N xor V", "(N xor V) or Z")
 ALWAYS, NEVER = 7, 15
+WITH_H = (10, 11)
 
 
 @dataclass(frozen=True)
@@ -26,6 +28,33 @@ def instruction(word: int, at: int) -> Instruction:
     if word >> 31 == 0:
         return _register(word)
     return _memory(word) if word >> 30 == 2 else _branch(word, at)
+
+
+def written(word: int) -> frozenset[str]:
+    """The registers and flags that an instruction writes unless it stops; those of a branch it writes where it is taken."""
+    if is_branch(word):
+        return frozenset(("R15", "flags") if _bit(word, 28) else ())
+    if is_store(word):
+        return frozenset()
+    has_h = word >> 31 == 0 and word >> 16 & 15 in WITH_H
+    return frozenset((f"R{word >> 24 & 15}", "flags", *(["H"] if has_h else [])))
+
+
+def is_branch(word: int) -> bool:
+    """Whether a word is a branch."""
+    return word >> 30 == 3
+
+
+def is_store(word: int) -> bool:
+    """Whether a word is a store."""
+    return word >> 29 == 5
+
+
+def address(word: int, registers: Sequence[int]) -> int | None:
+    """The byte address that a load or a store goes to; None of any other word."""
+    if word >> 30 != 2:
+        return None
+    return (registers[word >> 20 & 15] + _signed(word, 20)) & 0xFFFFFF
 
 
 def _bit(word: int, place: int) -> bool:

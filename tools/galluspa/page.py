@@ -2,7 +2,6 @@
 
 import base64
 import hashlib
-import re
 from collections.abc import Iterator
 from dataclasses import dataclass, field
 from functools import cached_property
@@ -12,17 +11,21 @@ from pathlib import Path
 from jinja2 import Environment, FileSystemLoader, StrictUndefined
 from markupsafe import Markup
 
-from galluspa import recording, states
+from galluspa import explanation, recording, states
+from galluspa.command import Refused
+from galluspa.explanation import FalseClaim, explain_false
+from galluspa.faults import explain_fault
 from galluspa.instructions import instruction
-from galluspa.pictures import Screens, screens
-from galluspa.program import ACCEPTED, FALSE, REFUSED, Answer, Program
+from galluspa.library import Library
+from galluspa.pictures import Screens, screens, set_off
+from galluspa.program import ACCEPTED, REFUSED, Answer, Program
 from galluspa.recording import PAGE_BYTES, PLACES, WORDS_IN_PAGE, Checkpoint, Recording
 from galluspa.states import Part
+from galluspa.tracing import Run
 
 INPUTS_IN_BLOCK = 500
+STEPS = 1000
 BYTES_AROUND = 128
-FALSE_LINE = re.compile(r"false checkpoint (\d+) at \d+ part (.+)")
-REFUSED_LINE = re.compile(r"refused \d+ \w+ at byte (\d+)")
 
 
 @dataclass(frozen=True)
@@ -53,10 +56,11 @@ class Line:
 
 @dataclass(frozen=True)
 class Fault:
-    """Where a text is refused: the byte, whether the text ends there, and the lines around it."""
+    """Where a text is refused: the byte, whether the text ends there, the field and its rule, and the lines around the byte."""
 
     at: int
     is_end: bool
+    told: list[str]
     lines: list[Line]
 
 
@@ -69,18 +73,27 @@ class Report:
     program: Program
     answer: Answer
     recording: Recording | None
+    library: str | None = None
 
     @staticmethod
-    def of(program: Program, name: str, text: bytes) -> "Report":
-        """The report on a text, after the program has judged it."""
+    def of(program: Program, name: str, text: bytes, library: str | None = None) -> "Report":
+        """The report on a text, after the program has judged it; what is false about it says the library, where it is found."""
         answer = program.check(text)
-        return Report(name, text, program, answer, None if answer.status == REFUSED else recording.read(text))
+        return Report(name, text, program, answer, None if answer.status == REFUSED else recording.read(text), library)
 
     @cached_property
-    def false_claim(self) -> tuple[int, str] | None:
-        """The first false checkpoint and its first false part, where the program's line names them."""
-        told = FALSE_LINE.fullmatch(self.answer.line) if self.answer.status == FALSE else None
-        return (int(told[1]), told[2]) if told else None
+    def false(self) -> FalseClaim | None:
+        """What is false about a false recording; None of any other, and where there is no library."""
+        if not self.answer.false_claim:
+            return None
+        try:
+            library = Library.find(self.library)
+        except Refused:
+            if self.library:
+                raise
+            return None
+        run = Run.of_answer(library, self.text, self.recording, self.answer)
+        return explain_false(run, self.program, self.recording, self.answer.false_claim, STEPS)
 
     def html(self) -> Iterator[str]:
         """The page, piece by piece."""
@@ -88,7 +101,7 @@ class Report:
         templates = Environment(loader=FileSystemLoader(folder), autoescape=True, trim_blocks=True, lstrip_blocks=True,
                                 undefined=StrictUndefined)
         templates.globals["marks"] = self._marks
-        false_at, false_part = self.false_claim or (None, None)
+        false_at, false_part = self.answer.false_claim or (None, None)
         return templates.get_template("report.html.j2").generate(
             name=self.name,
             size=len(self.text),
@@ -100,6 +113,9 @@ class Report:
             false_at=false_at,
             false_part=false_part,
             claimed=self._claimed(),
+            differing=self.false,
+            explanation=explanation,
+            pictures=self._pictures(),
             shown=self._shown() if self.recording else (),
             inputs=self._inputs() if self.recording else (),
         )
@@ -108,7 +124,11 @@ class Report:
         """The lines of a text that tells the line, the first state, and what changed at each checkpoint."""
         yield self.answer.line
         if fault := self._fault():
+            yield from fault.told
             yield from (line.before + line.marked + line.after for line in fault.lines)
+        if self.false:
+            yield from explanation.plain(self.false)
+            yield ""
         if not self.recording:
             return
         before = None
@@ -165,14 +185,14 @@ class Report:
 
     def _marks(self, shown: Shown, part: Part) -> Markup:
         """The class of a part's cell."""
-        names = ["changed"] * part.is_changed + ["false"] * (self.false_claim == (shown.number, part.name))
+        names = ["changed"] * part.is_changed + ["false"] * (self.answer.false_claim == (shown.number, part.name))
         return Markup(f' class="{" ".join(names)}"') if names else Markup("")
 
     def _claimed(self) -> list[str]:
         """What the first false checkpoint claims of its first false part."""
-        if not self.false_claim:
+        if not self.answer.false_claim:
             return []
-        number, name = self.false_claim
+        number, name = self.answer.false_claim
         checkpoint = self.recording.checkpoints[number]
         if name.startswith("page "):
             place = int(name.removeprefix("page "))
@@ -181,22 +201,30 @@ class Report:
             return list(states.hexdump(checkpoint.output, 0)) or ["no byte"]
         return [part.text for part in self._parts(checkpoint, None) if part.name == name]
 
+    def _pictures(self) -> list[tuple[str, str]]:
+        """The claimed screen and the machine's where they differ, with their names: base64, the dots that differ set off."""
+        if not self.false or not self.false.screens:
+            return []
+        it = self.false.screens
+        drawn = (set_off(it.claimed, it.defined), set_off(it.defined, it.claimed))
+        return [(name, base64.b64encode(content).decode()) for name, content in zip(("claimed", "the machine"), drawn)]
+
     def _inputs(self) -> Iterator[str]:
         events = iter(self.recording.events)
         while block := list(islice(events, INPUTS_IN_BLOCK)):
             yield "\n".join(f"{taken.count:>13,}  {states.event(taken)}" for taken in block)
 
     def _fault(self) -> Fault | None:
-        told = REFUSED_LINE.fullmatch(self.answer.line)
-        if self.answer.status != REFUSED or not told:
+        if not self.answer.fault:
             return None
-        at = int(told[1])
+        at = self.answer.fault[1]
+        told = list(explain_fault(self.text, *self.answer.fault).plain())
         start = max(0, at - BYTES_AROUND) & -16
         content = self.text[start : at + BYTES_AROUND & -16]
         lines = [_marked(line, at - start - 16 * row) for row, line in enumerate(states.hexdump(content, start))]
         if at == start + len(content) and at % 16 == 0:
             lines.append(_marked(f"{at:08X}  ", 0))
-        return Fault(at, at >= len(self.text), lines)
+        return Fault(at, at >= len(self.text), told, lines)
 
 
 def _marked(line: str, column: int) -> Line:

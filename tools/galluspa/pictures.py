@@ -2,16 +2,16 @@
 
 import hashlib
 import io
-from array import array
 from concurrent.futures import ThreadPoolExecutor
-from dataclasses import dataclass, replace
+from dataclasses import dataclass
 
-from PIL import Image
+from PIL import Image, ImageChops
 
 from galluspa.program import Program
-from galluspa.recording import DISPLAY_END, DISPLAY_START, PAGE_BYTES, Checkpoint, Recording, write
+from galluspa.recording import DISPLAY_END, DISPLAY_START, PAGE_BYTES, Checkpoint, Recording, of_display
 
 AT_A_TIME = 4
+RED, LIGHT_RED = (179, 38, 30), (255, 190, 185)
 
 
 @dataclass(frozen=True)
@@ -37,17 +37,25 @@ def screens(program: Program, read: Recording) -> Screens:
 def display_alone(read: Recording, checkpoint: Checkpoint) -> bytes:
     """A recording of one state, that of a checkpoint with its display and no other memory: so that drawing one screen of many
     does not want the whole text read again."""
-    first = DISPLAY_START // PAGE_BYTES
-    pages = [read.page(number) for number in checkpoint.table[first:]]
-    table = array("I", [*[0] * first, *range(1, len(pages) + 1)])
-    alone = replace(checkpoint, count=0, output=b"", table=table)
-    return write(Recording(2, b"".join(pages), [], [alone]))
+    return of_display(checkpoint, b"".join(map(read.page, checkpoint.table[DISPLAY_START // PAGE_BYTES :])))
 
 
 def png(pbm: bytes) -> bytes:
     """A picture that the program printed, as PNG."""
     out = io.BytesIO()
     Image.open(io.BytesIO(pbm)).save(out, "PNG", optimize=True)
+    return out.getvalue()
+
+
+def set_off(pbm: bytes, other: bytes) -> bytes:
+    """A picture that the program printed, as PNG in which the dots that another one has differently are red: dark where they are
+    set, and light where they are not."""
+    picture, another = (Image.open(io.BytesIO(it)).convert("1") for it in (pbm, other))
+    red, light = (Image.new("RGB", picture.size, color) for color in (RED, LIGHT_RED))
+    shown = picture.convert("RGB")
+    shown.paste(Image.composite(light, red, picture), mask=ImageChops.logical_xor(picture, another))
+    out = io.BytesIO()
+    shown.save(out, "PNG", optimize=True)
     return out.getvalue()
 
 

@@ -1,8 +1,10 @@
 """The built program, which gives every verdict, every picture and every recording that the tools show."""
 
 import os
+import re
 import subprocess
 from dataclasses import dataclass
+from functools import cached_property
 from pathlib import Path
 
 from galluspa.command import Refused
@@ -14,6 +16,9 @@ INSTALLED = TOP.parent.parent / "bin/oberon_replay"
 ACCEPTED = 0
 FALSE = 1
 REFUSED = 2
+
+_FALSE_LINE = re.compile(r"false checkpoint (\d+) at \d+ part (.+)")
+_REFUSED_LINE = re.compile(r"refused (\d+) \w+ at byte (\d+)")
 
 
 @dataclass(frozen=True)
@@ -27,6 +32,18 @@ class Answer:
     def line(self) -> str:
         """The one line of an answer that is a line."""
         return self.output.decode("ascii", "replace").rstrip("\n")
+
+    @cached_property
+    def false_claim(self) -> tuple[int, str] | None:
+        """The first false checkpoint and its first false part, where the line names them."""
+        told = _FALSE_LINE.fullmatch(self.line) if self.status == FALSE else None
+        return (int(told[1]), told[2]) if told else None
+
+    @cached_property
+    def fault(self) -> tuple[int, int] | None:
+        """The number of a recording's first fault and its byte, where the line names them."""
+        told = _REFUSED_LINE.fullmatch(self.line) if self.status == REFUSED else None
+        return (int(told[1]), int(told[2])) if told else None
 
 
 @dataclass(frozen=True)

@@ -8,7 +8,7 @@ import struct
 import sys
 from array import array
 from collections.abc import Iterator
-from dataclasses import dataclass
+from dataclasses import dataclass, replace
 
 from galluspa.command import Refused
 from galluspa.program import REFUSED, Program
@@ -221,6 +221,14 @@ def write(recording: Recording) -> bytes:
         before = checkpoint.table
     output = [checkpoint.output for checkpoint in recording.checkpoints]
     return b"".join([header, recording.pool, *events, *claims, *output])
+
+
+def of_display(checkpoint: Checkpoint, pages: bytes) -> bytes:
+    """The text of a recording of one state, that of a checkpoint, whose memory is 0 but for the pages from the display's on."""
+    number = len(pages) // PAGE_BYTES
+    table = array("I", [*[0] * (PLACES - number), *range(1, number + 1)])
+    alone = replace(checkpoint, count=0, output=b"", table=table)
+    return write(Recording(2, pages, [], [alone]))
 
 
 def _front(checkpoint: Checkpoint) -> bytes:

@@ -15,6 +15,27 @@ class Part:
     is_changed: bool
 
 
+def values(checkpoint: Checkpoint) -> dict[str, int | list[int]]:
+    """The parts of a state but for its memory, by their names, as numbers; the keys as a list of them."""
+    it = checkpoint
+    return {
+        **{f"R{at}": value for at, value in enumerate(it.registers)},
+        "H": it.h, "PC": it.pc, "flags": it.flags, "stop": it.stop, "timer": it.timer, "rate": it.rate, "phase": it.phase,
+        "switches": it.switches, "LEDs": it.leds, "mouse": it.mouse, "serial": it.serial, "keys": list(it.keys),
+    }
+
+
+def value(name: str, number: int | list[int]) -> str:
+    """A part of a state, by its name and its number or numbers, as it is written."""
+    if name in ("PC", "timer", "rate", "phase"):
+        return f"{number}"
+    if name == "flags":
+        return flags(number)
+    if name == "keys":
+        return " ".join(f"{key:02X}" for key in number) or "none"
+    return STOPS[number] if name == "stop" and number < len(STOPS) else f"{number:08X}"
+
+
 def registers(checkpoint: Checkpoint, before: Checkpoint | None) -> list[Part]:
     """R0 to R15."""
     olds = before.registers if before else checkpoint.registers
@@ -58,17 +79,24 @@ def mouse(value: int) -> str:
     return f"{x}, {y}" + (f", keys {keys:03b}" if keys else "")
 
 
+def kind(taken: Event) -> str:
+    """The name of an input's kind."""
+    return KINDS.get(taken.kind, f"kind {taken.kind}")
+
+
+def byte(value: int) -> str:
+    """A byte, and the sign that it has."""
+    return f"{value:02X}" + (f" ({chr(value)})" if 0x20 < value < 0x7F else "")
+
+
 def event(taken: Event) -> str:
     """An input by its kind and value, and the sign of a byte that has one."""
-    kind = KINDS.get(taken.kind, f"kind {taken.kind}")
-    if kind == "mouse":
+    name = kind(taken)
+    if name == "mouse":
         return f"mouse {mouse(taken.value)}"
-    if kind == "switches":
+    if name == "switches":
         return f"switches {taken.value:03X}"
-    if kind in ("key", "serial"):
-        sign = f" ({chr(taken.value)})" if 0x20 < taken.value < 0x7F else ""
-        return f"{kind} {taken.value:02X}{sign}"
-    return f"{kind} {taken.value}"
+    return f"{name} {byte(taken.value) if name in ('key', 'serial') else taken.value}"
 
 
 def text(sent: bytes) -> str:

@@ -1,0 +1,163 @@
+"""tools/explain: what differs where a claim is false, and the fields of texts that are refused; and both in the page."""
+
+import re
+import struct
+
+from galluspa import recording
+from galluspa.faults import explain_fault
+from galluspa.program import Program
+from samples import EXAMPLES, JUMP, PROGRAM, STORED, TOP, ToolTest, record, rejoining, run, session, tool
+
+CHANGE = re.compile(r"^\| ((?:byte \d+ is [0-9a-f]{2}(?:, )?)+)[^|]*\| `(refused [^`]+)` \|$", re.MULTILINE)
+BYTE = re.compile(r"byte (\d+) is ([0-9a-f]{2})")
+
+# R0 := 5, then 40 instructions that write nothing, then R0 := 6; 65 to the serial line; Mem[400] := 6; a jump to itself.
+WORDS = (0x40000005, *[0xEF000000] * 40, 0x40000006, 0x5100FFC8, 0xA0100000, 0xA0200190, JUMP)
+
+
+class ExplainTest(ToolTest):
+    def explained(self, text: bytes, *words: object) -> list[str]:
+        """The lines that explain a text."""
+        ran = tool("explain", self.file("it.orsr", text), *words)
+        self.assertEqual((ran.errors, ran.status), ("", 0))
+        return ran.output.decode().splitlines()
+
+    def claiming(self, text: bytes, at: int, *claims: str) -> bytes:
+        """A recording with claims changed."""
+        for claim in claims:
+            text = tool("claim", self.file("it.orsr", text), "--at", at, "--set", claim).output
+        return text
+
+    def test_helps(self) -> None:
+        self.assert_helps("explain")
+
+    def test_an_accepted_recording_has_its_line(self) -> None:
+        self.assertEqual(self.explained(STORED), ["accepted 1 checkpoints 100 steps"])
+
+    def test_all_parts_that_differ_are_told(self) -> None:
+        text = self.claiming(record(session(WORDS, [43, 60])), 1, "R0=5", "flags=4", "LEDs=7")
+        self.assertEqual(self.explained(text), [
+            "false checkpoint 1 at 43 part R0", "",
+            "       claimed   the machine",
+            "R0     00000005  00000006",
+            "flags  -Z--      N---",
+            "LEDs   07        00", "",
+            "The last instructions before count 43 that wrote R0:",
+            "         0       0  40000005  MOV R0, 5               R0 00000000 → 00000005",
+            "        41      41  40000006  MOV R0, 6               R0 00000005 → 00000006", "",
+            "R0 had the claimed value at 41 of the counts 0 to 143: last at 41, 2 before.",
+        ])
+
+    def test_memory_is_told_word_by_word(self) -> None:
+        made = bytearray(record(session(WORDS, [60])))
+        first = 24 + (recording.read(bytes(made)).checkpoints[1].table[0] - 1) * 1024 + 400
+        made[first : first + 4] = struct.pack("<I", 7)
+        made[first + 8 : first + 12] = struct.pack("<I", 8)
+        lines = self.explained(bytes(made))
+        self.assertEqual(lines[:5], [
+            "false checkpoint 1 at 60 part page 0", "",
+            "             claimed   the machine",
+            "Mem[000190]  00000007  00000006",
+            "Mem[000198]  00000008  00000000",
+        ])
+        self.assertIn("The last instructions before count 60 that wrote Mem[000190]:", lines)
+        self.assertIn("        44      44  A0200190  STR R0, R2, 400         Mem[000190] 00000000 → 00000006", lines)
+        self.assertIn("Mem[000190] had the claimed value at none of the counts 0 to 160.", lines)
+        self.assertIn(".. and 1 more words of memory", self.explained(bytes(made), "--words", 1))
+
+    def test_bytes_sent_are_told(self) -> None:
+        made = record((EXAMPLES / "hello.json").read_bytes())
+        lines = self.explained(made[:-13] + b"Help!!" + made[-7:])
+        self.assertEqual(lines[0], "false checkpoint 1 at 30 part out")
+        self.assertEqual(lines[3:6], [
+            "out: claimed are 6 bytes, the machine sent 6; they differ from byte 3 on",
+            "claimed", "00000003  70 21 21                                         p!!",
+        ])
+        self.assertIn("00000003  6c 6f 2c                                         lo,", lines)
+
+    def test_screens_are_told(self) -> None:
+        made = bytearray((EXAMPLES / "face.orsr").read_bytes())
+        read = recording.read(bytes(made))
+        page = read.checkpoints[2].table[955]
+        at = 24 + (page - 1) * 1024 + 200
+        self.assertEqual(made[at : at + 4], bytes.fromhex("00ffffff"))
+        made[at] = 0x03
+        lines = self.explained(bytes(made), "--steps", 20)
+        self.assertEqual(lines[0], "false checkpoint 2 at 8000000 part page 955")
+        self.assertIn("The screen: 2 dots differ, at x 576 to 577 and y 219, counted from the left and from below.", lines)
+        self.assertTrue(any("++" in line and "--" in line.split()[-1] for line in lines))
+        self.assertTrue(any(line.startswith("None of the 20 instructions before count 8000000 wrote Mem[0EECC8]. This one")
+                            for line in lines))
+        self.assertTrue(any("  4838732      41  A6D00000  STR R6, R13, 0" in line for line in lines))
+        ran = tool("report", self.file("false.orsr", bytes(made)))
+        self.assertEqual((ran.errors, ran.status), ("", 0))
+        self.assertEqual(ran.output.count(b'data-side="'), 2)
+        self.assertIn(b"2 dots differ, at x 576 to 577 and y 219", ran.output)
+
+    def test_what_an_earlier_checkpoint_claims_is_told(self) -> None:
+        text = self.claiming(record(session(WORDS, [10, 30, 43])), 3, "R0=5")
+        self.assertIn("; and at the earlier checkpoints 1 to 2.", self.explained(text, "--steps", 1)[-1])
+        self.assertTrue(self.explained(text, "--steps", 1)[-1].startswith("R0 had the claimed value at none of the counts 42 to 43"))
+
+    def test_a_claim_that_rejoins(self) -> None:
+        lines = self.explained(rejoining(9))
+        self.assertEqual(lines[0], "false checkpoint 1 at 2 part R5")
+        self.assertIn("R5  00000009  00000001", lines)
+
+    def test_each_fault_of_the_documents_names_its_field(self) -> None:
+        told = {
+            "byte 0 is 00": "the first four bytes", "byte 4 is 09": "the version", "byte 16 is 00": "K + 1",
+            "byte 20 is 01": "the last field of the header", "byte 1048 is 01": "the count of checkpoint 0",
+            "byte 5388 is 01": "the keys of checkpoint 1", "byte 5404 is 01": "the text ends in the bytes sent",
+            "byte 5408 is 02": "the page number of place 0 of checkpoint 1", "byte 1196 is 00": "change 0 of checkpoint 0",
+            "byte 1192 is 00, byte 1193 is 04": "change 0 of checkpoint 0, page number 1 at place 1024",
+            "byte 1336 is 01": "phase of checkpoint 1", "byte 1340 is 01": "the text ends in checkpoint 1",
+            "byte 4 is 02": "of checkpoint 1",
+        }
+        document = (TOP / "docs/formats.md").read_text()
+        first, second = document.split("In version 2 it has 1,344 bytes", 1)
+        migrated = run([PROGRAM, "migrate"], STORED).output
+        seen = 0
+        for part, text in ((first, STORED), (second, migrated)):
+            for change, line in CHANGE.findall(part):
+                made = bytearray(text)
+                for at, value in BYTE.findall(change):
+                    made[int(at)] = int(value, 16)
+                lines = self.explained(bytes(made))
+                self.assertEqual(lines[0], line)
+                self.assertIn(told[change.rstrip(", ")], lines[2], change)
+                self.assertTrue(lines[-1].startswith("rule "), lines)
+                seen += 1
+        self.assertEqual(seen, len(told))
+
+    def test_other_faults_name_their_fields(self) -> None:
+        events = record(session([JUMP], [5, 9], [(1, "key", 65), (3, "mouse", 7)]))
+        at = 24 + 1024
+        for start, content, field in (
+            (at + 16, b"\0" * 8, "the count of event 1"), (at + 8, b"\x09", "the kind of event 0"),
+            (at + 16 + 12, b"\xff\xff\xff\xff", "the value of event 1"), (8, b"\xff\xff\xff\xff", "P, the number of pages"),
+            (12, b"\xff\xff\xff\xff", "E, the number of events"),
+        ):
+            text = events[:start] + content + events[start + len(content) :]
+            self.assertIn(field, self.explained(text)[2])
+        self.assertIn("2 bytes after the end", self.explained(STORED + b"ab")[2])
+        for length, field in ((3, "in the header"), (30, "in its pages and events"), (len(events) - 1, "in checkpoint 2")):
+            self.assertIn(f"the text ends {field}", self.explained(events[:length])[2])
+
+    def test_texts_cut_off_or_changed_anywhere_have_a_field(self) -> None:
+        refused = 0
+        for text in (run([PROGRAM, "migrate"], STORED).output, record((EXAMPLES / "keys.json").read_bytes())):
+            for at in (*range(0, 24, 3), *range(1048, len(text), 13)):
+                for made in (text[:at], text[:at] + b"\xff" + text[at + 1 :]):
+                    answer = Program.find(None).screen(made, 0)
+                    if answer.fault:
+                        self.assertTrue(explain_fault(made, *answer.fault).rule)
+                        refused += 1
+        self.assertGreater(refused, 60)
+
+    def test_refuses_bad_input(self) -> None:
+        self.assert_refused(tool("explain"), "RECORDING")
+        self.assert_refused(tool("explain", self.folder / "none"), "No such file")
+        stored = self.file("false.orsr", rejoining(9))
+        self.assert_refused(tool("explain", stored, "--library", self.folder / "none"), "no library at")
+        self.assert_refused(tool("explain", stored, "--steps", 0), "'0' is no whole number")

@@ -1,0 +1,125 @@
+"""Another emulator, as a command that prints its state at a count as JSON (docs/debugging.md has the members)."""
+
+import hashlib
+import json
+import re
+import shlex
+import subprocess
+from collections.abc import Callable, Sequence
+from dataclasses import dataclass
+from pathlib import Path
+
+from galluspa import states
+from galluspa.command import Refused
+from galluspa.library import Machine
+from galluspa.recording import PAGE_BYTES, PLACES
+
+MEMORY_BYTES = PLACES * PAGE_BYTES
+PLACE = "{count}"
+NUMBERS = ("H", "PC", "flags", "stop", "timer", "rate", "phase", "switches", "LEDs", "mouse", "serial")
+
+
+@dataclass(frozen=True)
+class Shown:
+    """What an emulator shows of its state at a count: the parts by their names, its memory or a digest of it, what it has sent.
+    Whatever it does not show is None, and is not compared."""
+
+    parts: dict[str, int | list[int]]
+    memory: bytes | None
+    digest: str | None
+    sent: bytes | None
+
+    def differing(self, machine: Machine, sent: bytes) -> list[str]:
+        """The names of the parts in which it and a machine differ, in the order of parts."""
+        own = states.values(machine.seen())
+        names = [name for name, value in own.items() if name in self.parts and self.parts[name] != value]
+        names += ["out"] if self.sent is not None and self.sent != sent else []
+        content = machine.memory() if self.memory is not None or self.digest is not None else b""
+        is_other = self.memory not in (None, content) or self.digest not in (None, hashlib.sha256(content).hexdigest())
+        return names + ["memory"] * is_other
+
+
+@dataclass(frozen=True)
+class Emulator:
+    """Another emulator: the words of its command, in which {count} stands for a count, and how long it may take."""
+
+    words: Sequence[str]
+    seconds: float
+
+    def at(self, count: int) -> Shown:
+        """Its state at a count."""
+        words = [word.replace(PLACE, str(count)) for word in self.words]
+        told = shlex.join(words)
+        try:
+            ran = subprocess.run(words, stdout=subprocess.PIPE, stdin=subprocess.DEVNULL, timeout=self.seconds, check=False)
+        except OSError as error:
+            raise Refused(f"{words[0]}: {error.strerror}") from error
+        except subprocess.TimeoutExpired as error:
+            raise Refused(f"{told}: no answer in {self.seconds:g} s") from error
+        if ran.returncode:
+            raise Refused(f"{told}: it ended with status {ran.returncode}")
+        try:
+            shown = json.loads(ran.stdout)
+        except (ValueError, RecursionError) as error:
+            raise Refused(f"{told}: what it prints is no JSON") from error
+        return _shown(told, shown)
+
+
+def _shown(told: str, shown: object) -> Shown:
+    """What an object shows; refused where a member is none, or has another type."""
+    if not isinstance(shown, dict) or not shown:
+        raise Refused(f"{told}: what it prints is no object with the parts of a state")
+    readers: dict[str, Callable[[object], object]] = {
+        **dict.fromkeys(NUMBERS, _number), "R": _numbers(16, 16), "keys": _numbers(0, 16), "out": _bytes,
+        "memory": _file, "memory_sha256": _digest,
+    }
+    read: dict[str, object] = {}
+    for name, value in shown.items():
+        if name not in readers:
+            raise Refused(f"{told}: {name!r} is none of {', '.join(readers)}")
+        try:
+            read[name] = readers[name](value)
+        except ValueError as error:
+            raise Refused(f"{told}: {name} is {error}") from error
+    registers = {f"R{at}": value for at, value in enumerate(read.pop("R", []))}
+    memory, digest, sent = (read.pop(name, None) for name in ("memory", "memory_sha256", "out"))
+    return Shown({**registers, **read}, memory, digest, sent)
+
+
+def _number(value: object) -> int:
+    if type(value) is not int or not 0 <= value < 1 << 32:
+        raise ValueError("no whole number from 0 to 2^32 - 1")
+    return value
+
+
+def _numbers(least: int, most: int) -> Callable[[object], list[int]]:
+    def read(value: object) -> list[int]:
+        if not isinstance(value, list) or not least <= len(value) <= most:
+            raise ValueError(f"no list of {least} numbers" if least == most else f"no list of at most {most} numbers")
+        return [_number(it) for it in value]
+
+    return read
+
+
+def _bytes(value: object) -> bytes:
+    if not isinstance(value, str) or len(value) % 2 or not re.fullmatch("[0-9A-Fa-f]*", value):
+        raise ValueError("no text of hexadecimal digits, two for each byte")
+    return bytes.fromhex(value)
+
+
+def _digest(value: object) -> str:
+    if not isinstance(value, str) or not re.fullmatch("[0-9A-Fa-f]{64}", value):
+        raise ValueError("no SHA-256 in hexadecimal digits")
+    return value.lower()
+
+
+def _file(value: object) -> bytes:
+    if not isinstance(value, str):
+        raise ValueError("no name of a file")
+    try:
+        content = Path(value).read_bytes()
+    except (OSError, ValueError) as error:
+        raise ValueError(f"a file that is not read: {value}: {error}") from error
+    if len(content) > MEMORY_BYTES:
+        raise ValueError(f"a file of {len(content):,} bytes, more than the memory has: {value}")
+    return content.ljust(MEMORY_BYTES, b"\0")

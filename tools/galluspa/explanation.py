@@ -1,0 +1,289 @@
+"""What is false about a recording: where the first false checkpoint and the machine differ, and which instructions wrote the part
+that differs first. What the machine has says the library, and how a screen looks the program."""
+
+from collections.abc import Iterable, Iterator
+from dataclasses import dataclass, field
+
+from galluspa import states
+from galluspa.library import Machine
+from galluspa.program import Program
+from galluspa.recording import DISPLAY_END, DISPLAY_START, PAGE_BYTES, Checkpoint, Recording, of_display
+from galluspa.tracing import Run, Step, WordChange, differing, lines
+
+Part = str | int
+Value = int | list[int] | bytes
+WRITERS = 5
+WORDS_SHOWN = 64
+BYTES_SHOWN = 48
+HEAD, ROW_BYTES, ROWS = 12, 128, 768
+SIGNS = "Dots that differ are + where they are set, and - where they are not; # and . are alike."
+DOTS_WIDE, DOTS_HIGH = 36, 24
+
+
+@dataclass(frozen=True)
+class Difference:
+    """A part of a state, or a word of memory: what is claimed of it, and what the machine has."""
+
+    name: str
+    claimed: str
+    defined: str
+
+
+@dataclass(frozen=True)
+class Around:
+    """The instructions around the false checkpoint that were looked at one by one, from a count up to another: the last of those
+    before it that wrote a part, and the counts at which the part had the claimed value."""
+
+    first: int
+    last: int
+    writers: list[Step]
+    stood: list[int]
+    earlier: list[int]
+    setting: Step | None
+
+
+@dataclass(frozen=True)
+class Screens:
+    """Two screens that differ, as binary PBM: the claimed one, and that of the machine."""
+
+    claimed: bytes = field(repr=False)
+    defined: bytes = field(repr=False)
+
+    def box(self) -> tuple[int, int, int, int]:
+        """The least and the greatest x, and the least and the greatest row from the top, of the dots that differ."""
+        pairs = ((row, self._different(row)) for row in range(ROWS))
+        rows = [(row, bits) for row, bits in pairs if bits]
+        every = 0
+        for _, bits in rows:
+            every |= bits
+        width = 8 * ROW_BYTES
+        return width - every.bit_length(), width - 1 - ((every & -every).bit_length() - 1), rows[0][0], rows[-1][0]
+
+    def number(self) -> int:
+        """How many dots differ."""
+        return sum(self._different(row).bit_count() for row in range(ROWS))
+
+    def _different(self, row: int) -> int:
+        start = HEAD + ROW_BYTES * row
+        claimed, defined = (pbm[start : start + ROW_BYTES] for pbm in (self.claimed, self.defined))
+        return int.from_bytes(claimed, "big") ^ int.from_bytes(defined, "big")
+
+    def told(self) -> str:
+        """How many dots differ, and where."""
+        left, right, top, bottom = self.box()
+        many = self.number()
+        return (f"{many:,} {'dot differs' if many == 1 else 'dots differ'}, at {_span('x', left, right)} "
+                f"and {_span('y', ROWS - 1 - bottom, ROWS - 1 - top)}, counted from the left and from below")
+
+    def rows(self) -> Iterator[tuple[str, str]]:
+        """The dots around those that differ, row by row from the top, claimed and the machine's: # and . for those that are alike,
+        + and - for those that differ, where the dot is set and where it is not."""
+        left, right, top, bottom = self.box()
+        left = max(0, min(left - 4, 8 * ROW_BYTES - DOTS_WIDE))
+        top = max(0, min(top - 2, ROWS - DOTS_HIGH))
+        right, bottom = min(right + 5, left + DOTS_WIDE, 8 * ROW_BYTES), min(bottom + 3, top + DOTS_HIGH, ROWS)
+        for row in range(top, bottom):
+            pairs = [(_dot(self.claimed, x, row), _dot(self.defined, x, row)) for x in range(left, right)]
+            yield tuple("".join(".#-+"[2 * (pair[0] != pair[1]) + pair[side]] for pair in pairs) for side in (0, 1))
+
+
+def _span(name: str, first: int, last: int) -> str:
+    return f"{name} {first}" + (f" to {last}" if last > first else "")
+
+
+def _dot(pbm: bytes, x: int, row: int) -> int:
+    return pbm[HEAD + ROW_BYTES * row + x // 8] >> 7 - x % 8 & 1
+
+
+@dataclass(frozen=True)
+class FalseClaim:
+    """The first false checkpoint of a recording, against the machine at its count."""
+
+    number: int
+    count: int
+    part: str
+    parts: list[Difference]
+    words: list[WordChange]
+    sent: tuple[bytes, bytes]
+    screens: Screens | None
+    focus: str
+    around: Around
+
+    def memory(self, most: int = WORDS_SHOWN) -> list[Difference]:
+        """The words that differ, by rising address, so many at most."""
+        return [Difference(word.name, f"{word.old:08X}", f"{word.new:08X}") for word in self.words[:most]]
+
+    def output(self) -> tuple[str, list[str], list[str]] | None:
+        """From which byte on the bytes sent differ, and the first of those from there, claimed and the machine's."""
+        claimed, defined = self.sent
+        if claimed == defined:
+            return None
+        pairs = zip(claimed, defined)
+        at = next((at for at, (one, other) in enumerate(pairs) if one != other), min(len(claimed), len(defined)))
+        told = f"claimed are {len(claimed):,} bytes, the machine sent {len(defined):,}; they differ from byte {at:,} on"
+        return told, *([*states.hexdump(sent[at : at + BYTES_SHOWN], at)] or ["no byte"] for sent in self.sent)
+
+
+def explain_false(run: Run, program: Program, read: Recording, claim: tuple[int, str], steps: int) -> FalseClaim:
+    """What is false about the first false checkpoint, with so many instructions before it looked at one by one."""
+    number, part = claim
+    checkpoint, before = read.checkpoints[number], read.checkpoints[number - 1]
+    claimed, machine = run.library.claim(run.text, number), run.machine(before.count)
+    start = machine.copy()
+    sent = run.advance(machine, checkpoint.count)
+    words = list(differing(claimed.memory(), machine.memory()))
+    focus = _focus(part, words)
+    wanted = value_at(focus, claimed, checkpoint.output)
+    return FalseClaim(
+        number=number,
+        count=checkpoint.count,
+        part=part,
+        parts=list(_differences(claimed.seen(), machine.seen())),
+        words=words,
+        sent=(checkpoint.output, sent),
+        screens=_screens(program, claimed, machine),
+        focus=f"Mem[{focus:06X}]" if isinstance(focus, int) else focus,
+        around=_around(run, read, number, start, focus, wanted, steps),
+    )
+
+
+def _focus(part: str, words: list[WordChange]) -> Part:
+    """The part to look after: the one that the line names, or the first word that differs in the page that it names."""
+    if not part.startswith("page "):
+        return part
+    place = int(part.removeprefix("page "))
+    return next(word.address for word in words if word.address // PAGE_BYTES == place)
+
+
+def value_at(part: Part, machine: Machine, sent: bytes) -> Value:
+    """The value of a part in a machine that has sent some bytes since the checkpoint before."""
+    if isinstance(part, int):
+        return machine.words[part // 4]
+    return sent if part == "out" else states.values(machine.seen())[part]
+
+
+def along(part: Part, value: Value, steps: Iterable[Step]) -> Iterator[tuple[Step, Value, bool]]:
+    """Instructions, each with the value of a part after it, and whether it wrote it; the value before all of them is given."""
+    for step in steps:
+        if isinstance(part, int):
+            value = next((word.new for word in step.changed if word.address == part), value)
+            yield step, value, step.stored_at == part
+        elif part == "out":
+            value += step.after.output
+            yield step, value, bool(step.after.output)
+        else:
+            old, value = value, states.values(step.after)[part]
+            yield step, value, value != old or part in step.written
+
+
+def _differences(claimed: Checkpoint, defined: Checkpoint) -> Iterator[Difference]:
+    ours = [*states.registers(defined, None), *states.others(defined, None, 2)]
+    theirs = [*states.registers(claimed, defined), *states.others(claimed, defined, 2)]
+    for part, other in zip(theirs, ours, strict=True):
+        if part.is_changed:
+            yield Difference(part.name, part.text, other.text)
+
+
+def _screens(program: Program, claimed: Machine, defined: Machine) -> Screens | None:
+    sides = [(machine.seen(), machine.memory()) for machine in (claimed, defined)]
+    if sides[0][1][DISPLAY_START:DISPLAY_END] == sides[1][1][DISPLAY_START:DISPLAY_END]:
+        return None
+    first = DISPLAY_START // PAGE_BYTES * PAGE_BYTES
+    return Screens(*(program.screen(of_display(state, memory[first:]), 0).output for state, memory in sides))
+
+
+def _around(run: Run, read: Recording, number: int, start: Machine, focus: Part, wanted: Value, steps: int) -> Around:
+    """Looks at the instructions around the false checkpoint, of which the machine at the one before it is given."""
+    count, first = read.checkpoints[number].count, start.count
+    machine = start.copy()
+    sent = run.advance(machine, max(first, count - steps))
+    looked_from, value = machine.count, value_at(focus, machine, sent)
+    stood, writers = [looked_from] * (value == wanted), []
+    for step, now, is_written in along(focus, value, run.steps(machine, count + steps // 10)):
+        stood += [step.after.count] * (now == wanted)
+        if is_written and step.before.count < count:
+            writers = [*writers[1 - WRITERS :], step]
+    is_set_before = not writers and value_at(focus, start, b"") != value
+    return Around(
+        first=looked_from,
+        last=count + steps // 10,
+        writers=writers,
+        stood=stood,
+        earlier=[at for at in range(number) if _claims(read, at, focus, wanted)],
+        setting=_setting(run, start, looked_from, focus, value) if is_set_before else None,
+    )
+
+
+def _claims(read: Recording, at: int, part: Part, value: Value) -> bool:
+    checkpoint = read.checkpoints[at]
+    if isinstance(part, int):
+        return read.word(checkpoint, part // 4) == value
+    return part != "out" and states.values(checkpoint)[part] == value
+
+
+def _setting(run: Run, machine: Machine, to: int, part: Part, value: Value) -> Step:
+    """An instruction after which a part has a value that it has at a later count, and before which it has another one."""
+    sent = b""
+    while to - machine.count > 1:
+        later = machine.copy()
+        more = run.advance(later, (machine.count + to) // 2)
+        if value_at(part, later, sent + more) == value:
+            to = later.count
+        else:
+            machine, sent = later, sent + more
+    return next(run.steps(machine, to))
+
+
+def told_of_writers(it: FalseClaim) -> str:
+    """What is shown below it: the last instructions before the checkpoint that wrote the part, or the one that set it."""
+    looked = it.count - it.around.first
+    if it.around.writers:
+        return f"The last instructions before count {it.count} that wrote {it.focus}:"
+    none = f"None of the {looked:,} instructions before count {it.count} wrote {it.focus}."
+    if it.around.setting:
+        return f"{none} This one before them, found by bisection, set it to what it is there:"
+    return f"{none} At their start it was what it was at checkpoint {it.number - 1}."
+
+
+def told_of_counts(it: FalseClaim) -> str:
+    """When the part had the claimed value."""
+    before = [count for count in it.around.stood if count < it.count]
+    after = [count for count in it.around.stood if count > it.count]
+    nearest = [f"last at {count}, {it.count - count:,} before" for count in before[-1:]]
+    nearest += [f"first at {count}, {count - it.count:,} after" for count in after[:1]]
+    number = f"{len(before) + len(after):,}" if nearest else "none"
+    told = f"{it.focus} had the claimed value at {number} of the counts {it.around.first} to {it.around.last}"
+    if nearest:
+        told += f": {'; '.join(nearest)}"
+    if earlier := it.around.earlier:
+        told += f"; and at the earlier {'checkpoints' if len(earlier) > 1 else 'checkpoint'} {states.ranges(earlier)}"
+    return f"{told}."
+
+
+def instructions_of(it: FalseClaim) -> Iterator[str]:
+    """The lines of the instructions that wrote the part."""
+    for step in it.around.writers or ([it.around.setting] if it.around.setting else []):
+        yield from lines(step)
+
+
+def table(rows: Iterable[tuple[str, str, str]]) -> Iterator[str]:
+    """Rows of a name, what is claimed, and what the machine has, in columns."""
+    told = list(rows)
+    name, claimed = (max(len(row[column]) for row in told) for column in (0, 1))
+    return (f"{row[0]:{name}}  {row[1]:{claimed}}  {row[2]}".rstrip() for row in told)
+
+
+def plain(it: FalseClaim, most: int = WORDS_SHOWN) -> Iterator[str]:
+    """The lines of a text that explains a false claim, with so many words of memory at most."""
+    differences = [*it.parts, *it.memory(most)]
+    if differences:
+        yield from table([("", "claimed", "the machine"), *((one.name, one.claimed, one.defined) for one in differences)])
+    if len(it.words) > most:
+        yield f".. and {len(it.words) - most:,} more words of memory"
+    if output := it.output():
+        told, claimed, defined = output
+        yield from ("", f"out: {told}", "claimed", *claimed, "the machine", *defined)
+    if it.screens:
+        yield from ("", f"The screen: {it.screens.told()}.", SIGNS)
+        yield from table([("", "claimed", "the machine"), *(("", *row) for row in it.screens.rows())])
+    yield from ("", told_of_writers(it), *instructions_of(it), "", told_of_counts(it))

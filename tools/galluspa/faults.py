@@ -1,0 +1,220 @@
+"""What a recording's first fault is about: the field with its bytes, and the rule that it breaks, as docs/formats.md has them.
+
+That there is a fault, and at which byte, says the program. Here its field is looked up.
+"""
+
+import struct
+from collections.abc import Callable, Iterator, Sequence
+from dataclasses import dataclass
+
+from galluspa.recording import KINDS, PAGE_BYTES, PLACES
+
+HEADER, EVENT = 24, 16
+FRONT, TABLE = 132, 4 * PLACES
+WHOLE = FRONT + TABLE
+CHANGED, CHANGE = 144, 8
+LONGEST_OUTPUT = 1 << 20
+MOST_COUNT = 1 << 40
+MOUSE = 0x073FF3FF
+RANGES = {1: (0xFFFFFFFF, "any word"), 2: (4095, "below 4,096"), 3: (MOUSE, "inside the mask 073FF3FF"),
+          4: (255, "below 256"), 5: (255, "below 256")}
+
+
+@dataclass(frozen=True)
+class Fault:
+    """The field that breaks a rule: what it is, where, its bytes (none where the text ends before it), and the rule."""
+
+    field: str
+    at: int
+    content: bytes
+    rule: str
+
+    def plain(self) -> Iterator[str]:
+        """The lines that tell it."""
+        yield f"{self.field}, at byte {self.at}"
+        if self.content:
+            shown = self.content[:32].hex(" ") + (" .." if len(self.content) > 32 else "")
+            yield f"bytes  {shown}" + (f"  = {self.value}" if len(self.content) in (4, 8) else "")
+        yield f"rule   {self.rule}"
+
+    @property
+    def value(self) -> int:
+        """The number that the bytes say."""
+        return int.from_bytes(self.content, "little")
+
+
+@dataclass(frozen=True)
+class Field:
+    """A field of the text: its name, where it is and how long, its rule in words, and whether a number keeps it."""
+
+    name: str
+    at: int
+    size: int
+    rule: str
+    keeps: Callable[[int], bool]
+
+
+def explain_fault(text: bytes, number: int, at: int) -> Fault:
+    """What the first fault of a text is about, given its number and its byte."""
+    teller = {1: _short, 2: _magic, 3: _version, 4: _limit, 5: _event, 6: _checkpoint, 7: _page, 8: _trailing}
+    return teller[number](text, at)
+
+
+def _fault(text: bytes, field: Field, where: str = "") -> Fault:
+    return Fault(field.name + where, field.at, text[field.at : field.at + field.size], field.rule)
+
+
+def _first_broken(text: bytes, fields: Sequence[Field]) -> Field:
+    """The first field whose number breaks its rule; the first of all where none does."""
+    broken = (it for it in fields if not it.keeps(_number(text, it.at, it.size)))
+    return next(broken, fields[0])
+
+
+def _number(text: bytes, at: int, size: int = 4) -> int:
+    return int.from_bytes(text[at : at + size], "little")
+
+
+def _up_to(most: int) -> Callable[[int], bool]:
+    return lambda value: value <= most
+
+
+def _magic(text: bytes, at: int) -> Fault:
+    return Fault("the first four bytes", at, text[:4], "bytes 0 to 3 are 4f 52 53 52, which is ORSR")
+
+
+def _version(text: bytes, at: int) -> Fault:
+    return Fault("the version", at, text[4:8], "the version is 1 or 2")
+
+
+def _limit(text: bytes, at: int) -> Fault:
+    rules = {
+        8: ("P, the number of pages", "P is at most 65,536"),
+        12: ("E, the number of events", "E is at most 1,000,000"),
+        16: ("K + 1, the number of checkpoints with the first state", "K + 1 is from 1 to 4,097"),
+        20: ("the last field of the header", "the last field of the header is 0"),
+    }
+    name, rule = rules[at]
+    return Fault(name, at, text[at : at + 4], rule)
+
+
+def _event(text: bytes, at: int) -> Fault:
+    number = (at - HEADER - PAGE_BYTES * _number(text, 8)) // EVENT
+    least = _number(text, at - EVENT, 8) if number else 0
+    most, rule = RANGES.get(_number(text, at + 8), (0, ""))
+    field = _first_broken(text, [
+        Field("the count", at, 8, f"a count is at most 2^40, and not below that of the event before, {least}",
+              lambda count: least <= count <= MOST_COUNT),
+        Field("the kind", at + 8, 4, "a kind is 1 timer, 2 switches, 3 mouse, 4 key or 5 serial", lambda kind: kind in KINDS),
+        Field("the value", at + 12, 4, f"the value of a {KINDS.get(_number(text, at + 8))} event is {rule}",
+              lambda value: value <= most and not value & ~most),
+    ])
+    return _fault(text, field, f" of event {number}")
+
+
+@dataclass(frozen=True)
+class _Claim:
+    """A checkpoint of the text: its number, where it begins and ends by what it says, the count before it, the bytes sent by those
+    before it."""
+
+    number: int
+    start: int
+    end: int
+    before: int
+    sent: int
+
+
+def _claims(text: bytes) -> Iterator[_Claim]:
+    """The checkpoints of a text, as far as it has their first bytes."""
+    version, pages, events, number, _ = struct.unpack_from("<5I", text, 4)
+    start, before, sent = HEADER + PAGE_BYTES * pages + EVENT * events, -1, 0
+    for at in range(number):
+        length = WHOLE if version == 1 else CHANGED + CHANGE * _number(text, start + CHANGED - 4)
+        yield _Claim(at, start, start + length, before, sent)
+        before, sent = _number(text, start, 8), sent + _number(text, start + FRONT - 4)
+        start += length
+
+
+def _checkpoint(text: bytes, at: int) -> Fault:
+    claim = next(claim for claim in _claims(text) if claim.start == at)
+    return _fault(text, _first_broken(text, list(_fields(text, claim))), f" of checkpoint {claim.number}")
+
+
+def _fields(text: bytes, claim: _Claim) -> Iterator[Field]:
+    """The fields of a checkpoint that have a range, in their order."""
+    start, is_first = claim.start, claim.number == 0
+    rule = "the count of checkpoint 0 is 0" if is_first else \
+        f"a count is above that of the checkpoint before, {claim.before}, and at most 2^40"
+    yield Field("the count", start, 8, rule, lambda count: count == 0 if is_first else claim.before < count <= MOST_COUNT)
+    for name, offset, most, rule in (
+        ("PC", 76, (1 << 22) - 1, "below 4,194,304"), ("flags", 80, 15, "below 16"), ("stop", 84, 4, "at most 4"),
+        ("switches", 92, 4095, "below 4,096"), ("LEDs", 96, 255, "below 256"),
+    ):
+        yield Field(name, start + offset, 4, f"{name} {'are' if name[-1] in 'sS' else 'is'} {rule}", _up_to(most))
+    yield Field("mouse", start + 100, 4, "mouse is inside the mask 073FF3FF", lambda mouse: not mouse & ~MOUSE)
+    yield Field("serial", start + 104, 4, "serial is below 512", _up_to(511))
+    keys = _number(text, start + 108)
+    yield Field("the number of keys", start + 108, 4, "there are at most 16 keys", _up_to(16))
+    yield Field("the keys", start + 112, 16, f"the bytes at or after the number of keys, {keys}, are 0",
+                lambda bits: keys > 15 or not bits >> 8 * keys)
+    yield Field("the output length", start + 128, 4,
+                "the output length of checkpoint 0 is 0" if is_first else
+                f"the output lengths up to here are at most 1,048,576 in all; before it they are {claim.sent}",
+                _up_to(0 if is_first else LONGEST_OUTPUT - claim.sent))
+    if _number(text, 4) == 2:
+        rate = _number(text, start + 132)
+        yield Field("phase", start + 136, 4, f"phase is below the rate, {rate}, or 0 where that is 0",
+                    _up_to(max(rate, 1) - 1))
+        yield Field("the number of changes", start + 140, 4, "there are at most 1,024 changes", _up_to(PLACES))
+
+
+def _page(text: bytes, at: int) -> Fault:
+    pages = _number(text, 8)
+    claim = next(claim for claim in _claims(text) if claim.start < at < claim.end)
+    where = f" of checkpoint {claim.number}"
+    if _number(text, 4) == 1:
+        place = (at - claim.start - FRONT) // 4
+        return Fault(f"the page number of place {place}{where}", at, text[at : at + 4],
+                     f"a page number is at most P, the number of pages, {pages}")
+    number = (at - claim.start - CHANGED) // CHANGE
+    place, page = struct.unpack_from("<2I", text, at)
+    rule = f"a place is below 1,024 and above that of the change before; a page number is at most P, {pages}, and not the one " \
+           "that stood at the place"
+    return Fault(f"change {number}{where}, page number {page} at place {place}", at, text[at : at + 8], rule)
+
+
+def _short(text: bytes, at: int) -> Fault:
+    if at < HEADER:
+        return Fault("the text ends in the header", at, b"", f"a text has at least {HEADER} bytes")
+    pages, events, number = struct.unpack_from("<3I", text, 8)
+    tables = HEADER + PAGE_BYTES * pages + EVENT * events
+    if _number(text, 4) == 1 and at < tables + WHOLE * number or at < tables:
+        least = tables + (WHOLE * number if _number(text, 4) == 1 else 0)
+        what = "its pages, events and checkpoints" if _number(text, 4) == 1 else "its pages and events"
+        return Fault(f"the text ends in {what}", at, b"", f"by its header, a text with {what} has at least {least:,} bytes")
+    claims = list(_whole(text))
+    if len(claims) < number:
+        start = claims[-1].end if claims else tables
+        needs = start + CHANGED if at < start + CHANGED else start + CHANGED + CHANGE * _number(text, start + CHANGED - 4)
+        return Fault(f"the text ends in checkpoint {len(claims)}, which begins at byte {start}", at, b"",
+                     f"with that checkpoint the text has at least {needs:,} bytes")
+    return Fault("the text ends in the bytes sent", at, b"", f"with all that its checkpoints say was sent it has {_end(text):,} bytes")
+
+
+def _whole(text: bytes) -> Iterator[_Claim]:
+    """The checkpoints that the text has in full."""
+    for claim in _claims(text):
+        if claim.end > len(text):
+            return
+        yield claim
+
+
+def _end(text: bytes) -> int:
+    """Where a text ends by what its checkpoints say."""
+    last = list(_claims(text))[-1]
+    return last.end + last.sent + _number(text, last.start + FRONT - 4)
+
+
+def _trailing(text: bytes, at: int) -> Fault:
+    more = len(text) - at
+    return Fault(f"{more:,} {'byte' if more == 1 else 'bytes'} after the end", at, text[at : at + 32],
+                 f"by its header and checkpoints the text ends before byte {at}")

@@ -1,0 +1,177 @@
+"""The library for C, by ctypes: what a checkpoint claims, and the proved machine, advanced from count to count."""
+
+import ctypes
+import os
+from array import array
+from bisect import bisect_left
+from collections.abc import Sequence
+from dataclasses import dataclass
+from pathlib import Path
+
+from galluspa.command import Refused
+from galluspa.program import TOP
+from galluspa.recording import PLACES, WORDS_IN_PAGE, Checkpoint, Event
+
+NAME = "libgalluspa.so"
+VARIABLE = "GALLUSPA_LIBRARY"
+FOLDERS = ("lib", "crates/galluspa/out", "out/lib")
+WORDS = PLACES * WORDS_IN_PAGE
+SENT_AT_ONCE = 1 << 20
+NO_ROOM = 2
+REFUSALS = {
+    1: "a number is out of its range",
+    NO_ROOM: "more is sent than there is room for",
+    3: "no memory",
+    4: "the bytes are no recording",
+    5: "the recording has no such checkpoint",
+}
+
+Words = ctypes.c_uint32 * WORDS
+
+
+class RawState(ctypes.Structure):
+    """A machine's state without its memory, as include/galluspa.h lays it out."""
+
+    _fields_ = [
+        ("count", ctypes.c_uint64),
+        ("r", ctypes.c_uint32 * 16),
+        *((name, ctypes.c_uint32) for name in (
+            "h", "pc", "flags", "stop", "timer", "rate", "phase", "switches", "leds", "mouse", "serial", "key_count",
+        )),
+        ("keys", ctypes.c_uint8 * 16),
+    ]
+
+
+class RawInput(ctypes.Structure):
+    """An input and its count, as include/galluspa.h lays them out."""
+
+    _fields_ = [("count", ctypes.c_uint64), ("kind", ctypes.c_uint32), ("value", ctypes.c_uint32)]
+
+
+class Machine:
+    """A machine: its state and its words, which the library advances where they are."""
+
+    def __init__(self, state: RawState, words: ctypes.Array) -> None:
+        self.state = state
+        self.words = words
+
+    @property
+    def count(self) -> int:
+        """How many instructions were done."""
+        return self.state.count
+
+    def copy(self) -> "Machine":
+        """Another machine in the same state."""
+        return Machine(RawState.from_buffer_copy(self.state), Words.from_buffer_copy(self.words))
+
+    def memory(self) -> bytes:
+        """The bytes of the memory; wherever the library is built, a word's lowest byte comes first."""
+        return bytes(self.words)
+
+    def seen(self, sent: bytes = b"") -> Checkpoint:
+        """The state as a checkpoint claims it, without its memory."""
+        it = self.state
+        return Checkpoint(
+            start=0,
+            count=it.count,
+            registers=tuple(it.r),
+            h=it.h,
+            pc=it.pc,
+            flags=it.flags,
+            stop=it.stop,
+            timer=it.timer,
+            rate=it.rate,
+            phase=it.phase,
+            switches=it.switches,
+            leds=it.leds,
+            mouse=it.mouse,
+            serial=it.serial,
+            keys=bytes(it.keys[: it.key_count]),
+            output=sent,
+            table=array("I"),
+        )
+
+
+class Inputs:
+    """Inputs in the order of their counts, of which a run is given those that are due."""
+
+    def __init__(self, events: Sequence[Event]) -> None:
+        self._events = events
+        self._counts = [event.count for event in events]
+        self._raw = (RawInput * len(events))(*((event.count, event.kind, event.value) for event in events))
+
+    def of(self, first: int, end: int) -> Sequence[Event]:
+        """The inputs of the counts from one up to another."""
+        return self._events[bisect_left(self._counts, first) : bisect_left(self._counts, end)]
+
+    def raw(self, first: int, end: int) -> ctypes.Array:
+        """The same, as the library takes them."""
+        start = bisect_left(self._counts, first)
+        number = bisect_left(self._counts, end) - start
+        if not number:
+            return (RawInput * 0)()
+        return (RawInput * number).from_buffer(self._raw, start * ctypes.sizeof(RawInput))
+
+
+@dataclass(frozen=True)
+class Library:
+    """The shared library, loaded from a path."""
+
+    path: str
+    calls: ctypes.CDLL
+
+    @staticmethod
+    def find(given: str | None) -> "Library":
+        """The library that was given, or else the first that is found where take_library says."""
+        if named := given or os.environ.get(VARIABLE):
+            if not Path(named).is_file():
+                raise Refused(f"no library at {named}")
+            return Library._load(str(Path(named).resolve()))
+        built = (TOP / folder / NAME for folder in FOLDERS)
+        path = next((str(path) for path in built if path.is_file()), NAME)
+        try:
+            return Library._load(path)
+        except Refused:
+            if path != NAME:
+                raise
+            raise Refused(f"no {NAME} is found: build it with examples/c/install FOLDER, and name "
+                          f"FOLDER/lib/{NAME} with --library") from None
+
+    @staticmethod
+    def _load(path: str) -> "Library":
+        try:
+            calls = ctypes.CDLL(path)
+            calls.galluspa_claim.restype = calls.galluspa_advance.restype = ctypes.c_uint8
+        except (OSError, AttributeError) as error:
+            raise Refused(f"{path}: no library of Galluspa: {error}") from error
+        return Library(path, calls)
+
+    def claim(self, text: bytes, at: int) -> Machine:
+        """The machine that a checkpoint of a recording claims; whether the claim is true is not tested."""
+        machine = Machine(RawState(), Words())
+        code = self.calls.galluspa_claim(
+            text, ctypes.c_size_t(len(text)), ctypes.c_uint32(at),
+            ctypes.byref(machine.state), machine.words, ctypes.c_size_t(WORDS),
+        )
+        if code:
+            raise Refused(f"checkpoint {at} is not read: {REFUSALS[code]}")
+        return machine
+
+    def advance(self, machine: Machine, inputs: Inputs, to: int) -> bytes:
+        """Runs a machine up to a count, with those of the inputs that are due, and gives the bytes that it sends."""
+        sent = ctypes.create_string_buffer(max(min(to - machine.count, SENT_AT_ONCE), 1))
+        code, length = self._advance(machine, inputs, to, sent)
+        if code == NO_ROOM and to - machine.count > len(sent):
+            between = (machine.count + to) // 2
+            return self.advance(machine, inputs, between) + self.advance(machine, inputs, to)
+        if code:
+            raise Refused(f"the machine is not advanced from {machine.count} to {to}: {REFUSALS[code]}")
+        return sent.raw[:length]
+
+    def _advance(self, machine: Machine, inputs: Inputs, to: int, sent: ctypes.Array) -> tuple[int, int]:
+        due, length = inputs.raw(machine.count, to), ctypes.c_size_t()
+        code = self.calls.galluspa_advance(
+            ctypes.byref(machine.state), machine.words, ctypes.c_size_t(WORDS), due, ctypes.c_size_t(len(due)),
+            ctypes.c_uint64(to), sent, ctypes.c_size_t(len(sent)), ctypes.byref(length),
+        )
+        return code, length.value
