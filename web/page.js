@@ -97,8 +97,9 @@ async function openBytes(name, bytes) {
 /** Makes the page empty. The session that was on it is kept first. */
 async function forget() {
   await keep();
+  if (app.latest?.on) await app.live.ask("setRun", { on: false });
   Object.assign(app, { recording: null, claims: null, keptId: null, image: null, latest: null });
-  if (app.live) await app.live.ask("setRun", { on: false });
+  pausedBefore = null;
   stopClerk();
   verdictLine();
   notice();
@@ -129,7 +130,7 @@ async function checkRecording(text) {
   verdictLine(answer.line, answer.status);
   const number = /^false checkpoint (\d+) /.exec(answer.line)?.[1];
   if (number) await showClaim(Number(number));
-  else if (app.claims && answer.status === 0) await showClaim(Number(el("number").value));
+  else if (app.claims && answer.status === 0) await showClaim(app.claims.length - 1);
 }
 
 async function openSession(text) {
@@ -198,6 +199,8 @@ function stopByHand() {
 
 // Showing the machine
 
+let pausedBefore = null;
+
 const screens = { dots: null, isDue: false };
 
 /** Draws dots on a canvas: line 0 is the lowest, and bit 0 of a byte its leftmost dot. */
@@ -233,6 +236,8 @@ function showFrame(frame) {
   showLamps(field(frame.state, AT.LEDs));
   showMode(frame);
   el("say").textContent = sayOf(frame);
+  const when = frame.on ? "Registers, at the last pause" : "Registers";
+  if (el("when").textContent !== when) el("when").textContent = when;
   if (frame.listing) showPaused(frame);
   if (wasOn && !frame.on) keep();
 }
@@ -277,8 +282,6 @@ function cells(state, before, wrong) {
     return cell;
   });
 }
-
-let pausedBefore = null;
 
 function showPaused({ state, listing }) {
   el("state").replaceChildren(...cells(state, pausedBefore, null));
