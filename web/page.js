@@ -45,11 +45,11 @@ class Helper {
   }
 }
 
-/** Unpacks and compiles the module. */
-async function moduleOfPage() {
-  const packed = Uint8Array.from(atob(el("module").textContent), (character) => character.charCodeAt(0));
-  const unpacked = new Blob([packed]).stream().pipeThrough(new DecompressionStream("gzip"));
-  return WebAssembly.compile(await new Response(unpacked).arrayBuffer());
+/** Unpacks what the page holds compressed: its module, or a report's recording. */
+async function unpacked(name) {
+  const packed = Uint8Array.from(atob(el(name).textContent), (character) => character.charCodeAt(0));
+  const stream = new Blob([packed]).stream().pipeThrough(new DecompressionStream("gzip"));
+  return new Uint8Array(await new Response(stream).arrayBuffer());
 }
 
 // What the page knows
@@ -629,18 +629,49 @@ function dropFiles() {
   });
 }
 
-/** Starts the page. */
-async function begin() {
+/** Starts the machine; whether this browser can run it. */
+async function started() {
   makeDevices();
   try {
-    app.module = await moduleOfPage();
+    app.module = await WebAssembly.compile(await unpacked("module"));
     app.live = new Helper(app.module, heard);
     await app.live.ready;
   } catch (error) {
-    return notice(`This browser cannot run the module: ${error.message}`);
+    notice(`This browser cannot run the module: ${error.message}`);
+    return false;
   }
   listen();
   dropFiles();
+  return true;
+}
+
+/** Starts the page. */
+async function begin() {
+  if (!(await started())) return;
   await showKept();
   document.body.dataset.ready = "yes";
+}
+
+/** In a report: the machine is started, with the report's recording, when it is first wanted. */
+function beginReport(name) {
+  let opening = null;
+  const again = document.getElementById("again");
+  const open = async () => {
+    document.getElementById("live").hidden = false;
+    if (await started()) await openBytes(name, await unpacked("recording"));
+  };
+  const opened = () => (opening ??= open());
+  document.getElementById("check-again").addEventListener("click", async () => {
+    again.textContent = "checking ..";
+    if (opening) {
+      await opening;
+      await checkRecording(app.recording);
+    }
+    await opened();
+    const isSame = app.verdict?.line === document.getElementById("line").textContent;
+    again.textContent = `Computed in this browser: ${app.verdict?.line ?? "no verdict"}${isSame ? ", the line of this report" : ""}`;
+    again.className = isSame ? "same" : "other";
+  });
+  for (const button of document.querySelectorAll("button[data-from]"))
+    button.addEventListener("click", () => opened().then(() => showClaim(Number(button.dataset.from))).then(() => runOnFrom(Number(button.dataset.from))));
 }

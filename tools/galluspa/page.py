@@ -14,6 +14,7 @@ from markupsafe import Markup
 
 from galluspa import recording, states
 from galluspa.instructions import instruction
+from galluspa.live import Live
 from galluspa.pictures import Screens, screens
 from galluspa.program import ACCEPTED, FALSE, REFUSED, Answer, Program
 from galluspa.recording import PAGE_BYTES, PLACES, WORDS_IN_PAGE, Checkpoint, Recording
@@ -82,14 +83,15 @@ class Report:
         told = FALSE_LINE.fullmatch(self.answer.line) if self.answer.status == FALSE else None
         return (int(told[1]), told[2]) if told else None
 
-    def html(self) -> Iterator[str]:
-        """The page, piece by piece."""
+    def html(self, is_live: bool = False) -> Iterator[str]:
+        """The page, piece by piece; one that is live can check its recording again, and run on from its checkpoints."""
         folder = Path(__file__).resolve().parent
         templates = Environment(loader=FileSystemLoader(folder), autoescape=True, trim_blocks=True, lstrip_blocks=True,
                                 undefined=StrictUndefined)
         templates.globals["marks"] = self._marks
         false_at, false_part = self.false_claim or (None, None)
         return templates.get_template("report.html.j2").generate(
+            live=Live.of(self.name, self.text) if is_live else None,
             name=self.name,
             size=len(self.text),
             digest=hashlib.sha256(self.text).hexdigest(),
