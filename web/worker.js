@@ -181,43 +181,51 @@ const LIVE = {
 
 let perMs = 50000;
 
-/** Runs the first frames of a recording before it is checked. A browser runs a long first call with code that its quick compiler made, and
- * the calls after it with better code; and the speed of the frames says about how long the check will take. */
-function warmUp({ inputs, claims }) {
-  const steps = claims.at(-1).count, begun = performance.now(), most = Math.min(steps, WARM_STEPS);
-  machine.begin({ state: machine.state, words: machine.words, inputs, checkpoints: [] });
+/** Runs the first frames of what is to be checked or recorded. A browser runs a long first call with code that its quick compiler made, and
+ * the calls after it with better code; and the speed of the frames says about how long the whole will take. */
+function warmUp(parts, steps, times) {
+  const begun = performance.now(), most = Math.min(steps, WARM_STEPS);
+  machine.begin(parts);
   for (let chunk = FIRST_CHUNK; machine.count < most && performance.now() - begun < WARM_MS; chunk *= 2) {
     machine.advance(Math.min(most, machine.count + Math.min(chunk, 1 << 22)));
   }
   if (machine.count > FIRST_CHUNK) perMs = machine.count / (performance.now() - begun);
-  postMessage({ estimate: steps / perMs, steps });
+  postMessage({ estimate: (times * steps) / perMs, steps });
+}
+
+/** A task that may be refused; what it is refused for says the proved function that comes after it. */
+function unlessRefused(task) {
+  try {
+    return task();
+  } catch (error) {
+    if (!(error instanceof Refused)) throw error;
+    return null;
+  }
 }
 
 const CLERK = {
   check({ text }) {
-    const recording = text.length <= LONGEST_RECORDING ? lawful(text) : null;
-    if (recording) warmUp(recording);
+    const recording = text.length <= LONGEST_RECORDING ? unlessRefused(() => lawful(text)) : null;
+    const { state, words } = machine;
+    if (recording) warmUp({ state, words, inputs: recording.inputs, checkpoints: [] }, recording.claims.at(-1).count, 1);
     return library.check(text);
   },
   record({ session, live, steps }) {
-    const begun = performance.now();
-    postMessage({ estimate: (2 * steps) / perMs, steps });
-    const { bytes, status } = library.record(new TextEncoder().encode(session));
+    const text = new TextEncoder().encode(session), parts = unlessRefused(() => readSession(text));
+    if (parts) warmUp(parts, steps, 2);
+    const begun = performance.now(), { bytes, status } = library.record(text);
     if (status) return { line: lineOf(bytes), status };
     const recorded = performance.now(), verdict = library.check(bytes), checked = performance.now();
     return { ...verdict, recording: bytes, difference: lastDifference(bytes, live), ms: [recorded - begun, checked - recorded] };
   },
 };
 
-/** The recording of a text, with its first state on the machine; null if it is not lawful. */
+/** The recording of a text, with its first state on the machine; refused if it is not lawful. */
 function lawful(text) {
   const place = library.hold(text);
   try {
     library.claim(place, text.length, 0, machine.place, machine.place + STATE_BYTES);
     return readRecording(text);
-  } catch (error) {
-    if (error instanceof Refused) return null;
-    throw error;
   } finally {
     library.leave(place);
   }
