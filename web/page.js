@@ -201,15 +201,30 @@ function stopByHand() {
 
 let pausedBefore = null;
 
-const screens = { dots: null, isDue: false };
+const LINE_BYTES = 128, LINES = 768;
+const screens = { dots: null, isDue: false, images: new WeakMap() };
 
-/** Draws dots on a canvas: line 0 is the lowest, and bit 0 of a byte its leftmost dot. */
+/** Draws dots on a canvas, of which only the lines that are others than before are painted anew: line 0 is the lowest, and bit 0 of a byte its
+ * leftmost dot. */
 function paint(canvas, dots) {
-  const context = canvas.getContext("2d"), image = context.createImageData(1024, 768), pixels = new Uint32Array(image.data.buffer);
-  for (let y = 0, to = 0; y < 768; y++)
-    for (let at = 128 * (767 - y), end = at + 128; at < end; at++)
+  const context = canvas.getContext("2d");
+  if (!screens.images.has(canvas)) screens.images.set(canvas, { image: context.createImageData(1024, LINES), dots: null });
+  const shown = screens.images.get(canvas), pixels = new Uint32Array(shown.image.data.buffer);
+  let [top, bottom] = [LINES, -1];
+  for (let y = 0; y < LINES; y++) {
+    const from = LINE_BYTES * (LINES - 1 - y);
+    if (shown.dots && isSameLine(shown.dots, dots, from)) continue;
+    [top, bottom] = [Math.min(top, y), y];
+    for (let at = from, to = 1024 * y; at < from + LINE_BYTES; at++)
       for (let bits = dots[at], k = 0; k < 8; k++, bits >>= 1) pixels[to++] = bits & 1 ? 0xff000000 : 0xffffffff;
-  context.putImageData(image, 0, 0);
+  }
+  shown.dots = dots;
+  if (bottom >= top) context.putImageData(shown.image, 0, 0, 0, top, 1024, bottom - top + 1);
+}
+
+function isSameLine(some, others, from) {
+  for (let at = from; at < from + LINE_BYTES; at++) if (some[at] !== others[at]) return false;
+  return true;
 }
 
 function drawSoon(dots) {
