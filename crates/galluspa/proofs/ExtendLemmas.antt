@@ -1,11 +1,11 @@
 -- A recording's next checkpoint, in the words of a caller.
-use Rattle.std.proofs.Common.{◌≡◌, ◌∙◌, ◌<◌, ℕ, List, [], ◌∷◌, ap, map, refl, subst, sym}
+use Rattle.std.proofs.Common.{◌≡◌, ◌∙◌, ℕ, List, [], ◌∷◌, ap, map, refl, subst, sym}
 use Rattle.risc_devices.proofs.InputLemmas.{same_input}
 use Rattle.risc_machine.specs.declared.event.Event.{Event}
 use Rattle.oberon_format.proofs.One.{same_event}
 use Rattle.oberon_format.specs.Defined.{Outcome}
 use Rattle.oberon_format.specs.Recording.{RecordingParts}
-use Rattle.oberon_format.specs.Text.{Text, TextIn}
+use Rattle.oberon_format.specs.Text.{TextIn}
 use Rattle.oberon_format.specs.Laws.{HasOneRecording}
 use Rattle.oberon_format.specs.declared.layout.TheConstants.{VERSION}
 use Rattle.oberon_session.specs.Extended.{IsExtended, IsNext, IsTooMuch, outcome_of}

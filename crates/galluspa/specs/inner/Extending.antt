@@ -1,5 +1,5 @@
 -- A recording on the way to its next checkpoint.
-use Rattle.std.specs.Prelude.{ℕ, ◌≡◌, List, ⊤}
+use Rattle.std.specs.Prelude.{ℕ, List, ⊤}
 use Rattle.risc_machine.specs.declared.event.Event.{Event}
 use Rattle.oberon_format.specs.Recording.{IsLawful, RecordingParts}
 use Rattle.oberon_format.specs.Text.{Text}
