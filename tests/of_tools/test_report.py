@@ -185,7 +185,7 @@ class ReportInBrowserTest(ReportTest):
                 page.wait("document.querySelector('#again.same, #again.other')")
                 self.assertEqual(page.answer("document.querySelector('#again').textContent"),
                                  f"Computed in this browser: {line}, the line of this report")
-                for width in WIDTHS:
+                for width in browser.WIDTHS:
                     page.resize(width, 1000)
                     self.assertLessEqual(page.answer("document.documentElement.scrollWidth"), width)
                 self.assertEqual(page.errors, [])
