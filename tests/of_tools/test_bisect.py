@@ -35,7 +35,7 @@ STRAIGHT = (
     0x8F100000,  # 17 LDR R15, R1, 0: the timer
     JUMP,
 )
-KEYS_AT = FIRST + 5
+KEYS_AT = FIRST + 11
 INPUTS = [(KEYS_AT, "serial", 0x41), (KEYS_AT, "key", 0x48)]
 
 
