@@ -3,8 +3,8 @@
 from collections.abc import Iterator, Sequence
 from dataclasses import dataclass
 
+from galluspa.words import ADD, AND, JUMP_HERE, NE, ROR, SUB, U, XOR, branch, imm, load, reg
 from of_programs.rows import Row
-from of_programs.words import ADD, AND, JUMP_HERE, NE, ROR, SUB, U, XOR, branch, imm, load, reg
 
 MASK = 0xFFFFFFFF
 OPERANDS = (

@@ -5,11 +5,11 @@ from random import Random
 
 from galluspa.recording import Event
 from galluspa.sessions import KIND_NUMBERS, MOST, MOUSE, Session
-from of_programs.trial import Case
-from of_programs.words import (
+from galluspa.words import (
     ADD, ALWAYS, AND, BYTE, DEVICES, DIV, FAD, LINK, MOV, MUL, SUB, U, V, XOR,
     branch, branch_register, imm, load, reg, store,
 )
+from of_programs.trial import Case
 
 WORDS = 1 << 18
 EDGES = (0, 1, 2, 0x7FFFFFFF, 0x80000000, 0x80000001, 0xFFFFFFFE, 0xFFFFFFFF)

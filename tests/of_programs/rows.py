@@ -8,11 +8,11 @@ from dataclasses import dataclass
 
 from galluspa.recording import Checkpoint, Event
 from galluspa.sessions import KIND_NUMBERS, Session
-from of_programs.trial import PART_NAMES, Case, Finding, memory_of
-from of_programs.words import (
+from galluspa.words import (
     ADD, ALWAYS, AND, ANN, BYTE, CC, DEVICES, DIV, EQ, FAD, JUMP_HERE, LINK, MOV, NE, SERIAL, SUB, SWITCHES, TIMER,
     branch, branch_register, imm, load, reg, store,
 )
+from of_programs.trial import PART_NAMES, Case, Finding, memory_of
 
 END = 1 << 18
 RUNNING, FLOAT, DIVISOR, FETCH, ADDRESS = range(5)

@@ -12,7 +12,7 @@ class ClaimTest(ToolTest):
         newer = self.file("newer.orsr", run([PROGRAM, "migrate"], STORED).output)
         for name in (*(f"R{at}" for at in range(16)), "H", "PC", "flags", "timer", "switches", "LEDs", "mouse", "serial", "stop"):
             value = "4" if name == "stop" else "0xF"
-            for recorded in (stored, newer):
+            for recorded in (stored, newer) if name in ("R15", "flags", "serial") else (stored,):
                 ran = tool("claim", recorded, "--at", 1, "--set", f"{name}={value}")
                 self.assertEqual(ran.errors, "")
                 self.assertEqual(ran.output[4], recorded.read_bytes()[4])

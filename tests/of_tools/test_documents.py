@@ -13,11 +13,14 @@ from PIL import Image
 from samples import EXAMPLES, PROGRAM, TOP, ToolTest, run, tool
 
 SHOWING = [*sorted((TOP / "docs/lessons").glob("*.md")), TOP / "docs/recording-your-system.md", TOP / "docs/suites.md"]
-LINKING = [TOP / "README.md", *sorted(TOP.glob("*/README.md")), *sorted(TOP.glob("docs/*.md")), *sorted(TOP.glob("docs/lessons/*.md"))]
+LINKING = [
+    TOP / "README.md", *sorted(TOP.glob("*/README.md")), EXAMPLES / "suite/README.md", *sorted(TOP.glob("docs/*.md")),
+    *sorted(TOP.glob("docs/lessons/*.md")),
+]
 CONSOLE = re.compile(r"^```console\n(.*?)^```$", re.DOTALL | re.MULTILINE)
 TABLE = re.compile(r"^<!-- (tools/listing .*) -->\n((?:\|.*\n)+)", re.MULTILINE)
 LINK = re.compile(r"\]\(([^)#:]+)(?:#[^)]*)?\)")
-PARTS = ("tools", "examples", "crates", "docs")
+PARTS = ("tools", "examples", "crates", "docs", "bench")
 
 
 @dataclass(frozen=True)
@@ -71,7 +74,7 @@ class DocumentsTest(ToolTest):
         for part in PARTS:
             (self.folder / part).symlink_to(TOP / part)
         lines = [line for line in (TOP / "README.md").read_text().splitlines() if line.startswith("tools/")]
-        self.assertEqual(len(lines), 4)
+        self.assertGreaterEqual(len(lines), 5)
         for line in lines:
             ran = run(["bash", "-c", line], cwd=self.folder, env={**os.environ, "PYTHONDONTWRITEBYTECODE": "1"})
             self.assertEqual((ran.status, ran.errors), (0, ""), line)

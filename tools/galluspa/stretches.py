@@ -25,7 +25,8 @@ def stretch(read: Recording, first: int, last: int) -> Recording:
         for at, claim in enumerate(read.checkpoints[first : last + 1])
     ]
     pool = b"".join(read.page(number) for number in numbers if number)
-    return Recording(2, pool, [Event(event.count - begin, event.kind, event.value) for event in read.events[from_here:up_to]], checkpoints)
+    inputs = [Event(event.count - begin, event.kind, event.value) for event in read.events[from_here:up_to]]
+    return Recording(2, pool, inputs, checkpoints)
 
 
 def _renumbered(claim: Checkpoint, numbers: dict[int, int]) -> array:
@@ -72,4 +73,6 @@ def line(read: Recording, whole: Found) -> str:
     """The line of a recording by what was found of it."""
     at = whole.last if whole.false is None else whole.false
     count = read.checkpoints[at].count
-    return f"accepted {at} checkpoints {count} steps" if whole.false is None else f"false checkpoint {at} at {count} part {whole.part}"
+    if whole.false is None:
+        return f"accepted {at} checkpoints {count} steps"
+    return f"false checkpoint {at} at {count} part {whole.part}"

@@ -1,4 +1,4 @@
-"""Instruction words, as docs/machine.md encodes them."""
+"""Instruction words, as docs/machine.md encodes them: for programs that are written by hand or at random."""
 
 MOV, LSL, ASR, ROR, AND, ANN, IOR, XOR, ADD, SUB, MUL, DIV, FAD = range(13)
 MI, EQ, CS, VS, LS, LT, LE, ALWAYS, PL, NE, CC, VC, HI, GE, GT, NEVER = range(16)

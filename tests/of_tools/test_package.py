@@ -1,0 +1,118 @@
+"""tools/package: installed on a clean root, used, and removed without a trace; manual pages and completion."""
+
+import os
+import re
+import subprocess
+import tempfile
+import unittest
+from pathlib import Path
+
+from galluspa.command import Refused
+from galluspa.manual import page, tools_of
+from galluspa.packages import library_folder
+from samples import EXAMPLES, STORED, TOOLS, Ran, ToolTest, run, tool
+
+
+def is_built() -> bool:
+    """Whether the library is there."""
+    try:
+        return library_folder(None).is_dir()
+    except Refused:
+        return False
+
+
+class WordsTest(ToolTest):
+    def test_helps(self) -> None:
+        self.assert_helps("package")
+
+    def test_each_tool_has_a_manual_page_without_a_fault(self) -> None:
+        tools = tools_of(TOOLS)
+        self.assertIn("suite", [it.name for it in tools])
+        for it in tools:
+            made = self.file(f"galluspa-{it.name}.1", page(it, "November 24, 2026"))
+            ran = run(["mandoc", "-Tlint", "-W", "style", made])
+            told = [line for line in ran.output.decode().splitlines() if "referenced manual not found" not in line]
+            self.assertEqual((told, ran.errors), ([], ""), it.name)
+            shown = re.sub(".\b", "", run(["mandoc", "-Tascii", made]).output.decode())
+            for action in it.options:
+                self.assertIn(max(action.option_strings, key=len), shown)
+
+    def test_refuses_bad_input(self) -> None:
+        self.assert_refused(tool("package"), "--into")
+        self.assert_refused(tool("package", "--into", self.folder, "--library", self.folder), "libgalluspa.so are not in")
+
+
+@unittest.skipUnless(is_built(), "the library is not built: run examples/c/install out first")
+class PackageTest(ToolTest):
+    @classmethod
+    def setUpClass(cls) -> None:
+        made = cls.enterClassContext(tempfile.TemporaryDirectory())
+        ran = tool("package", "--into", made, "--release", "1.2.3")
+        assert (ran.status, ran.errors) == (0, ""), ran.errors
+        cls.deb, cls.tarball, cls.sums = map(Path, ran.output.decode().splitlines())
+
+    def dpkg(self, *words: object) -> Ran:
+        """Runs dpkg on the clean root."""
+        environment = {**os.environ, "PATH": f"{os.environ['PATH']}:/usr/sbin:/sbin"}
+        return run(["dpkg", f"--root={self.folder}/root", "--force-depends", *words], env=environment)
+
+    def clean_root(self) -> set[str]:
+        """A root without any package, and the files in it."""
+        for folder in ("info", "updates", "triggers"):
+            (self.folder / "root/var/lib/dpkg" / folder).mkdir(parents=True)
+        self.file("root/var/lib/dpkg/status", "")
+        return self.files()
+
+    def files(self) -> set[str]:
+        """The files and folders in the root, but for those by which dpkg keeps its books."""
+        root = self.folder / "root"
+        return {str(it.relative_to(root)) for it in root.rglob("*") if "var" not in it.relative_to(root).parts}
+
+    def test_is_installed_used_and_removed(self) -> None:
+        before = self.clean_root()
+        ran = self.dpkg("-i", self.deb)
+        self.assertEqual(ran.status, 0, ran.errors)
+        self.assertIn("usr/bin/galluspa-suite", self.files())
+        self.assert_works(self.folder / "root/usr")
+        ran = self.dpkg("-P", "galluspa")
+        self.assertEqual(ran.status, 0, ran.errors)
+        self.assertEqual(self.files(), before)
+
+    def test_the_tarball_works_where_it_is_unpacked(self) -> None:
+        subprocess.run(["tar", "-xzf", self.tarball, "-C", self.folder], check=True)
+        self.assert_works(self.folder / "galluspa-1.2.3")
+
+    def test_the_checksums_are_theirs_and_the_same_again(self) -> None:
+        self.assertEqual(run(["sha256sum", "--check", "--strict", self.sums], cwd=self.sums.parent).status, 0)
+        again = tool("package", "--into", self.folder / "again", "--release", "1.2.3")
+        self.assertEqual(again.errors, "")
+        self.assertEqual((self.folder / "again/SHA256SUMS").read_bytes(), self.sums.read_bytes())
+
+    def assert_works(self, prefix: Path) -> None:
+        """The program, a tool, the example in C and completion work from where they are installed."""
+        self.assertEqual(run([prefix / "bin/oberon_replay"], STORED).output, b"accepted 1 checkpoints 100 steps\n")
+        shared = prefix / "share/galluspa"
+        ran = run([prefix / "bin/galluspa-suite", shared / "examples"])
+        self.assertEqual((ran.status, ran.errors), (0, ""))
+        self.assertIn(b"face.orsr: accepted", ran.output)
+        library = next(prefix.rglob("libgalluspa.so")).parent
+        source, program = shared / "examples/c/check.c", self.folder / "check"
+        self.assertEqual(run(["cc", f"-I{prefix}/include", source, library / "libgalluspa.a", "-o", program]).errors, "")
+        face = EXAMPLES / "face.orsr"
+        line = f"{face}: accepted 4 checkpoints 20000000 steps\n".encode()
+        for words in ([program], ["python3", shared / "examples/c/check.py", library / "libgalluspa.so"]):
+            ran = run([*words, face])
+            self.assertEqual((ran.output, ran.status), (line, 0))
+        for name in ("oberon_replay", "galluspa-suite", "galluspa-slice"):
+            self.assertTrue((prefix / f"share/man/man1/{name}.1.gz").is_file())
+        self.assertEqual(self.completed(prefix, "oberon_replay", "re"), ["record"])
+        self.assertEqual(self.completed(prefix, "oberon_replay", "check", "--w"), ["--workers"])
+        self.assertEqual(self.completed(prefix, "galluspa-suite", "--ju"), ["--junit"])
+        self.assertEqual(self.completed(prefix, "galluspa-suite", "ex"), [])
+        self.assertFalse(list(prefix.rglob("__pycache__")))
+
+    def completed(self, prefix: Path, *words: str) -> list[str]:
+        """What bash offers after these words, of which the last is not yet whole."""
+        typed = f"COMP_WORDS=({' '.join(words)}); COMP_CWORD={len(words) - 1}"
+        script = f'source {prefix}/share/bash-completion/completions/{words[0]}; {typed}; _galluspa; echo "${{COMPREPLY[@]}}"'
+        return run(["bash", "-c", script]).output.decode().split()

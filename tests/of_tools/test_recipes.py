@@ -1,0 +1,194 @@
+"""The recipes of docs/suites.md, run as they stand there: GNU parallel over ssh to two accounts, Slurm job arrays, and make.
+
+Servers listen on ports of 127.0.0.1 that are free, with keys made for the test; accounts, processes and files are removed at
+its end. Where a package can't be had, the test is skipped and says so.
+"""
+
+import os
+import re
+import shutil
+import socket
+import subprocess
+import time
+from pathlib import Path
+
+from samples import EXAMPLES, PROGRAM, STORED, TOP, Ran, ToolTest, record, rejoining, run, tool
+
+ACCOUNTS = {"one.example": "galluspa-one", "two.example": "galluspa-two"}
+COMMANDS = {"sshd": "openssh-server", "rsync": "rsync", "munged": "munge", "slurmctld": "slurmctld", "slurmd": "slurmd",
+            "sbatch": "slurm-client", "make": "make"}
+SECONDS = 60
+FOUND = f"{os.environ['PATH']}:/usr/sbin:/sbin"
+QUIET = {"stdout": subprocess.DEVNULL, "stderr": subprocess.DEVNULL, "stdin": subprocess.DEVNULL}
+
+
+def recipe(name: str) -> str:
+    """A recipe of the document."""
+    text = (TOP / "docs/suites.md").read_text()
+    return re.search(rf"^<!-- recipe {name} -->\n```\w+\n(.*?)^```$", text, re.DOTALL | re.MULTILINE)[1]
+
+
+def free_port() -> int:
+    """A port of 127.0.0.1 that nothing listens on."""
+    with socket.socket() as probe:
+        probe.bind(("127.0.0.1", 0))
+        return probe.getsockname()[1]
+
+
+class RecipesTest(ToolTest):
+    def setUp(self) -> None:
+        super().setUp()
+        self.folder.chmod(0o755)
+        self.file("bin/oberon_replay", PROGRAM.read_bytes()).chmod(0o755)
+        for part in ("tools", "crates"):
+            (self.folder / part).symlink_to(TOP / part)
+        for name in ("keys", "hello", "flags", "clock"):
+            self.file(f"suite/{name}.orsr", record((EXAMPLES / f"{name}.json").read_bytes()))
+        self.file("suite/stored.orsr", STORED)
+
+    def want(self, *commands: str) -> None:
+        """Sees that commands are there, or installs the packages that have them; else the test is skipped."""
+        if os.geteuid():
+            self.skipTest("only root can make accounts and start servers")
+        missing = [COMMANDS[it] for it in commands if not shutil.which(it, path=FOUND)]
+        if not missing:
+            return
+        if Path("/run/systemd/system").exists():
+            self.skipTest(f"{', '.join(missing)} would be started as services if this test installed them")
+        words = ["apt-get", "-qq", "install", "-y", "--no-install-recommends", *missing]
+        environment = {**os.environ, "DEBIAN_FRONTEND": "noninteractive"}
+        subprocess.run(["apt-get", "-qq", "update"], check=False, **QUIET)
+        subprocess.run(words, check=False, timeout=300, env=environment, **QUIET)
+        if left := [it for it in commands if not shutil.which(it, path=FOUND)]:
+            self.skipTest(f"{', '.join(COMMANDS[it] for it in left)} can't be installed")
+
+    def start(self, *words: object) -> None:
+        """Starts a server, which is ended with the test."""
+        path = shutil.which(str(words[0]), path=FOUND)
+        server = subprocess.Popen([path, *map(str, words[1:])], **QUIET, env=self.environment())
+        self.addCleanup(server.wait, 10)
+        self.addCleanup(server.terminate)
+
+    def environment(self) -> dict[str, str]:
+        """Where the program, the servers' words and no bytecode are found."""
+        return {
+            **os.environ, "PATH": f"{self.folder}/bin:{FOUND}", "PYTHONDONTWRITEBYTECODE": "1",
+            "SLURM_CONF": f"{self.folder}/slurm.conf", "PARALLEL_SSH": f"ssh -F {self.folder}/ssh_config",
+        }
+
+    def until(self, *words: str) -> None:
+        """Waits until a command succeeds."""
+        end = time.monotonic() + 20
+        while subprocess.run(words, check=False, env=self.environment(), **QUIET).returncode:
+            self.assertLess(time.monotonic(), end, f"{words[0]} does not come to succeed")
+            time.sleep(0.1)
+
+    def run_recipe(self, name: str) -> Ran:
+        """Runs a recipe in the test's folder."""
+        return run(["bash", "-uc", recipe(name)], cwd=self.folder, env=self.environment(), timeout=SECONDS)
+
+
+class ParallelTest(RecipesTest):
+    def test_over_ssh_to_two_accounts(self) -> None:
+        self.want("sshd", "rsync")
+        self.accounts()
+        self.sshd()
+        ran = self.run_recipe("parallel")
+        self.assertEqual(ran.status, 0, ran.errors)
+        lines = sorted((self.folder / "lines.txt").read_text().splitlines())
+        self.assertEqual(lines[-1], "suite/stored.orsr\taccepted 1 checkpoints 100 steps")
+        self.assertEqual([line.split("\t")[1].split()[0] for line in lines], ["accepted"] * 5)
+        hosts = {line.split("\t")[1] for line in (self.folder / "jobs.log").read_text().splitlines()[1:]}
+        self.assertEqual(hosts, set(ACCOUNTS))
+        self.assertEqual([list(Path(f"/home/{name}").rglob("*.orsr")) for name in ACCOUNTS.values()], [[], []])
+        for name in ("keys", "hello", "flags", "clock"):
+            (self.folder / f"suite/{name}.orsr").unlink()
+        self.file("suite/false.orsr", rejoining(9))
+        self.assertEqual(self.run_recipe("parallel").status, 1)
+
+    def accounts(self) -> None:
+        """Two accounts, without passwords."""
+        for name in ACCOUNTS.values():
+            made = run(["useradd", "--create-home", "--shell", "/bin/bash", "--password", "*", name], env=self.environment())
+            if made.status:
+                self.skipTest(f"no account can be made: {made.errors.strip()}")
+            self.addCleanup(run, ["userdel", "--force", "--remove", name], env=self.environment())
+
+    def sshd(self) -> None:
+        """A server of ssh for these accounts, and the words that lead to it."""
+        port = free_port()
+        for key in ("host", "user"):
+            subprocess.run(["ssh-keygen", "-q", "-t", "ed25519", "-N", "", "-f", self.folder / key], check=True)
+        self.file("authorized", (self.folder / "user.pub").read_bytes())
+        self.file("sshd_config", f"""ListenAddress 127.0.0.1:{port}
+            HostKey {self.folder}/host\nPidFile none\nAuthorizedKeysFile {self.folder}/authorized\nStrictModes no\nUsePAM no
+            PasswordAuthentication no\nAllowUsers {' '.join(ACCOUNTS.values())}\nSetEnv PATH={self.folder}/bin:/usr/bin:/bin\n""")
+        self.file("ssh_config", "".join(
+            f"Host {host}\nHostName 127.0.0.1\nPort {port}\nUser {name}\nIdentityFile {self.folder}/user\nIdentitiesOnly yes\n"
+            f"StrictHostKeyChecking no\nUserKnownHostsFile {self.folder}/known\nLogLevel ERROR\n" for host, name in ACCOUNTS.items()))
+        separate = Path("/run/sshd")
+        if not separate.exists():
+            separate.mkdir(0o755)
+            self.addCleanup(separate.rmdir)
+        self.start("sshd", "-D", "-f", self.folder / "sshd_config")
+        self.until("ssh", "-F", f"{self.folder}/ssh_config", "one.example", "true")
+
+
+class SlurmTest(RecipesTest):
+    def test_job_arrays(self) -> None:
+        self.want("munged", "slurmctld", "slurmd", "sbatch")
+        self.cluster()
+        ran = self.run_recipe("slurm")
+        self.assertEqual(ran.status, 0, ran.errors)
+        names = (self.folder / "list.txt").read_text().split()
+        for at, name in enumerate(names, 1):
+            alone = run([PROGRAM], (self.folder / name).read_bytes()).output
+            self.assertEqual((self.folder / f"lines/{at}.txt").read_bytes(), alone)
+        self.assertEqual(len(names), 5)
+        self.file("suite/false.orsr", rejoining(9))
+        self.assertEqual(self.run_recipe("slurm").status, 1)
+        self.long_recording()
+
+    def long_recording(self) -> None:
+        """The stretches of one recording, as tasks of an array."""
+        false = tool("claim", EXAMPLES / "face.orsr", "--at", 3, "--set", "R5=9").output
+        self.file("long.orsr", false)
+        ran = self.run_recipe("stretches")
+        self.assertEqual(ran.output.decode().splitlines()[-1], "false checkpoint 3 at 12000000 part R5", ran.errors)
+        self.assertEqual(ran.status, 1)
+
+    def cluster(self) -> None:
+        """A cluster of this machine alone."""
+        host, it = socket.gethostname(), self.folder
+        self.file("slurm.conf", f"""ClusterName=recipes\nSlurmctldHost={host}(127.0.0.1)\nSlurmUser=root\nSlurmdUser=root
+            AuthType=auth/munge\nAuthInfo=socket={it}/munge.socket\nCredType=cred/munge\nStateSaveLocation={it}/state
+            SlurmdSpoolDir={it}/spool\nSlurmctldPidFile={it}/slurmctld.pid\nSlurmdPidFile={it}/slurmd.pid
+            SlurmctldLogFile={it}/slurmctld.log\nSlurmdLogFile={it}/slurmd.log\nSlurmctldPort={free_port()}\nSlurmdPort={free_port()}
+            ProctrackType=proctrack/linuxproc\nTaskPlugin=task/none
+            CommunicationParameters=NoInAddrAny,NoCtldInAddrAny\nSelectType=select/cons_tres\nSelectTypeParameters=CR_CPU
+            SchedulerType=sched/builtin\nSchedulerParameters=batch_sched_delay=0,sched_interval=1,sched_min_interval=0
+            MinJobAge=2\nNodeName={host} NodeAddr=127.0.0.1 CPUs={os.cpu_count()} State=UNKNOWN
+            PartitionName=main Nodes=ALL Default=YES State=UP\n""".replace("            ", ""))
+        for name in ("state", "spool"):
+            (it / name).mkdir()
+        self.file("munge.key", os.urandom(128)).chmod(0o600)
+        self.start("munged", "--foreground", "--force", f"--socket={it}/munge.socket", f"--key-file={it}/munge.key",
+                   f"--pid-file={it}/munged.pid", f"--log-file={it}/munged.log", f"--seed-file={it}/seed")
+        self.until("test", "-S", f"{it}/munge.socket")
+        self.start("slurmctld", "-D")
+        self.start("slurmd", "-D", "-N", host)
+        self.until("sh", "-c", "sinfo -h -o %t | grep -qx idle")
+
+
+class MakeTest(RecipesTest):
+    def test_checks_what_is_new(self) -> None:
+        self.want("make")
+        self.file("Makefile", recipe("make"))
+        make = ["make", "-j", "4"]
+        ran = run(make, cwd=self.folder, env=self.environment(), timeout=SECONDS)
+        self.assertEqual((ran.status, ran.output.count(b"oberon_replay check")), (0, 5), ran.errors)
+        self.assertEqual((self.folder / "suite/stored.line").read_text(), "accepted 1 checkpoints 100 steps\n")
+        self.file("suite/false.orsr", rejoining(9))
+        ran = run(make, cwd=self.folder, env=self.environment(), timeout=SECONDS)
+        self.assertEqual((ran.status, ran.output.count(b"oberon_replay check")), (2, 1))
+        self.assertIn(b"suite/false.line:false checkpoint 1 at 2 part R5", ran.output)

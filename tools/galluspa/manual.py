@@ -1,0 +1,132 @@
+"""What a tool's own words say of it, as a manual page (mdoc) and as words to complete."""
+
+import argparse
+import re
+import textwrap
+from collections.abc import Iterator
+from dataclasses import dataclass
+from importlib.machinery import SourceFileLoader
+from importlib.util import module_from_spec, spec_from_loader
+from pathlib import Path
+from types import ModuleType
+
+from galluspa.command import Parser
+
+PREFIX = "galluspa-"
+STATUS = "0 if all is well, 1 if something that was looked at is not, and 2, after one line on standard error, for bad input."
+
+
+@dataclass(frozen=True)
+class Tool:
+    """A tool: its name, the first sentence of its file, and its words."""
+
+    name: str
+    does: str
+    words: Parser
+
+    @property
+    def command(self) -> str:
+        """Its name where it is installed."""
+        return PREFIX + self.name
+
+    @property
+    def options(self) -> list[argparse.Action]:
+        """Its options, help among them."""
+        return [it for it in self.words._actions if it.option_strings]
+
+    @property
+    def operands(self) -> list[argparse.Action]:
+        """Its other words."""
+        return [it for it in self.words._actions if not it.option_strings]
+
+
+def tools_of(folder: Path) -> list[Tool]:
+    """The tools for users in a folder: files that can be run and have a function `parser`."""
+    paths = (path for path in sorted(folder.iterdir()) if path.is_file() and path.stat().st_mode & 0o111)
+    scripts = ((path.name, _script(path)) for path in paths)
+    return [Tool(name, script.__doc__.split("\n")[0], script.parser()) for name, script in scripts if hasattr(script, "parser")]
+
+
+def _script(path: Path) -> ModuleType:
+    """The module of a file that is no part of a package."""
+    loader = SourceFileLoader(f"tool_{path.name}", str(path))
+    module = module_from_spec(spec_from_loader(loader.name, loader))
+    loader.exec_module(module)
+    return module
+
+
+def page(tool: Tool, date: str) -> str:
+    """The manual page of a tool."""
+    about = tool.does.rstrip(".")
+    lines = [
+        f".Dd {date}", f".Dt {tool.command.upper()} 1", ".Os", ".Sh NAME", f".Nm {tool.command}",
+        f".Nd {_escaped(about[0].lower() + about[1:])}",
+        ".Sh SYNOPSIS", ".Nm", *(f".Op {_flags(it)}" for it in tool.options),
+        *(f".Ar {_metavar(it)}{' ..' * bool(it.nargs)}" for it in tool.operands),
+        ".Sh DESCRIPTION", *_prose(" ".join(tool.words.description.split())), ".Bl -tag -width Ds",
+    ]
+    for it in [*tool.operands, *tool.options]:
+        if it.help:
+            lines += [f".It {_flags(it) if it.option_strings else 'Ar ' + _metavar(it)}", *_prose(_sentence(it.help))]
+    example = tool.words.epilog.split("\n", 1)[1].strip().replace(f"tools/{tool.name}", tool.command)
+    return "\n".join([
+        *lines, ".El", ".Sh EXIT STATUS", *_prose(STATUS),
+        ".Sh EXAMPLES", f".Dl {_escaped(example)}", ".Sh SEE ALSO", ".Xr oberon_replay 1", "",
+    ])
+
+
+def _sentence(text: str) -> str:
+    text = " ".join(text.split())
+    return text[0].upper() + text[1:] + ("" if text.endswith(".") else ".")
+
+
+def _flags(action: argparse.Action) -> str:
+    option = max(action.option_strings, key=len)
+    return f"Fl {option[1:]}" + (f" Ar {_metavar(action)}" if action.nargs != 0 else "")
+
+
+def _metavar(action: argparse.Action) -> str:
+    return _escaped(str(action.metavar or action.dest)).replace("..", "\\&..")
+
+
+def _escaped(text: str) -> str:
+    return text.replace("\\", "\\e").replace("--", "\\-\\-")
+
+
+def _prose(text: str) -> Iterator[str]:
+    """Lines of text, each sentence on lines of its own."""
+    for sentence in re.split(r"(?<=\.) (?=[A-Z])", text):
+        for line in textwrap.wrap(_escaped(sentence), 78, break_long_words=False, break_on_hyphens=False):
+            yield "\\&" + line if line[0] in ".'" else line
+
+
+COMPLETION = """# Completes the words of oberon_replay and of the tools.
+_galluspa() {
+    local name=${COMP_WORDS[0]##*/} word=${COMP_WORDS[COMP_CWORD]}
+    if [[ $name == oberon_replay ]]; then
+        if ((COMP_CWORD == 1)); then
+            COMPREPLY=($(compgen -W '@COMMANDS@' -- "$word"))
+            return
+        fi
+        name=${COMP_WORDS[1]}
+    fi
+    [[ $word == -* ]] || return
+    case $name in
+@CASES@
+    esac
+}
+complete -o default -F _galluspa @NAMES@
+"""
+
+
+def completion(tools: list[Tool], commands: dict[str, list[str]]) -> str:
+    """The completion for bash: of the program's commands with their options, and of the tools' options."""
+    options = {**commands, **{it.command: [option for action in it.options for option in action.option_strings] for it in tools}}
+    given = {name: " ".join(words) for name, words in options.items() if words}
+    cases = [f"        {name}) COMPREPLY=($(compgen -W '{words}' -- \"$word\")) ;;" for name, words in given.items()]
+    names = " ".join(["oberon_replay", *(it.command for it in tools)])
+    replaced = {"@COMMANDS@": " ".join([*commands, "help", "--help"]), "@CASES@": "\n".join(cases), "@NAMES@": names}
+    text = COMPLETION
+    for mark, told in replaced.items():
+        text = text.replace(mark, told)
+    return text

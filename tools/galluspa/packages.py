@@ -1,0 +1,161 @@
+"""What is installed of Galluspa, as a tree of files; and the tree as a package of Debian and as a tarball."""
+
+import gzip
+import hashlib
+import io
+import re
+import subprocess
+import sysconfig
+import tarfile
+from collections.abc import Iterator
+from dataclasses import dataclass
+from pathlib import Path
+
+from galluspa.command import Refused, read_file
+from galluspa.manual import Tool, completion, page, tools_of
+from galluspa.program import TOP, Program
+
+LAUNCHER = """#!/bin/sh
+exec /usr/bin/python3 -B "$(dirname "$(readlink -f "$0")")/../share/galluspa/tools/{name}" "$@"
+"""
+LIBRARIES = ("libgalluspa.a", "libgalluspa.so")
+BUILT = ("crates/galluspa/out", "out/lib")
+FOLDERS = ("tools", "examples", "bench", "docs")
+TEXTS = ("README.md", "CHANGELOG.md", "LICENSE")
+ONLY_HERE = {"__pycache__", "out", "build-library", "package", "packages.py", "manual.py"}
+
+
+def library_folder(given: Path | None) -> Path:
+    """The folder that was given, or else the first in which both libraries were built."""
+    folders = [given] if given else [TOP / folder for folder in BUILT]
+    for folder in folders:
+        if all((folder / name).is_file() for name in LIBRARIES):
+            return folder
+    names = " and ".join(LIBRARIES)
+    raise Refused(f"{names} are not in {folders[0]}: build them (examples/c/install FOLDER), and name FOLDER/lib with --library")
+
+
+@dataclass(frozen=True)
+class File:
+    """A file to install: its path below the prefix, its content, and whether it can be run."""
+
+    path: str
+    content: bytes
+    is_run: bool = False
+
+
+@dataclass(frozen=True)
+class Contents:
+    """What a package is made of: the program, the folder of the library, the version and the date of the manual pages."""
+
+    program: Program
+    library: Path
+    version: str
+    date: str
+
+    def files(self) -> Iterator[File]:
+        """All files, below a prefix such as /usr; share/galluspa is laid out as the repository."""
+        tools = [it for it in tools_of(TOP / "tools") if it.name not in ONLY_HERE]
+        yield File("bin/oberon_replay", read_file(self.program.path), True)
+        yield from (File(f"bin/{it.command}", LAUNCHER.format(name=it.name).encode(), True) for it in tools)
+        yield from (File(f"lib/{_multiarch()}/{name}", read_file(self.library / name)) for name in LIBRARIES)
+        yield File("include/galluspa.h", read_file(TOP / "include/galluspa.h"))
+        yield from self._words_of(tools)
+        for folder in FOLDERS:
+            yield from _tree(TOP / folder, f"share/galluspa/{folder}")
+        yield from (File(f"share/galluspa/{name}", read_file(TOP / name)) for name in TEXTS)
+        yield File("share/doc/galluspa/copyright", read_file(TOP / "LICENSE"))
+        live = TOP / "web/galluspa.html"
+        if live.is_file():
+            yield File("share/galluspa/web/galluspa.html", read_file(live))
+
+    def _words_of(self, tools: list[Tool]) -> Iterator[File]:
+        """The manual pages, and the completion of each command."""
+        pages = {it.command: page(it, self.date).encode() for it in tools}
+        pages["oberon_replay"] = read_file(TOP / "docs/oberon_replay.1")
+        yield from (File(f"share/man/man1/{name}.1.gz", gzip.compress(text, mtime=0)) for name, text in pages.items())
+        completed = completion(tools, commands_of(self.program)).encode()
+        yield from (File(f"share/bash-completion/completions/{name}", completed) for name in pages)
+
+
+def _tree(folder: Path, to: str) -> Iterator[File]:
+    """The files of a folder, but for what was built or compiled, and for what makes packages."""
+    for path in sorted(folder.rglob("*")):
+        parts = path.relative_to(folder).parts
+        if path.is_file() and not ONLY_HERE & set(parts):
+            yield File("/".join([to, *parts]), read_file(path), bool(path.stat().st_mode & 0o111))
+
+
+def _multiarch() -> str:
+    return sysconfig.get_config_var("MULTIARCH") or "."
+
+
+def commands_of(program: Program) -> dict[str, list[str]]:
+    """The commands of the program and the options of each, as its help tells them."""
+
+    def told(*words: str) -> str:
+        return subprocess.run([program.path, *words, "--help"], stdout=subprocess.PIPE, check=False).stdout.decode("ascii", "replace")
+
+    names = re.findall(r"^  (\w+) ", told().partition("Commands:")[2].partition("\n\n")[0], re.MULTILINE)
+    return {name: re.findall(r"^ +(?:-\w, )?(--\w+)", told(name), re.MULTILINE) for name in names if name != "help"}
+
+
+def architecture() -> str:
+    """The name that Debian has for this machine."""
+    try:
+        return subprocess.run(["dpkg", "--print-architecture"], stdout=subprocess.PIPE, check=True).stdout.decode().strip()
+    except (OSError, subprocess.CalledProcessError) as error:
+        raise Refused("dpkg is not there: a package of Debian is made on Debian") from error
+
+
+def tarball(files: list[File], folder: str, when: int) -> bytes:
+    """The files as a tarball, in a folder; the same files and the same time give the same bytes."""
+    out = io.BytesIO()
+    with (
+        gzip.GzipFile(fileobj=out, mode="wb", mtime=0) as packed,
+        tarfile.open(fileobj=packed, mode="w", format=tarfile.GNU_FORMAT) as tar,
+    ):
+        for it in sorted(files, key=lambda file: file.path):
+            info = tarfile.TarInfo(f"{folder}/{it.path}")
+            info.size, info.mode, info.mtime = len(it.content), 0o755 if it.is_run else 0o644, when
+            tar.addfile(info, io.BytesIO(it.content))
+    return out.getvalue()
+
+
+def write_tree(files: list[File], root: Path) -> None:
+    """Writes the files below a folder."""
+    for it in files:
+        path = root / it.path
+        path.parent.mkdir(parents=True, exist_ok=True)
+        path.write_bytes(it.content)
+        path.chmod(0o755 if it.is_run else 0o644)
+
+
+def debian(files: list[File], version: str, room: Path, when: int) -> bytes:
+    """The files as a package of Debian, laid out in a room of its own."""
+    write_tree([File(f"usr/{it.path}", it.content, it.is_run) for it in files], room / "tree")
+    sums = "".join(f"{hashlib.md5(it.content).hexdigest()}  usr/{it.path}\n" for it in files)
+    size = sum(len(it.content) for it in files) // 1024
+    control = f"""Package: galluspa
+Version: {version}
+Architecture: {architecture()}
+Maintainer: Galluspa maintainers <maintainers@users.noreply.galluspa.example>
+Installed-Size: {size}
+Depends: libc6, python3 (>= 3.11)
+Recommends: python3-pil, python3-jinja2
+Section: otherosfs
+Priority: optional
+Description: proved emulator and checker of Project Oberon's RISC5 workstation
+ A program that records sessions of the workstation and checks recordings of
+ them, with tools around it and a library for C.
+"""
+    of_package = {"control": control.encode(), "md5sums": sums.encode(), "triggers": b"activate-noawait ldconfig\n"}
+    write_tree([File(name, content) for name, content in of_package.items()], room / "tree/DEBIAN")
+    for path in [room / "tree", *(room / "tree").rglob("*")]:
+        path.chmod(0o755 if path.is_dir() else path.stat().st_mode)
+    words = ["dpkg-deb", "--root-owner-group", "--build", str(room / "tree"), str(room / "it.deb")]
+    environment = {"SOURCE_DATE_EPOCH": str(when), "PATH": "/usr/bin:/bin"}
+    made = subprocess.run(words, stdout=subprocess.PIPE, stderr=subprocess.STDOUT, check=False, env=environment)
+    if made.returncode:
+        raise Refused(f"dpkg-deb: {made.stdout.decode('utf-8', 'replace').strip().splitlines()[-1]}")
+    return (room / "it.deb").read_bytes()
