@@ -8,7 +8,7 @@ from concurrent.futures import ThreadPoolExecutor
 from dataclasses import dataclass
 from pathlib import Path
 
-from samples import EXAMPLES, JUMP, TOP, Ran, ToolTest, record, session, tool
+from samples import EXAMPLES, JUMP, TOP, Ran, ToolTest, on_terminal, record, session, tool
 
 # A loop of 1,000 rounds; after it each instruction is done once, and what it leaves is never overwritten.
 ROUNDS = 1000
@@ -114,6 +114,11 @@ class BisectTest(ToolTest):
             self.assertTrue(lines[0].startswith(f"differs after instruction {mistake.count}: "), (mistake.name, lines))
             self.assertEqual(int(lines[-1].split()[0]), mistake.count)
             self.assertLess(int(lines[0].split()[-2]), 40)
+
+    def test_shows_progress_on_a_terminal(self) -> None:
+        command = [self.built / "-1/state", self.built / "it.orsr", "{count}", self.folder / "memory.bin"]
+        told = on_terminal("bisect", self.built / "it.json", "--to", 8, "--", *command)
+        self.assertIn(b"run 5: the same at 4, looking at 8\r\x1b[K\r", told)
 
     def test_what_differs_is_told(self) -> None:
         lines = self.bisect(5, "--steps", 1).output.decode().splitlines()

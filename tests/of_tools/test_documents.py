@@ -12,7 +12,8 @@ from PIL import Image
 
 from samples import EXAMPLES, PROGRAM, TOP, ToolTest, run, tool
 
-SHOWING = [*sorted((TOP / "docs/lessons").glob("*.md")), TOP / "docs/recording-your-system.md", TOP / "docs/suites.md"]
+GUIDES = ("recording-your-system", "suites", "debugging")
+SHOWING = [*sorted((TOP / "docs/lessons").glob("*.md")), *(TOP / f"docs/{name}.md" for name in GUIDES)]
 LINKING = [
     TOP / "README.md", *sorted(TOP.glob("*/README.md")), EXAMPLES / "suite/README.md", *sorted(TOP.glob("docs/*.md")),
     *sorted(TOP.glob("docs/lessons/*.md")),
