@@ -1,4 +1,5 @@
-/* Galluspa for C: checks, records and migrates recordings of the RISC5 workstation, and runs the proved emulator.
+/* Galluspa for C: checks, records and migrates recordings of the RISC5 workstation, runs the proved emulator, and makes a recording
+ * while an emulator runs.
  *
  * Each function takes all that it needs in the caller's memory and keeps nothing: there are no handles, nothing has to be freed,
  * and calls from several threads are independent. Within one call no two pieces of memory overlap, except two that are only
@@ -21,14 +22,18 @@ enum {
     GALLUSPA_LONGEST = 118310056 /* bytes of the longest recording. Of a longer file the first GALLUSPA_LONGEST + 1 bytes suffice */
 };
 
-/* What galluspa_claim and galluspa_advance return. */
+/* What galluspa_claim, galluspa_advance, galluspa_begin and galluspa_extend return. */
 enum {
     GALLUSPA_DONE = 0,
     GALLUSPA_OUT_OF_RANGE = 1,   /* a number is out of its range, a length is wrong, or inputs are out of order */
-    GALLUSPA_NO_ROOM = 2,        /* the machine sends more bytes than there is room for */
+    GALLUSPA_NO_ROOM = 2,        /* there are more bytes than there is room for */
     GALLUSPA_OUT_OF_MEMORY = 3,
     GALLUSPA_NO_RECORDING = 4,   /* the bytes are no recording */
-    GALLUSPA_NO_CHECKPOINT = 5   /* the recording has no such checkpoint */
+    GALLUSPA_NO_CHECKPOINT = 5,  /* the recording has no such checkpoint */
+    GALLUSPA_TOO_MANY_INPUTS = 6,      /* the recording would have more than 1,000,000 inputs */
+    GALLUSPA_TOO_MANY_CHECKPOINTS = 7, /* .. more than 4,097 checkpoints */
+    GALLUSPA_TOO_MUCH_OUTPUT = 8,      /* .. more than 1,048,576 bytes sent */
+    GALLUSPA_TOO_MANY_PAGES = 9        /* .. more than 65,536 pages */
 };
 
 /* A machine's state without the words of its memory: 136 bytes. The fields are those of a recording's checkpoint. */
@@ -82,6 +87,22 @@ uint8_t galluspa_claim(const uint8_t *text, size_t text_len, uint32_t at, gallus
  * GALLUSPA_OUT_OF_MEMORY, and then nothing is written. A call copies the memory, which takes about half a millisecond. */
 uint8_t galluspa_advance(galluspa_state *state, uint32_t *words, size_t words_len, const galluspa_input *inputs, size_t inputs_len,
                          uint64_t to, uint8_t *sent, size_t sent_len, size_t *sent_count);
+
+/* Begins a recording: writes the one that has no inputs, and checkpoint 0 alone, which claims this state, to the front of out, and
+ * its length to *out_count. words_len is GALLUSPA_WORDS. The state's count is 0: a recording counts from its first state. Returns
+ * GALLUSPA_DONE; or GALLUSPA_OUT_OF_RANGE, GALLUSPA_NO_ROOM (then *out_count is the length that is needed) or
+ * GALLUSPA_OUT_OF_MEMORY, and then nothing else is written. */
+uint8_t galluspa_begin(const galluspa_state *state, const uint32_t *words, size_t words_len, uint8_t *out, size_t out_len,
+                       size_t *out_count);
+
+/* Extends a recording by its next checkpoint: writes the recording with these inputs and one checkpoint more, which claims this
+ * state and that these bytes were sent since the checkpoint before, to the front of out, and its length to *out_count. The state's
+ * count is above that of the last checkpoint, and each input comes between the two: at the last checkpoint's count or later, and
+ * before the state's. words_len is GALLUSPA_WORDS. Whether the claim is true is not tested; it is if galluspa_advance gave it from
+ * the last checkpoint with these inputs. Returns as galluspa_begin does, or GALLUSPA_NO_RECORDING or GALLUSPA_TOO_.. */
+uint8_t galluspa_extend(const uint8_t *text, size_t text_len, const galluspa_input *inputs, size_t inputs_len,
+                        const galluspa_state *state, const uint32_t *words, size_t words_len, const uint8_t *sent, size_t sent_len,
+                        uint8_t *out, size_t out_len, size_t *out_count);
 
 #ifdef __cplusplus
 }

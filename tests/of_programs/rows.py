@@ -196,12 +196,27 @@ STORES = [
     Row("a word stored into a procedure 1,024 words away", {**dict(enumerate(_loop(store(11, 8, 4 * 1026),
         branch(ALWAYS, 1023) | LINK, NEW_PATCH))), 1025: PLUS_1, 1026: PLUS_1, 1027: branch_register(ALWAYS, 15)},
         26, [8, 9, 10, 11], {"R1": 3 + 1 + 16 + 16, "PC": 5}, {0: 3, 11: PLUS_1, 12: PLUS_16}),
+    Row("a word stored into a procedure 2,048 words away", {**dict(enumerate(_loop(store(11, 8, 4 * 2050),
+        branch(ALWAYS, 2047) | LINK, NEW_PATCH))), 2049: PLUS_1, 2050: PLUS_1, 2051: branch_register(ALWAYS, 15)},
+        26, [8, 9, 10, 11], {"R1": 3 + 1 + 16 + 16, "PC": 5}, {0: 3, 11: PLUS_1, 12: PLUS_16}),
+    Row("a word stored beside the code that stores it", _loop(PLUS_1, store(1, 8, 160), load(2, 8, 160)), 18, [2, 3, 7, 8],
+        {"R1": 3, "R2": 3, "PC": 5}, {0: 3}),
     Row("procedures 1,024 words apart", {**dict(enumerate(_loop(branch(ALWAYS, 1024) | LINK, branch(ALWAYS, 2047) | LINK))),
         1025: PLUS_1, 1026: branch_register(ALWAYS, 15), 2049: PLUS_16, 2050: branch_register(ALWAYS, 15)},
+        26, [4, 12], {"R1": 51, "PC": 4}, {0: 3}),
+]
+
+ROWS_OF_CODE = [
+    Row("SUB at the last of 64 words, and its branch in the next 64", {63 + at: word for at, word in enumerate(COUNT_DOWN)}, 9,
+        [1, 3, 5], {"R0": 0, "PC": 65, "timer": 9}, {0: 3}, pc=63),
+    Row("from the first of 64 words to the last, and back from the next 64", {64: branch(ALWAYS, 62), 127: imm(SUB, 0, 0, 1),
+        128: branch(NE, -65), 129: JUMP_HERE}, 12, [1, 2, 3, 4, 7], {"R0": 0, "PC": 129, "timer": 12}, {0: 3}, pc=64),
+    Row("procedures 2,048 words apart", {**dict(enumerate(_loop(branch(ALWAYS, 2048) | LINK, branch(ALWAYS, 4095) | LINK))),
+        2049: PLUS_1, 2050: branch_register(ALWAYS, 15), 4097: PLUS_16, 4098: branch_register(ALWAYS, 15)},
         26, [4, 12], {"R1": 51, "PC": 4}, {0: 3}),
 ]
 
 # The machine of the C replayer is made wrong in ANN to see that this trial notices: then state 2 of this row has another R2.
 ANN_ROW = Row("ANN", [imm(MOV, 1, 0, 0xFF), imm(ANN, 2, 1, 0x0F), JUMP_HERE], 4, [1], {"R2": 0xF0}, {})
 
-ROWS = [*BETWEEN, *STOPS, *STORES, ANN_ROW]
+ROWS = [*BETWEEN, *STOPS, *STORES, *ROWS_OF_CODE, ANN_ROW]

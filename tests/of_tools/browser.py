@@ -1,4 +1,4 @@
-"""A headless Chromium, spoken to over a pipe in the DevTools protocol."""
+"""A headless Chromium, spoken to over a pipe in the DevTools protocol: pages are opened, asked, clicked, typed into and looked at."""
 
 import base64
 import json
@@ -6,6 +6,7 @@ import os
 import shutil
 import subprocess
 import tempfile
+import time
 from collections.abc import Iterator
 from contextlib import contextmanager
 from dataclasses import dataclass
@@ -106,6 +107,51 @@ class Page:
     def printed(self) -> bytes:
         """The page as a printer would get it, as PDF."""
         return base64.b64decode(self._ask("Page.printToPDF", printBackground=False)["data"])
+
+    def wait(self, expression: str, seconds: float = 30) -> None:
+        """Waits until an expression is true."""
+        end = time.monotonic() + seconds
+        while not self.answer(f"Boolean({expression})"):
+            if time.monotonic() > end:
+                raise RuntimeError(f"after {seconds} seconds it is not so that {expression}")
+            time.sleep(0.03)
+
+    def choose(self, selector: str, path: Path) -> None:
+        """Chooses a file in the file input of a selector."""
+        root = self._ask("DOM.getDocument")["root"]["nodeId"]
+        node = self._ask("DOM.querySelector", nodeId=root, selector=selector)["nodeId"]
+        self._ask("DOM.setFileInputFiles", nodeId=node, files=[str(path.resolve())])
+
+    def point(self, kind: str, x: float, y: float, buttons: int = 0) -> None:
+        """Moves the mouse (`mouseMoved`), or presses or releases its left key (`mousePressed`, `mouseReleased`)."""
+        button = {"button": "none"} if kind == "mouseMoved" else {"button": "left", "clickCount": 1}
+        self._ask("Input.dispatchMouseEvent", type=kind, x=x, y=y, buttons=buttons, **button)
+
+    def press(self, key: str, code: str = "", modifiers: int = 0, number: int = 0) -> None:
+        """Presses and releases a key; one character is its text."""
+        text = {"text": key} if len(key) == 1 else {}
+        common = {"key": key, "code": code, "modifiers": modifiers, "windowsVirtualKeyCode": number}
+        self._ask("Input.dispatchKeyEvent", type="keyDown" if text else "rawKeyDown", **common, **text)
+        self._ask("Input.dispatchKeyEvent", type="keyUp", **common)
+
+    def save_into(self, folder: Path) -> None:
+        """Has files that the page saves go to a folder."""
+        self._ask("Browser.setDownloadBehavior", behavior="allow", downloadPath=str(folder.resolve()))
+
+    def prefer(self, scheme: str) -> None:
+        """Makes the reader's scheme of colours `light` or `dark`."""
+        self._ask("Emulation.setEmulatedMedia", features=[{"name": "prefers-color-scheme", "value": scheme}])
+
+    def reload(self) -> None:
+        """Loads the page anew."""
+        self._ask("Page.reload")
+        while self._read().get("method") != "Page.loadEventFired":
+            pass
+
+    def heap(self) -> float:
+        """The bytes of the page's own script that are in use, garbage left out."""
+        self._ask("HeapProfiler.collectGarbage")
+        return self._ask("Runtime.getHeapUsage")["usedSize"]
 
     def close(self) -> None:
         """Closes the page."""

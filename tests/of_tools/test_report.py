@@ -33,9 +33,9 @@ DOTS = """
 """
 
 class ReportTest(ToolTest):
-    def report(self, text: bytes, name: str = "it.orsr") -> Path:
+    def report(self, text: bytes, name: str = "it.orsr", *words: str) -> Path:
         """The page of a text."""
-        ran = tool("report", self.file(name, text))
+        ran = tool("report", self.file(name, text), *words)
         self.assertEqual((ran.status, ran.errors), (0, ""))
         return self.file("page.html", ran.output)
 
@@ -174,6 +174,41 @@ class ReportInBrowserTest(ReportTest):
             self.assertLess(time.monotonic() - start, 20)
             self.assertEqual(page.errors, [])
             self.assert_dots(page, text, [0])
+
+    def test_a_live_report_checks_itself_and_runs_on(self) -> None:
+        face = (EXAMPLES / "face.orsr").read_bytes()
+        for text, name in ((face, "face.orsr"), (rejoining(9), "</script><b>.orsr".replace("/", "")), (STORED[:-1], "short.orsr")):
+            line = run([PROGRAM, "check"], text).output.decode().rstrip("\n")
+            with self.browser.page(self.report(text, name, "--live")) as page:
+                self.assertEqual(page.answer("document.querySelector('#line').textContent"), line)
+                page.answer("document.querySelector('#check-again').click()")
+                page.wait("document.querySelector('#again.same, #again.other')")
+                self.assertEqual(page.answer("document.querySelector('#again').textContent"),
+                                 f"Computed in this browser: {line}, the line of this report")
+                for width in browser.WIDTHS:
+                    page.resize(width, 1000)
+                    self.assertLessEqual(page.answer("document.documentElement.scrollWidth"), width)
+                self.assertEqual(page.errors, [])
+                self.assertTrue(all(url.startswith(("file:", "data:", "blob:")) for url in page.requests), page.requests)
+
+    def test_a_live_report_runs_on_from_a_checkpoint(self) -> None:
+        with self.browser.page(self.report((EXAMPLES / "face.orsr").read_bytes(), "face.orsr", "--live")) as page:
+            page.answer("document.querySelector('button[data-from=\"2\"]').click()")
+            page.wait("app.latest && countOf(app.latest.state) === 8000000")
+            page.answer("el('next').click()")
+            page.wait("document.querySelector('#g-passed li')")
+            self.assertEqual(page.answer("document.querySelector('#g-passed li').textContent"), "at 12,000,000: true")
+            self.assertEqual(page.errors, [])
+
+    def test_a_live_report_that_is_tampered_with_says_another_line(self) -> None:
+        page_file = self.report(rejoining(9), "it.orsr", "--live")
+        told = page_file.read_text()
+        page_file.write_text(told.replace(">false checkpoint 1 at 2 part R5</h1>", ">accepted 2 checkpoints 4 steps</h1>"))
+        with self.browser.page(page_file) as page:
+            page.answer("document.querySelector('#check-again').click()")
+            page.wait("document.querySelector('#again.other')")
+            self.assertEqual(page.answer("document.querySelector('#again').textContent"),
+                             "Computed in this browser: false checkpoint 1 at 2 part R5")
 
     def test_pictures_that_come_again_are_there_once(self) -> None:
         turn = (0x6100000E, 0x41167F00, 0x5000FFFF, 0xA0100000, 0x40000000, 0xA0100000, 0xE7FFFFFB)

@@ -17,6 +17,7 @@ from galluspa.explanation import FalseClaim, explain_false
 from galluspa.faults import explain_fault
 from galluspa.instructions import instruction
 from galluspa.library import Library
+from galluspa.live import Live
 from galluspa.pictures import Screens, screens, set_off
 from galluspa.program import ACCEPTED, REFUSED, Answer, Program
 from galluspa.recording import PAGE_BYTES, PLACES, WORDS_IN_PAGE, Checkpoint, Recording
@@ -95,14 +96,15 @@ class Report:
         run = Run.of_answer(library, self.text, self.recording, self.answer)
         return explain_false(run, self.program, self.recording, self.answer.false_claim, STEPS)
 
-    def html(self) -> Iterator[str]:
-        """The page, piece by piece."""
+    def html(self, is_live: bool = False) -> Iterator[str]:
+        """The page, piece by piece; one that is live can check its recording again, and run on from its checkpoints."""
         folder = Path(__file__).resolve().parent
         templates = Environment(loader=FileSystemLoader(folder), autoescape=True, trim_blocks=True, lstrip_blocks=True,
                                 undefined=StrictUndefined)
         templates.globals["marks"] = self._marks
         false_at, false_part = self.answer.false_claim or (None, None)
         return templates.get_template("report.html.j2").generate(
+            live=Live.of(self.name, self.text) if is_live else None,
             name=self.name,
             size=len(self.text),
             digest=hashlib.sha256(self.text).hexdigest(),

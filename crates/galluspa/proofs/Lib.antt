@@ -5,3 +5,4 @@ mod Pushing
 mod TruthLemmas
 mod FrameLemmas
 mod InputLemmas
+mod ExtendLemmas

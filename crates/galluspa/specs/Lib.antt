@@ -4,4 +4,6 @@ pub mod Advance
 pub mod Claim
 pub mod Record
 pub mod Migrate
+pub mod Extend
 pub mod Laws
+pub mod inner

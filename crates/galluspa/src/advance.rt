@@ -42,7 +42,7 @@ fn events_of(alloc: Global, inputs: &[RawInput]) -> Result<Vec<Event>, Refusal>
 }
 
 /// The inputs of a caller, if each is in its range and their counts are in order.
-fn inputs_of(alloc: Global, inputs: &[RawInput]) -> Result<Inputs, Refusal>
+pub fn inputs_of(alloc: Global, inputs: &[RawInput]) -> Result<Inputs, Refusal>
     ensures events { IfOk result (λ events. AreEvents inputs.now events) }
     ensures refusal { IfErr result (λ refusal. refusal ≢ Refusal.Room) }
     ensures range { IfErr result (λ refusal. refusal ≡ Refusal.Range → AreNoEvents inputs.now) }

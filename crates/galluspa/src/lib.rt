@@ -1,5 +1,5 @@
-//! Galluspa as a static library for C: it checks, records and migrates recordings, reads what a checkpoint claims, and advances
-//! a machine. `include/galluspa.h` declares its functions, and `docs/from-c.md` shows them at work.
+//! Galluspa as a static library for C: it checks, records and migrates recordings, reads what a checkpoint claims, advances a
+//! machine, and makes a recording while one runs. `include/galluspa.h` declares its functions, and `docs/from-c.md` shows them at work.
 //!
 //! Each function takes all that it needs in slices of the caller's memory, and keeps nothing: there are no handles, and nothing
 //! has to be freed. A machine lives with the caller as plain numbers: a `RawState` and its 262,144 words. The slices of one call
@@ -9,8 +9,10 @@
 
 ghost use Rattle.std.specs.Prelude.{◌≡◌, ◌≢◌, ◌<◌, ◌≤◌, length, take};
 ghost use Rattle.oberon_check.specs.Headline.{IsLineOf};
+ghost use Rattle.oberon_session.specs.declared.extend_fault.ExtendFault.{ExtendFault};
 ghost use Rattle.galluspa.specs.Advance.{HasRun, IsInRange, SendsMore};
 ghost use Rattle.galluspa.specs.Claim.{HasNoCheckpoint, IsClaim, IsNoRecording};
+ghost use Rattle.galluspa.specs.Extend.{CanBegin, CanFollow, HasTooMuch, IsBeginning, IsExtension, NeedsRoom};
 ghost use Rattle.galluspa.specs.Migrate.{IsMigration};
 ghost use Rattle.galluspa.specs.Record.{IsRecord};
 
@@ -18,6 +20,7 @@ mod advance;
 mod answer;
 mod check;
 mod claim;
+mod extend;
 mod laws;
 mod migrate;
 mod raw;
@@ -28,7 +31,10 @@ mod words;
 use crate::answer::put;
 pub use laws::frame_law;
 pub use raw::{RawInput, RawState};
-pub use refusal::{DONE, NO_CHECKPOINT, NO_RECORDING, NO_ROOM, OUT_OF_MEMORY, OUT_OF_RANGE};
+pub use refusal::{
+    DONE, NO_CHECKPOINT, NO_RECORDING, NO_ROOM, OUT_OF_MEMORY, OUT_OF_RANGE, TOO_MANY_CHECKPOINTS,
+    TOO_MANY_INPUTS, TOO_MANY_PAGES, TOO_MUCH_OUTPUT,
+};
 use std::alloc::Global;
 pub use words::WORDS;
 
@@ -147,4 +153,69 @@ pub extern "C" fn galluspa_advance(
     ensures codes { result ≤ OUT_OF_MEMORY }
 {
     advance::advance(alloc, state, words, inputs, to, sent, sent_count)
+}
+
+/// Begins a recording: writes the one that has no inputs, and checkpoint 0 alone, which claims this state, to the front of `out`,
+/// and its length to `out_count`; and returns 0 (`DONE`). `count` of the state is 0: a recording counts from its first state.
+///
+/// Otherwise `out` is as it was, and the result is 1 (`OUT_OF_RANGE`) if `words` is not of 262,144 words, `count` is not 0, or a
+/// number of the state is out of its range; 2 (`NO_ROOM`) if `out` has no room for the recording, whose length is then written to
+/// `out_count`; and 3 (`OUT_OF_MEMORY`) if memory ran out.
+#[unsafe(no_mangle)]
+pub extern "C" fn galluspa_begin(
+    alloc: Global,
+    state: &RawState,
+    words: &[u32],
+    out: &mut [u8],
+    out_count: &mut usize,
+) -> u8
+    ensures begun { result ≡ DONE → IsBeginning state.now words.now (take out_count.new out.new) }
+    ensures room { result ≡ DONE → out_count.new ≤ length out.old }
+    ensures no_room { result ≡ NO_ROOM → NeedsRoom (IsBeginning state.now words.now) (length out.old) out_count.new }
+    ensures unchanged { result ≢ DONE → out.new ≡ out.old }
+    ensures uncounted { result ≢ DONE → result ≢ NO_ROOM → out_count.new ≡ out_count.old }
+    ensures in_range { result ≡ DONE → CanBegin state.now words.now }
+    ensures range { result ≡ OUT_OF_RANGE → ¬ (CanBegin state.now words.now) }
+    ensures codes { result ≤ OUT_OF_MEMORY }
+{
+    extend::begin(alloc, state, words, out, out_count)
+}
+
+/// Extends a recording by its next checkpoint: writes the recording with these inputs and a checkpoint more, which claims this
+/// state and that these bytes were sent since the checkpoint before, to the front of `out`, and its length to `out_count`; and
+/// returns 0 (`DONE`). Whether the claim is true is not tested.
+///
+/// Otherwise `out` is as it was, and the result is 1 (`OUT_OF_RANGE`) if `words` is not of 262,144 words, a number of the state or
+/// of an input is out of its range, the state's count is not above that of the last checkpoint, or an input doesn't come between
+/// the two; 2 (`NO_ROOM`) if `out` has no room for the recording, whose length is then written to `out_count`; 3 (`OUT_OF_MEMORY`)
+/// if memory ran out; 4 (`NO_RECORDING`) if the bytes are no recording; and 6 to 9 (`TOO_MANY_INPUTS`, `TOO_MANY_CHECKPOINTS`,
+/// `TOO_MUCH_OUTPUT`, `TOO_MANY_PAGES`) if the recording would have more of these than a recording may have.
+#[unsafe(no_mangle)]
+pub extern "C" fn galluspa_extend(
+    alloc: Global,
+    text: &[u8],
+    inputs: &[RawInput],
+    state: &RawState,
+    words: &[u32],
+    sent: &[u8],
+    out: &mut [u8],
+    out_count: &mut usize,
+) -> u8
+    ensures extended { result ≡ DONE → IsExtension text.now inputs.now state.now words.now sent.now (take out_count.new out.new) }
+    ensures room { result ≡ DONE → out_count.new ≤ length out.old }
+    ensures no_room { result ≡ NO_ROOM →
+        NeedsRoom (IsExtension text.now inputs.now state.now words.now sent.now) (length out.old) out_count.new }
+    ensures unchanged { result ≢ DONE → out.new ≡ out.old }
+    ensures uncounted { result ≢ DONE → result ≢ NO_ROOM → out_count.new ≡ out_count.old }
+    ensures in_range { result ≡ DONE → CanFollow text.now inputs.now state.now words.now }
+    ensures range { result ≡ OUT_OF_RANGE → ¬ (CanFollow text.now inputs.now state.now words.now) }
+    ensures no_recording { result ≡ NO_RECORDING → IsNoRecording text.now }
+    ensures inputs { result ≡ TOO_MANY_INPUTS → HasTooMuch text.now inputs.now state.now words.now sent.now ExtendFault.Inputs }
+    ensures checkpoints { result ≡ TOO_MANY_CHECKPOINTS →
+        HasTooMuch text.now inputs.now state.now words.now sent.now ExtendFault.Checkpoints }
+    ensures output { result ≡ TOO_MUCH_OUTPUT → HasTooMuch text.now inputs.now state.now words.now sent.now ExtendFault.Output }
+    ensures pages { result ≡ TOO_MANY_PAGES → HasTooMuch text.now inputs.now state.now words.now sent.now ExtendFault.Pages }
+    ensures codes { result ≤ TOO_MANY_PAGES }
+{
+    extend::extend(alloc, text, inputs, state, words, sent, out, out_count)
 }

@@ -7,7 +7,7 @@ pub const DONE: u8 = 0;
 /// A number is out of its range, a slice is not of its length, or inputs are out of order.
 pub const OUT_OF_RANGE: u8 = 1;
 
-/// More bytes are sent than there is room for.
+/// There are more bytes than there is room for.
 pub const NO_ROOM: u8 = 2;
 
 /// An allocation failed.
@@ -18,6 +18,18 @@ pub const NO_RECORDING: u8 = 4;
 
 /// The recording has no such checkpoint.
 pub const NO_CHECKPOINT: u8 = 5;
+
+/// The recording would have more than 1,000,000 inputs.
+pub const TOO_MANY_INPUTS: u8 = 6;
+
+/// The recording would have more than 4,097 checkpoints.
+pub const TOO_MANY_CHECKPOINTS: u8 = 7;
+
+/// The recording would send more than 1,048,576 bytes.
+pub const TOO_MUCH_OUTPUT: u8 = 8;
+
+/// The recording would have more than 65,536 pages.
+pub const TOO_MANY_PAGES: u8 = 9;
 
 /// Why a machine was not advanced.
 #[derive(Clone, Copy)]

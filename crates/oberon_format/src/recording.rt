@@ -81,6 +81,19 @@ impl Recording {
         }
     }
 
+    /// The parts of the recording. Takes no memory.
+    pub fn into_parts(self) -> (Pool, Inputs, Vec<Checkpoint>)
+        ensures parts { parts_of result.0 result.1 result.2.items ≡ self }
+        ensures lawful { IsLawful self }
+    {
+        let Recording {
+            pool,
+            inputs,
+            checkpoints,
+        } = self;
+        (pool, inputs, checkpoints)
+    }
+
     /// The pages that the checkpoints' tables name.
     pub fn pool(&self) -> &Pool
         ensures pool { result.now ≡ self.now.pool }

@@ -13,7 +13,7 @@ use Rattle.risc_machine.specs.InputOrder.{AreOrdered}
 use Rattle.risc_machine.specs.MachineState.{CpuState, cpu_state}
 use Rattle.oberon_session.proofs.Mapped.{unmapped}
 use Rattle.oberon_session.specs.Digits.{PlacedWords, all_placed_of, placed_of, words_of_bytes}
-use Rattle.oberon_session.specs.inner.Drafts.{placed_view, session_of_parts}
+use Rattle.oberon_session.specs.Parts.{placed_view, session_of_parts}
 use Rattle.oberon_session.specs.Draft.{Draft, PageText}
 use Rattle.oberon_session.specs.Ranges.{places_of}
 use Rattle.oberon_session.specs.Session.{cpu_of}
@@ -58,7 +58,7 @@ placed-at page placed is = go (decode_of page.hex) refl is
 pub placed-places : (pages : List PageText) (placed : List PlacedWords) → all_placed_of pages ≡ Some placed → places_in placed ≡ places_of pages
 placed-places pages placed is = each-along placed_of (λ (page : PageText). page.at) (λ (p : PlacedWords). p.at) placed-at pages placed is
 
-whole-pages : (pages : List PlacedPage) → All (λ (p : PlacedWords). IsPage p.words) (map placed_view pages)
+pub whole-pages : (pages : List PlacedPage) → All (λ (p : PlacedWords). IsPage p.words) (map placed_view pages)
 whole-pages pages = All-map (λ (p : PlacedWords). IsPage p.words) placed_view pages
     (λ k d lt. record { whole = (get_or pages k d).page.whole; fit = (get_or pages k d).page.fit })
 

@@ -2,6 +2,7 @@ mod Mapped
 mod Shapes
 mod Orders
 mod Lawful
+mod PartLemmas
 mod RuleLemmas
 mod Runs
 mod LaidPages
@@ -13,6 +14,7 @@ mod Reaching
 mod Begun
 mod Whole
 mod LaidLaws
+mod Growing
 mod FirstTables
 mod Deciding
 pub mod Table

@@ -1,5 +1,5 @@
 -- How memories are laid out as pages of a pool and tables of page numbers (this project's own choice).
-use Rattle.std.specs.Prelude.{ℕ, ◌+◌, ◌==◌, Bool, List, [], ◌∷◌, ◌++◌, length, map, slice_set, if◌then◌else◌}
+use Rattle.std.specs.Prelude.{ℕ, ◌+◌, ◌==◌, Bool, List, [], ◌∷◌, ◌++◌, filter, length, map, not, slice_set, if◌then◌else◌}
 use Rattle.std.specs.List.{fold, list_all}
 use Rattle.risc_pages.specs.Delta.{changed_below}
 use Rattle.risc_pages.specs.Pages.{page_at}
@@ -27,6 +27,10 @@ lay_pages laid pages = fold lay_page laid pages
 -- the pages in which a memory differs from an earlier one, each with its place, by rising place
 abbrev pub changed_pages : List ℕ → List ℕ → List (ℕ × List ℕ)
 changed_pages earlier words = map (λ place. (place, page_at words place)) (changed_below 1024 earlier words)
+
+-- the pages that changed and are not all zeros, by rising place
+abbrev pub new_pages : List ℕ → List ℕ → List (List ℕ)
+new_pages earlier words = filter (λ page. not (is_blank page)) (map (page_at words) (changed_below 1024 earlier words))
 
 -- a memory is laid where an earlier one was laid last: what changed is laid, and other places keep their numbers
 unfoldable pub lay : List ℕ → List ℕ → Laid → Laid

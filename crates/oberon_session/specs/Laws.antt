@@ -1,11 +1,10 @@
 -- Laws of the definitions: what laying comes to, in the words of pages and places, and that a text has one answer.
-use Rattle.std.specs.Prelude.{ℕ, ◌≡◌, ◌≢◌, ◌+◌, ◌<◌, true, false, List, ◌++◌, All, Some, Result, Ok, Err, filter, length, map, not, slice_index}
+use Rattle.std.specs.Prelude.{ℕ, ◌≡◌, ◌≢◌, ◌+◌, ◌<◌, true, false, List, ◌++◌, All, Some, Result, Ok, Err, length, slice_index}
 use Rattle.std.specs.List.Sorted.{IsStrictlyIncreasing}
 use Rattle.risc_pages.specs.Tables.{IsNamed, table_words}
-use Rattle.risc_pages.specs.Delta.{changed_below}
 use Rattle.risc_pages.specs.Pages.{ArePages, page_at}
 use Rattle.oberon_session.specs.Digits.{PlacedWords}
-use Rattle.oberon_session.specs.Laid.{Laid, is_blank, lay}
+use Rattle.oberon_session.specs.Laid.{Laid, is_blank, lay, new_pages}
 use Rattle.oberon_session.specs.Recorded.{numbered}
 use Rattle.oberon_session.specs.Rules.{first_fault_of}
 use Rattle.oberon_session.specs.Session.{IsSession}
@@ -16,10 +15,6 @@ use Rattle.oberon_session.specs.declared.fault.SessionFault.{SessionFault}
 pub record IsTableOf (laid : Laid) : Type 0 where
   pub count : length laid.table ≡ 1024
   pub named : IsNamed laid.pool laid.table
-
--- the pages that changed and are not all zeros, by rising place
-abbrev pub new_pages : List ℕ → List ℕ → List (List ℕ)
-new_pages earlier words = filter (λ page. not (is_blank page)) (map (page_at words) (changed_below 1024 earlier words))
 
 -- a memory was laid where an earlier one was laid last
 pub record IsLaidAfter (earlier words : List ℕ) (old new : Laid) : Type 0 where

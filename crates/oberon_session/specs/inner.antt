@@ -1,5 +1,6 @@
 -- What private functions and the insides of types say of themselves. No public contract and no law names anything of it, so none
 -- of it has to be believed.
 pub mod Progress
+pub mod Growing
 pub mod Tested
 pub mod Drafts

@@ -1,7 +1,8 @@
 //! The pages of a session, each with its place, read from hexadecimal digits.
 ghost use Rattle.std.specs.Prelude.{◌≡◌, ◌≢◌, ◌↔◌, ◌<◌, ◌≤◌, ◌^◌, length, map, slice_index};
 ghost use Rattle.std.specs.List.{All};
-ghost use Rattle.oberon_session.specs.inner.Drafts.{GivesOr, page_view, placed_view};
+ghost use Rattle.oberon_session.specs.inner.Drafts.{GivesOr, page_view};
+ghost use Rattle.oberon_session.specs.Parts.{placed_view};
 ghost use Rattle.oberon_session.specs.inner.Tested.{PageFits};
 ghost use Rattle.oberon_session.specs.Digits.{all_placed_of, placed_of, word_of_bytes, words_of_bytes};
 

@@ -1,15 +1,16 @@
 //! Pages laid into a pool, and the table that names them.
 
-ghost use Rattle.std.specs.Prelude.{◌≡◌, ◌+◌, ◌<◌, ◌≤◌, ◌^◌, All, IfOk, OnOk, ℕ, length, map};
+ghost use Rattle.std.specs.Prelude.{◌≡◌, ◌≢◌, ◌+◌, ◌<◌, ◌≤◌, ◌^◌, All, IfOk, OnOk, ℕ, length, map, slice_index};
 ghost use Rattle.risc_pages.specs.declared.page.Page.{Page};
-ghost use Rattle.oberon_session.specs.inner.Drafts.{placed_view};
-ghost use Rattle.oberon_session.specs.Laid.{is_blank, lay_page, lay_pages};
+ghost use Rattle.oberon_session.specs.Parts.{placed_view};
+ghost use Rattle.risc_pages.specs.Tables.{IsNamed, table_words};
+ghost use Rattle.oberon_session.specs.Laid.{changed_pages, is_blank, lay, lay_page, lay_pages};
 ghost use Rattle.oberon_session.specs.Recorded.{first_laid};
 ghost use Rattle.oberon_session.specs.inner.Progress.{laid_view, page_view};
 
 use crate::digits::PlacedPage;
 use oberon_format::MAX_PAGES;
-use risc_pages::{Page, Pool, Table};
+use risc_pages::{Memory, Page, Pool, Table};
 use std::alloc::{AllocError, Global};
 
 /// The pages laid so far, and the table of the memory that was laid last.
@@ -39,7 +40,8 @@ pub fn lay_pages(laid: &mut LaidPages, changed: &[(u16, Page)]) -> Result<(), Al
     requires few { length changed.now ≤ 1024 }
     requires room { length laid.old.pool ≤ MAX_PAGES }
     requires places { All (λ (c : ℕ × Page). c.0 < 1024) changed.now }
-    ensures { OnOk result (laid_view laid.new ≡ lay_pages (laid_view laid.old) (map page_view changed.now)) }
+    ensures laid { OnOk result (laid_view laid.new ≡ lay_pages (laid_view laid.old) (map page_view changed.now)) }
+    ensures grown { OnOk result (length laid.new.pool ≤ length laid.old.pool + length changed.now) }
 {
     for (place, page) in changed {
         lay_page(laid, *place, page)?;
@@ -70,4 +72,63 @@ fn is_blank(page: &Page) -> bool
     ensures { result ≡ is_blank page.now.words }
 {
     page.words.iter().all(|word| *word == 0)
+}
+
+/// Lays a memory of these words where another memory was laid last: only the pages that differ.
+#[tactic(auto, unfolding(crate::specs::Laid::lay))]
+pub fn lay_words(alloc: Global, laid: &mut LaidPages, words: &[u32]) -> Result<(), AllocError>
+    requires whole { length words.now ≡ 262144 }
+    requires named { IsNamed laid.old.pool laid.old.table }
+    requires room { length laid.old.pool ≤ MAX_PAGES }
+    ensures laid { OnOk result (laid_view laid.new ≡ lay (table_words laid.old.pool laid.old.table) words.now (laid_view laid.old)) }
+    ensures grown { OnOk result (length laid.new.pool ≤ length laid.old.pool + 1024) }
+{
+    let changed = changed_pages(alloc, &laid.pool, &laid.table, words)?;
+    lay_pages(laid, &changed)
+}
+
+/// The pages in which words differ from the content of a table, each with its place.
+fn changed_pages(
+    alloc: Global,
+    pool: &Pool,
+    table: &Table,
+    words: &[u32],
+) -> Result<Vec<(u16, Page)>, AllocError>
+    requires whole { length words.now ≡ 262144 }
+    requires named { IsNamed pool.now table.now }
+    ensures { IfOk result (λ changed. map page_view changed.items ≡ changed_pages (table_words pool.now table.now) words.now) }
+{
+    let mut memory = Memory::from_table(alloc, pool, table)?;
+    write_words(&mut memory, words)?;
+    let delta = memory.close()?;
+    Ok(delta.changed)
+}
+
+/// Gives a memory these words. A page that has its words already stays shared.
+fn write_words(memory: &mut Memory<'_>, words: &[u32]) -> Result<(), AllocError>
+    requires { length words.now ≡ 262144 }
+    ensures words { OnOk result (memory.new.words ≡ words.now) }
+    ensures base { memory.new.base ≡ memory.old.base }
+{
+    // Each read of a memory says that it is whole.
+    let _first = memory.read(0);
+    for word_no in 0..262_144 {
+        write_word(memory, word_no, words[word_no as usize])?;
+    }
+    Ok(())
+}
+
+/// Gives a memory this word, if it has another one there.
+fn write_word(memory: &mut Memory<'_>, word_no: u32, word: u32) -> Result<(), AllocError>
+    requires inside { word_no < 262144 }
+    requires whole { length memory.old.words ≡ 262144 }
+    ensures here { OnOk result (slice_index memory.new.words word_no ≡ word) }
+    ensures others { OnOk result ((k : ℕ) → k ≢ word_no → slice_index memory.new.words k ≡ slice_index memory.old.words k) }
+    ensures whole { OnOk result (length memory.new.words ≡ 262144) }
+    ensures base { memory.new.base ≡ memory.old.base }
+{
+    if memory.read(word_no) == word {
+        return Ok(());
+    }
+    memory.write(word_no, word)
 }

@@ -40,7 +40,7 @@ fn start_fits(start: &StartDraft) -> bool
 }
 
 /// Whether a timer can have this rate and this phase.
-fn timer_fits(rate: u64, phase: u64) -> bool
+pub fn timer_fits(rate: u64, phase: u64) -> bool
     ensures { result ≡ timer_fits rate phase }
 {
     rate < 1 << 32 && phase < 1 << 32 && is_phase_at(rate as u32, phase as u32)
@@ -63,7 +63,7 @@ fn pages_fit(pages: &[PageDraft<'_>]) -> bool
 }
 
 /// Whether there are at most 4,096 checkpoints, each at a count from 1 to 2^40.
-fn counts_fit(counts: &[u64]) -> bool
+pub fn counts_fit(counts: &[u64]) -> bool
     ensures { IsTrue result ↔ CountsFit counts.now }
 {
     counts.len() <= LAST_CHECKPOINT as usize
@@ -80,7 +80,7 @@ fn places_rise(pages: &[PageDraft<'_>]) -> bool
 }
 
 /// Whether numbers rise.
-fn rises(numbers: &[u64]) -> bool
+pub fn rises(numbers: &[u64]) -> bool
     ensures { IsTrue result ↔ IsStrictlyIncreasing numbers.now }
 {
     numbers.windows(2).all(|pair| pair[0] < pair[1])

@@ -116,7 +116,7 @@ fn record_next(
 }
 
 /// Each byte is a number below 256, as its type says.
-fn bytes_fit(bytes: &[u8])
+pub fn bytes_fit(bytes: &[u8])
     ensures { All (λ byte. byte < 2 ^ 8) bytes.now }
 {}
 
@@ -127,8 +127,16 @@ fn finish(alloc: Global, inputs: &Inputs, recorder: Recorder) -> Result<Recordin
     ensures wanting { IfErr result (λ fault. fault ≡ RecordFault.Memory) }
 {
     let inputs = copy_inputs(alloc, inputs)?;
-    match Recording::from_parts(recorder.laid.pool, inputs, recorder.checkpoints) {
-        Ok(recording) => Ok(recording),
+    Ok(recording_of(recorder.laid.pool, inputs, recorder.checkpoints))
+}
+
+/// The recording of parts that are known to be lawful.
+pub fn recording_of(pool: Pool, inputs: Inputs, checkpoints: Vec<Checkpoint>) -> Recording
+    requires { IsLawful (parts_of pool inputs checkpoints.items) }
+    ensures { result ≡ parts_of pool inputs checkpoints.items }
+{
+    match Recording::from_parts(pool, inputs, checkpoints) {
+        Ok(recording) => recording,
         Err(_) => unreachable!(),
     }
 }

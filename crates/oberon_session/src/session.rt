@@ -1,8 +1,10 @@
-//! Sessions as the recorder takes them. How one is read from its text stands in `reading`.
+//! Sessions as the recorder takes them. How one is read from its text stands in `reading`, and how parts are tested in `parts`.
 
 ghost use Rattle.std.specs.Prelude.{◌≡◌, ◌<◌};
 
+use crate::SessionFault;
 use crate::digits::PlacedPage;
+use crate::parts::parts_fault;
 use risc_machine::{Cpu, Inputs};
 use std::marker::Model;
 
@@ -30,7 +32,7 @@ pub struct Session {
 
 impl Model for Session {
     ghost use Rattle.oberon_session.specs.SessionParts.{SessionParts, IsLawful};
-    ghost use Rattle.oberon_session.specs.inner.Drafts.{session_of_parts};
+    ghost use Rattle.oberon_session.specs.Parts.{session_of_parts};
 
     ghost Value = { SessionParts };
 
@@ -40,10 +42,43 @@ impl Model for Session {
 }
 
 impl Session {
-    ghost use Rattle.std.specs.Prelude.{◌≡◌, map};
+    ghost use Rattle.std.specs.Prelude.{◌≡◌, ◌↔◌, IfErr, IfOk, IsOk, map};
     ghost use Rattle.risc_machine.specs.MachineState.{cpu_state};
-    ghost use Rattle.oberon_session.specs.inner.Drafts.{placed_view};
+    ghost use Rattle.oberon_session.specs.Parts.{BreaksParts, placed_view, session_of_parts};
     ghost use Rattle.oberon_session.specs.SessionParts.{IsLawful};
+
+    /// The session of these parts, or the first rule that they break: numbers are in their ranges, there are few enough of them and
+    /// the processor runs (`Range`), and then places of pages and counts of checkpoints rise (`Order`).
+    ///
+    /// The timer of the first state has this rate and this phase; both are 0 for one that doesn't count by itself. Parts that are
+    /// refused are given up. Takes no memory.
+    pub fn from_parts(
+        cpu: Cpu,
+        rate: u32,
+        phase: u32,
+        pages: Vec<PlacedPage>,
+        inputs: Inputs,
+        counts: Vec<u64>,
+    ) -> Result<Session, SessionFault>
+        // The session has these parts.
+        ensures session { IfOk result (λ session. session ≡ session_of_parts cpu rate phase pages.items inputs counts.items) }
+        // It is made exactly if they are lawful.
+        ensures lawful { IsOk result ↔ IsLawful (session_of_parts cpu rate phase pages.items inputs counts.items) }
+        // Else the first rule that they break is the answer.
+        ensures refused { IfErr result (BreaksParts (session_of_parts cpu rate phase pages.items inputs counts.items)) }
+    {
+        if let Some(fault) = parts_fault(&cpu, rate, phase, &pages, &inputs, &counts) {
+            return Err(fault);
+        }
+        Ok(Session {
+            cpu,
+            rate,
+            phase,
+            pages,
+            inputs,
+            counts,
+        })
+    }
 
     /// The processor of the first state.
     pub(crate) fn cpu(&self) -> Cpu

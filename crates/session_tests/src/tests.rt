@@ -1,5 +1,6 @@
 //! The session of the documents, each fault once, and the order of faults where two rules are broken.
 
+mod parts;
 mod recorded;
 
 use oberon_format::{MAX_COUNT, Recording};

@@ -1,5 +1,5 @@
 -- What the readers of JSON give, and how contracts see their parts.
-use Rattle.std.specs.Prelude.{ℕ, ◌≡◌, ◌≢◌, List, Option, Some, None, Result, MatchResult, map}
+use Rattle.std.specs.Prelude.{◌≡◌, ◌≢◌, Option, Some, None, Result, MatchResult, map}
 use Rattle.oberon_session.specs.declared.fault.SessionFault.{SessionFault}
 use Rattle.oberon_session.specs.declared.fault.SessionFault.TheVariants.{Memory, Shape}
 use Rattle.oberon_session.specs.declared.draft.InputDraft.{InputDraft}
@@ -9,12 +9,6 @@ use Rattle.oberon_session.specs.declared.draft.Draft.{Draft as DraftValue}
 use Rattle.oberon_session.specs.declared.draft.Members.{Members as MembersValue}
 use Rattle.oberon_session.specs.Draft.{Start, PageText, InputNumbers, Members, Draft}
 use Rattle.serde_json.specs.View.{view}
-use Rattle.oberon_session.specs.declared.digits.PlacedPage.{PlacedPage}
-use Rattle.oberon_session.specs.Digits.{PlacedWords}
-use Rattle.oberon_session.specs.SessionParts.{SessionParts}
-use Rattle.risc_machine.specs.declared.cpu.Cpu.{Cpu}
-use Rattle.risc_machine.specs.declared.event.Event.{Event}
-use Rattle.risc_machine.specs.MachineState.{cpu_state}
 
 -- the result is what the definition gives, and this fault comes only where it gives nothing
 abbrev pub GivesOr : {T X : Type 0} → SessionFault → (T → X) → Option X → Result T SessionFault → Type 0
@@ -50,11 +44,3 @@ draft_view d = record {
   inputs = map input_view d.inputs.items;
   checkpoints = d.checkpoints.items;
 }
-
-abbrev pub placed_view : PlacedPage → PlacedWords
-placed_view p = record { at = p.at; words = p.page.words }
-
--- the session of these parts, as Rust has them
-abbrev pub session_of_parts : Cpu → ℕ → ℕ → List PlacedPage → List Event → List ℕ → SessionParts
-session_of_parts cpu rate phase pages inputs counts =
-    record { cpu = cpu_state cpu; rate = rate; phase = phase; pages = map placed_view pages; inputs = inputs; counts = counts }

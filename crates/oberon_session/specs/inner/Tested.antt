@@ -7,6 +7,7 @@ use Rattle.serde_json.specs.Data.{Data}
 use Rattle.serde_json.specs.Read.{read}
 use Rattle.risc_core.specs.declared.branch.TheConstants.{COUNTER_END}
 use Rattle.risc_devices.specs.InputKind.{IsInput}
+use Rattle.risc_machine.specs.declared.cpu.Cpu.{Cpu}
 use Rattle.risc_machine.specs.declared.event.Event.{Event}
 use Rattle.risc_machine.specs.InputOrder.{AreOrdered}
 use Rattle.risc_machine.specs.declared.inputs.TheConstants.{MAX_COUNT}
@@ -16,6 +17,7 @@ use Rattle.oberon_session.specs.inner.Drafts.{page_view, start_view}
 use Rattle.oberon_session.specs.Ranges.{input_counts, places_of, timer_fits}
 use Rattle.oberon_session.specs.Session.{Says, numbers_of_event}
 use Rattle.oberon_session.specs.SessionParts.{CountsFit, SessionParts}
+use Rattle.oberon_session.specs.declared.digits.PlacedPage.{PlacedPage}
 use Rattle.oberon_session.specs.declared.draft.Draft.{Draft as DraftValue}
 use Rattle.oberon_session.specs.declared.draft.PageDraft.{PageDraft}
 use Rattle.oberon_session.specs.declared.fault.SessionFault.{SessionFault}
@@ -73,6 +75,20 @@ NumbersFit d = StartFits (start_view d.start) × DraftPagesFit d.pages.items × 
 -- places of pages and counts of checkpoints rise
 abbrev pub NumbersRise : DraftValue → Type 0
 NumbersRise d = RisesBy (λ page. page.at) d.pages.items × IsStrictlyIncreasing d.checkpoints.items
+
+-- ---- the parts of a session, as Rust has them
+
+-- few enough pages, each at one of the 1,024 places
+abbrev pub PlacedFit : List PlacedPage → Type 0
+PlacedFit pages = (length pages ≤ 1024) × All (λ page. page.at < 1024) pages
+
+-- a processor that runs, and numbers that are in their ranges
+abbrev pub PartsFit : Cpu → ℕ → ℕ → List PlacedPage → List Event → List ℕ → Type 0
+PartsFit cpu rate phase pages inputs counts =
+    ((cpu.pc < COUNTER_END) × (cpu.stop ≡ 0)) × IsTrue (timer_fits rate phase) × PlacedFit pages × (length inputs ≤ MAX_EVENTS)
+    × CountsFit counts
+
+-- ---- faults
 
 -- the first rule that inputs break
 abbrev pub BreaksInputs : List InputNumbers → SessionFault → Type 0

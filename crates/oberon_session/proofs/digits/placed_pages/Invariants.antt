@@ -1,6 +1,7 @@
 use Rattle.std.proofs.Common.{◌≡◌, Some, map, take}
 use Rattle.oberon_session.specs.Shape.{each}
-use Rattle.oberon_session.specs.inner.Drafts.{page_view, placed_view}
+use Rattle.oberon_session.specs.inner.Drafts.{page_view}
+use Rattle.oberon_session.specs.Parts.{placed_view}
 use Rattle.oberon_session.specs.Digits.{placed_of}
 use Rattle.oberon_session.proofs.digits.placed_pages.Given as goal
 

@@ -4,7 +4,7 @@ use Rattle.std.proofs.lemmas.Grind.{common_steps}
 use Rattle.std.proofs.lemmas.List.{length-map, length_push}
 use Rattle.oberon_session.proofs.LaidPages.{numbered-more, numbered-none}
 use Rattle.oberon_session.proofs.Mapped.{at-mapped}
-use Rattle.oberon_session.specs.inner.Drafts.{placed_view}
+use Rattle.oberon_session.specs.Parts.{placed_view}
 use Rattle.oberon_session.specs.Recorded.{first_laid}
 use Rattle.oberon_session.specs.SessionParts.{places_in}
 use Rattle.oberon_session.specs.declared.digits.PlacedPage.{PlacedPage}

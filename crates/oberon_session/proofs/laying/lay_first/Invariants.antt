@@ -1,6 +1,6 @@
 use Rattle.std.proofs.Common.{◌≡◌, length, map, take}
 use Rattle.oberon_session.specs.Digits.{PlacedWords}
-use Rattle.oberon_session.specs.inner.Drafts.{placed_view}
+use Rattle.oberon_session.specs.Parts.{placed_view}
 use Rattle.oberon_session.specs.Recorded.{numbered}
 use Rattle.oberon_session.proofs.laying.lay_first.Given as goal
 

@@ -4,7 +4,7 @@ use Rattle.oberon_format.specs.CheckpointParts.{checkpoint_parts}
 use Rattle.oberon_session.proofs.Begun.{one-checkpoint, so-first, timer-phase}
 use Rattle.oberon_session.proofs.Mapped.{unmapped}
 use Rattle.oberon_session.specs.Digits.{PlacedWords}
-use Rattle.oberon_session.specs.inner.Drafts.{placed_view}
+use Rattle.oberon_session.specs.Parts.{placed_view}
 use Rattle.oberon_session.specs.Laid.{Laid}
 use Rattle.oberon_session.specs.Recorded.{first_devices, first_laid}
 use Rattle.oberon_session.specs.inner.Progress.{laid_view}

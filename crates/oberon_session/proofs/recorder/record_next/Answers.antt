@@ -49,13 +49,13 @@ lay_pages-requires-clause-places c =
 
 pub returns-then-len-gt-MAX_PAGES-clause-refused : goal.returns-then-len-gt-MAX_PAGES-clause-refused
 returns-then-len-gt-MAX_PAGES-clause-refused c =
-    let laid-so = rw c.deref.ensures.value at c.in_ok-lay_pages.ensures in
+    let laid-so = rw c.deref.ensures.value at c.in_ok-lay_pages.ensures.laid in
     λ _. refused-pages _ c.requires.recorded c.index-last.ensures c.counts.ensures.lawful c.requires.inside
     c.inputs.ensures.inputs (next-count c.args.session.now c.args.k c.counts.ensures.counts) c.in_ok-reached.ensures.reached laid-so c.in_ok-reached.ensures.room (omega arith)
 
 pub returns-clause-recorded : goal.returns-clause-recorded
 returns-clause-recorded c =
-    let laid-so = rw c.deref.ensures.value at c.in_ok-lay_pages.ensures in
+    let laid-so = rw c.deref.ensures.value at c.in_ok-lay_pages.ensures.laid in
     let bytes = rw c.deref-sent.ensures.value at c.bytes_fit.ensures in
     let r = c.in_ok-reached.reached in
     let count : ℕ = get_or c.counts.result.now c.args.k 0 in

@@ -1,0 +1,94 @@
+-- A recording's next checkpoint, in the words of a caller.
+use Rattle.std.proofs.Common.{◌≡◌, ◌∙◌, ℕ, List, [], ◌∷◌, ap, map, refl, subst, sym}
+use Rattle.risc_devices.proofs.InputLemmas.{same_input}
+use Rattle.risc_machine.specs.declared.event.Event.{Event}
+use Rattle.oberon_format.proofs.One.{same_event}
+use Rattle.oberon_format.specs.Defined.{Outcome}
+use Rattle.oberon_format.specs.Recording.{RecordingParts}
+use Rattle.oberon_format.specs.Text.{TextIn}
+use Rattle.oberon_format.specs.Laws.{HasOneRecording}
+use Rattle.oberon_format.specs.declared.layout.TheConstants.{VERSION}
+use Rattle.oberon_session.specs.Extended.{IsExtended, IsNext, IsTooMuch, outcome_of}
+use Rattle.oberon_session.specs.declared.claim.Claim.{Claim}
+use Rattle.oberon_session.specs.declared.extend_fault.ExtendFault.{ExtendFault}
+use Rattle.galluspa.specs.Extend.{CanFollow, HasTooMuch, IsExtension, IsWhole, claim_of}
+use Rattle.galluspa.specs.Raw.{AreEvents, raw_input}
+use Rattle.galluspa.specs.declared.extend.Unrecorded.{Unrecorded}
+use Rattle.galluspa.specs.declared.extend.Unrecorded.TheVariants as refusal
+use Rattle.galluspa.specs.declared.raw.RawState.{RawState}
+use Rattle.galluspa.specs.declared.raw.RawInput.{RawInput}
+use Rattle.galluspa.specs.inner.Extending.{IsFull, IsMore, IsNoMore, IsUnextended}
+
+same-one : (e f : Event) → raw_input e ≡ raw_input f → e ≡ f
+same-one e f same =
+    same_event e f (ap (λ (r : RawInput). r.count) same)
+    (same_input e.input f.input (ap (λ (r : RawInput). r.kind) same) (ap (λ (r : RawInput). r.value) same))
+
+-- events that are written alike are the same
+pub same-events : (a b : List Event) → map raw_input a ≡ map raw_input b → a ≡ b
+same-events [] [] same = refl
+same-events [] (f ∷ fs) same = absurd (none same)
+  where
+    none : [] ≡ raw_input f ∷ map raw_input fs → ⊥
+    none is = cc
+same-events (e ∷ es) [] same = absurd (none same)
+  where
+    none : raw_input e ∷ map raw_input es ≡ [] → ⊥
+    none is = cc
+same-events (e ∷ es) (f ∷ fs) same =
+    let first : raw_input e ≡ raw_input f = cc in
+    let rest : map raw_input es ≡ map raw_input fs = cc in
+    ap (λ (x : Event). x ∷ es) (same-one e f first) ∙ ap (λ (l : List Event). f ∷ l) (same-events es fs rest)
+
+module _ (text : List ℕ) (inputs : List RawInput) (events : List Event) (state : RawState) (words sent : List ℕ) (claim : Claim)
+    (are : AreEvents inputs events) (count : claim.count ≡ state.count) (outcome : outcome_of claim ≡ claim_of state words sent) where
+  pub is-extension : (new : RecordingParts) (new_text : List ℕ) → IsMore text events claim new → TextIn VERSION new_text new
+      → IsExtension text inputs state words sent new_text
+  is-extension new new_text more text_is = record {
+    old = more.old;
+    is_text = more.is_text;
+    events = events;
+    are_events = are;
+    next = subst (λ (n : ℕ). IsNext more.old events n) count more.next;
+    new = new;
+    extended =
+        subst (λ (o : Outcome). IsExtended more.old events state.count o new) outcome
+        (subst (λ (n : ℕ). IsExtended more.old events n (outcome_of claim) new) count more.extended);
+    text_is = text_is;
+  }
+
+  pub can-follow : (new : RecordingParts) → IsMore text events claim new → IsWhole state words → CanFollow text inputs state words
+  can-follow new more whole = record {
+    is_whole = whole;
+    recording = more.old;
+    is_text = more.is_text;
+    events = events;
+    are_events = are;
+    next = subst (λ (n : ℕ). IsNext more.old events n) count more.next;
+  }
+
+  too-much : (fault : ExtendFault) → IsFull text events claim fault → HasTooMuch text inputs state words sent fault
+  too-much fault full = record {
+    recording = full.recording;
+    is_text = full.is_text;
+    events = events;
+    are_events = are;
+    too_much =
+        subst (λ (o : Outcome). IsTooMuch full.recording events state.count o fault) outcome
+        (subst (λ (n : ℕ). IsTooMuch full.recording events n (outcome_of claim) fault) count full.too_much);
+  }
+
+  pub unextended : HasOneRecording → (why : Unrecorded) → IsNoMore text events claim why → IsUnextended text inputs state words sent why
+  unextended one refusal.Range full = λ can.
+      let recording = one text can.recording full.recording can.is_text full.is_text in
+      let same = same-events can.events events (can.are_events.written ∙ sym are.written) in
+      full.too_much
+      (subst (λ (n : ℕ). IsNext full.recording events n) (sym count)
+      (subst (λ (es : List Event). IsNext full.recording es state.count) same
+      (subst (λ (r : RecordingParts). IsNext r can.events state.count) recording can.next)))
+  unextended one refusal.NoRecording fault = fault
+  unextended one refusal.Inputs full = too-much ExtendFault.Inputs full
+  unextended one refusal.Checkpoints full = too-much ExtendFault.Checkpoints full
+  unextended one refusal.Output full = too-much ExtendFault.Output full
+  unextended one refusal.Pages full = too-much ExtendFault.Pages full
+  unextended one refusal.Memory none = tt

@@ -1,0 +1,22 @@
+use Rattle.std.proofs.lemmas.Result.{err_from_is_err_and}
+use Rattle.oberon_format.proofs.One.{same_recording}
+use Rattle.galluspa.proofs.ExtendLemmas.{can-follow, is-extension, unextended}
+use Rattle.galluspa.proofs.extend.extension.Goals as goal
+
+pub returns-in_err-more-clause-refused : goal.returns-in_err-more-clause-refused
+returns-in_err-more-clause-refused c =
+    let from = err_from_is_err_and c.from_residual.result c.from_residual.ensures.1 in
+    rw (from.1, from.2)
+    (unextended c.args.text.now c.args.inputs.now c.in-Ok.inputs c.args.state.now c.args.words.now c.args.sent.now c.in-Some.claim
+    c.in-Ok.ensures.events c.in-Some.ensures.count c.in-Some.ensures.outcome same_recording _ c.in_err-more.ensures.refused)
+
+pub returns-in-Ok-write-clause-extension : goal.returns-in-Ok-write-clause-extension
+returns-in-Ok-write-clause-extension c =
+    is-extension c.args.text.now c.args.inputs.now c.in-Ok.inputs c.args.state.now c.args.words.now c.args.sent.now c.in-Some.claim
+    c.in-Ok.ensures.events c.in-Some.ensures.count c.in-Some.ensures.outcome c.in_ok-more.more c.in-Ok-write.bytes.items
+    c.in_ok-more.ensures.more c.in-Ok-write.ensures
+
+pub returns-in-Ok-write-clause-follows : goal.returns-in-Ok-write-clause-follows
+returns-in-Ok-write-clause-follows c =
+    can-follow c.args.text.now c.args.inputs.now c.in-Ok.inputs c.args.state.now c.args.words.now c.args.sent.now c.in-Some.claim
+    c.in-Ok.ensures.events c.in-Some.ensures.count c.in-Some.ensures.outcome c.in_ok-more.more c.in_ok-more.ensures.more c.in-Some.ensures.whole

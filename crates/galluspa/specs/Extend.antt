@@ -1,0 +1,72 @@
+-- A recording that a caller makes while a machine runs: how it begins, and its next checkpoint.
+use Rattle.std.specs.Prelude.{ℕ, ◌≡◌, ◌<◌, List, length}
+use Rattle.oberon_format.specs.Defined.{Outcome}
+use Rattle.oberon_format.specs.Recording.{RecordingParts}
+use Rattle.oberon_format.specs.Text.{Text, TextIn}
+use Rattle.oberon_format.specs.declared.layout.TheConstants.{VERSION}
+use Rattle.oberon_session.specs.Extended.{IsBegun, IsExtended, IsNext, IsTooMuch}
+use Rattle.oberon_session.specs.declared.extend_fault.ExtendFault.{ExtendFault}
+use Rattle.risc_machine.specs.declared.event.Event.{Event}
+use Rattle.galluspa.specs.declared.raw.RawState.{RawState}
+use Rattle.galluspa.specs.declared.raw.RawInput.{RawInput}
+use Rattle.galluspa.specs.declared.words.TheConstants.{WORDS}
+use Rattle.galluspa.specs.Raw.{AreDevices, AreEvents, IsCpu, state_of}
+
+-- such bytes are there, but they are more than there is room for: so many are needed
+abbrev pub NeedsRoom : (List ℕ → Type 0) → ℕ → ℕ → Type 0
+NeedsRoom Is room needed = (text : List ℕ) × Is text × (needed ≡ length text) × (room < needed)
+
+-- ---- the beginning
+
+-- a state with as many words as a memory has, each number in its range
+pub record IsWhole (state : RawState) (words : List ℕ) : Type 0 where
+  pub whole : length words ≡ WORDS
+  pub cpu : IsCpu state
+  pub devices : AreDevices state
+
+-- a recording can begin with the state: it is at count 0
+pub record CanBegin (state : RawState) (words : List ℕ) : Type 0 where
+  pub is_whole : IsWhole state words
+  pub begins : state.count ≡ 0
+
+-- the bytes are the recording that begins with a state at count 0, in the version that is written
+pub record IsBeginning (state : RawState) (words text : List ℕ) : Type 0 where
+  pub begins : state.count ≡ 0
+  pub recording : RecordingParts
+  pub begun : IsBegun (state_of state words) recording
+  pub text_is : TextIn VERSION text recording
+
+-- ---- the next checkpoint
+
+-- what the checkpoint claims: a state, and the bytes sent since the checkpoint before
+abbrev pub claim_of : RawState → List ℕ → List ℕ → Outcome
+claim_of state words sent = record { state = state_of state words; sent = sent }
+
+-- the bytes are a recording, and the inputs and the state come next: the state is at a later count than its last checkpoint, and
+-- the inputs come between the two
+pub record CanFollow (text : List ℕ) (inputs : List RawInput) (state : RawState) (words : List ℕ) : Type 0 where
+  pub is_whole : IsWhole state words
+  pub recording : RecordingParts
+  pub is_text : Text text recording
+  pub events : List Event
+  pub are_events : AreEvents inputs events
+  pub next : IsNext recording events state.count
+
+-- the second bytes are the recording that the first are, with these inputs and a checkpoint more, which claims this
+pub record IsExtension (text : List ℕ) (inputs : List RawInput) (state : RawState) (words sent new_text : List ℕ) : Type 0 where
+  pub old : RecordingParts
+  pub is_text : Text text old
+  pub events : List Event
+  pub are_events : AreEvents inputs events
+  pub next : IsNext old events state.count
+  pub new : RecordingParts
+  pub extended : IsExtended old events state.count (claim_of state words sent) new
+  pub text_is : TextIn VERSION new_text new
+
+-- the bytes are a recording, and with what follows it would have more of something than a recording may have
+pub record HasTooMuch (text : List ℕ) (inputs : List RawInput) (state : RawState) (words sent : List ℕ) (fault : ExtendFault) : Type 0 where
+  pub recording : RecordingParts
+  pub is_text : Text text recording
+  pub events : List Event
+  pub are_events : AreEvents inputs events
+  pub too_much : IsTooMuch recording events state.count (claim_of state words sent) fault

@@ -1,0 +1,58 @@
+-- A recording on the way to its next checkpoint.
+use Rattle.std.specs.Prelude.{ℕ, List, ⊤}
+use Rattle.risc_machine.specs.declared.event.Event.{Event}
+use Rattle.oberon_format.specs.Recording.{IsLawful, RecordingParts}
+use Rattle.oberon_format.specs.Text.{Text}
+use Rattle.oberon_session.specs.Extended.{IsExtended, IsNext, IsTooMuch, outcome_of}
+use Rattle.oberon_session.specs.declared.claim.Claim.{Claim}
+use Rattle.oberon_session.specs.declared.extend_fault.ExtendFault.{ExtendFault}
+use Rattle.oberon_session.specs.declared.extend_fault.ExtendFault.TheVariants as fault
+use Rattle.galluspa.specs.declared.extend.Unrecorded.{Unrecorded}
+use Rattle.galluspa.specs.declared.extend.Unrecorded.TheVariants as refusal
+use Rattle.galluspa.specs.declared.raw.RawState.{RawState}
+use Rattle.galluspa.specs.declared.raw.RawInput.{RawInput}
+use Rattle.galluspa.specs.Claim.{IsNoRecording}
+use Rattle.galluspa.specs.Extend.{CanFollow, HasTooMuch}
+
+-- the recording of the bytes, extended by a claim
+pub record IsMore (text : List ℕ) (events : List Event) (claim : Claim) (new : RecordingParts) : Type 0 where
+  pub old : RecordingParts
+  pub is_text : Text text old
+  pub next : IsNext old events claim.count
+  pub extended : IsExtended old events claim.count (outcome_of claim) new
+  pub lawful : IsLawful new
+
+-- the bytes are a recording, for which something is too much
+pub record IsFull (text : List ℕ) (events : List Event) (claim : Claim) (fault : ExtendFault) : Type 0 where
+  pub recording : RecordingParts
+  pub is_text : Text text recording
+  pub too_much : IsTooMuch recording events claim.count (outcome_of claim) fault
+
+-- what a caller is told
+abbrev pub unextended : ExtendFault → Unrecorded
+unextended fault.Order = refusal.Range
+unextended fault.Inputs = refusal.Inputs
+unextended fault.Checkpoints = refusal.Checkpoints
+unextended fault.Output = refusal.Output
+unextended fault.Pages = refusal.Pages
+unextended fault.Memory = refusal.Memory
+
+-- why it is not extended
+abbrev pub IsNoMore : List ℕ → List Event → Claim → Unrecorded → Type 0
+IsNoMore text events claim refusal.Range = IsFull text events claim ExtendFault.Order
+IsNoMore text events claim refusal.NoRecording = IsNoRecording text
+IsNoMore text events claim refusal.Inputs = IsFull text events claim ExtendFault.Inputs
+IsNoMore text events claim refusal.Checkpoints = IsFull text events claim ExtendFault.Checkpoints
+IsNoMore text events claim refusal.Output = IsFull text events claim ExtendFault.Output
+IsNoMore text events claim refusal.Pages = IsFull text events claim ExtendFault.Pages
+IsNoMore text events claim refusal.Memory = ⊤
+
+-- .. in the words of a caller
+abbrev pub IsUnextended : List ℕ → List RawInput → RawState → List ℕ → List ℕ → Unrecorded → Type 0
+IsUnextended text inputs state words sent refusal.Range = ¬ (CanFollow text inputs state words)
+IsUnextended text inputs state words sent refusal.NoRecording = IsNoRecording text
+IsUnextended text inputs state words sent refusal.Inputs = HasTooMuch text inputs state words sent ExtendFault.Inputs
+IsUnextended text inputs state words sent refusal.Checkpoints = HasTooMuch text inputs state words sent ExtendFault.Checkpoints
+IsUnextended text inputs state words sent refusal.Output = HasTooMuch text inputs state words sent ExtendFault.Output
+IsUnextended text inputs state words sent refusal.Pages = HasTooMuch text inputs state words sent ExtendFault.Pages
+IsUnextended text inputs state words sent refusal.Memory = ⊤

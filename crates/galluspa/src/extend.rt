@@ -1,0 +1,236 @@
+//! Recordings that a caller makes while a machine runs: how one begins, and its next checkpoint.
+ghost use Rattle.std.specs.Prelude.{◌≡◌, ◌≢◌, ◌<◌, ◌≤◌, ◌⊎◌, IfErr, IfNone, IfOk, IfSome, length, take};
+ghost use Rattle.risc_core.specs.declared.branch.TheConstants.{COUNTER_END};
+ghost use Rattle.oberon_session.specs.Extended.{outcome_of};
+ghost use Rattle.oberon_session.specs.declared.extend_fault.ExtendFault.{ExtendFault};
+ghost use Rattle.galluspa.specs.Claim.{IsNoRecording};
+ghost use Rattle.galluspa.specs.Extend.{CanBegin, CanFollow, HasTooMuch, IsBeginning, IsExtension, IsWhole, NeedsRoom, claim_of};
+ghost use Rattle.galluspa.specs.inner.Extending.{IsMore, IsNoMore, IsUnextended, unextended};
+
+use crate::advance::inputs_of;
+use crate::raw::{RawInput, RawState, cpu_of, devices_of};
+use crate::refusal::{
+    DONE, NO_RECORDING, NO_ROOM, OUT_OF_MEMORY, OUT_OF_RANGE, Refusal, TOO_MANY_CHECKPOINTS,
+    TOO_MANY_INPUTS, TOO_MANY_PAGES, TOO_MUCH_OUTPUT,
+};
+use crate::words::WORDS;
+use oberon_format::{Fault, Recording, read, write};
+use oberon_session::{Claim, ExtendFault, begin_recording, extend_recording};
+use risc_machine::Inputs;
+use std::alloc::Global;
+
+/// Why a recording was not begun, or not extended.
+#[derive(Clone, Copy)]
+pub enum Unrecorded {
+    /// A number is out of its range, a slice is not of its length, or what follows doesn't come next.
+    Range,
+    /// The bytes are no recording.
+    NoRecording,
+    /// There would be too many inputs.
+    Inputs,
+    /// There would be too many checkpoints.
+    Checkpoints,
+    /// Too many bytes would be sent.
+    Output,
+    /// There would be too many pages.
+    Pages,
+    /// An allocation failed.
+    Memory,
+}
+
+/// What a state claims, with its words and the bytes that were sent, if its numbers are in their ranges.
+fn claim_of<'a>(state: &RawState, words: &'a [u32], sent: &'a [u8]) -> Option<Claim<'a>>
+    ensures count { IfSome result (λ claim. claim.count ≡ state.now.count) }
+    ensures outcome { IfSome result (λ claim. outcome_of claim ≡ claim_of state.now words.now sent.now) }
+    ensures words { IfSome result (λ claim. length claim.words.now ≡ WORDS) }
+    ensures counter { IfSome result (λ claim. claim.cpu.pc < COUNTER_END) }
+    ensures stop { IfSome result (λ claim. claim.cpu.stop ≤ 4) }
+    ensures whole { IfSome result (λ _. IsWhole state.now words.now) }
+    ensures range { IfNone result (¬ (IsWhole state.now words.now)) }
+{
+    if words.len() != WORDS {
+        return None;
+    }
+    let Some(cpu) = cpu_of(state) else {
+        return None;
+    };
+    let Some(devices) = devices_of(state) else {
+        return None;
+    };
+    Some(Claim {
+        count: state.count,
+        cpu,
+        devices,
+        words,
+        sent,
+    })
+}
+
+/// The text of the recording that begins with a state.
+fn beginning(alloc: Global, state: &RawState, words: &[u32]) -> Result<Vec<u8>, Unrecorded>
+    ensures beginning { IfOk result (λ bytes. IsBeginning state.now words.now bytes.items) }
+    ensures whole { IfOk result (λ _. CanBegin state.now words.now) }
+    ensures range { IfErr result (λ refusal. refusal ≡ Unrecorded.Range → ¬ (CanBegin state.now words.now)) }
+    ensures refusal { IfErr result (λ refusal. (refusal ≡ Unrecorded.Range) ⊎ (refusal ≡ Unrecorded.Memory)) }
+{
+    if state.count != 0 {
+        return Err(Unrecorded::Range);
+    }
+    let Some(claim) = claim_of(state, words, &[]) else {
+        return Err(Unrecorded::Range);
+    };
+    let Ok(recording) = begin_recording(alloc, claim.cpu, claim.devices, words) else {
+        return Err(Unrecorded::Memory);
+    };
+    match write(alloc, &recording) {
+        Ok(bytes) => Ok(bytes),
+        Err(_) => Err(Unrecorded::Memory),
+    }
+}
+
+/// Why a recording is not extended.
+fn unextended(fault: ExtendFault) -> Unrecorded
+    ensures { result ≡ unextended fault }
+{
+    match fault {
+        ExtendFault::Order => Unrecorded::Range,
+        ExtendFault::Inputs => Unrecorded::Inputs,
+        ExtendFault::Checkpoints => Unrecorded::Checkpoints,
+        ExtendFault::Output => Unrecorded::Output,
+        ExtendFault::Pages => Unrecorded::Pages,
+        ExtendFault::Memory => Unrecorded::Memory,
+    }
+}
+
+/// The recording of a text, extended by a claim.
+fn extended(
+    alloc: Global,
+    text: &[u8],
+    inputs: &Inputs,
+    claim: &Claim<'_>,
+) -> Result<Recording, Unrecorded>
+    requires counter { claim.now.cpu.pc < COUNTER_END }
+    requires stop { claim.now.cpu.stop ≤ 4 }
+    requires whole { length claim.now.words.now ≡ WORDS }
+    ensures more { IfOk result (IsMore text.now inputs.now claim.now) }
+    ensures refused { IfErr result (IsNoMore text.now inputs.now claim.now) }
+{
+    let recording = match read(alloc, text) {
+        Ok(recording) => recording,
+        Err(Fault::Memory) => return Err(Unrecorded::Memory),
+        Err(_) => return Err(Unrecorded::NoRecording),
+    };
+    match extend_recording(alloc, recording, inputs.events(), claim) {
+        Ok(more) => Ok(more),
+        Err(fault) => Err(unextended(fault)),
+    }
+}
+
+/// The text of a recording with the inputs and the state that come next.
+fn extension(
+    alloc: Global,
+    text: &[u8],
+    inputs: &[RawInput],
+    state: &RawState,
+    words: &[u32],
+    sent: &[u8],
+) -> Result<Vec<u8>, Unrecorded>
+    ensures extension { IfOk result (λ bytes. IsExtension text.now inputs.now state.now words.now sent.now bytes.items) }
+    ensures follows { IfOk result (λ _. CanFollow text.now inputs.now state.now words.now) }
+    ensures refused { IfErr result (IsUnextended text.now inputs.now state.now words.now sent.now) }
+{
+    let Some(claim) = claim_of(state, words, sent) else {
+        return Err(Unrecorded::Range);
+    };
+    let inputs = match inputs_of(alloc, inputs) {
+        Ok(inputs) => inputs,
+        Err(Refusal::Memory) => return Err(Unrecorded::Memory),
+        Err(_) => return Err(Unrecorded::Range),
+    };
+    let more = extended(alloc, text, &inputs, &claim)?;
+    match write(alloc, &more) {
+        Ok(bytes) => Ok(bytes),
+        Err(_) => Err(Unrecorded::Memory),
+    }
+}
+
+/// Writes bytes to the front of `out`, and their number; or only their number, if there is no room.
+fn put(bytes: &[u8], out: &mut [u8], out_count: &mut usize) -> u8
+    ensures done { result ≡ DONE → (out_count.new ≤ length out.old) × (take out_count.new out.new ≡ bytes.now) }
+    ensures no_room { result ≡ NO_ROOM → (out_count.new ≡ length bytes.now) × (length out.old < out_count.new) }
+    ensures unchanged { result ≢ DONE → out.new ≡ out.old }
+    ensures codes { (result ≡ DONE) ⊎ (result ≡ NO_ROOM) }
+{
+    *out_count = bytes.len();
+    if bytes.len() > out.len() {
+        return NO_ROOM;
+    }
+    let (front, _) = out.split_at_mut(bytes.len());
+    front.copy_from_slice(bytes);
+    DONE
+}
+
+/// Writes the recording that begins with a state to the front of `out`, and its length; or returns the number of a refusal, and
+/// writes nothing but the length that is needed.
+pub fn begin(
+    alloc: Global,
+    state: &RawState,
+    words: &[u32],
+    out: &mut [u8],
+    out_count: &mut usize,
+) -> u8
+    ensures begun { result ≡ DONE → IsBeginning state.now words.now (take out_count.new out.new) }
+    ensures room { result ≡ DONE → out_count.new ≤ length out.old }
+    ensures no_room { result ≡ NO_ROOM → NeedsRoom (IsBeginning state.now words.now) (length out.old) out_count.new }
+    ensures unchanged { result ≢ DONE → out.new ≡ out.old }
+    ensures uncounted { result ≢ DONE → result ≢ NO_ROOM → out_count.new ≡ out_count.old }
+    ensures in_range { result ≡ DONE → CanBegin state.now words.now }
+    ensures range { result ≡ OUT_OF_RANGE → ¬ (CanBegin state.now words.now) }
+    ensures codes { result ≤ OUT_OF_MEMORY }
+{
+    match beginning(alloc, state, words) {
+        Ok(bytes) => put(&bytes, out, out_count),
+        Err(Unrecorded::Range) => OUT_OF_RANGE,
+        Err(_) => OUT_OF_MEMORY,
+    }
+}
+
+/// Writes the recording with a checkpoint more to the front of `out`, and its length; or returns the number of a refusal, and
+/// writes nothing but the length that is needed.
+pub fn extend(
+    alloc: Global,
+    text: &[u8],
+    inputs: &[RawInput],
+    state: &RawState,
+    words: &[u32],
+    sent: &[u8],
+    out: &mut [u8],
+    out_count: &mut usize,
+) -> u8
+    ensures extended { result ≡ DONE → IsExtension text.now inputs.now state.now words.now sent.now (take out_count.new out.new) }
+    ensures room { result ≡ DONE → out_count.new ≤ length out.old }
+    ensures no_room { result ≡ NO_ROOM →
+        NeedsRoom (IsExtension text.now inputs.now state.now words.now sent.now) (length out.old) out_count.new }
+    ensures unchanged { result ≢ DONE → out.new ≡ out.old }
+    ensures uncounted { result ≢ DONE → result ≢ NO_ROOM → out_count.new ≡ out_count.old }
+    ensures in_range { result ≡ DONE → CanFollow text.now inputs.now state.now words.now }
+    ensures range { result ≡ OUT_OF_RANGE → ¬ (CanFollow text.now inputs.now state.now words.now) }
+    ensures no_recording { result ≡ NO_RECORDING → IsNoRecording text.now }
+    ensures inputs { result ≡ TOO_MANY_INPUTS → HasTooMuch text.now inputs.now state.now words.now sent.now ExtendFault.Inputs }
+    ensures checkpoints { result ≡ TOO_MANY_CHECKPOINTS →
+        HasTooMuch text.now inputs.now state.now words.now sent.now ExtendFault.Checkpoints }
+    ensures output { result ≡ TOO_MUCH_OUTPUT → HasTooMuch text.now inputs.now state.now words.now sent.now ExtendFault.Output }
+    ensures pages { result ≡ TOO_MANY_PAGES → HasTooMuch text.now inputs.now state.now words.now sent.now ExtendFault.Pages }
+    ensures codes { result ≤ TOO_MANY_PAGES }
+{
+    match extension(alloc, text, inputs, state, words, sent) {
+        Ok(bytes) => put(&bytes, out, out_count),
+        Err(Unrecorded::Range) => OUT_OF_RANGE,
+        Err(Unrecorded::NoRecording) => NO_RECORDING,
+        Err(Unrecorded::Inputs) => TOO_MANY_INPUTS,
+        Err(Unrecorded::Checkpoints) => TOO_MANY_CHECKPOINTS,
+        Err(Unrecorded::Output) => TOO_MUCH_OUTPUT,
+        Err(Unrecorded::Pages) => TOO_MANY_PAGES,
+        Err(Unrecorded::Memory) => OUT_OF_MEMORY,
+    }
+}

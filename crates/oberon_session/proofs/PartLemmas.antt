@@ -1,0 +1,81 @@
+-- Parts of a session that break no rule are lawful, and lawful parts break none.
+use Rattle.std.proofs.Common.{◌<◌, ℕ, List, arith}
+use Rattle.std.specs.List.Sorted.{IsStrictlyIncreasing}
+use Rattle.risc_machine.specs.declared.cpu.Cpu.{Cpu}
+use Rattle.risc_machine.specs.declared.event.Event.{Event}
+use Rattle.risc_machine.specs.InputOrder.{AreOrdered}
+use Rattle.oberon_session.proofs.Lawful.{whole-pages}
+use Rattle.oberon_session.proofs.Mapped.{mapped-fit, mapped-rises}
+use Rattle.oberon_session.specs.Digits.{PlacedWords}
+use Rattle.oberon_session.specs.Parts.{AreInOrder, AreInRange, placed_view, session_of_parts}
+use Rattle.oberon_session.specs.SessionParts.{IsLawful, SessionParts}
+use Rattle.oberon_session.specs.inner.Tested.{PartsFit, RisesBy}
+use Rattle.oberon_session.specs.declared.digits.PlacedPage.{PlacedPage}
+
+module _ (cpu : Cpu) (rate phase : ℕ) (pages : List PlacedPage) (inputs : List Event) (counts : List ℕ) where
+  abbrev s : SessionParts
+  s = session_of_parts cpu rate phase pages inputs counts
+
+  pub in-range : PartsFit cpu rate phase pages inputs counts → AreInRange s
+  in-range fit =
+      let placed = (mapped-fit 1024 (λ (page : PlacedWords). page.at < 1024) placed_view pages).0 fit.2 in
+      record {
+        counter = fit.0.0;
+        running = fit.0.1;
+        timer = fit.1;
+        few = placed.0;
+        places = placed.1;
+        events = fit.3;
+        counts = fit.4;
+      }
+
+  pub range-fits : AreInRange s → PartsFit cpu rate phase pages inputs counts
+  range-fits range =
+      let placed = (mapped-fit 1024 (λ (page : PlacedWords). page.at < 1024) placed_view pages).1 (range.few, range.places) in
+      ((range.counter, range.running), range.timer, placed, range.events, range.counts)
+
+  pub in-order : RisesBy (λ (page : PlacedPage). page.at) pages × IsStrictlyIncreasing counts → AreInOrder s
+  in-order rise = record {
+    places = (mapped-rises (λ (page : PlacedWords). page.at) placed_view pages).0 rise.0;
+    counts = rise.1;
+  }
+
+  pub order-rises : AreInOrder s → RisesBy (λ (page : PlacedPage). page.at) pages × IsStrictlyIncreasing counts
+  order-rises order = ((mapped-rises (λ (page : PlacedWords). page.at) placed_view pages).1 order.places, order.counts)
+
+  pub parts-lawful : AreInRange s → AreInOrder s → AreOrdered inputs → IsLawful s
+  parts-lawful range order ordered = record {
+    cpu = record {
+      count = cpu.count;
+      registers = cpu.registers;
+      auxiliary = cpu.auxiliary;
+      counter = range.counter;
+      stops = omega (arith, range.running);
+    };
+    running = range.running;
+    timer = range.timer;
+    few = range.few;
+    places = range.places;
+    rising = order.places;
+    contents = whole-pages pages;
+    events = range.events;
+    ordered = ordered;
+    counts = range.counts;
+    rises = order.counts;
+  }
+
+-- ---- lawful parts break no rule
+
+pub lawful-range : (s : SessionParts) → IsLawful s → AreInRange s
+lawful-range s lawful = record {
+  counter = lawful.cpu.counter;
+  running = lawful.running;
+  timer = lawful.timer;
+  few = lawful.few;
+  places = lawful.places;
+  events = lawful.events;
+  counts = lawful.counts;
+}
+
+pub lawful-order : (s : SessionParts) → IsLawful s → AreInOrder s
+lawful-order s lawful = record { places = lawful.rising; counts = lawful.rises }

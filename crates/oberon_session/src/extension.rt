@@ -1,0 +1,218 @@
+//! Recordings that are made while a machine runs: one begins with a state, and gets a checkpoint more each time. No machine runs
+//! here, so whether what a checkpoint claims is true is for a check to say.
+
+ghost use Rattle.std.specs.Prelude.{◌≡◌, ◌+◌, ◌<◌, ◌≤◌, ◌^◌, ◌↔◌, ◌++◌, [], All, IfErr, IfNone, IfOk, IfSome, IsTrue, OnOk, length, map};
+ghost use Rattle.risc_core.specs.declared.branch.TheConstants.{COUNTER_END};
+ghost use Rattle.risc_devices.specs.DeviceState.{IsDeviceState};
+ghost use Rattle.risc_machine.specs.MachineState.{cpu_state};
+ghost use Rattle.risc_pages.specs.Pages.{ArePages};
+ghost use Rattle.risc_pages.specs.Tables.{IsNamed};
+ghost use Rattle.oberon_format.specs.CheckpointParts.{checkpoint_parts};
+ghost use Rattle.oberon_format.specs.Recording.{IsLawful, parts_of};
+ghost use Rattle.oberon_session.specs.Extended.{IsBegun, IsExtended, IsNext, IsTooMuch, outcome_of};
+ghost use Rattle.oberon_session.specs.inner.Growing.{HasGrown, NeedsPages, checkpoint_of, laid_on, last_laid};
+ghost use Rattle.oberon_session.specs.inner.Progress.{laid_view};
+
+use crate::claim::Claim;
+use crate::extend_fault::ExtendFault;
+use crate::laying::{LaidPages, lay_words};
+use crate::recorder::{bytes_fit, recording_of};
+use oberon_format::{Checkpoint, LAST_CHECKPOINT, MAX_COUNT, MAX_EVENTS, MAX_PAGES, Recording};
+use risc_devices::Devices;
+use risc_machine::{Cpu, Event, Inputs};
+use risc_pages::{Pool, Table};
+use std::alloc::{AllocError, Global};
+
+/// The recording that begins with a state: no inputs, and checkpoint 0 alone. It fails only for want of memory.
+pub fn begin_recording(
+    alloc: Global,
+    cpu: Cpu,
+    devices: Devices,
+    words: &[u32],
+) -> Result<Recording, AllocError>
+    requires counter { cpu.pc < COUNTER_END }
+    requires stop { cpu.stop ≤ 4 }
+    requires whole { length words.now ≡ 262144 }
+    ensures { IfOk result (IsBegun (record { cpu = cpu_state cpu; devices = devices; words = words.now })) }
+{
+    let mut laid = LaidPages {
+        pool: Pool::new(alloc),
+        table: Table::zeros(),
+    };
+    lay_words(alloc, &mut laid, words)?;
+    let mut checkpoints = Vec::new(alloc);
+    let claim = Claim {
+        count: 0,
+        cpu,
+        devices,
+        words,
+        sent: &[],
+    };
+    checkpoints.push(checkpoint_of(alloc, &claim, &laid.table)?)?;
+    // What the type of a pool says of its pages.
+    let _pages = laid.pool.len();
+    Ok(recording_of(laid.pool, no_inputs(alloc), checkpoints))
+}
+
+/// The recording with the inputs that came since its last checkpoint, and one checkpoint more, which makes this claim.
+///
+/// A recording that is refused is given up. The refusal says what is wrong or too much; where memory is wanting, `Memory` may stand
+/// in place of each answer.
+pub fn extend_recording(
+    alloc: Global,
+    recording: Recording,
+    inputs: &[Event],
+    claim: &Claim<'_>,
+) -> Result<Recording, ExtendFault>
+    requires counter { claim.now.cpu.pc < COUNTER_END }
+    requires stop { claim.now.cpu.stop ≤ 4 }
+    requires whole { length claim.now.words.now ≡ 262144 }
+    // The recording has the inputs and the checkpoint, and is else as it was.
+    ensures extended { IfOk result (IsExtended recording inputs.now claim.now.count (outcome_of claim.now)) }
+    // It is extended only by what comes next.
+    ensures next { OnOk result (IsNext recording inputs.now claim.now.count) }
+    // It is within all limits.
+    ensures lawful { IfOk result IsLawful }
+    // Else what the fault says is so.
+    ensures refused { IfErr result (IsTooMuch recording inputs.now claim.now.count (outcome_of claim.now)) }
+{
+    let inputs = next_inputs(alloc, &recording, inputs, claim)?;
+    let (laid, checkpoints) = next_checkpoints(alloc, recording, claim)?;
+    // All limits but that of the output were tested.
+    match made(laid.pool, inputs, checkpoints) {
+        Some(recording) => Ok(recording),
+        None => Err(ExtendFault::Output),
+    }
+}
+
+/// The recording of parts, if they are lawful.
+fn made(pool: Pool, inputs: Inputs, checkpoints: Vec<Checkpoint>) -> Option<Recording>
+    ensures made { IfSome result (λ r. (r ≡ parts_of pool inputs checkpoints.items) × IsLawful (parts_of pool inputs checkpoints.items)) }
+    ensures unlawful { IfNone result (¬ (IsLawful (parts_of pool inputs checkpoints.items))) }
+{
+    Recording::from_parts(pool, inputs, checkpoints).ok()
+}
+
+/// The inputs of a recording with those that come next, if it has room for these and for a checkpoint.
+fn next_inputs(
+    alloc: Global,
+    recording: &Recording,
+    inputs: &[Event],
+    claim: &Claim<'_>,
+) -> Result<Inputs, ExtendFault>
+    ensures inputs { IfOk result (λ all. all ≡ recording.now.inputs ++ inputs.now) }
+    ensures next { OnOk result (IsNext recording.now inputs.now claim.now.count) }
+    ensures events { OnOk result (length (recording.now.inputs ++ inputs.now) ≤ MAX_EVENTS) }
+    ensures checkpoints { OnOk result (length recording.now.checkpoints ≤ LAST_CHECKPOINT) }
+    ensures refused { IfErr result (IsTooMuch recording.now inputs.now claim.now.count (outcome_of claim.now)) }
+{
+    let last = recording.checkpoint(recording.count() - 1).count;
+    if claim.count <= last || claim.count > MAX_COUNT || !are_between(last, claim.count, inputs) {
+        return Err(ExtendFault::Order);
+    }
+    let before = recording.inputs().events();
+    if inputs.len() > MAX_EVENTS as usize - before.len() {
+        return Err(ExtendFault::Inputs);
+    }
+    if recording.count() > LAST_CHECKPOINT {
+        return Err(ExtendFault::Checkpoints);
+    }
+    let all = joined(alloc, before, inputs)?;
+    match Inputs::new(all) {
+        Ok(all) => Ok(all),
+        Err(_) => Err(ExtendFault::Order),
+    }
+}
+
+/// Whether inputs come at one count or later, and before another one.
+fn are_between(from: u64, to: u64, inputs: &[Event]) -> bool
+    ensures { IsTrue result ↔ All (λ e. (from ≤ e.count) × (e.count < to)) inputs.now }
+{
+    inputs
+        .iter()
+        .all(|event| from <= event.count && event.count < to)
+}
+
+/// Events, and others after them.
+fn joined(alloc: Global, before: &[Event], after: &[Event]) -> Result<Vec<Event>, AllocError>
+    requires { length before.now + length after.now < 2 ^ 32 }
+    ensures { IfOk result (λ all. all.items ≡ before.now ++ after.now) }
+{
+    let mut all = Vec::with_capacity(alloc, before.len() + after.len())?;
+    all.extend_from_slice(before)?;
+    all.extend_from_slice(after)?;
+    Ok(all)
+}
+
+/// The pages and the checkpoints of a recording, with the checkpoint that makes a claim.
+fn next_checkpoints(
+    alloc: Global,
+    recording: Recording,
+    claim: &Claim<'_>,
+) -> Result<(LaidPages, Vec<Checkpoint>), ExtendFault>
+    requires { length claim.now.words.now ≡ 262144 }
+    ensures lawful { IsLawful recording }
+    ensures grown { IfOk result (λ grown. HasGrown recording claim.now (laid_view grown.0) (map checkpoint_parts grown.1.items)) }
+    ensures refused { IfErr result (NeedsPages (last_laid recording) claim.now.words.now) }
+{
+    let (pool, _inputs, mut checkpoints) = recording.into_parts();
+    let last = &checkpoints[checkpoints.len() - 1];
+    let laid = next_laid(alloc, pool, &last.table, claim.words)?;
+    let next = checkpoint_of(alloc, claim, &laid.table)?;
+    checkpoints.push(next)?;
+    Ok((laid, checkpoints))
+}
+
+/// A pool with the pages of words that differ from the content of a table, and the table of the words.
+fn next_laid(
+    alloc: Global,
+    pool: Pool,
+    table: &Table,
+    words: &[u32],
+) -> Result<LaidPages, ExtendFault>
+    requires whole { length words.now ≡ 262144 }
+    requires named { IsNamed pool table.now }
+    requires room { length pool ≤ MAX_PAGES }
+    ensures laid { IfOk result (λ laid. laid_view laid ≡ laid_on (record { pool = pool; table = table.now }) words.now) }
+    ensures few { IfOk result (λ laid. length laid.pool ≤ MAX_PAGES) }
+    ensures pages { IfOk result (λ laid. ArePages laid.pool) }
+    ensures refused { IfErr result (NeedsPages (record { pool = pool; table = table.now }) words.now) }
+{
+    let mut laid = LaidPages {
+        pool,
+        table: table.copy(),
+    };
+    lay_words(alloc, &mut laid, words)?;
+    if laid.pool.len() > MAX_PAGES {
+        return Err(ExtendFault::Pages);
+    }
+    Ok(laid)
+}
+
+/// The checkpoint that makes a claim, over a table.
+fn checkpoint_of(alloc: Global, claim: &Claim<'_>, table: &Table) -> Result<Checkpoint, AllocError>
+    ensures checkpoint { IfOk result (λ c. checkpoint_parts c ≡ checkpoint_of claim.now table.now) }
+    ensures devices { IsDeviceState claim.now.devices }
+    ensures bytes { All (λ byte. byte < 2 ^ 8) claim.now.sent.now }
+{
+    // Each read of devices says that they are in their ranges.
+    let _timer = claim.devices.timer();
+    bytes_fit(claim.sent);
+    Ok(Checkpoint {
+        count: claim.count,
+        cpu: claim.cpu,
+        devices: claim.devices.copy(),
+        sent: Vec::from_slice(alloc, claim.sent)?,
+        table: table.copy(),
+    })
+}
+
+/// No inputs. Takes no memory.
+fn no_inputs(alloc: Global) -> Inputs
+    ensures { result ≡ [] }
+{
+    match Inputs::new(Vec::new(alloc)) {
+        Ok(inputs) => inputs,
+        Err(_) => unreachable!(),
+    }
+}

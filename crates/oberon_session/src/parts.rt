@@ -1,0 +1,84 @@
+//! The parts that a session is made of, tested by the rules of a session. Takes no memory.
+
+ghost use Rattle.std.specs.Prelude.{◌≡◌, ◌<◌, ◌↔◌, IfNone, IfSome, IsTrue};
+ghost use Rattle.std.specs.List.Sorted.{IsStrictlyIncreasing};
+ghost use Rattle.risc_core.specs.declared.branch.TheConstants.{COUNTER_END};
+ghost use Rattle.oberon_session.specs.Parts.{BreaksParts, session_of_parts};
+ghost use Rattle.oberon_session.specs.SessionParts.{IsLawful};
+ghost use Rattle.oberon_session.specs.inner.Tested.{PartsFit, PlacedFit, RisesBy};
+
+use crate::SessionFault;
+use crate::digits::PlacedPage;
+use crate::range::{counts_fit, rises, timer_fits};
+use oberon_format::MAX_EVENTS;
+use risc_core::COUNTER_END;
+use risc_machine::{Cpu, Inputs};
+
+/// The first rule that parts break.
+pub fn parts_fault(
+    cpu: &Cpu,
+    rate: u32,
+    phase: u32,
+    pages: &[PlacedPage],
+    inputs: &Inputs,
+    counts: &[u64],
+) -> Option<SessionFault>
+    ensures some { IfSome result (BreaksParts (session_of_parts cpu.now rate phase pages.now inputs.now counts.now)) }
+    ensures none { IfNone result (IsLawful (session_of_parts cpu.now rate phase pages.now inputs.now counts.now)) }
+{
+    if !are_in_range(cpu, rate, phase, pages, inputs, counts) {
+        return Some(SessionFault::Range);
+    }
+    if !are_in_order(pages, counts) {
+        return Some(SessionFault::Order);
+    }
+    // What the type of inputs says of them.
+    let _events = inputs.events();
+    None
+}
+
+/// Whether numbers are in their ranges, there are few enough of them, and the processor runs.
+fn are_in_range(
+    cpu: &Cpu,
+    rate: u32,
+    phase: u32,
+    pages: &[PlacedPage],
+    inputs: &Inputs,
+    counts: &[u64],
+) -> bool
+    ensures { IsTrue result ↔ PartsFit cpu.now rate phase pages.now inputs.now counts.now }
+{
+    runs(cpu)
+        && timer_fits(rate as u64, phase as u64)
+        && pages_fit(pages)
+        && inputs.events().len() <= MAX_EVENTS as usize
+        && counts_fit(counts)
+}
+
+/// Whether places of pages and counts of checkpoints rise.
+fn are_in_order(pages: &[PlacedPage], counts: &[u64]) -> bool
+    ensures { IsTrue result ↔ (RisesBy (λ page. page.at) pages.now × IsStrictlyIncreasing counts.now) }
+{
+    places_rise(pages) && rises(counts)
+}
+
+/// Whether a processor runs, and its program counter is in its range.
+fn runs(cpu: &Cpu) -> bool
+    ensures { IsTrue result ↔ ((cpu.now.pc < COUNTER_END) × (cpu.now.stop ≡ 0)) }
+{
+    cpu.pc < COUNTER_END && cpu.stop == 0
+}
+
+/// Whether there are at most 1,024 pages, each at a place below 1,024.
+fn pages_fit(pages: &[PlacedPage]) -> bool
+    ensures { IsTrue result ↔ PlacedFit pages.now }
+{
+    pages.len() <= 1_024 && pages.iter().all(|page| page.at < 1_024)
+}
+
+/// Whether the places of pages rise.
+fn places_rise(pages: &[PlacedPage]) -> bool
+    ensures { IsTrue result ↔ RisesBy (λ page. page.at) pages.now }
+{
+    pages.windows(2).all(|pair| pair[0].at < pair[1].at)
+}

@@ -1,0 +1,204 @@
+//! Sessions that are made of their parts: the refusals in turn, and the session of the stored run.
+
+ghost use Rattle.std.specs.Prelude.{◌<◌, ◌^◌, All};
+
+use super::{START, recording_of};
+use oberon_format::write;
+use oberon_session::{PlacedPage, Session, SessionFault, make_recording};
+use risc_machine::{Cpu, Flags, Inputs};
+use risc_pages::Page;
+use std::alloc::Global;
+
+/// The numbers of which parts are made: all else in them is 0.
+#[derive(Clone, Copy)]
+struct Numbers {
+    pc: u32,
+    stop: u8,
+    rate: u32,
+    phase: u32,
+    places: [u16; 2],
+    counts: [u64; 2],
+}
+
+/// Numbers that are lawful.
+const LAWFUL: Numbers = Numbers {
+    pc: 4_194_303,
+    stop: 0,
+    rate: 10,
+    phase: 9,
+    places: [0, 1_023],
+    counts: [1, 1_099_511_627_776],
+};
+
+/// The first fault of parts with other numbers.
+const FAULTS: [(&str, Numbers, Option<SessionFault>); 9] = [
+    ("lawful", LAWFUL, None),
+    (
+        "program counter",
+        Numbers {
+            pc: 4_194_304,
+            ..LAWFUL
+        },
+        Some(SessionFault::Range),
+    ),
+    (
+        "stop",
+        Numbers { stop: 1, ..LAWFUL },
+        Some(SessionFault::Range),
+    ),
+    (
+        "phase",
+        Numbers {
+            phase: 10,
+            ..LAWFUL
+        },
+        Some(SessionFault::Range),
+    ),
+    (
+        "place",
+        Numbers {
+            places: [0, 1_024],
+            ..LAWFUL
+        },
+        Some(SessionFault::Range),
+    ),
+    (
+        "count",
+        Numbers {
+            counts: [0, 1],
+            ..LAWFUL
+        },
+        Some(SessionFault::Range),
+    ),
+    (
+        "places that don't rise",
+        Numbers {
+            places: [3, 3],
+            ..LAWFUL
+        },
+        Some(SessionFault::Order),
+    ),
+    (
+        "counts that don't rise",
+        Numbers {
+            counts: [2, 2],
+            ..LAWFUL
+        },
+        Some(SessionFault::Order),
+    ),
+    (
+        "order and range",
+        Numbers {
+            stop: 1,
+            counts: [2, 2],
+            ..LAWFUL
+        },
+        Some(SessionFault::Range),
+    ),
+];
+
+/// A processor whose registers and flags are 0.
+fn cpu_at(pc: u32, stop: u8) -> Cpu {
+    Cpu {
+        r: [0; 16],
+        h: 0,
+        pc,
+        flags: Flags::from_number(0),
+        stop,
+    }
+}
+
+/// Each word is a number of four bytes, as its type says.
+fn words_fit(words: &[u32])
+    ensures { All (λ word. word < 2 ^ 32) words.now }
+{}
+
+/// A page whose first word is given, at a place.
+fn page_at(at: u16, word: u32) -> PlacedPage {
+    let mut words = [0; 256];
+    words[0] = word;
+    words_fit(&words);
+    PlacedPage {
+        at,
+        page: Page { words },
+    }
+}
+
+/// The session of parts without inputs, if there is room for them, or its fault.
+fn session_of(
+    alloc: Global,
+    numbers: &Numbers,
+    pages: &[PlacedPage],
+    counts: &[u64],
+) -> Option<Result<Session, SessionFault>> {
+    let inputs = Inputs::new(Vec::new(alloc)).ok()?;
+    let pages = Vec::from_slice(alloc, pages).ok()?;
+    let counts = Vec::from_slice(alloc, counts).ok()?;
+    Some(Session::from_parts(
+        cpu_at(numbers.pc, numbers.stop),
+        numbers.rate,
+        numbers.phase,
+        pages,
+        inputs,
+        counts,
+    ))
+}
+
+/// Whether parts of these numbers have this fault, or none.
+fn has_fault(alloc: Global, numbers: &Numbers, fault: Option<SessionFault>) -> bool {
+    let pages = [page_at(numbers.places[0], 1), page_at(numbers.places[1], 2)];
+    match session_of(alloc, numbers, &pages, &numbers.counts) {
+        Some(session) => session.err() == fault,
+        None => false,
+    }
+}
+
+/// The first parts that have another fault.
+fn parts_of_another_fault(alloc: Global) -> Option<&'static str> {
+    for (name, numbers, fault) in &FAULTS {
+        if !has_fault(alloc, numbers, *fault) {
+            return Some(*name);
+        }
+    }
+    None
+}
+
+#[test]
+fn refuses_parts_by_the_rules_of_a_session(rt: HostRuntime) {
+    if let Some(name) = parts_of_another_fault(rt.alloc()) {
+        panic!(rt; "{name}");
+    }
+}
+
+/// The text of the recording of a session of parts: MOV R0, 5 at word 0, and a checkpoint at 100.
+fn text_of_parts(alloc: Global) -> Option<Vec<u8>> {
+    let zeros = Numbers {
+        pc: 0,
+        rate: 0,
+        phase: 0,
+        ..LAWFUL
+    };
+    let session = session_of(alloc, &zeros, &[page_at(0, 0x4000_0005)], &[100])?.ok()?;
+    let recording = make_recording(alloc, &session).ok()?;
+    write(alloc, &recording).ok()
+}
+
+/// The text of the recording of the same session, read from JSON.
+fn text_of_json(alloc: Global) -> Option<Vec<u8>> {
+    let text = format!(in alloc;
+        "{START}\"pages\":[{{\"at\":0,\"hex\":\"05000040\"}}],\"inputs\":[],\"checkpoints\":[100]}}"
+    );
+    let recording = recording_of(alloc, text.ok()?.as_str())?;
+    write(alloc, &recording).ok()
+}
+
+#[test]
+fn records_parts_as_their_text(rt: HostRuntime) {
+    let alloc = rt.alloc();
+    match (text_of_parts(alloc), text_of_json(alloc)) {
+        (Some(parts), Some(json)) => {
+            assert!(rt; parts.as_slice() == json.as_slice(), "the same recording");
+        }
+        _ => panic!(rt; "no memory"),
+    }
+}

@@ -1,0 +1,65 @@
+"""The live machine in a report: what web/galluspa.html holds, and the recording that it opens."""
+
+import base64
+import gzip
+import hashlib
+import json
+import re
+from dataclasses import dataclass
+from pathlib import Path
+
+from markupsafe import Markup
+
+from galluspa.command import Refused
+from galluspa.program import TOP
+
+PAGE = TOP / "web/galluspa.html"
+POLICY = "default-src 'none'; script-src {scripts} 'wasm-unsafe-eval'; worker-src blob:; style-src 'unsafe-inline'; img-src data: blob:; " \
+         "base-uri 'none'; form-action 'none'"
+
+
+@dataclass(frozen=True)
+class Live:
+    """The parts of a report that runs: the policy of its scripts, the machine with its style sheet, the recording, and the script that begins."""
+
+    policy: str
+    style: Markup
+    machine: Markup
+    recording: str
+    script: Markup
+
+    @staticmethod
+    def of(name: str, text: bytes) -> "Live":
+        """The live machine around a recording of a name."""
+        try:
+            page = PAGE.read_text()
+        except OSError as error:
+            raise Refused(f"{PAGE}: {error.strerror}; the report is made live by that page") from error
+        machine = _part(page, r"<!-- begin machine -->\n(.*?)<!-- end machine -->")
+        begin = f"beginReport({_quoted(name)});"
+        scripts = " ".join(map(_hashed, (_part(page, r'<script id="g-script">(.*?)</script>'), begin)))
+        return Live(
+            policy=POLICY.format(scripts=scripts),
+            style=Markup(_part(page, r'<style id="g-style">(.*?)</style>')),
+            machine=Markup(machine),
+            recording=base64.b64encode(gzip.compress(text, mtime=0)).decode(),
+            script=Markup(begin),
+        )
+
+
+def _part(page: str, pattern: str) -> str:
+    """A part of the page, by a pattern."""
+    found = re.search(pattern, page, re.S)
+    if not found:
+        raise Refused(f"{PAGE}: it is not a page that web/build made")
+    return found[1]
+
+
+def _quoted(text: str) -> str:
+    """A text as a script writes it, with nothing in it that ends the script."""
+    return json.dumps(text).replace("<", "\\u003c")
+
+
+def _hashed(script: str) -> str:
+    """The source expression by which a policy lets a script run."""
+    return f"'sha256-{base64.b64encode(hashlib.sha256(script.encode()).digest()).decode()}'"

@@ -1,0 +1,337 @@
+/* Recordings, sessions and memory images as docs/formats.md describes them. A recording is read here only once the proved library has
+ * found it lawful, so that its fields can be shown and its inputs played back. A session is read by the rules of docs/formats.md, in
+ * their order; tests/page compares the refusals with those of the program. */
+"use strict";
+
+const PAGE_LIMIT = 1024, INPUT_LIMIT = 1000000, CHECKPOINT_LIMIT = 4096, LONGEST_SESSION = 67108864, DEPTH = 127;
+const MOUSE_MASK = 0x073ff3ff, PC_END = 1 << 22;
+const MOST_VALUE = { timer: 0xffffffff, switches: 0xfff, mouse: MOUSE_MASK, key: 0xff, serial: 0xff };
+
+/** Inputs in the order of their counts, 16 bytes each: the layout of a recording's events. */
+class Inputs {
+  constructor(bytes = new Uint8Array(0)) {
+    this.length = bytes.length / INPUT_BYTES;
+    this.room = bytes.slice();
+  }
+
+  get bytes() {
+    return this.room.subarray(0, this.length * INPUT_BYTES);
+  }
+
+  get view() {
+    return new DataView(this.room.buffer);
+  }
+
+  push(count, kind, value) {
+    if (this.bytes.length === this.room.length) {
+      const room = new Uint8Array(Math.max(1024, 2 * this.room.length));
+      room.set(this.room);
+      this.room = room;
+    }
+    const at = INPUT_BYTES * this.length++, view = this.view;
+    view.setBigUint64(at, BigInt(count), true);
+    view.setUint32(at + 8, kind, true);
+    view.setUint32(at + 12, value, true);
+  }
+
+  count(at) {
+    return Number(this.view.getBigUint64(INPUT_BYTES * at, true));
+  }
+
+  kind(at) {
+    return this.view.getUint32(INPUT_BYTES * at + 8, true);
+  }
+
+  /** The input at a position, as a session writes it. */
+  item(at) {
+    return [this.count(at), KINDS[this.kind(at)], this.view.getUint32(INPUT_BYTES * at + 12, true)];
+  }
+
+  /** The first position, from one on, whose input does not come before a count. */
+  from(count, at = 0) {
+    while (at < this.length && this.count(at) < count) at++;
+    return at;
+  }
+}
+
+/** What a lawful recording holds: its inputs, and of each checkpoint its count and the bytes sent since the one before. */
+function readRecording(text) {
+  const view = new DataView(text.buffer, text.byteOffset, text.length);
+  const [version, pages, events, checkpoints] = [4, 8, 12, 16].map((at) => view.getUint32(at, true));
+  const eventsAt = 24 + PAGE_BYTES * pages;
+  let at = eventsAt + INPUT_BYTES * events;
+  const claims = [];
+  for (let k = 0; k < checkpoints; k++) {
+    claims.push({ count: Number(view.getBigUint64(at, true)), sent: view.getUint32(at + 128, true) });
+    at += version === 1 ? 4228 : 144 + 8 * view.getUint32(at + 140, true);
+  }
+  for (const claim of claims) claim.sent = text.subarray(at, (at += claim.sent));
+  return { text, version, pages, claims, inputs: new Inputs(text.subarray(eventsAt, eventsAt + INPUT_BYTES * events)) };
+}
+
+/** A reader of JSON that takes and refuses what the program's reader does; numbers come as BigInt, or as null if not whole. */
+class JsonReader {
+  constructor(text) {
+    this.text = text;
+    this.at = 0;
+  }
+
+  document() {
+    const value = this.value(0);
+    this.space();
+    if (this.at < this.text.length) this.fail();
+    return value;
+  }
+
+  fail() {
+    throw new Refused("session refused 1 json");
+  }
+
+  space() {
+    while (" \t\n\r".includes(this.text[this.at] ?? "x")) this.at++;
+  }
+
+  /** Steps over a character that has to be here, after spaces. */
+  expect(character) {
+    this.space();
+    if (this.text[this.at] !== character) this.fail();
+    this.at++;
+  }
+
+  is(character) {
+    this.space();
+    return this.text[this.at] === character;
+  }
+
+  value(depth) {
+    this.space();
+    const first = this.text[this.at];
+    if (first === "{" || first === "[") {
+      if (depth === DEPTH) this.fail();
+      return first === "{" ? this.object(depth + 1) : this.array(depth + 1);
+    }
+    if (first === '"') return this.string();
+    for (const [word, value] of [["true", true], ["false", false], ["null", undefined]]) {
+      if (this.text.startsWith(word, this.at)) return (this.at += word.length), value;
+    }
+    return this.number();
+  }
+
+  object(depth) {
+    const members = new Map();
+    this.expect("{");
+    if (!this.is("}")) {
+      do {
+        this.space();
+        const name = this.string();
+        this.expect(":");
+        members.set(name, this.value(depth));
+      } while (this.is(",") && ++this.at);
+    }
+    this.expect("}");
+    return members;
+  }
+
+  array(depth) {
+    const items = [];
+    this.expect("[");
+    if (!this.is("]")) {
+      do items.push(this.value(depth));
+      while (this.is(",") && ++this.at);
+    }
+    this.expect("]");
+    return items;
+  }
+
+  string() {
+    if (this.text[this.at] !== '"') this.fail();
+    let end = this.at + 1;
+    for (let code; (code = this.text.charCodeAt(end)) !== 0x22; end += code === 0x5c ? 2 : 1) if (!(code >= 0x20)) this.fail();
+    const read = unescaped(this.text.slice(this.at, end + 1));
+    if (!read?.isWellFormed()) this.fail();
+    this.at = end + 1;
+    return read;
+  }
+
+  number() {
+    const NUMBER = /-?(?:0|[1-9]\d*)(\.\d+)?([eE][+-]?\d+)?/y;
+    NUMBER.lastIndex = this.at;
+    const found = NUMBER.exec(this.text);
+    if (!found || /[\d.eE+-]/.test(this.text[NUMBER.lastIndex] ?? "")) this.fail();
+    this.at = NUMBER.lastIndex;
+    if (!Number.isFinite(Number(found[0]))) this.fail();
+    const isWhole = found[0][0] !== "-" && !found[1] && !found[2];
+    const whole = isWhole ? BigInt(found[0]) : null;
+    return whole !== null && whole < 1n << 64n ? whole : null;
+  }
+}
+
+/** The text that a JSON string writes, or undefined if an escape is wrong. */
+function unescaped(written) {
+  try {
+    return JSON.parse(written);
+  } catch {
+    return undefined;
+  }
+}
+
+const shape = (is) => { if (!is) throw new Refused("session refused 2 shape"); };
+const range = (is) => { if (!is) throw new Refused("session refused 3 range"); };
+const order = (is) => { if (!is) throw new Refused("session refused 4 order"); };
+const shapeText = (value) => (shape(typeof value === "string"), value);
+const shapeNumber = (value) => (shape(typeof value === "bigint"), value);
+const shapeItems = (value) => (shape(Array.isArray(value)), value);
+
+/** The members of an object that has exactly these. */
+function shapeMembers(value, names) {
+  shape(value instanceof Map && value.size === names.length);
+  return names.map((name) => (shape(value.has(name)), value.get(name)));
+}
+
+/** The parts of a session in JSON: its first state, words, inputs, and the counts of its checkpoints. */
+function readSession(bytes) {
+  range(bytes.length <= LONGEST_SESSION);
+  const draft = shapedSession(new JsonReader(utf8Text(bytes)).document());
+  testRanges(draft);
+  const rising = (numbers) => numbers.every((number, at) => at === 0 || numbers[at - 1] < number);
+  order(rising(draft.pages.map(([at]) => at)) && rising(draft.checkpoints));
+  order(draft.inputs.every(([count], at) => at === 0 || draft.inputs[at - 1][0] <= count));
+  return partsOfDraft(draft);
+}
+
+function utf8Text(bytes) {
+  try {
+    return new TextDecoder("utf-8", { fatal: true, ignoreBOM: true }).decode(bytes);
+  } catch {
+    throw new Refused("session refused 1 json");
+  }
+}
+
+function shapedSession(value) {
+  const members = shapeMembers(value, ["format", "version", "start", "pages", "inputs", "checkpoints"]);
+  shape(shapeText(members[0]) === "oberon-session");
+  const version = shapeNumber(members[1]);
+  shape(version === 1n || version === 2n);
+  const [r, ...start] = shapeMembers(members[2], ["R", "H", "PC", "flags", ...(version === 2n ? ["rate", "phase"] : [])]);
+  const registers = shapeItems(r).map(shapeNumber);
+  shape(registers.length === 16);
+  return {
+    registers,
+    start: [...start.map(shapeNumber), 0n, 0n].slice(0, 5),
+    pages: shapeItems(members[3]).map((page) => {
+      const [at, digits] = shapeMembers(page, ["at", "hex"]);
+      return [shapeNumber(at), shapeText(digits)];
+    }),
+    inputs: shapeItems(members[4]).map(shapedInput),
+    checkpoints: shapeItems(members[5]).map(shapeNumber),
+  };
+}
+
+function shapedInput(value) {
+  shape(shapeItems(value).length === 3);
+  const kind = KINDS.indexOf(shapeText(value[1]));
+  shape(kind > 0);
+  return [shapeNumber(value[0]), kind, shapeNumber(value[2])];
+}
+
+function testRanges({ registers, start: [h, pc, flags, rate, phase], pages, inputs, checkpoints }) {
+  const isWord = (number) => number < 1n << 32n, most = BigInt(MOST_COUNT);
+  range(registers.every(isWord) && isWord(h) && pc < PC_END && flags < 16n);
+  range(isWord(rate) && isWord(phase) && (rate ? phase < rate : phase === 0n));
+  const length = (digits) => new TextEncoder().encode(digits).length;
+  range(pages.length <= PAGE_LIMIT && pages.every(([at, digits]) => at < PAGE_LIMIT && length(digits) <= 2 * PAGE_BYTES));
+  range(inputs.length <= INPUT_LIMIT && inputs.every(([count, kind, value]) => count <= most && isInput(kind, value)));
+  range(checkpoints.length <= CHECKPOINT_LIMIT && checkpoints.every((count) => count >= 1n && count <= most));
+}
+
+function isInput(kind, value) {
+  const most = BigInt(MOST_VALUE[KINDS[kind]]);
+  return value <= most && (KINDS[kind] !== "mouse" || (value & ~most) === 0n);
+}
+
+function partsOfDraft({ registers, start, pages, inputs, checkpoints }) {
+  const words = new Uint8Array(MEMORY_BYTES);
+  for (const [at, digits] of pages) {
+    if (digits.length % 2 || !/^[0-9a-fA-F]*$/.test(digits)) throw new Refused("session refused 5 hex");
+    words.set(bytesOfHex(digits), PAGE_BYTES * Number(at));
+  }
+  const list = new Inputs();
+  for (const [count, kind, value] of inputs) list.push(Number(count), kind, Number(value));
+  return { state: stateOf(registers.map(Number), start.map(Number)), words, inputs: list, checkpoints: checkpoints.map(Number) };
+}
+
+function bytesOfHex(digits) {
+  return Uint8Array.from({ length: digits.length / 2 }, (_, at) => parseInt(digits.substr(2 * at, 2), 16));
+}
+
+/** A state at count 0 whose devices are zeros. */
+function stateOf(registers, [h, pc, flags, rate, phase]) {
+  const state = new Uint8Array(STATE_BYTES), view = new DataView(state.buffer);
+  registers.forEach((value, at) => view.setUint32(AT.R + 4 * at, value, true));
+  for (const [name, value] of Object.entries({ H: h, PC: pc, flags, rate, phase })) view.setUint32(AT[name], value, true);
+  return state;
+}
+
+/** The parts of a session that begins with a memory image at a byte address, and with registers written as `PC=0 R14=0x80000`. */
+function readImage(image, address, written) {
+  const start = whole(address, MEMORY_BYTES, "the address");
+  if (start + image.length > MEMORY_BYTES)
+    throw new Refused(`${image.length} bytes from ${start} on go beyond the memory of ${MEMORY_BYTES} bytes`);
+  const registers = Array(16).fill(0), rest = { H: 0, PC: 0, flags: 0, rate: 25000, phase: 0 };
+  const most = { PC: PC_END - 1, flags: 15 };
+  for (const assignment of written.split(/[\s,;]+/).filter(Boolean)) {
+    const [name, value = ""] = assignment.split("=");
+    if (!REGISTERS.includes(name) && !(name in rest)) throw new Refused(`${assignment}: want R0 to R15, H, PC, flags, rate or phase`);
+    const number = whole(value, most[name] ?? 0xffffffff, assignment);
+    if (name in rest) rest[name] = number;
+    else registers[REGISTERS.indexOf(name)] = number;
+  }
+  if (rest.phase >= Math.max(rest.rate, 1)) throw new Refused(`phase ${rest.phase} is not below the rate ${rest.rate}`);
+  const words = new Uint8Array(MEMORY_BYTES);
+  words.set(image, start);
+  return { state: stateOf(registers, Object.values(rest)), words, inputs: new Inputs(), checkpoints: [] };
+}
+
+/** The whole number that a text writes, decimal or hexadecimal with 0x before it. */
+function whole(text, most, what) {
+  const value = /^(?:\d{1,12}|0[xX][0-9a-fA-F]{1,8})$/.test(text.trim()) ? Number(text) : NaN;
+  if (!(value <= most)) throw new Refused(`${what}: ${text.trim() || "nothing"} is no whole number from 0 to ${most}`);
+  return value;
+}
+
+/** A session as JSON of version 2, a page or a few inputs in each line. */
+function writeSession({ state, words, inputs, checkpoints }) {
+  const unsaid = ["stop", "timer", "switches", "LEDs", "mouse", "serial", "keys"].filter((name) => field(state, AT[name]));
+  if (unsaid.length) throw new Refused(`the first state has ${unsaid.join(", ")} other than 0, which a session cannot say`);
+  const start = { R: REGISTERS.map((_, at) => field(state, AT.R + 4 * at)) };
+  for (const name of ["H", "PC", "flags", "rate", "phase"]) start[name] = field(state, AT[name]);
+  return [
+    "{",
+    '  "format": "oberon-session",',
+    '  "version": 2,',
+    `  "start": ${JSON.stringify(start)},`,
+    `  "pages": ${rows(pagesOf(words), 1)},`,
+    `  "inputs": ${rows(Array.from({ length: inputs.length }, (_, at) => JSON.stringify(inputs.item(at))), 8)},`,
+    `  "checkpoints": ${rows(checkpoints, 16)}`,
+    "}\n",
+  ].join("\n");
+}
+
+function rows(items, inRow) {
+  if (!items.length) return "[]";
+  const lines = [];
+  for (let at = 0; at < items.length; at += inRow) lines.push(items.slice(at, at + inRow).join(", "));
+  return `[\n    ${lines.join(",\n    ")}\n  ]`;
+}
+
+/** The pages that have a byte other than 0, without the zeros at their ends. */
+function pagesOf(words) {
+  const pages = [];
+  for (let at = 0; at < PAGES; at++) {
+    const page = words.subarray(PAGE_BYTES * at, PAGE_BYTES * (at + 1));
+    const length = page.findLastIndex((byte) => byte) + 1;
+    const digits = Array.from(page.subarray(0, length), (byte) => byte.toString(16).padStart(2, "0")).join("");
+    if (length) pages.push(`{"at":${at},"hex":"${digits}"}`);
+  }
+  return pages;
+}

@@ -1,0 +1,60 @@
+/* Writes instructions in the notation of N. Wirth's The RISC Architecture, as tools/galluspa/instructions.py does; tests/page compares
+ * the two. */
+"use strict";
+
+const OPERATIONS = "MOV LSL ASR ROR AND ANN IOR XOR ADD SUB MUL DIV FAD FSB FML FDV".split(" ");
+const SIGNS = " ← → rot & & or xor + - * div".split(" ");
+const CONDITIONS = ["MI", "EQ", "CS", "VS", "LS", "LT", "LE", "", "PL", "NE", "CC", "VC", "HI", "GE", "GT", "NO"];
+const TESTS = ["N", "Z", "C", "V", "C or Z", "N xor V", "(N xor V) or Z"];
+const ALWAYS = 7, NEVER = 15;
+
+const bit = (word, place) => (word >>> place & 1) === 1;
+const signed = (word, bits) => word << (32 - bits) >> (32 - bits);
+
+/** The instruction of a word at an address counted in words: its mnemonic, and what it does. */
+function instruction(word, at) {
+  if (!bit(word, 31)) return registerInstruction(word);
+  return bit(word, 30) ? branchInstruction(word, at) : memoryInstruction(word);
+}
+
+function registerInstruction(word) {
+  const a = word >>> 24 & 15, b = word >>> 20 & 15, op = word >>> 16 & 15, u = bit(word, 29);
+  const operand = bit(word, 30) ? `${(word & 0xffff) - (bit(word, 28) ? 0x10000 : 0)}` : `R${word & 15}`;
+  const name = OPERATIONS[op] + (u ? "'" : "");
+  if (op === 0) return moveInstruction(name, a, operand, word);
+  const written = `${name} R${a}, R${b}, ${operand}`;
+  if (op >= 12) return [written, "stop 1"];
+  const carry = u && (op === 8 || op === 9) ? ` ${SIGNS[op]} C` : "";
+  const unsigned = u && (op === 10 || op === 11) ? ", of words without sign" : "";
+  return [written, `R${a} := R${b} ${SIGNS[op]} ${op === 5 ? "~" : ""}${operand}${carry}${unsigned}`];
+}
+
+function moveInstruction(name, a, operand, word) {
+  if (!bit(word, 29)) return [`${name} R${a}, ${operand}`, `R${a} := ${operand}`];
+  if (bit(word, 30)) return [`${name} R${a}, ${word & 0xffff}`, `R${a} := ${hex(word & 0xffff, 4)}0000H`];
+  const special = bit(word, 28) ? "NZCV" : "H";
+  return [`${name} R${a}, ${special}`, `R${a} := ${special}`];
+}
+
+function memoryInstruction(word) {
+  const a = word >>> 24 & 15, b = word >>> 20 & 15, offset = signed(word, 20), isByte = bit(word, 28);
+  const name = (bit(word, 29) ? "ST" : "LD") + (isByte ? "B" : "R");
+  const address = `R${b}` + (offset ? ` ${offset < 0 ? "-" : "+"} ${Math.abs(offset)}` : "");
+  const moved = bit(word, 29) ? `Mem[${address}] := R${a}` : `R${a} := Mem[${address}]`;
+  return [`${name} R${a}, R${b}, ${offset}`, moved + (isByte ? ", a byte" : "")];
+}
+
+function branchInstruction(word, at) {
+  const condition = word >>> 24 & 15, link = bit(word, 28), isNear = bit(word, 29);
+  const mnemonic = `B${link ? "L" : ""}${CONDITIONS[condition]} ${isNear ? signed(word, 22) : `R${word & 15}`}`;
+  if (condition === NEVER) return [mnemonic, "(nothing)"];
+  const target = isNear ? `${(at + 1 + signed(word, 22)) & 0x3fffff}` : `R${word & 15} div 4`;
+  return [mnemonic, `${link ? `R15 := ${4 * (at + 1)}, ` : ""}to ${target}${whereText(condition)}`];
+}
+
+function whereText(condition) {
+  if (condition === ALWAYS) return "";
+  const test = TESTS[condition & 7];
+  if (condition < 8) return ` where ${test}`;
+  return test.length === 1 ? ` where ~${test}` : ` where ~(${test})`;
+}

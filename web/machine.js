@@ -1,0 +1,220 @@
+/* The live machine: a state and 262,144 words that the library advances, the session that is being made, and the recording that is
+ * played back, if any. Each input is stamped with the count of instructions before which it comes. */
+"use strict";
+
+// The workstation's clock: 25 MHz, one instruction a cycle.
+const PER_SECOND = 25000000;
+const INPUTS_AT_ONCE = 4096, SENT_ROOM = 1 << 20, QUEUE = 16;
+const KEY = 4, SERIAL = 5, RECEIVED = 256;
+const DISPLAY_AT = 4 * 237504, DISPLAY_BYTES = 98304;
+
+class Machine {
+  constructor(library) {
+    this.library = library;
+    // The state and the words lie side by side; `other` is as large, for claims to compare with.
+    this.place = library.take(STATE_BYTES + MEMORY_BYTES);
+    this.other = library.take(STATE_BYTES + MEMORY_BYTES);
+    this.list = library.take(INPUT_BYTES * INPUTS_AT_ONCE);
+    this.sentPlace = library.take(SENT_ROOM);
+    this.sentCount = library.take(8);
+    this.text = 0;
+  }
+
+  get state() {
+    return this.library.bytes(this.place, STATE_BYTES);
+  }
+
+  get words() {
+    return this.library.bytes(this.place + STATE_BYTES, MEMORY_BYTES);
+  }
+
+  get dots() {
+    return this.words.subarray(DISPLAY_AT, DISPLAY_AT + DISPLAY_BYTES);
+  }
+
+  get count() {
+    return countOf(this.state);
+  }
+
+  part(name) {
+    return field(this.state, AT[name]);
+  }
+
+  /** Begins a session. `planned` are the counts of its checkpoints, which a recording's claims are compared at. */
+  begin({ state, words, inputs, checkpoints }) {
+    this.first = { state: state.slice(), words: words.slice() };
+    this.state.set(state);
+    this.words.set(words);
+    this.inputs = inputs;
+    this.given = inputs.length;
+    this.next = 0;
+    this.planned = checkpoints;
+    this.marks = [];
+    this.isTrue = true;
+    this.sentSince = [];
+    this.waiting = { keys: [], serial: [] };
+    this.forgetRecording();
+  }
+
+  /** Begins with what a checkpoint of a recording claims; the inputs up to there are kept for the session. */
+  beginRecording(recording, checkpoint) {
+    this.forgetRecording();
+    const text = this.library.hold(recording.text);
+    const counts = recording.claims.map((claim) => claim.count);
+    if (!this.library.claim(text, recording.text.length, 0, this.place, this.place + STATE_BYTES)) throw new Refused("no checkpoint 0");
+    this.begin({ state: this.state, words: this.words, inputs: recording.inputs, checkpoints: counts.slice(1) });
+    this.text = text;
+    this.recording = recording;
+    if (!checkpoint) return;
+    this.library.claim(text, recording.text.length, checkpoint, this.place, this.place + STATE_BYTES);
+    this.next = this.inputs.from(this.count);
+    this.marks = this.planned.slice(0, checkpoint);
+  }
+
+  /** Takes a kept session up again, at the state that it had. */
+  resume({ first, live, inputs, marks }) {
+    this.begin({ ...first, inputs: new Inputs(inputs), checkpoints: [] });
+    this.state.set(live.state);
+    this.words.set(live.words);
+    this.next = this.inputs.length;
+    this.given = 0;
+    this.marks = marks;
+  }
+
+  forgetRecording() {
+    if (this.text) this.library.leave(this.text);
+    this.text = 0;
+    this.recording = null;
+  }
+
+  /** Whether inputs or checkpoints of the file are still to come. */
+  get isReplay() {
+    return this.next < this.given || this.planned.some((count) => count > this.count);
+  }
+
+  /** Ends the replay: from here on the inputs are the user's, and the file's later ones and its later claims are left out. */
+  takeOver() {
+    const bytes = this.inputs.bytes.subarray(0, INPUT_BYTES * this.next);
+    this.inputs = new Inputs(bytes);
+    this.given = this.next;
+    this.planned = this.planned.filter((count) => count <= this.count);
+  }
+
+  /** Adds an input before the next instruction; it comes to nothing while a file's inputs are played back. */
+  input(kind, value) {
+    if (this.isReplay || this.inputs.length >= INPUT_LIMIT) return;
+    this.inputs.push(this.count, kind, value);
+  }
+
+  /** Hands over what was typed and sent, as fast as the machine takes it: it queues sixteen key codes, and holds one serial byte. */
+  feed() {
+    const { keys, serial } = this.waiting;
+    for (let free = QUEUE - this.part("keys") - this.due(KEY); free > 0 && keys.length; free--) this.input(KEY, keys.shift());
+    if (serial.length && !(this.part("serial") & RECEIVED) && !this.due(SERIAL)) this.input(SERIAL, serial.shift());
+  }
+
+  /** How many inputs of a kind the next instruction will take. */
+  due(kind) {
+    let number = 0;
+    for (let at = this.next; at < this.inputs.length; at++) number += this.inputs.kind(at) === kind;
+    return number;
+  }
+
+  /** Runs up to a count or less, and returns the bytes that were sent. */
+  advance(to) {
+    const end = this.inputs.from(to, this.next);
+    const code = this.call(this.inputs.bytes.subarray(INPUT_BYTES * this.next, INPUT_BYTES * end), to);
+    if (code === NO_ROOM && to - this.count > 1) return this.advance(this.count + Math.floor((to - this.count) / 2));
+    if (code !== DONE) throw new Refused(ADVANCE_REFUSALS[code]);
+    this.next = end;
+    const length = Number(this.library.view.getBigUint64(this.sentCount, true));
+    const sent = this.library.bytes(this.sentPlace, length).slice();
+    if (this.recording && length) this.sentSince.push(sent);
+    return sent;
+  }
+
+  call(inputs, to) {
+    const many = inputs.length / INPUT_BYTES, list = many > INPUTS_AT_ONCE ? this.library.hold(inputs) : this.list;
+    this.library.bytes(list, inputs.length).set(inputs);
+    const given = [this.place, this.place + STATE_BYTES, WORDS, list, many, to, this.sentPlace, SENT_ROOM, this.sentCount];
+    const code = this.library.exports.galluspa_advance(...given.map(BigInt)) & 255;
+    if (list !== this.list) this.library.leave(list);
+    return code;
+  }
+
+  /** The next count of interest: that of a checkpoint which is planned, or due by time. */
+  nextStop(seconds) {
+    const planned = this.planned.find((count) => count > this.count) ?? Infinity;
+    const step = seconds * PER_SECOND;
+    return Math.min(planned, step && !this.isReplay ? (Math.floor(this.count / step) + 1) * step : Infinity);
+  }
+
+  /** Notes a checkpoint at the count that has been reached; one place is left for the end of the session. */
+  mark(most = CHECKPOINT_LIMIT) {
+    const isNew = this.count > (this.marks.at(-1) ?? 0) && this.marks.length < most;
+    if (isNew) this.marks.push(this.count);
+    return isNew;
+  }
+
+  /** Compares a recording's claim at this count with the machine: its number, and the name of the first part that differs, or null. */
+  judge() {
+    if (!this.recording) return null;
+    const number = this.recording.claims.findIndex((claim) => claim.count === this.count);
+    if (number < 1) return null;
+    this.library.claim(this.text, this.recording.text.length, number, this.other, this.other + STATE_BYTES);
+    const own = { state: this.state, words: this.words, sent: joined(this.sentSince) };
+    const part = firstDifference(own, { ...this.at(this.other), sent: this.recording.claims[number].sent });
+    this.sentSince = [];
+    if (part) this.isTrue = false;
+    return { number, count: this.count, part };
+  }
+
+  at(place) {
+    return { state: this.library.bytes(place, STATE_BYTES), words: this.library.bytes(place + STATE_BYTES, MEMORY_BYTES) };
+  }
+
+  /** What a checkpoint of the recording claims, and what is other than at the checkpoint before. */
+  claimed(number) {
+    const { text, claims } = this.recording, claim = claims[number];
+    if (!claim) throw new Refused(`no checkpoint ${number}`);
+    this.library.claim(this.text, text.length, number, this.other, this.other + STATE_BYTES);
+    const now = copied(this.at(this.other));
+    const { count, sent } = claim, dots = now.words.slice(DISPLAY_AT, DISPLAY_AT + DISPLAY_BYTES);
+    const shown = { number, count, state: now.state, dots, sent: sentText(sent), sentLength: sent.length, pages: [], before: null };
+    if (!number) return shown;
+    this.library.claim(this.text, text.length, number - 1, this.other, this.other + STATE_BYTES);
+    const before = this.at(this.other);
+    return { ...shown, before: before.state.slice(), steps: count - claims[number - 1].count, pages: differingPages(now.words, before.words) };
+  }
+
+  /** The session up to here, with a last checkpoint at this count, and the state to compare its recording with. */
+  session() {
+    if (this.count > 0 && this.marks.at(-1) !== this.count) this.marks = [...this.marks.slice(0, CHECKPOINT_LIMIT - 1), this.count];
+    const before = this.inputs.from(this.count);
+    const inputs = new Inputs(this.inputs.bytes.subarray(0, INPUT_BYTES * before));
+    return { session: { ...this.first, inputs, checkpoints: this.marks }, live: copied(this.at(this.place)) };
+  }
+
+  /** What the browser keeps of the session, so that it survives a reload. */
+  kept() {
+    const inputs = this.inputs.bytes.slice(0, INPUT_BYTES * this.next);
+    return { first: this.first, live: copied(this.at(this.place)), inputs, marks: this.marks.filter((count) => count <= this.count) };
+  }
+
+  /** The words around PC. */
+  listing(before, after) {
+    const pc = this.part("PC"), from = Math.max(0, pc - before), to = Math.min(WORDS, pc + after);
+    const view = this.library.view, words = this.place + STATE_BYTES;
+    return Array.from({ length: Math.max(0, to - from) }, (_, at) => [from + at, view.getUint32(words + 4 * (from + at), true)]);
+  }
+}
+
+function copied({ state, words }) {
+  return { state: state.slice(), words: words.slice() };
+}
+
+function joined(parts) {
+  const whole = new Uint8Array(parts.reduce((length, part) => length + part.length, 0));
+  parts.reduce((at, part) => (whole.set(part, at), at + part.length), 0);
+  return whole;
+}

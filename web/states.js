@@ -1,0 +1,101 @@
+/* How the parts of a machine's state are named and written, in the words of the program's lines and in the order in which a check
+ * compares them. The notation is that of tools/galluspa/states.py. The page and the worker both use this file. */
+"use strict";
+
+const STATE_BYTES = 136, WORDS = 262144, MEMORY_BYTES = 4 * WORDS, INPUT_BYTES = 16;
+const KINDS = ["", "timer", "switches", "mouse", "key", "serial"];
+const STOPS = ["running", "float", "divisor", "fetch", "address"];
+const PAGES = 1024, PAGE_BYTES = 1024;
+
+// Offsets in the 136 bytes of a state.
+const AT = { R: 8, H: 72, PC: 76, flags: 80, stop: 84, timer: 88, rate: 92, phase: 96, switches: 100, LEDs: 104, mouse: 108,
+             serial: 112, keys: 116 };
+const REGISTERS = Array.from({ length: 16 }, (_, at) => `R${at}`);
+
+const hex = (value, digits) => value.toString(16).toUpperCase().padStart(digits, "0");
+
+/** A 32-bit field of a state. */
+function field(state, at) {
+  return new DataView(state.buffer, state.byteOffset).getUint32(at, true);
+}
+
+function countOf(state) {
+  return Number(new DataView(state.buffer, state.byteOffset).getBigUint64(0, true));
+}
+
+function flagsText(value) {
+  return [..."NZCV"].map((letter, at) => (value >> (3 - at) & 1 ? letter : "-")).join("");
+}
+
+/** A mouse word as its x and y, and its three keys as they lie. */
+function mouseText(value) {
+  const keys = value >> 24 & 7;
+  return `${value & 0x3ff}, ${value >> 12 & 0x3ff}` + (keys ? `, keys ${keys.toString(2).padStart(3, "0")}` : "");
+}
+
+function keysText(state) {
+  const waiting = state.subarray(AT.keys + 4, AT.keys + 4 + field(state, AT.keys));
+  return Array.from(waiting, (code) => hex(code, 2)).join(" ") || "none";
+}
+
+function serialText(value) {
+  return hex(value & 255, 2) + (value >> 8 ? ", received" : "");
+}
+
+/** The parts of a state but for its memory: pairs of a name and a text. */
+function partsOf(state) {
+  const of = (name) => field(state, AT[name]);
+  return [
+    ...REGISTERS.map((name, at) => [name, hex(field(state, AT.R + 4 * at), 8)]),
+    ["H", hex(of("H"), 8)],
+    ["PC", `${of("PC")}`],
+    ["flags", flagsText(of("flags"))],
+    ["stop", STOPS[of("stop")]],
+    ["timer", `${of("timer")}`],
+    ["rate", `${of("rate")}`],
+    ["phase", `${of("phase")}`],
+    ["switches", hex(of("switches"), 3)],
+    ["LEDs", hex(of("LEDs"), 2)],
+    ["mouse", mouseText(of("mouse"))],
+    ["serial", serialText(of("serial"))],
+    ["keys", keysText(state)],
+  ];
+}
+
+function equal(some, others) {
+  return some.length === others.length && some.every((byte, at) => byte === others[at]);
+}
+
+/** The pages, by their number, in which two memories differ. */
+function differingPages(words, others) {
+  const page = (memory, at) => memory.subarray(at * PAGE_BYTES, (at + 1) * PAGE_BYTES);
+  return Array.from({ length: PAGES }, (_, at) => at).filter((at) => !equal(page(words, at), page(others, at)));
+}
+
+/** The name of the first part in which two machines differ, each with its memory and the bytes that it sent; or null. */
+function firstDifference(one, other) {
+  const starts = [...REGISTERS.map((name, at) => [name, AT.R + 4 * at]), ...Object.entries(AT).slice(1)];
+  for (const [name, start] of starts) {
+    const end = name === "keys" ? STATE_BYTES : start + 4;
+    if (!equal(one.state.subarray(start, end), other.state.subarray(start, end))) return name;
+  }
+  if (!equal(one.sent, other.sent)) return "out";
+  const [page] = differingPages(one.words, other.words);
+  return page === undefined ? null : `page ${page}`;
+}
+
+/** Numbers that rise, with those that follow each other joined, as in 1, 4 to 7. */
+function rangesText(numbers) {
+  const runs = [];
+  for (const number of numbers) {
+    if (runs.length && number === runs.at(-1).at(-1) + 1) runs.at(-1)[1] = number;
+    else runs.push([number]);
+  }
+  return runs.map((run) => run.join(" to ")).join(", ");
+}
+
+/** Bytes as text: line feeds and printing characters of ASCII as they are, other bytes as a backslash and two digits. */
+function sentText(bytes) {
+  const plain = (byte) => (byte >= 0x20 && byte < 0x7f && byte !== 0x5c) || byte === 10;
+  return Array.from(bytes, (byte) => (plain(byte) ? String.fromCharCode(byte) : `\\${byte.toString(16).padStart(2, "0")}`)).join("");
+}

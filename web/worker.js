@@ -1,0 +1,262 @@
+/* The worker script's last part: it answers the page's requests. Two workers run it: one has the live machine, and one, the clerk, checks
+ * and records, so that a long check can be stopped without touching the machine. A request is `{id, ask, ..}`, and its answer
+ * `{id, answer}`, `{id, refused}`, a line for the user, or `{id, broken}`, a fault of this script. What comes unasked has no id. */
+"use strict";
+
+const FRAME_MS = 1000 / 60, BUDGET_MS = 12, FIRST_CHUNK = 200000, LAG_MS = 100;
+const WARM_STEPS = 50000000, WARM_MS = 700;
+
+let library = null, machine = null;
+let run = { on: false };
+
+// The live machine
+
+/** What the page shows of the machine: always its state; its dots where they changed; the listing while it is paused. */
+let shownDots = null;
+function show(sent, isWhole = false) {
+  const dots = machine.dots, same = !isWhole && shownDots && equalWords(shownDots, dots);
+  if (!same) shownDots = dots.slice();
+  const { inputs, given, next, marks, planned, isReplay, isTrue, waiting } = machine;
+  postMessage({
+    state: machine.state.slice(), dots: same ? null : shownDots, sent: sentText(sent), on: run.on, goal: run.goal ?? null,
+    inputs: inputs.length, ahead: Math.max(0, given - next), marks: marks.length, planned: planned.length, isReplay, isTrue,
+    listing: run.on ? null : machine.listing(6, 14), typed: waiting.keys.length + waiting.serial.length,
+    speed: run.on ? speedOf() : null, memory: library.size, frames: run.frames ?? 0,
+  });
+}
+
+function equalWords(some, others) {
+  const [words, others32] = [some, others].map((bytes) => new Uint32Array(bytes.buffer, bytes.byteOffset, bytes.length / 4));
+  return words.every((word, at) => word === others32[at]);
+}
+
+function speedOf() {
+  const ms = performance.now() - run.begun;
+  return ms > 0 ? { perSecond: (machine.count - run.from) / ms * 1000, busy: run.busy / ms } : null;
+}
+
+/** Starts or ends the run: at 25 MHz or as fast as it goes, up to a goal if there is one. */
+function setRun({ on, fast, goal = null, seconds }) {
+  const now = performance.now();
+  run = { on, fast, goal, seconds, begun: now, from: machine.count, clock: { ms: now, count: machine.count }, busy: 0, frames: 0, chunk: FIRST_CHUNK };
+  if (on) tick();
+  else show([]);
+}
+
+/** One turn: advances as far as the clock, or the time of a frame, lets it; stops at each checkpoint on the way. */
+function tick() {
+  if (!run.on) return;
+  try {
+    const begun = performance.now();
+    machine.feed();
+    const sent = run.fast ? fastTurn(begun) : clockedTurn(begun);
+    run.busy += performance.now() - begun;
+    run.frames++;
+    if (machine.part("stop") && !machine.isReplay) run.on = false;
+    if (run.goal !== null && machine.count >= run.goal) run.on = false;
+    show(sent);
+    if (run.on) again(begun);
+  } catch (error) {
+    run.on = false;
+    postMessage(faultOf(error));
+  }
+}
+
+const turns = new MessageChannel();
+turns.port1.onmessage = tick;
+
+function again(begun) {
+  const left = run.fast ? 0 : FRAME_MS - (performance.now() - begun);
+  if (left > 1) setTimeout(tick, left);
+  else turns.port2.postMessage(null);
+}
+
+function clockedTurn(now) {
+  const perMs = PER_SECOND / 1000;
+  let to = run.clock.count + Math.floor((now - run.clock.ms) * perMs);
+  // Too slow for real time, or asleep: the lost time is given up.
+  if (to - machine.count > LAG_MS * perMs) {
+    run.clock = { ms: now, count: machine.count };
+    to = machine.count + Math.floor(FRAME_MS * perMs);
+  }
+  return turnTo(to, now + LAG_MS);
+}
+
+/** Runs pieces that take about a frame, so that messages are read between them. */
+function fastTurn(begun) {
+  const from = machine.count, sent = turnTo(from + run.chunk, begun + BUDGET_MS), ms = performance.now() - begun;
+  if (machine.count - from === run.chunk) run.chunk = Math.ceil(run.chunk * Math.min(4, Math.max(0.25, BUDGET_MS / Math.max(ms, 0.1))));
+  return sent;
+}
+
+/** Advances to a count, from checkpoint to checkpoint, until then or until the time is up. */
+function turnTo(to, deadline) {
+  const sent = [];
+  while (machine.count < to && (!sent.length || performance.now() < deadline)) {
+    const stop = Math.min(to, machine.nextStop(run.seconds ?? 0), run.goal ?? Infinity, MOST_COUNT);
+    if (stop <= machine.count) break;
+    sent.push(machine.advance(stop));
+    reached();
+  }
+  return joined(sent);
+}
+
+/** Notes and judges a checkpoint if the machine has just come to one. */
+function reached() {
+  const { count } = machine, isPlanned = machine.planned.includes(count), step = (run.seconds ?? 0) * PER_SECOND;
+  if (isPlanned || (step && count % step === 0)) machine.mark(isPlanned ? CHECKPOINT_LIMIT : CHECKPOINT_LIMIT - 1);
+  const passed = machine.judge();
+  if (passed) postMessage({ passed });
+}
+
+/** Opens what a file holds; what it is says its answer. */
+function opened(kind) {
+  run = { on: false };
+  show([], true);
+  const { recording, planned, inputs } = machine;
+  return { kind, claims: recording?.claims.map((claim) => claim.count) ?? null, version: recording?.version, inputs: inputs.length,
+           checkpoints: planned.length };
+}
+
+const LIVE = {
+  openRecording({ text, checkpoint }) {
+    machine.beginRecording(readRecording(text), checkpoint);
+    return opened("recording");
+  },
+  openSession({ text }) {
+    machine.begin(readSession(text));
+    return opened("session");
+  },
+  openImage({ image, address, registers }) {
+    machine.begin(readImage(image, address, registers));
+    return opened("image");
+  },
+  resume({ kept }) {
+    machine.resume(kept);
+    return opened("session");
+  },
+  setRun,
+  step() {
+    run = { on: false };
+    const sent = machine.advance(machine.count + 1);
+    reached();
+    show(sent);
+  },
+  toCheckpoint({ fast, seconds }) {
+    const goal = machine.nextStop(seconds || 1);
+    setRun({ on: true, fast, goal, seconds });
+  },
+  takeOver() {
+    machine.takeOver();
+    show([]);
+  },
+  input({ kind, value }) {
+    machine.input(kind, value);
+  },
+  type({ codes }) {
+    if (!machine.isReplay) machine.waiting.keys.push(...codes);
+  },
+  send({ bytes }) {
+    if (!machine.isReplay) for (const byte of bytes) machine.waiting.serial.push(byte);
+  },
+  mark() {
+    const isNew = machine.mark();
+    show([]);
+    return isNew;
+  },
+  claimed({ number }) {
+    return machine.claimed(number);
+  },
+  session() {
+    const { session, live } = machine.session();
+    show([]);
+    return { text: writeSession(session), live, count: machine.count, steps: session.checkpoints.at(-1) ?? 0 };
+  },
+  kept() {
+    return machine?.first ? { ...machine.kept(), count: machine.count } : null;
+  },
+};
+
+// The clerk
+
+let perMs = 50000;
+
+/** Runs the first frames of what is to be checked or recorded. A browser runs a long first call with code that its quick compiler made, and
+ * the calls after it with better code; and the speed of the frames says about how long the whole will take. */
+function warmUp(parts, steps, times) {
+  const begun = performance.now(), most = Math.min(steps, WARM_STEPS);
+  machine.begin(parts);
+  for (let chunk = FIRST_CHUNK; machine.count < most && performance.now() - begun < WARM_MS; chunk *= 2) {
+    machine.advance(Math.min(most, machine.count + Math.min(chunk, 1 << 22)));
+  }
+  if (machine.count > FIRST_CHUNK) perMs = machine.count / (performance.now() - begun);
+  postMessage({ estimate: (times * steps) / perMs, steps });
+}
+
+/** A task that may be refused; what it is refused for says the proved function that comes after it. */
+function unlessRefused(task) {
+  try {
+    return task();
+  } catch (error) {
+    if (!(error instanceof Refused)) throw error;
+    return null;
+  }
+}
+
+const CLERK = {
+  check({ text }) {
+    const recording = text.length <= LONGEST_RECORDING ? unlessRefused(() => lawful(text)) : null;
+    const { state, words } = machine;
+    if (recording) warmUp({ state, words, inputs: recording.inputs, checkpoints: [] }, recording.claims.at(-1).count, 1);
+    return library.check(text);
+  },
+  record({ session, live, steps }) {
+    const text = new TextEncoder().encode(session), parts = unlessRefused(() => readSession(text));
+    if (parts) warmUp(parts, steps, 2);
+    const begun = performance.now(), { bytes, status } = library.record(text);
+    if (status) return { line: lineOf(bytes), status };
+    const recorded = performance.now(), verdict = library.check(bytes), checked = performance.now();
+    return { ...verdict, recording: bytes, difference: lastDifference(bytes, live), ms: [recorded - begun, checked - recorded] };
+  },
+};
+
+/** The recording of a text, with its first state on the machine; refused if it is not lawful. */
+function lawful(text) {
+  const place = library.hold(text);
+  try {
+    library.claim(place, text.length, 0, machine.place, machine.place + STATE_BYTES);
+    return readRecording(text);
+  } finally {
+    library.leave(place);
+  }
+}
+
+/** The first part in which the recorder's last state and the live machine's differ, or null. */
+function lastDifference(text, live) {
+  const recording = readRecording(text), place = library.hold(text);
+  library.claim(place, text.length, recording.claims.length - 1, machine.other, machine.other + STATE_BYTES);
+  library.leave(place);
+  return firstDifference({ ...machine.at(machine.other), sent: [] }, { ...live, sent: [] });
+}
+
+// Both
+
+function faultOf(error) {
+  if (error instanceof Refused) return { refused: error.message };
+  if (error instanceof WebAssembly.RuntimeError || error instanceof RangeError) return { refused: `the module failed: ${error.message}` };
+  return { broken: `${error.message}\n${error.stack}` };
+}
+
+onmessage = ({ data: { id, ask, ...given } }) => {
+  try {
+    if (ask === "start") {
+      library = new Library(given.module);
+      machine = new Machine(library);
+      postMessage({ id, answer: true });
+    } else {
+      postMessage({ id, answer: (LIVE[ask] ?? CLERK[ask])(given) });
+    }
+  } catch (error) {
+    postMessage({ id, ...faultOf(error) });
+  }
+};
