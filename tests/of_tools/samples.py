@@ -2,6 +2,7 @@
 
 import json
 import os
+import pty
 import struct
 import subprocess
 import tempfile
@@ -38,6 +39,18 @@ def run(command: Sequence[object], text: bytes = b"", **options: object) -> Ran:
 def tool(name: str, *words: object) -> Ran:
     """Runs a tool as it lies."""
     return run([TOOLS / name, *words], env={**os.environ, "PYTHONDONTWRITEBYTECODE": "1"})
+
+
+def on_terminal(name: str, *words: object) -> bytes:
+    """What a tool prints on standard error where that is a terminal."""
+    reader, terminal = pty.openpty()
+    try:
+        subprocess.run([TOOLS / name, *map(str, words)], stdout=subprocess.DEVNULL, stderr=terminal, check=False)
+        os.set_blocking(reader, False)
+        return os.read(reader, 1 << 16)
+    finally:
+        os.close(terminal)
+        os.close(reader)
 
 
 def record(session: dict | bytes) -> bytes:

@@ -12,7 +12,8 @@ from PIL import Image
 
 from samples import EXAMPLES, PROGRAM, TOP, ToolTest, run, tool
 
-SHOWING = [*sorted((TOP / "docs/lessons").glob("*.md")), TOP / "docs/recording-your-system.md", TOP / "docs/suites.md"]
+GUIDES = ("recording-your-system", "suites", "debugging")
+SHOWING = [*sorted((TOP / "docs/lessons").glob("*.md")), *(TOP / f"docs/{name}.md" for name in GUIDES)]
 LINKING = [
     TOP / "README.md", *sorted(TOP.glob("*/README.md")), EXAMPLES / "suite/README.md", *sorted(TOP.glob("docs/*.md")),
     *sorted(TOP.glob("docs/lessons/*.md")),
@@ -73,8 +74,8 @@ class DocumentsTest(ToolTest):
     def test_the_tools_run_as_the_readme_shows_them(self) -> None:
         for part in PARTS:
             (self.folder / part).symlink_to(TOP / part)
-        lines = [line for line in (TOP / "README.md").read_text().splitlines() if line.startswith("tools/")]
-        self.assertGreaterEqual(len(lines), 5)
+        lines = [line for line in (TOP / "README.md").read_text().splitlines() if line.startswith(("tools/", "cc "))]
+        self.assertGreaterEqual(len(lines), 9)
         for line in lines:
             ran = run(["bash", "-c", line], cwd=self.folder, env={**os.environ, "PYTHONDONTWRITEBYTECODE": "1"})
             self.assertEqual((ran.status, ran.errors), (0, ""), line)

@@ -95,6 +95,8 @@ class PackageTest(ToolTest):
         ran = run([prefix / "bin/galluspa-suite", shared / "examples"])
         self.assertEqual((ran.status, ran.errors), (0, ""))
         self.assertIn(b"face.orsr: accepted", ran.output)
+        ran = run([prefix / "bin/galluspa-trace", shared / "examples/face.orsr", "--from", 19999999, "--steps", 1])
+        self.assertEqual((ran.output, ran.errors), (b"  19999999      52  E7FFFFFF  B -1\n", ""))
         library = next(prefix.rglob("libgalluspa.so")).parent
         source, program = shared / "examples/c/check.c", self.folder / "check"
         self.assertEqual(run(["cc", f"-I{prefix}/include", source, library / "libgalluspa.a", "-o", program]).errors, "")

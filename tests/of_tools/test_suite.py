@@ -12,7 +12,7 @@ from xml.etree import ElementTree
 from PIL import Image
 
 import browser
-from samples import EXAMPLES, PROGRAM, STORED, TOOLS, TOP, ToolTest, rejoining, run, tool
+from samples import EXAMPLES, PROGRAM, STORED, TOOLS, TOP, ToolTest, on_terminal, rejoining, run, tool
 
 
 class SuitesTest(ToolTest):
@@ -64,11 +64,7 @@ class SuiteTest(SuitesTest):
 
     def test_shows_progress_on_a_terminal(self) -> None:
         self.suite()
-        reader, terminal = pty.openpty()
-        subprocess.run([TOOLS / "suite", self.folder], stdout=subprocess.DEVNULL, stderr=terminal, check=True)
-        os.close(terminal)
-        self.assertIn(b"3 of 3 checked, 0 not as expected", os.read(reader, 4096))
-        os.close(reader)
+        self.assertIn(b"3 of 3 checked, 0 not as expected\r\n", on_terminal("suite", self.folder))
 
     def test_the_examples_are_as_expected(self) -> None:
         self.assertEqual(tool("suite", EXAMPLES).status, 0)

@@ -6,7 +6,7 @@ import random
 from galluspa import recording
 from galluspa.library import Library
 from galluspa.tracing import Run, Step
-from samples import EXAMPLES, JUMP, STORED, ToolTest, record, rejoining, session, tool
+from samples import EXAMPLES, JUMP, STORED, ToolTest, on_terminal, record, rejoining, session, tool
 
 # R1 := FF0000H and R1 := 65280 - 1 down to 0 in a loop of two, then a division by 0, which stops.
 COUNTING = (0x6100000F, 0x41190001, 0xE93FFFFE, 0x600B0000)
@@ -86,6 +86,12 @@ class TraceTest(ToolTest):
         ran = tool("trace", self.file("it.orsr", made), "--until", "stop")
         self.assertEqual((ran.output, ran.status), (b"", 1))
         self.assertEqual(ran.errors, "trace: stop does not come about from 0 to 40\n")
+
+    def test_shows_progress_on_a_terminal(self) -> None:
+        recorded = self.file("it.orsr", record(session(COUNTING, [3_000_000])))
+        self.assertIn(b"at 1,048,576 of 3,000,000\r", on_terminal("trace", recorded, "--until", "stop"))
+        told = on_terminal("trace", recorded, "--until", "R1=1", "--to", 300)
+        self.assertIn(b"at 256 of 300\r\x1b[K\r", told)
 
     def test_a_stop_after_millions_is_found_by_bisection(self) -> None:
         made = record(session(COUNTING, [3_000_000]))

@@ -35,9 +35,9 @@ class Parser(argparse.ArgumentParser):
         """Adds the option that names the shared library to call."""
         self.add_argument(
             "--library", metavar="PATH",
-            help="the shared library to call, libgalluspa.so; if left out, GALLUSPA_LIBRARY names it, or it is the first "
-                 "that is found in lib/ beside the tools' folder, in crates/galluspa/out/ or out/lib/ of this repository, "
-                 "and where the system looks for libraries",
+            help="the shared library to call, libgalluspa.so; if left out, GALLUSPA_LIBRARY names it, or it is the first that is "
+                 "found in lib/ beside the folder of the tools, in crates/galluspa/out/ or out/lib/ of this repository, where it "
+                 "was installed with these tools, and where the system looks for libraries",
         )
 
 
@@ -75,7 +75,7 @@ def read_file(path: str | Path) -> bytes:
 
 
 def progress(told: str, is_last: bool = False) -> None:
-    """Renews the line of progress on standard error, where there is a terminal to see it."""
+    """Renews the line of progress on standard error, where there is a terminal to see it; no text takes it away."""
     if sys.stderr.isatty():
         print(f"\033[K{told}", end="\n" if is_last else "\r", file=sys.stderr, flush=True)
 
@@ -102,6 +102,7 @@ def run(main: Callable[[Sequence[str]], int]) -> NoReturn:
         status = main(sys.argv[1:])
         sys.stdout.flush()
     except Refused as refusal:
+        progress("")
         print(f"{Path(sys.argv[0]).name}: {refusal}", file=sys.stderr)
         status = 2
     except BrokenPipeError:

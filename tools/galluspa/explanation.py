@@ -8,7 +8,7 @@ from galluspa import states
 from galluspa.library import Machine
 from galluspa.program import Program
 from galluspa.recording import DISPLAY_END, DISPLAY_START, PAGE_BYTES, Checkpoint, Recording, of_display
-from galluspa.tracing import Run, Step, WordChange, differing, lines
+from galluspa.tracing import Run, Step, WordChange, differing, lines, with_progress
 
 Part = str | int
 Value = int | list[int] | bytes
@@ -199,14 +199,15 @@ def _around(run: Run, read: Recording, number: int, start: Machine, focus: Part,
     sent = run.advance(machine, max(first, count - steps))
     looked_from, value = machine.count, value_at(focus, machine, sent)
     stood, writers = [looked_from] * (value == wanted), []
-    for step, now, is_written in along(focus, value, run.steps(machine, count + steps // 10)):
+    last = count + steps // 10
+    for step, now, is_written in along(focus, value, with_progress(run.steps(machine, last), last)):
         stood += [step.after.count] * (now == wanted)
         if is_written and step.before.count < count:
             writers = [*writers[1 - WRITERS :], step]
     is_set_before = not writers and value_at(focus, start, b"") != value
     return Around(
         first=looked_from,
-        last=count + steps // 10,
+        last=last,
         writers=writers,
         stood=stood,
         earlier=[at for at in range(number) if _claims(read, at, focus, wanted)],

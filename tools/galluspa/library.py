@@ -14,7 +14,8 @@ from galluspa.recording import PLACES, WORDS_IN_PAGE, Checkpoint, Event
 
 NAME = "libgalluspa.so"
 VARIABLE = "GALLUSPA_LIBRARY"
-FOLDERS = ("lib", "crates/galluspa/out", "out/lib")
+BUILT = [TOP / folder / NAME for folder in ("lib", "crates/galluspa/out", "out/lib")]
+INSTALLED = TOP.parent.parent / "lib"
 WORDS = PLACES * WORDS_IN_PAGE
 SENT_AT_ONCE = 1 << 20
 NO_ROOM = 2
@@ -127,8 +128,8 @@ class Library:
             if not Path(named).is_file():
                 raise Refused(f"no library at {named}")
             return Library._load(str(Path(named).resolve()))
-        built = (TOP / folder / NAME for folder in FOLDERS)
-        path = next((str(path) for path in built if path.is_file()), NAME)
+        near = (*BUILT, INSTALLED / NAME, *INSTALLED.glob(f"*/{NAME}"))
+        path = next((str(path) for path in near if path.is_file()), NAME)
         try:
             return Library._load(path)
         except Refused:

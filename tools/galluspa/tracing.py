@@ -3,7 +3,7 @@
 A run begins at the last checkpoint at or before a count that is known to be true, so looking at its end costs one segment.
 """
 
-from collections.abc import Callable, Iterator, Sequence
+from collections.abc import Callable, Iterable, Iterator, Sequence
 from dataclasses import dataclass
 
 from galluspa import states
@@ -15,6 +15,7 @@ from galluspa.recording import Checkpoint, Event, Recording
 
 AT_ONCE = 1 << 20
 COMPARED_AT_ONCE = 4096
+OFTEN = 256
 
 
 @dataclass(frozen=True)
@@ -114,19 +115,31 @@ class Run:
     def last_before(self, machine: Machine, to: int, has_come: Callable[[Machine, bytes], bool]) -> int | None:
         """The count before whose instruction something has not come and after which it has; None where it has not come at
         a count. It has to be something that stays once it has come, given the machine and what it sent meanwhile."""
-        while machine.count < to:
+        last = None
+        while last is None and machine.count < to:
             progress(f"at {machine.count:,} of {to:,}")
             later = machine.copy()
-            if not has_come(later, self.advance(later, min(machine.count + AT_ONCE, to))):
+            if has_come(later, self.advance(later, min(machine.count + AT_ONCE, to))):
+                last = later.count
+            else:
                 machine = later
-                continue
-            last = later.count
-            while last - machine.count > 1:
-                later = machine.copy()
-                sent = self.advance(later, (machine.count + last) // 2)
-                machine, last = (machine, later.count) if has_come(later, sent) else (later, last)
-            return machine.count
-        return None
+        progress("")
+        while last is not None and last - machine.count > 1:
+            later = machine.copy()
+            sent = self.advance(later, (machine.count + last) // 2)
+            machine, last = (machine, later.count) if has_come(later, sent) else (later, last)
+        return None if last is None else machine.count
+
+
+def with_progress(steps: Iterable[Step], to: int) -> Iterator[Step]:
+    """The same instructions, up to a count, with a line of progress while they are looked at."""
+    try:
+        for step in steps:
+            yield step
+            if step.after.count % OFTEN == 0:
+                progress(f"at {step.after.count:,} of {to:,}")
+    finally:
+        progress("")
 
 
 def lines(step: Step) -> Iterator[str]:
