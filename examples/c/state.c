@@ -1,5 +1,5 @@
-/* state RECORDING COUNT MEMORY: runs an emulator written in C from the first state of a recording, with its inputs, up to a count,
- * writes its memory to a file, and prints its state as JSON. This is what tools/bisect asks of an emulator.
+/* state RECORDING COUNT MEMORY: runs an emulator written in C from the first state of a recording, with its inputs, up to
+ * a count, writes its memory to a file, and prints its state as JSON. This is what tools/bisect asks of an emulator.
  *
  * The emulator is bench/machine.h, and bench/replay.h reads the recording. */
 #include "replay.h"
@@ -7,11 +7,11 @@
 static void print(const Machine *m, const char *memory) {
     printf("{\"R\": [");
     for (int i = 0; i < 16; i++) printf("%s%" PRIu32, i ? ", " : "", m->r[i]);
-    printf("], \"H\": %" PRIu32 ", \"PC\": %" PRIu32 ", \"flags\": %d, \"stop\": %d", m->h, m->pc, m->n << 3 | m->z << 2 | m->c << 1 | m->v,
-           m->stop);
+    printf("], \"H\": %" PRIu32 ", \"PC\": %" PRIu32, m->h, m->pc);
+    printf(", \"flags\": %d, \"stop\": %d", m->n << 3 | m->z << 2 | m->c << 1 | m->v, m->stop);
     printf(", \"timer\": %" PRIu32 ", \"rate\": %" PRIu32 ", \"phase\": %" PRIu32, m->timer, m->rate, m->phase);
-    printf(", \"switches\": %" PRIu32 ", \"LEDs\": %" PRIu32 ", \"mouse\": %" PRIu32 ", \"serial\": %" PRIu32, m->switches, m->leds,
-           m->mouse, m->serial);
+    printf(", \"switches\": %" PRIu32 ", \"LEDs\": %" PRIu32, m->switches, m->leds);
+    printf(", \"mouse\": %" PRIu32 ", \"serial\": %" PRIu32, m->mouse, m->serial);
     printf(", \"keys\": [");
     for (uint32_t i = 0; i < m->waiting; i++) printf("%s%d", i ? ", " : "", m->keys[i]);
     printf("], \"out\": \"");

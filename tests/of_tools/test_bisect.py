@@ -41,7 +41,7 @@ INPUTS = [(KEYS_AT, "serial", 0x41), (KEYS_AT, "key", 0x48)]
 
 @dataclass(frozen=True)
 class Mistake:
-    """A mistake in the C machine: the file, a text in it and another in its place, and the count of the instruction that shows it."""
+    """A mistake in the C machine: the file, a text in it and another in its place, and the count at which it shows."""
 
     name: str
     file: str
@@ -54,9 +54,11 @@ MISTAKES = (
     Mistake("an operation", "machine.h", "x = b & ~c;", "x = b & c;", FIRST + 2),
     Mistake("a flag", "machine.h", "m->c = sum >> 32;", "m->c = 0;", FIRST + 3),
     Mistake("the flags as a word", "machine.h", "(uint32_t)m->c << 29", "(uint32_t)m->v << 29", FIRST + 4),
-    Mistake("the high word of a product", "machine.h", "(uint64_t)((int64_t)(int32_t)b * (int32_t)c)", "(uint64_t)b * c", FIRST + 5),
+    Mistake("the high word of a product", "machine.h", "(uint64_t)((int64_t)(int32_t)b * (int32_t)c)",
+            "(uint64_t)b * c", FIRST + 5),
     Mistake("a division of a negative number", "machine.h", "if (rest < 0) { rest += c; quotient--; }", "", FIRST + 7),
-    Mistake("the lane of a byte stored", "machine.h", "(m->r[a] & 255) << shift;", "(m->r[a] & 255) << (24 - shift);", FIRST + 8),
+    Mistake("the lane of a byte stored", "machine.h", "(m->r[a] & 255) << shift;",
+            "(m->r[a] & 255) << (24 - shift);", FIRST + 8),
     Mistake("the lane of a byte loaded", "machine.h", "byte ? *word >> shift & 255", "byte ? *word & 255", FIRST + 10),
     Mistake("a device", "machine.h", "(m->waiting != 0) << 28", "(m->waiting > 1) << 28", FIRST + 11),
     Mistake("a key that stays", "machine.h", "m->waiting--;", "", FIRST + 12),
@@ -84,7 +86,7 @@ class BisectTest(ToolTest):
     def setUpClass(cls) -> None:
         cls.built = Path(cls.enterClassContext(tempfile.TemporaryDirectory()))
         with ThreadPoolExecutor(4) as pool:
-            list(pool.map(lambda at: compile_state(cls.built / f"{at}", MISTAKES[at] if at >= 0 else None), range(-1, len(MISTAKES))))
+            list(pool.map(compile_state, (cls.built / f"{at}" for at in range(-1, len(MISTAKES))), (None, *MISTAKES)))
         session_of = session((*LOOP, *STRAIGHT), [FIRST + 100], INPUTS)
         session_of |= {"version": 2, "start": {**session_of["start"], "rate": 7, "phase": 0}}
         (cls.built / "it.json").write_text(json.dumps(session_of))

@@ -1,14 +1,21 @@
 """tools/explain: what differs where a claim is false, and the fields of texts that are refused; and both in the page."""
 
+import base64
+import io
+import os
 import re
 import struct
 
+from PIL import Image
+
 from galluspa import recording
 from galluspa.faults import explain_fault
+from galluspa.pictures import LIGHT_RED, RED
 from galluspa.program import Program
 from samples import EXAMPLES, JUMP, PROGRAM, STORED, TOP, ToolTest, record, rejoining, run, session, tool
 
 CHANGE = re.compile(r"^\| ((?:byte \d+ is [0-9a-f]{2}(?:, )?)+)[^|]*\| `(refused [^`]+)` \|$", re.MULTILINE)
+SIDE = re.compile(rb'src="data:image/png;base64,([^"]+)" [^>]*data-side=')
 BYTE = re.compile(r"byte (\d+) is ([0-9a-f]{2})")
 
 # R0 := 5, then 40 instructions that write nothing, then R0 := 6; 65 to the serial line; Mem[400] := 6; a jump to itself.
@@ -91,13 +98,27 @@ class ExplainTest(ToolTest):
         self.assertTrue(any("  4838732      41  A6D00000  STR R6, R13, 0" in line for line in lines))
         ran = tool("report", self.file("false.orsr", bytes(made)))
         self.assertEqual((ran.errors, ran.status), ("", 0))
-        self.assertEqual(ran.output.count(b'data-side="'), 2)
         self.assertIn(b"2 dots differ, at x 576 to 577 and y 219", ran.output)
+        pictures = [Image.open(io.BytesIO(base64.b64decode(it))) for it in SIDE.findall(ran.output)]
+        for picture, color, other in zip(pictures, (RED, LIGHT_RED), (LIGHT_RED, RED), strict=True):
+            self.assertEqual([picture.getpixel((x, 767 - 219)) for x in (576, 577)], [color] * 2)
+            colors = {shown: many for many, shown in picture.convert("RGB").getcolors()}
+            self.assertEqual((colors[color], colors.get(other)), (2, None))
+
+    def test_the_report_does_without_a_library(self) -> None:
+        command = [TOP / "tools/report", self.file("false.orsr", rejoining(9))]
+        ran = run(command, env={**os.environ, "GALLUSPA_LIBRARY": str(self.folder / "none")})
+        self.assertEqual((ran.errors, ran.status), ("", 0))
+        self.assertNotIn(b"What is false about checkpoint", ran.output)
+        self.assertIn(b"<code>examples/c/install</code>", ran.output)
+        self.assertIn(b"What is false about checkpoint 1", run(command).output)
+        self.assert_refused(run([*command, "--library", self.folder / "none"]), "no library at")
 
     def test_what_an_earlier_checkpoint_claims_is_told(self) -> None:
         text = self.claiming(record(session(WORDS, [10, 30, 43])), 3, "R0=5")
         self.assertIn("; and at the earlier checkpoints 1 to 2.", self.explained(text, "--steps", 1)[-1])
-        self.assertTrue(self.explained(text, "--steps", 1)[-1].startswith("R0 had the claimed value at none of the counts 42 to 43"))
+        told = "R0 had the claimed value at none of the counts 42 to 43"
+        self.assertTrue(self.explained(text, "--steps", 1)[-1].startswith(told))
 
     def test_a_claim_that_rejoins(self) -> None:
         lines = self.explained(rejoining(9))

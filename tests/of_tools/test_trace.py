@@ -101,7 +101,8 @@ class TraceTest(ToolTest):
 
     def test_a_run_begins_at_the_nearest_true_checkpoint(self) -> None:
         read = recording.read((EXAMPLES / "face.orsr").read_bytes())
-        for true, count, start in ((5, 19_999_999, 12_000_000), (5, 20_000_000, 20_000_000), (2, 19_999_999, 4_000_000), (5, 0, 0)):
+        rows = ((5, 19_999_999, 12_000_000), (5, 20_000_000, 20_000_000), (2, 19_999_999, 4_000_000), (5, 0, 0))
+        for true, count, start in rows:
             claimed: list[int] = []
             run = Run(Library.find(None), (EXAMPLES / "face.orsr").read_bytes(), read, range(true))
             run.library = _Watched(run.library, claimed)
@@ -118,8 +119,8 @@ class TraceTest(ToolTest):
         """Of random programs: whatever changes is among what an instruction is said to write."""
         source = random.Random(1)
         for _ in range(6):
-            words = [source.choice((0, 0x40000000, 0x80000000, 0xA0000000, 0xF7000000)) | source.getrandbits(28) & 0xFFF70FFF
-                     for _ in range(200)]
+            kinds = (0, 0x40000000, 0x80000000, 0xA0000000, 0xF7000000)
+            words = [source.choice(kinds) | source.getrandbits(28) & 0xFFF70FFF for _ in range(200)]
             made = record({**session(words, [1]), "version": 2, "start": {
                 "R": [source.getrandbits(19) for _ in range(16)], "H": 0, "PC": 0, "flags": 0, "rate": 0, "phase": 0}})
             for step in steps_of(made, 100):

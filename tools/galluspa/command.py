@@ -35,9 +35,9 @@ class Parser(argparse.ArgumentParser):
         """Adds the option that names the shared library to call."""
         self.add_argument(
             "--library", metavar="PATH",
-            help="the shared library to call, libgalluspa.so; if left out, GALLUSPA_LIBRARY names it, or it is the first that is "
-                 "found in lib/ beside the folder of the tools, in crates/galluspa/out/ or out/lib/ of this repository, where it "
-                 "was installed with these tools, and where the system looks for libraries",
+            help="the shared library to call, libgalluspa.so; if left out, GALLUSPA_LIBRARY names it, or it is the first "
+                 "that is found in lib/ beside the folder of the tools, in crates/galluspa/out/ or out/lib/ of this "
+                 "repository, where it was installed with these tools, and where the system looks for libraries",
         )
 
 

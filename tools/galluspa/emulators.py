@@ -21,8 +21,8 @@ NUMBERS = ("H", "PC", "flags", "stop", "timer", "rate", "phase", "switches", "LE
 
 @dataclass(frozen=True)
 class Shown:
-    """What an emulator shows of its state at a count: the parts by their names, its memory or a digest of it, what it has sent.
-    Whatever it does not show is None, and is not compared."""
+    """What an emulator shows of its state at a count: the parts by their names, its memory or a digest of it, and what it
+    has sent. Whatever it does not show is None, and is not compared."""
 
     parts: dict[str, int | list[int]]
     memory: bytes | None
@@ -51,7 +51,8 @@ class Emulator:
         words = [word.replace(PLACE, str(count)) for word in self.words]
         told = shlex.join(words)
         try:
-            ran = subprocess.run(words, stdout=subprocess.PIPE, stdin=subprocess.DEVNULL, timeout=self.seconds, check=False)
+            ran = subprocess.run(
+                words, stdin=subprocess.DEVNULL, stdout=subprocess.PIPE, timeout=self.seconds, check=False)
         except OSError as error:
             raise Refused(f"{words[0]}: {error.strerror}") from error
         except subprocess.TimeoutExpired as error:

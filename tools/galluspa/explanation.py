@@ -1,5 +1,7 @@
-"""What is false about a recording: where the first false checkpoint and the machine differ, and which instructions wrote the part
-that differs first. What the machine has says the library, and how a screen looks the program."""
+"""What is false about a recording: where the first false checkpoint and the machine differ, and what wrote the first part.
+
+What the machine has says the library, and how a screen looks the program.
+"""
 
 from collections.abc import Iterable, Iterator
 from dataclasses import dataclass, field
@@ -31,8 +33,9 @@ class Difference:
 
 @dataclass(frozen=True)
 class Around:
-    """The instructions around the false checkpoint that were looked at one by one, from a count up to another: the last of those
-    before it that wrote a part, and the counts at which the part had the claimed value."""
+    """The instructions around the false checkpoint that were looked at one by one, from a count up to another: the last of
+    those before it that wrote a part, and the counts at which the part had the claimed value; also the earlier checkpoints
+    that claim it, and an instruction that set the part before them all."""
 
     first: int
     last: int
@@ -76,8 +79,8 @@ class Screens:
                 f"and {_span('y', ROWS - 1 - bottom, ROWS - 1 - top)}, counted from the left and from below")
 
     def rows(self) -> Iterator[tuple[str, str]]:
-        """The dots around those that differ, row by row from the top, claimed and the machine's: # and . for those that are alike,
-        + and - for those that differ, where the dot is set and where it is not."""
+        """The dots around those that differ, row by row from the top, claimed and the machine's: # and . for those that are
+        alike, + and - for those that differ, where the dot is set and where it is not."""
         left, right, top, bottom = self.box()
         left = max(0, min(left - 4, 8 * ROW_BYTES - DOTS_WIDE))
         top = max(0, min(top - 2, ROWS - DOTS_HIGH))
@@ -163,7 +166,7 @@ def value_at(part: Part, machine: Machine, sent: bytes) -> Value:
 
 
 def along(part: Part, value: Value, steps: Iterable[Step]) -> Iterator[tuple[Step, Value, bool]]:
-    """Instructions, each with the value of a part after it, and whether it wrote it; the value before all of them is given."""
+    """Instructions, each with the value of a part after it, and whether it wrote it; the value before them is given."""
     for step in steps:
         if isinstance(part, int):
             value = next((word.new for word in step.changed if word.address == part), value)

@@ -1,4 +1,4 @@
-"""What a recording's first fault is about: the field with its bytes, and the rule that it breaks, as docs/formats.md has them.
+"""What a recording's first fault is about: the field with its bytes and the rule that it breaks, by docs/formats.md.
 
 That there is a fault, and at which byte, says the program. Here its field is looked up.
 """
@@ -104,7 +104,8 @@ def _event(text: bytes, at: int) -> Fault:
     field = _first_broken(text, [
         Field("the count", at, 8, f"a count is at most 2^40, and not below that of the event before, {least}",
               lambda count: least <= count <= MOST_COUNT),
-        Field("the kind", at + 8, 4, "a kind is 1 timer, 2 switches, 3 mouse, 4 key or 5 serial", lambda kind: kind in KINDS),
+        Field("the kind", at + 8, 4, "a kind is 1 timer, 2 switches, 3 mouse, 4 key or 5 serial",
+              lambda kind: kind in KINDS),
         Field("the value", at + 12, 4, f"the value of a {KINDS.get(_number(text, at + 8))} event is {rule}",
               lambda value: value <= most and not value & ~most),
     ])
@@ -113,8 +114,8 @@ def _event(text: bytes, at: int) -> Fault:
 
 @dataclass(frozen=True)
 class _Claim:
-    """A checkpoint of the text: its number, where it begins and ends by what it says, the count before it, the bytes sent by those
-    before it."""
+    """A checkpoint of the text: its number, where it begins and ends by what it says, the count of the one before it, and
+    how many bytes were sent up to that."""
 
     number: int
     start: int
@@ -144,7 +145,8 @@ def _fields(text: bytes, claim: _Claim) -> Iterator[Field]:
     start, is_first = claim.start, claim.number == 0
     rule = "the count of checkpoint 0 is 0" if is_first else \
         f"a count is above that of the checkpoint before, {claim.before}, and at most 2^40"
-    yield Field("the count", start, 8, rule, lambda count: count == 0 if is_first else claim.before < count <= MOST_COUNT)
+    yield Field("the count", start, 8, rule,
+                lambda count: count == 0 if is_first else claim.before < count <= MOST_COUNT)
     for name, offset, most, rule in (
         ("PC", 76, (1 << 22) - 1, "below 4,194,304"), ("flags", 80, 15, "below 16"), ("stop", 84, 4, "at most 4"),
         ("switches", 92, 4095, "below 4,096"), ("LEDs", 96, 255, "below 256"),
@@ -177,8 +179,8 @@ def _page(text: bytes, at: int) -> Fault:
                      f"a page number is at most P, the number of pages, {pages}")
     number = (at - claim.start - CHANGED) // CHANGE
     place, page = struct.unpack_from("<2I", text, at)
-    rule = f"a place is below 1,024 and above that of the change before; a page number is at most P, {pages}, and not the one " \
-           "that stood at the place"
+    rule = f"a place is below 1,024 and above that of the change before; a page number is at most P, {pages}, and not " \
+           "the one that stood at the place"
     return Fault(f"change {number}{where}, page number {page} at place {place}", at, text[at : at + 8], rule)
 
 
@@ -197,7 +199,8 @@ def _short(text: bytes, at: int) -> Fault:
         needs = start + CHANGED if at < start + CHANGED else start + CHANGED + CHANGE * _number(text, start + CHANGED - 4)
         return Fault(f"the text ends in checkpoint {len(claims)}, which begins at byte {start}", at, b"",
                      f"with that checkpoint the text has at least {needs:,} bytes")
-    return Fault("the text ends in the bytes sent", at, b"", f"with all that its checkpoints say was sent it has {_end(text):,} bytes")
+    rule = f"with all that its checkpoints say was sent the text has {_end(text):,} bytes"
+    return Fault("the text ends in the bytes sent", at, b"", rule)
 
 
 def _whole(text: bytes) -> Iterator[_Claim]:

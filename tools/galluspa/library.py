@@ -114,6 +114,10 @@ class Inputs:
         return (RawInput * number).from_buffer(self._raw, start * ctypes.sizeof(RawInput))
 
 
+def _why(code: int) -> str:
+    return REFUSALS.get(code, f"it answers {code}")
+
+
 @dataclass(frozen=True)
 class Library:
     """The shared library, loaded from a path."""
@@ -155,7 +159,7 @@ class Library:
             ctypes.byref(machine.state), machine.words, ctypes.c_size_t(WORDS),
         )
         if code:
-            raise Refused(f"checkpoint {at} is not read: {REFUSALS[code]}")
+            raise Refused(f"checkpoint {at} is not read: {_why(code)}")
         return machine
 
     def advance(self, machine: Machine, inputs: Inputs, to: int) -> bytes:
@@ -166,7 +170,7 @@ class Library:
             between = (machine.count + to) // 2
             return self.advance(machine, inputs, between) + self.advance(machine, inputs, to)
         if code:
-            raise Refused(f"the machine is not advanced from {machine.count} to {to}: {REFUSALS[code]}")
+            raise Refused(f"the machine is not advanced from {machine.count} to {to}: {_why(code)}")
         return sent.raw[:length]
 
     def _advance(self, machine: Machine, inputs: Inputs, to: int, sent: ctypes.Array) -> tuple[int, int]:

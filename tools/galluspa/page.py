@@ -57,7 +57,7 @@ class Line:
 
 @dataclass(frozen=True)
 class Fault:
-    """Where a text is refused: the byte, whether the text ends there, the field and its rule, and the lines around the byte."""
+    """Where a text is refused: the byte, whether the text ends there, the field and its rule, and the lines around it."""
 
     at: int
     is_end: bool
@@ -78,7 +78,7 @@ class Report:
 
     @staticmethod
     def of(program: Program, name: str, text: bytes, library: str | None = None) -> "Report":
-        """The report on a text, after the program has judged it; what is false about it says the library, where it is found."""
+        """The report on a text, after the program has judged it; the library, where it is found, says what is false."""
         answer = program.check(text)
         return Report(name, text, program, answer, None if answer.status == REFUSED else recording.read(text), library)
 

@@ -48,8 +48,8 @@ def png(pbm: bytes) -> bytes:
 
 
 def set_off(pbm: bytes, other: bytes) -> bytes:
-    """A picture that the program printed, as PNG in which the dots that another one has differently are red: dark where they are
-    set, and light where they are not."""
+    """A picture that the program printed, as PNG in which the dots that another one has differently are red: dark where they
+    are set, and light where they are not."""
     picture, another = (Image.open(io.BytesIO(it)).convert("1") for it in (pbm, other))
     red, light = (Image.new("RGB", picture.size, color) for color in (RED, LIGHT_RED))
     shown = picture.convert("RGB")

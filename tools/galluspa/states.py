@@ -29,7 +29,7 @@ def value(name: str, number: int | list[int]) -> str:
     """A part of a state, by its name and its number or numbers, as it is written."""
     if name in ("PC", "timer", "rate", "phase"):
         return f"{number}"
-    if name == "flags":
+    if name == "flags" and number < 16:
         return flags(number)
     if name == "keys":
         return " ".join(f"{key:02X}" for key in number) or "none"

@@ -1,6 +1,6 @@
 """The run of a recording, looked at an instruction at a time: what each did, as the library's machine shows it.
 
-A run begins at the last checkpoint at or before a count that is known to be true, so looking at its end costs one segment.
+A run begins at the last checkpoint at or before a count that is known to be true, so a look at its end costs one segment.
 """
 
 from collections.abc import Callable, Iterable, Iterator, Sequence
@@ -36,7 +36,8 @@ class WordChange:
 class Step:
     """An instruction that was done: its word, the inputs before it, and the machine before and after it.
 
-    The state after it has the byte that it sent as its output. The word is None where the program counter is outside memory.
+    The state after it has the byte that it sent as its output. The word is None where the program counter is outside
+    memory.
     """
 
     before: Checkpoint
@@ -47,7 +48,7 @@ class Step:
 
     @property
     def stored_at(self) -> int | None:
-        """The address of the word that the instruction stores to, whether or not its value changes; None if it does not."""
+        """The address of the word that the instruction stores to, whether or not it changes; None if it stores nothing."""
         if self.word is None or self.after.stop or not is_store(self.word):
             return None
         return address(self.word, self.before.registers) & ~3
@@ -113,8 +114,8 @@ class Run:
             before = after
 
     def last_before(self, machine: Machine, to: int, has_come: Callable[[Machine, bytes], bool]) -> int | None:
-        """The count before whose instruction something has not come and after which it has; None where it has not come at
-        a count. It has to be something that stays once it has come, given the machine and what it sent meanwhile."""
+        """The count before whose instruction something has not come and after which it has; None where it has not come
+        at a count. It has to be something that stays once it has come, given the machine and what it sent meanwhile."""
         last = None
         while last is None and machine.count < to:
             progress(f"at {machine.count:,} of {to:,}")
@@ -154,8 +155,8 @@ def lines(step: Step) -> Iterator[str]:
 
 
 def changes(step: Step) -> Iterator[str]:
-    """What an instruction and its inputs changed, and the byte that was sent. A program counter that goes on is left out, and so
-    is the phase of the timer."""
+    """What an instruction and its inputs changed, and the byte that was sent. A program counter that goes on is left out,
+    and so is the phase of the timer."""
     parts = [*states.registers(step.after, step.before), *states.others(step.after, step.before, 2)]
     olds = [*states.registers(step.before, None), *states.others(step.before, None, 2)]
     silent = {"phase", *(["PC"] if step.after.pc == (step.before.pc + 1) % (1 << 22) else [])}
