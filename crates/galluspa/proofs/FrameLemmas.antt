@@ -4,12 +4,12 @@ use Rattle.std.specs.Prelude.{◌==◌, if◌then◌else◌}
 use Rattle.std.specs.Option.{option_to_list}
 use Rattle.risc_devices.specs.DeviceState.{DeviceState}
 use Rattle.risc_devices.specs.Input.{taken_input}
-use Rattle.risc_machine.specs.declared.event.Event.{Event}
-use Rattle.risc_machine.specs.MachineState.{State}
-use Rattle.risc_machine.specs.InputOrder.{count_at}
-use Rattle.risc_machine.specs.Exec.{exec}
-use Rattle.risc_machine.specs.Replay.{fed, feed, run_of, sent_of}
-use Rattle.risc_machine.proofs.DueLemmas.{fed-others}
+use Rattle.risc_model.specs.declared.event.Event.{Event}
+use Rattle.risc_model.specs.MachineState.{State}
+use Rattle.risc_model.specs.InputOrder.{count_at}
+use Rattle.risc_model.specs.Exec.{exec}
+use Rattle.risc_model.specs.Replay.{fed, feed, run_of, sent_of}
+use Rattle.risc_model.proofs.RunLemmas.{fed-others}
 use Rattle.galluspa.specs.Laws.{FrameLaw}
 
 fed-append : (xs ys : List Event) (n : ℕ) (d : DeviceState) → fed (xs ++ ys) n d ≡ fed ys n (fed xs n d)

@@ -3,9 +3,9 @@ use Rattle.std.proofs.Common.{◌≡◌, ◌∙◌, ◌<◌, ◌≤◌, ◌-◌,
 use Rattle.std.specs.Prelude.{◌==◌, if◌then◌else◌, slice_index}
 use Rattle.std.proofs.lemmas.List.{length-map}
 use Rattle.risc_devices.specs.InputKind.{IsInput}
-use Rattle.risc_machine.specs.declared.event.Event.{Event}
-use Rattle.risc_machine.specs.declared.inputs.TheConstants.{MAX_COUNT}
-use Rattle.risc_machine.specs.InputOrder.{IsFirstWrong}
+use Rattle.risc_model.specs.declared.event.Event.{Event}
+use Rattle.risc_model.specs.declared.inputs.TheConstants.{MAX_COUNT}
+use Rattle.risc_model.specs.InputOrder.{IsFirstWrong}
 use Rattle.galluspa.specs.declared.raw.RawInput.{RawInput}
 use Rattle.galluspa.specs.Raw.{AreNoEvents, raw_input}
 

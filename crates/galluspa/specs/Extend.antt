@@ -6,7 +6,7 @@ use Rattle.oberon_format.specs.Text.{Text, TextIn}
 use Rattle.oberon_format.specs.declared.layout.TheConstants.{VERSION}
 use Rattle.oberon_session.specs.Extended.{IsBegun, IsExtended, IsNext, IsTooMuch}
 use Rattle.oberon_session.specs.declared.extend_fault.ExtendFault.{ExtendFault}
-use Rattle.risc_machine.specs.declared.event.Event.{Event}
+use Rattle.risc_model.specs.declared.event.Event.{Event}
 use Rattle.galluspa.specs.declared.raw.RawState.{RawState}
 use Rattle.galluspa.specs.declared.raw.RawInput.{RawInput}
 use Rattle.galluspa.specs.declared.words.TheConstants.{WORDS}

@@ -1,9 +1,9 @@
 -- What joins the calls of a caller into one run, with the law of `risc_machine` that a run goes on from a run (`RunLaw`).
 use Rattle.std.specs.Prelude.{ℕ, ◌≡◌, ◌+◌, ◌<◌, ◌≤◌, List, ◌++◌, length}
-use Rattle.risc_machine.specs.declared.event.Event.{Event}
-use Rattle.risc_machine.specs.InputOrder.{count_at}
-use Rattle.risc_machine.specs.MachineState.{State}
-use Rattle.risc_machine.specs.Replay.{run_of, sent_of}
+use Rattle.risc_model.specs.declared.event.Event.{Event}
+use Rattle.risc_model.specs.InputOrder.{count_at}
+use Rattle.risc_model.specs.MachineState.{State}
+use Rattle.risc_model.specs.Replay.{run_of, sent_of}
 
 -- a run with the inputs of its own counts alone is the run with all inputs, and sends the same
 abbrev pub FrameLaw : Type 0

@@ -4,9 +4,9 @@ use Rattle.risc_core.specs.declared.branch.TheConstants.{COUNTER_END}
 use Rattle.risc_core.specs.Flags.{flags_of}
 use Rattle.risc_devices.specs.DeviceState.{AreParts, DeviceState, state_of_parts}
 use Rattle.risc_devices.specs.Input.{kind_of, value_of}
-use Rattle.risc_machine.specs.declared.event.Event.{Event}
-use Rattle.risc_machine.specs.InputOrder.{AreOrdered}
-use Rattle.risc_machine.specs.MachineState.{CpuState, State}
+use Rattle.risc_model.specs.declared.event.Event.{Event}
+use Rattle.risc_model.specs.InputOrder.{AreOrdered}
+use Rattle.risc_model.specs.MachineState.{CpuState, State}
 use Rattle.galluspa.specs.declared.raw.RawState.{RawState}
 use Rattle.galluspa.specs.declared.raw.RawInput.{RawInput}
 

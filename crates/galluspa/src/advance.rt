@@ -8,7 +8,8 @@ use crate::raw::{RawInput, RawState, cpu_of, devices_of, state_of};
 use crate::refusal::{DONE, NO_ROOM, OUT_OF_MEMORY, OUT_OF_RANGE, Refusal};
 use crate::words::{WORDS, copy_words, paged};
 use risc_devices::Input;
-use risc_machine::{Event, Inputs, Machine};
+use risc_machine::Machine;
+use risc_model::{Event, Inputs};
 use std::alloc::Global;
 
 /// The event of an input at a count, if its kind and its value are in their ranges.

@@ -16,7 +16,7 @@ use crate::refusal::{
 use crate::words::WORDS;
 use oberon_format::{Fault, Recording, read, write};
 use oberon_session::{Claim, ExtendFault, begin_recording, extend_recording};
-use risc_machine::Inputs;
+use risc_model::Inputs;
 use std::alloc::Global;
 
 /// Why a recording was not begun, or not extended.

@@ -2,12 +2,12 @@
 ghost use Rattle.std.specs.Prelude.{◌≡◌, ◌≤◌, ◌<◌, ◌^◌, ◌↔◌, ℕ, IfSome, IsSome, length, slice_index, take};
 ghost use Rattle.risc_core.specs.declared.branch.TheConstants.{COUNTER_END};
 ghost use Rattle.risc_core.specs.Flags.{flags_of};
-ghost use Rattle.risc_machine.specs.MachineState.{cpu_state};
+ghost use Rattle.risc_model.specs.MachineState.{cpu_state};
 ghost use Rattle.galluspa.specs.Raw.{AreDevices, IsCpu, cpu_of, devices_of};
 
 use risc_core::COUNTER_END;
 use risc_devices::Devices;
-use risc_machine::{Cpu, Flags};
+use risc_model::{Cpu, Flags};
 
 /// A machine's state without the words of its memory, and the count of instructions before it: 136 bytes. The fields are those of
 /// a recording's checkpoint, and have their ranges.

@@ -3,7 +3,7 @@ use Rattle.std.proofs.Common.{◌≡◌, ℕ, ◌<◌, ap, sym, arith, slice_ind
 use Rattle.risc_pages.specs.Pages.{page_at}
 use Rattle.risc_pages.specs.Delta.{IsFirstDifferentPage}
 use Rattle.risc_devices.specs.DeviceState.{DeviceState}
-use Rattle.risc_machine.specs.MachineState.{CpuState}
+use Rattle.risc_model.specs.MachineState.{CpuState}
 use Rattle.oberon_format.specs.Defined.{Outcome}
 use Rattle.oberon_check.specs.declared.part.Part.{Part}
 use Rattle.oberon_check.specs.declared.part.Part.TheVariants.{R, H, Pc, Flags, Stop, Timer, Rate, Phase, Switches, Leds, Mouse, Serial, Keys, Sent, Page}

@@ -7,7 +7,7 @@ use mathlib.Core.Logic.{dite}
 use mathlib.Core.Logic.Dec as dec
 use native.Mathlib.Decide.{dec_lt, ℕ_discrete}
 use Rattle.risc_pages.specs.Pages.{page_at}
-use Rattle.risc_machine.specs.MachineState.{State, Flags as FlagsState}
+use Rattle.risc_model.specs.MachineState.{State, Flags as FlagsState}
 use Rattle.oberon_format.specs.Recording.{RecordingParts, IsLawful, checkpoint_at, count_at, last_of}
 use Rattle.oberon_format.specs.Defined.{Outcome, claimed, defined, IsTrueAt}
 use Rattle.oberon_check.specs.declared.part.Part.{Part}

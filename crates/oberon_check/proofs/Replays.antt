@@ -1,10 +1,10 @@
 -- Segments that hold lead along the one run.
 use Rattle.std.proofs.Common.{◌≡◌, ℕ, zero, suc, ◌+◌, ◌-◌, ◌<◌, ◌≤◌, List, refl, ap, sym, ◌∙◌, arith}
-use Rattle.risc_machine.specs.declared.event.Event.{Event}
-use Rattle.risc_machine.specs.MachineState.{State}
-use Rattle.risc_machine.specs.Replay.{run_of, sent_of}
-use Rattle.risc_machine.proofs.LawLemmas.{run_of-on}
-use Rattle.risc_machine.proofs.RunLemmas.{run_of-none}
+use Rattle.risc_model.specs.declared.event.Event.{Event}
+use Rattle.risc_model.specs.MachineState.{State}
+use Rattle.risc_model.specs.Replay.{run_of, sent_of}
+use Rattle.risc_model.proofs.LawLemmas.{run_of-on}
+use Rattle.risc_model.proofs.RunLemmas.{run_of-none}
 use Rattle.oberon_format.specs.Recording.{RecordingParts, IsLawful, count_at, last_of}
 use Rattle.oberon_format.specs.Defined.{Outcome, claimed, state_at, defined}
 use Rattle.oberon_check.specs.Segment.{replayed}

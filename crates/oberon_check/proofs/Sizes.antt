@@ -5,10 +5,10 @@ use Rattle.risc_devices.specs.Ticks.{ticked}
 use Rattle.risc_pages.specs.Pages.{ArePages, page_of}
 use Rattle.risc_pages.specs.Tables.{IsNamed, table_words}
 use Rattle.risc_pages.proofs.PoolLemmas.{IsPage-page_of}
-use Rattle.risc_machine.specs.declared.event.Event.{Event}
-use Rattle.risc_machine.specs.MachineState.{CpuState, State}
-use Rattle.risc_machine.specs.Exec.{moved_on, with_register, with_outcome, operated, branched, load_at, device_store, store_at, perform, fetched, counted, exec}
-use Rattle.risc_machine.specs.Replay.{feed, fed, run_of}
+use Rattle.risc_model.specs.declared.event.Event.{Event}
+use Rattle.risc_model.specs.MachineState.{CpuState, State}
+use Rattle.risc_model.specs.Exec.{moved_on, with_register, with_outcome, operated, branched, load_at, device_store, store_at, perform, fetched, counted, exec}
+use Rattle.risc_model.specs.Replay.{feed, fed, run_of}
 
 -- as many registers, and as many words
 pub record SameSizes (s t : State) : Type 0 where

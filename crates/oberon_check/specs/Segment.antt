@@ -1,6 +1,6 @@
 -- What the replay of one segment finds.
 use Rattle.std.specs.Prelude.{ℕ, ◌+◌, ◌-◌, ◌<◌, Option, ◌≡◌, List, [], ◌∷◌, MatchOption}
-use Rattle.risc_machine.specs.Replay.{run_of, sent_of}
+use Rattle.risc_model.specs.Replay.{run_of, sent_of}
 use Rattle.oberon_format.specs.Recording.{RecordingParts, IsLawful, count_at, last_of}
 use Rattle.oberon_format.specs.Defined.{Outcome, claimed}
 use Rattle.oberon_check.specs.declared.part.Part.{Part}

@@ -3,7 +3,7 @@
 //! Here live the comparisons of the processor, of the devices and of the whole. Pages are compared by `risc_pages`, and
 //! the bytes sent while the machine runs.
 ghost use Rattle.risc_pages.specs.Tables.{IsNamed};
-ghost use Rattle.risc_machine.specs.MachineState.{cpu_state};
+ghost use Rattle.risc_model.specs.MachineState.{cpu_state};
 ghost use Rattle.oberon_format.specs.CheckpointParts.{checkpoint_parts};
 ghost use Rattle.oberon_format.specs.Defined.{claim_of};
 ghost use Rattle.oberon_check.specs.inner.Comparing.{IsCpuDifference, IsDeviceDifference, IsDifferenceBy, IsFirstRegister};
@@ -11,7 +11,8 @@ ghost use Rattle.oberon_check.specs.inner.Comparing.{IsCpuDifference, IsDeviceDi
 use crate::part::Part;
 use oberon_format::Checkpoint;
 use risc_devices::Devices;
-use risc_machine::{Cpu, Machine};
+use risc_machine::Machine;
+use risc_model::Cpu;
 use risc_pages::Pool;
 
 /// The first register that isn't the same.

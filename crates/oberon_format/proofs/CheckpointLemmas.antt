@@ -1,7 +1,7 @@
 -- The checkpoints of a recording, as Rust has them and as parts.
 use Rattle.std.proofs.Common.{◌≡◌, ◌<◌, ◌∙◌, ℕ, List, map, get_or, length, sym, ap, subst, arith}
 use Rattle.std.proofs.lemmas.List.{get_or-map, length-map}
-use Rattle.risc_machine.specs.declared.event.Event.{Event}
+use Rattle.risc_model.specs.declared.event.Event.{Event}
 use Rattle.oberon_format.specs.declared.checkpoint.Checkpoint.{Checkpoint}
 use Rattle.oberon_format.specs.CheckpointParts.{checkpoint_parts, no_checkpoint}
 use Rattle.oberon_format.specs.Recording.{parts_of, RecordingParts, IsLawful, IsFit}

@@ -12,8 +12,8 @@ use Rattle.risc_core.proofs.FlagsLemmas.{number_back}
 use Rattle.risc_devices.specs.DeviceState.{DeviceState, IsDeviceState, is_phase}
 use Rattle.risc_devices.specs.InputKind.{is_mouse}
 use Rattle.risc_devices.proofs.InputLemmas.{input_of, kind_of-input_of, value_of-input_of}
-use Rattle.risc_machine.specs.declared.event.Event.{Event}
-use Rattle.risc_machine.specs.MachineState.{CpuState}
+use Rattle.risc_model.specs.declared.event.Event.{Event}
+use Rattle.risc_model.specs.MachineState.{CpuState}
 use Rattle.risc_pages.specs.Pages.{IsPage, ArePages}
 use Rattle.oberon_format.specs.declared.layout.TheConstants.{FIRST_VERSION, PLACES, REGISTERS_AT, AUXILIARY_AT, COUNTER_AT, FLAGS_AT, STOP_AT, TIMER_AT, SWITCHES_AT, LEDS_AT, MOUSE_AT, SERIAL_AT, WAITING_AT, KEYS_AT, SENT_AT, RATE_AT, PHASE_AT, CHANGES_AT, NUMBER_AT, KIND_AT, VALUE_AT}
 use Rattle.oberon_format.specs.declared.ranges.TheConstants.{FLAGS_END, SWITCHES_END, LEDS_END, SERIAL_END, MAX_KEYS}

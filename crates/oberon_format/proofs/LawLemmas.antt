@@ -4,8 +4,8 @@ use Rattle.std.specs.List.{flat_map}
 use Rattle.std.specs.Int.{byte_at, bytes_low_first}
 use Rattle.std.proofs.lemmas.List.Elements.{All-nil, All-cons, All-append, All-replicate}
 use Rattle.risc_devices.specs.DeviceState.{DeviceState, IsDeviceState}
-use Rattle.risc_machine.specs.declared.event.Event.{Event}
-use Rattle.risc_machine.specs.MachineState.{CpuState}
+use Rattle.risc_model.specs.declared.event.Event.{Event}
+use Rattle.risc_model.specs.MachineState.{CpuState}
 use Rattle.risc_pages.specs.Tables.{zero_numbers}
 use Rattle.oberon_format.specs.declared.change.Change.{Change}
 use Rattle.oberon_format.specs.declared.layout.TheConstants.{VERSION}

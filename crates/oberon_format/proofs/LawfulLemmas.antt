@@ -12,11 +12,11 @@ use Rattle.risc_core.proofs.FlagsLemmas.{number_below}
 use Rattle.risc_devices.specs.DeviceState.{DeviceState, IsDeviceState, is_phase, serial_number}
 use Rattle.risc_pages.proofs.PoolLemmas.{zero_number}
 use Rattle.risc_devices.specs.InputKind.{is_input, is_mouse}
-use Rattle.risc_machine.specs.declared.event.Event.{Event}
-use Rattle.risc_machine.specs.InputOrder.{AreOrdered}
-use Rattle.risc_machine.specs.InputOrder.{count_before as before_count}
-use Rattle.risc_machine.specs.MachineState.{CpuState}
-use Rattle.risc_machine.specs.declared.inputs.TheConstants.{MAX_COUNT}
+use Rattle.risc_model.specs.declared.event.Event.{Event}
+use Rattle.risc_model.specs.InputOrder.{AreOrdered}
+use Rattle.risc_model.specs.InputOrder.{count_before as before_count}
+use Rattle.risc_model.specs.MachineState.{CpuState}
+use Rattle.risc_model.specs.declared.inputs.TheConstants.{MAX_COUNT}
 use Rattle.risc_pages.specs.Pages.{ArePages}
 use Rattle.oberon_format.specs.declared.fault.Fault.{Fault}
 use Rattle.oberon_format.specs.declared.fault.Fault.TheVariants as fault

@@ -11,8 +11,8 @@ use Rattle.risc_devices.specs.declared.input.Input.{Input}
 use Rattle.risc_devices.specs.DeviceState.{DeviceState, IsDeviceState}
 use Rattle.risc_devices.proofs.InputLemmas.{same_input}
 use Rattle.risc_devices.proofs.DeviceLemmas.{same_devices}
-use Rattle.risc_machine.specs.declared.event.Event.{Event}
-use Rattle.risc_machine.specs.MachineState.{CpuState, IsCpuState}
+use Rattle.risc_model.specs.declared.event.Event.{Event}
+use Rattle.risc_model.specs.MachineState.{CpuState, IsCpuState}
 use Rattle.risc_pages.specs.Tables.{IsTable}
 use Rattle.oberon_format.specs.declared.change.Change.{Change}
 use Rattle.oberon_format.specs.declared.layout.TheConstants.{PLACES, TABLE_AT}

@@ -4,7 +4,7 @@ use Rattle.std.specs.Prelude.{None, slice_index, slice_index_or, nat_le, â—Œ==â—
 use Rattle.std.proofs.lemmas.List.{get_or-map}
 use Rattle.std.proofs.lemmas.Bool.{le-leb, ne_eqb, cases_lt}
 use Rattle.std.proofs.lemmas.Bool.Decides.{nat_tests}
-use Rattle.risc_machine.specs.declared.event.Event.{Event}
+use Rattle.risc_model.specs.declared.event.Event.{Event}
 use Rattle.risc_pages.proofs.PoolLemmas.{zero_number}
 use Rattle.oberon_format.specs.declared.layout.TheConstants.{FIRST_VERSION, VERSION, CHECKPOINT_LEN, CHANGE_LEN, CHANGES_AT, PLACES}
 use Rattle.oberon_format.specs.Changes.{changes}

@@ -8,8 +8,8 @@ use Rattle.risc_core.specs.Flags.{flags_number}
 use Rattle.risc_devices.specs.DeviceState.{DeviceState, IsDeviceState, is_phase, IsPhase, serial_number}
 use Rattle.risc_devices.specs.Input.{kind_of, value_of}
 use Rattle.risc_devices.proofs.InputLemmas.{kind_fits, value_fits, mouse_word_fits}
-use Rattle.risc_machine.specs.declared.event.Event.{Event}
-use Rattle.risc_machine.specs.MachineState.{CpuState}
+use Rattle.risc_model.specs.declared.event.Event.{Event}
+use Rattle.risc_model.specs.MachineState.{CpuState}
 use Rattle.risc_pages.specs.Pages.{IsPage}
 use Rattle.risc_pages.specs.Tables.{zero_numbers, IsTable}
 use Rattle.oberon_format.specs.declared.change.Change.{Change}

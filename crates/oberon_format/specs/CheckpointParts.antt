@@ -1,7 +1,7 @@
 -- What a checkpoint is made of.
 use Rattle.std.specs.Prelude.{ℕ, false, List, [], ◌-◌, ◌++◌, length, replicate}
 use Rattle.risc_devices.specs.DeviceState.{DeviceState}
-use Rattle.risc_machine.specs.MachineState.{CpuState, cpu_state}
+use Rattle.risc_model.specs.MachineState.{CpuState, cpu_state}
 use Rattle.oberon_format.specs.declared.checkpoint.Checkpoint.{Checkpoint}
 use Rattle.oberon_format.specs.declared.ranges.TheConstants.{MAX_KEYS}
 

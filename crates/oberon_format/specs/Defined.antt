@@ -1,8 +1,8 @@
 -- What a recording claims, and what one uninterrupted run from its first state gives.
 use Rattle.std.specs.Prelude.{ℕ, ◌≡◌, ◌-◌, List}
 use Rattle.risc_pages.specs.Tables.{table_words}
-use Rattle.risc_machine.specs.MachineState.{State}
-use Rattle.risc_machine.specs.OneRun.{sent_between, state_from}
+use Rattle.risc_model.specs.MachineState.{State}
+use Rattle.risc_model.specs.OneRun.{sent_between, state_from}
 use Rattle.oberon_format.specs.CheckpointParts.{CheckpointParts}
 use Rattle.oberon_format.specs.Recording.{RecordingParts, checkpoint_at, count_at}
 

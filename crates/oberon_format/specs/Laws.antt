@@ -1,6 +1,6 @@
 -- Laws of texts and recordings.
 use Rattle.std.specs.Prelude.{ℕ, ◌≡◌, ◌≤◌, ◌<◌, ◌↔◌, List, length, take, None, IfSome, MatchOption}
-use Rattle.risc_machine.specs.InputOrder.{AreOrdered}
+use Rattle.risc_model.specs.InputOrder.{AreOrdered}
 use Rattle.risc_pages.specs.Pages.{ArePages}
 use Rattle.oberon_format.specs.declared.layout.TheConstants.{LONGEST_TEXT, VERSION}
 use Rattle.oberon_format.specs.Formed.{AreFormed, AreWritable}

@@ -3,7 +3,7 @@ use Rattle.std.specs.Prelude.{ℕ, zero, suc, ◌+◌, ◌==◌, if◌then◌els
 use Rattle.risc_core.specs.Flags.{flags_number}
 use Rattle.risc_devices.specs.DeviceState.{serial_number}
 use Rattle.risc_devices.specs.Input.{kind_of, value_of}
-use Rattle.risc_machine.specs.declared.event.Event.{Event}
+use Rattle.risc_model.specs.declared.event.Event.{Event}
 use Rattle.oberon_format.specs.Changes.{changes, no_change}
 use Rattle.oberon_format.specs.CheckpointParts.{CheckpointParts, key_bytes}
 use Rattle.oberon_format.specs.declared.fault.Fault.{Fault}

@@ -8,7 +8,7 @@ use Rattle.risc_devices.specs.InputKind.{is_input, is_mouse}
 use Rattle.oberon_format.specs.declared.change.Change.{Change}
 use Rattle.oberon_format.specs.declared.fields.CheckpointFields.{CheckpointFields}
 use Rattle.oberon_format.specs.declared.layout.TheConstants.{FIRST_VERSION, VERSION, PLACES}
-use Rattle.risc_machine.specs.declared.inputs.TheConstants.{MAX_COUNT}
+use Rattle.risc_model.specs.declared.inputs.TheConstants.{MAX_COUNT}
 use Rattle.oberon_format.specs.declared.ranges.TheConstants.{FLAGS_END, MAX_STOP, SWITCHES_END, LEDS_END, SERIAL_END, MAX_KEYS}
 use Rattle.recording_limits.specs.declared.limits.TheConstants.{MAX_OUTPUT}
 use Rattle.oberon_format.specs.Fields.{EventFields}

@@ -4,10 +4,10 @@ use Rattle.std.specs.List.{flat_map}
 use Rattle.risc_pages.specs.Pages.{ArePages}
 use Rattle.risc_pages.specs.Tables.{IsNamed, zero_numbers, IsTable}
 use Rattle.risc_devices.specs.DeviceState.{IsDeviceState}
-use Rattle.risc_machine.specs.declared.event.Event.{Event}
-use Rattle.risc_machine.specs.InputOrder.{AreOrdered}
-use Rattle.risc_machine.specs.MachineState.{IsCpuState}
-use Rattle.risc_machine.specs.declared.inputs.TheConstants.{MAX_COUNT}
+use Rattle.risc_model.specs.declared.event.Event.{Event}
+use Rattle.risc_model.specs.InputOrder.{AreOrdered}
+use Rattle.risc_model.specs.MachineState.{IsCpuState}
+use Rattle.risc_model.specs.declared.inputs.TheConstants.{MAX_COUNT}
 use Rattle.oberon_format.specs.declared.ranges.TheConstants.{MAX_CHECKPOINTS}
 use Rattle.recording_limits.specs.declared.limits.TheConstants.{MAX_EVENTS, MAX_OUTPUT, MAX_PAGES}
 use Rattle.oberon_format.specs.CheckpointParts.{CheckpointParts, no_checkpoint, checkpoint_parts}

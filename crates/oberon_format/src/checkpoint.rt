@@ -6,7 +6,7 @@ ghost use Rattle.oberon_format.specs.CheckpointParts.{checkpoint_parts};
 ghost use Rattle.oberon_format.specs.Recording.{table_before};
 
 use risc_devices::Devices;
-use risc_machine::Cpu;
+use risc_model::Cpu;
 use risc_pages::Table;
 
 /// What is claimed of the machine at a count, before the inputs of that count: its state, and what it sent since the checkpoint

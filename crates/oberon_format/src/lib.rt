@@ -38,5 +38,5 @@ pub use migration::migrate;
 pub use reading::read;
 pub use recording::Recording;
 pub use recording_limits::{LAST_CHECKPOINT, MAX_EVENTS, MAX_OUTPUT, MAX_PAGES};
-pub use risc_machine::MAX_COUNT;
+pub use risc_model::MAX_COUNT;
 pub use writing::write;

@@ -21,7 +21,7 @@ use crate::layout::{
 use crate::limits::limits_fault;
 use crate::ranges::MAX_CHECKPOINTS;
 use recording_limits::{MAX_EVENTS, MAX_PAGES};
-use risc_machine::Inputs;
+use risc_model::Inputs;
 use risc_pages::{Pool, Table};
 
 /// The first fault of the text of these parts.

@@ -1,7 +1,7 @@
 //! The ranges of fields, tested on numbers. Where these stand in a text is not known here.
 //!
 //! Each limit has its one name, which definitions, contracts and code cite: here, or in a crate below that others have it from
-//! too, as those of whole recordings in `recording_limits`, `MAX_COUNT` of counts in `risc_machine` and `COUNTER_END` of program
+//! too, as those of whole recordings in `recording_limits`, `MAX_COUNT` of counts in `risc_model` and `COUNTER_END` of program
 //! counters in `risc_core`. All are this project's own choice, but for the end of program counters.
 
 ghost use Rattle.std.specs.Prelude.{◌≡◌, ◌≤◌};
@@ -10,7 +10,7 @@ ghost use Rattle.oberon_format.specs.Ranges.{is_count, is_output};
 
 use recording_limits::{LAST_CHECKPOINT, MAX_OUTPUT};
 use risc_devices::Input;
-use risc_machine::MAX_COUNT;
+use risc_model::MAX_COUNT;
 
 /// The largest number of checkpoints, checkpoint 0 among them.
 pub(crate) const MAX_CHECKPOINTS: u32 = LAST_CHECKPOINT + 1;

@@ -11,7 +11,7 @@ ghost use Rattle.oberon_format.specs.inner.Tested.{IsSized, Meets, HasNumbers, S
 ghost use Rattle.oberon_format.specs.Text.{EachAt, AreWords, IsPageAt, IsEvent, IsEventAt, IsCpu, IsDevices, IsFront, Text};
 ghost use Rattle.oberon_format.specs.TextFields.{fields_of, checkpoint_of, change_of, page_number_of, AnswersText};
 ghost use Rattle.risc_devices.specs.InputKind.{IsInput};
-ghost use Rattle.risc_machine.specs.MachineState.{cpu_state};
+ghost use Rattle.risc_model.specs.MachineState.{cpu_state};
 
 use crate::change::Change;
 use crate::checkpoint::Checkpoint;
@@ -28,7 +28,7 @@ use crate::number::{u32_at, u64_at};
 use crate::recording::Recording;
 use crate::rules::test_text;
 use risc_devices::{Devices, Input};
-use risc_machine::{Cpu, Event, Flags, Inputs};
+use risc_model::{Cpu, Event, Flags, Inputs};
 use risc_pages::{Page, Pool, Table};
 use std::alloc::{AllocError, Global};
 

@@ -8,7 +8,7 @@ ghost use Rattle.oberon_format.specs.Recording.{IsLawful, IsFit, checkpoint_at, 
 use crate::checkpoint::Checkpoint;
 use crate::fault::Fault;
 use crate::parts::parts_fault;
-use risc_machine::Inputs;
+use risc_model::Inputs;
 use risc_pages::Pool;
 use std::marker::Model;
 

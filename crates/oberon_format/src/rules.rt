@@ -24,7 +24,7 @@ use crate::limits::limits_fault;
 use crate::number::{u32_at, u64_at};
 use crate::ranges::{MAX_CHECKPOINTS, is_input};
 use recording_limits::{MAX_EVENTS, MAX_OUTPUT, MAX_PAGES};
-use risc_machine::MAX_COUNT;
+use risc_model::MAX_COUNT;
 use risc_pages::Table;
 
 /// How long a text is to be by its header: in version 1 up to the output, in version 2 up to checkpoint 0.

@@ -2,7 +2,7 @@
 
 ghost use Rattle.std.specs.Prelude.{◌≡◌, ◌++◌, ◌+◌, ◌≤◌, length, map, IfOk, OnOk};
 ghost use Rattle.std.specs.List.{flat_map};
-ghost use Rattle.risc_machine.specs.MachineState.{cpu_state};
+ghost use Rattle.risc_model.specs.MachineState.{cpu_state};
 ghost use Rattle.risc_pages.specs.Tables.{zero_numbers};
 ghost use Rattle.oberon_format.specs.Changes.{changes};
 ghost use Rattle.oberon_format.specs.CheckpointParts.{checkpoint_parts};
@@ -19,7 +19,7 @@ use crate::recording::Recording;
 use byteorder::{ByteOrder, LittleEndian};
 use recording_limits::MAX_OUTPUT;
 use risc_devices::Devices;
-use risc_machine::{Cpu, Event};
+use risc_model::{Cpu, Event};
 use risc_pages::{Pool, Table};
 use std::alloc::{AllocError, Global};
 

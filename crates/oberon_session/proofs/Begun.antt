@@ -5,7 +5,7 @@ use Rattle.std.proofs.lemmas.List.Elements.{All-map, All-replicate, All-set}
 use Rattle.std.specs.List.{All}
 use Rattle.std.proofs.lemmas.Bool.{and_parts, ltb-true}
 use Rattle.std.specs.Prelude.{nat_lt, slice_index}
-use Rattle.risc_machine.specs.MachineState.{CpuState, State}
+use Rattle.risc_model.specs.MachineState.{CpuState, State}
 use Rattle.risc_devices.specs.DeviceState.{DeviceState, IsDeviceState, IsPhase, is_phase}
 use Rattle.risc_devices.specs.InputKind.{is_mouse}
 use Rattle.risc_pages.specs.Tables.{table_words, zero_numbers}

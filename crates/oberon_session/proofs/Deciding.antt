@@ -10,7 +10,7 @@ use Rattle.oberon_session.specs.Ranges.{count_fits, in_order, in_range, input_co
 use Rattle.oberon_session.specs.SessionParts.{CountFits}
 use Rattle.oberon_session.specs.inner.Tested.{InOrder, InRange, InputFits, PageFits, StartFits}
 use Rattle.risc_core.specs.declared.branch.TheConstants.{COUNTER_END}
-use Rattle.risc_machine.specs.declared.inputs.TheConstants.{MAX_COUNT}
+use Rattle.risc_model.specs.declared.inputs.TheConstants.{MAX_COUNT}
 use Rattle.recording_limits.specs.declared.limits.TheConstants.{LAST_CHECKPOINT, MAX_EVENTS}
 
 decides-le : (a b : ℕ) → Decides (nat_le a b) (a ≤ b)

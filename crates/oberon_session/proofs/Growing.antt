@@ -7,8 +7,8 @@ use Rattle.std.proofs.lemmas.List.Elements.{All-replicate}
 use Rattle.std.specs.List.{All}
 use Rattle.risc_core.specs.declared.branch.TheConstants.{COUNTER_END}
 use Rattle.risc_devices.specs.DeviceState.{DeviceState, IsDeviceState}
-use Rattle.risc_machine.specs.MachineState.{CpuState, IsCpuState, cpu_state}
-use Rattle.risc_machine.specs.declared.event.Event.{Event}
+use Rattle.risc_model.specs.MachineState.{CpuState, IsCpuState, cpu_state}
+use Rattle.risc_model.specs.declared.event.Event.{Event}
 use Rattle.risc_pages.specs.Pages.{ArePages}
 use Rattle.risc_pages.specs.Tables.{IsNamed, table_words, zero_numbers}
 use Rattle.recording_limits.specs.declared.limits.TheConstants.{LAST_CHECKPOINT, MAX_EVENTS, MAX_OUTPUT, MAX_PAGES}

@@ -7,10 +7,10 @@ use Rattle.std.specs.Prelude.{Result, Ok, Err}
 use Rattle.hex.specs.Hex.{decode_of}
 use Rattle.risc_core.specs.declared.branch.TheConstants.{COUNTER_END}
 use Rattle.risc_pages.specs.Pages.{IsPage}
-use Rattle.risc_machine.specs.declared.cpu.Cpu.{Cpu}
-use Rattle.risc_machine.specs.declared.event.Event.{Event}
-use Rattle.risc_machine.specs.InputOrder.{AreOrdered}
-use Rattle.risc_machine.specs.MachineState.{CpuState, cpu_state}
+use Rattle.risc_model.specs.declared.cpu.Cpu.{Cpu}
+use Rattle.risc_model.specs.declared.event.Event.{Event}
+use Rattle.risc_model.specs.InputOrder.{AreOrdered}
+use Rattle.risc_model.specs.MachineState.{CpuState, cpu_state}
 use Rattle.oberon_session.proofs.Mapped.{unmapped}
 use Rattle.oberon_session.specs.Digits.{PlacedWords, all_placed_of, placed_of, words_of_bytes}
 use Rattle.oberon_session.specs.Parts.{placed_view, session_of_parts}

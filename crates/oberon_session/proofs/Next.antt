@@ -6,7 +6,7 @@ use Rattle.std.specs.List.{All}
 use Rattle.risc_devices.specs.DeviceState.{IsDeviceState}
 use Rattle.risc_pages.specs.Tables.{IsNamed, table_words}
 use Rattle.risc_pages.specs.Pages.{ArePages}
-use Rattle.risc_machine.specs.MachineState.{IsCpuState}
+use Rattle.risc_model.specs.MachineState.{IsCpuState}
 use Rattle.recording_limits.specs.declared.limits.TheConstants.{MAX_OUTPUT, MAX_PAGES}
 use Rattle.oberon_format.proofs.Output.{output_of_push}
 use Rattle.oberon_format.specs.CheckpointParts.{CheckpointParts, no_checkpoint}

@@ -4,7 +4,7 @@ use Rattle.std.proofs.lemmas.List.Elements.{All-head, All-tail}
 use Rattle.std.specs.List.{All}
 use Rattle.std.specs.Prelude.{Result, Ok, Err}
 use Rattle.risc_devices.proofs.InputLemmas.{input_of, kind_of-input_of, same_input, value_of-input_of}
-use Rattle.risc_machine.specs.declared.event.Event.{Event}
+use Rattle.risc_model.specs.declared.event.Event.{Event}
 use Rattle.oberon_format.proofs.One.{same_event}
 use Rattle.oberon_session.proofs.Table.{faultless}
 use Rattle.oberon_session.specs.Draft.{Draft, InputNumbers}

@@ -3,10 +3,10 @@ use Rattle.std.proofs.Common.{◌≡◌, ◌<◌, ◌≤◌, ◌+◌, ℕ, zero,
 use Rattle.std.proofs.lemmas.Bool.Decides.{nat_tests}
 use Rattle.std.proofs.lemmas.List.{get_or-map, length-map}
 use Rattle.std.specs.List.{All}
-use Rattle.risc_machine.specs.declared.event.Event.{Event}
-use Rattle.risc_machine.specs.InputOrder.{AreOrdered, IsFirstWrong, IsRightPlace, count_at, count_before}
-use Rattle.risc_machine.specs.declared.inputs.TheConstants.{MAX_COUNT}
-use Rattle.risc_machine.proofs.OrderLemmas.{count_before-next}
+use Rattle.risc_model.specs.declared.event.Event.{Event}
+use Rattle.risc_model.specs.InputOrder.{AreOrdered, IsFirstWrong, IsRightPlace, count_at, count_before}
+use Rattle.risc_model.specs.declared.inputs.TheConstants.{MAX_COUNT}
+use Rattle.risc_model.proofs.OrderLemmas.{count_before-next}
 use Rattle.oberon_session.specs.Draft.{InputNumbers}
 use Rattle.oberon_session.specs.Ranges.{input_counts}
 use Rattle.oberon_session.specs.Session.{numbers_of_event}

@@ -1,9 +1,9 @@
 -- Parts of a session that break no rule are lawful, and lawful parts break none.
 use Rattle.std.proofs.Common.{◌<◌, ℕ, List, arith}
 use Rattle.std.specs.List.Sorted.{IsStrictlyIncreasing}
-use Rattle.risc_machine.specs.declared.cpu.Cpu.{Cpu}
-use Rattle.risc_machine.specs.declared.event.Event.{Event}
-use Rattle.risc_machine.specs.InputOrder.{AreOrdered}
+use Rattle.risc_model.specs.declared.cpu.Cpu.{Cpu}
+use Rattle.risc_model.specs.declared.event.Event.{Event}
+use Rattle.risc_model.specs.InputOrder.{AreOrdered}
 use Rattle.oberon_session.proofs.Lawful.{whole-pages}
 use Rattle.oberon_session.proofs.Mapped.{mapped-fit, mapped-rises}
 use Rattle.oberon_session.specs.Digits.{PlacedWords}

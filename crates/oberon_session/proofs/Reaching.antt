@@ -4,10 +4,10 @@ use Rattle.std.proofs.lemmas.List.{length-map, map-append}
 use Rattle.std.specs.List.{All}
 use Rattle.risc_devices.specs.DeviceState.{DeviceState, IsDeviceState}
 use Rattle.risc_pages.specs.Pages.{ArePages}
-use Rattle.risc_machine.specs.declared.event.Event.{Event}
+use Rattle.risc_model.specs.declared.event.Event.{Event}
 use Rattle.risc_pages.specs.Tables.{table_words}
-use Rattle.risc_machine.specs.MachineState.{CpuState, State, IsCpuState, cpu_state}
-use Rattle.risc_machine.specs.Replay.{run_of, sent_of}
+use Rattle.risc_model.specs.MachineState.{CpuState, State, IsCpuState, cpu_state}
+use Rattle.risc_model.specs.Replay.{run_of, sent_of}
 use Rattle.oberon_format.proofs.CheckpointLemmas.{checkpoint_at-is}
 use Rattle.oberon_format.specs.declared.checkpoint.Checkpoint.{Checkpoint}
 use Rattle.recording_limits.specs.declared.limits.TheConstants.{MAX_OUTPUT, MAX_PAGES}

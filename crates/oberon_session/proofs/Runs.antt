@@ -1,9 +1,9 @@
 -- Runs that go on from runs.
 use Rattle.std.proofs.Common.{◌≡◌, ℕ, ◌+◌, ◌-◌, ◌≤◌, List, ◌++◌, ap, arith, length, length-append, refl, sym, ◌∙◌}
-use Rattle.risc_machine.specs.declared.event.Event.{Event}
-use Rattle.risc_machine.specs.MachineState.{State}
-use Rattle.risc_machine.specs.Replay.{run_of, sent_of}
-use Rattle.risc_machine.proofs.LawLemmas.{run_of-on, sent_of-on}
+use Rattle.risc_model.specs.declared.event.Event.{Event}
+use Rattle.risc_model.specs.MachineState.{State}
+use Rattle.risc_model.specs.Replay.{run_of, sent_of}
+use Rattle.risc_model.proofs.LawLemmas.{run_of-on, sent_of-on}
 
 module _ (es : List Event) (from at end : ℕ) (s : State) (begun : from ≤ at) (on : at ≤ end) where
   split : end - from ≡ (at - from) + (end - at)

@@ -1,8 +1,8 @@
 -- A session of which all checkpoints are recorded.
 use Rattle.std.proofs.Common.{◌≡◌, ℕ, ◌-◌, ◌<◌, ◌≤◌, List, None, ap, arith, length, refl, subst, sym, ◌∙◌}
-use Rattle.risc_machine.specs.declared.event.Event.{Event}
-use Rattle.risc_machine.specs.MachineState.{State}
-use Rattle.risc_machine.specs.OneRun.{sent_between, state_from}
+use Rattle.risc_model.specs.declared.event.Event.{Event}
+use Rattle.risc_model.specs.MachineState.{State}
+use Rattle.risc_model.specs.OneRun.{sent_between, state_from}
 use Rattle.oberon_format.specs.CheckpointParts.{CheckpointParts}
 use Rattle.oberon_format.specs.Defined.{IsTrueAt, claim_of, claimed, output_between as format_output, state_at as format_state}
 use Rattle.oberon_format.specs.Recording.{RecordingParts, checkpoint_at, count_at}

@@ -3,10 +3,10 @@
 use Rattle.std.specs.Prelude.{ℕ, ◌≡◌, ◌+◌, ◌<◌, ◌≤◌, List, [], ◌++◌, length, ⊤}
 use Rattle.std.specs.List.{All}
 use Rattle.risc_pages.specs.Tables.{table_words, zero_numbers}
-use Rattle.risc_machine.specs.declared.event.Event.{Event}
-use Rattle.risc_machine.specs.InputOrder.{AreOrdered}
-use Rattle.risc_machine.specs.MachineState.{State, cpu_state}
-use Rattle.risc_machine.specs.declared.inputs.TheConstants.{MAX_COUNT}
+use Rattle.risc_model.specs.declared.event.Event.{Event}
+use Rattle.risc_model.specs.InputOrder.{AreOrdered}
+use Rattle.risc_model.specs.MachineState.{State, cpu_state}
+use Rattle.risc_model.specs.declared.inputs.TheConstants.{MAX_COUNT}
 use Rattle.recording_limits.specs.declared.limits.TheConstants.{LAST_CHECKPOINT, MAX_EVENTS, MAX_OUTPUT, MAX_PAGES}
 use Rattle.oberon_format.specs.Defined.{Outcome, claimed}
 use Rattle.oberon_format.specs.Recording.{RecordingParts, count_at, last_of, output_of}

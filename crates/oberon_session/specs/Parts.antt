@@ -4,9 +4,9 @@ use Rattle.std.specs.Prelude.{ℕ, ◌≡◌, ◌<◌, ◌≤◌, IsTrue, List, 
 use Rattle.std.specs.List.{All}
 use Rattle.std.specs.List.Sorted.{IsStrictlyIncreasing}
 use Rattle.risc_core.specs.declared.branch.TheConstants.{COUNTER_END}
-use Rattle.risc_machine.specs.declared.cpu.Cpu.{Cpu}
-use Rattle.risc_machine.specs.declared.event.Event.{Event}
-use Rattle.risc_machine.specs.MachineState.{cpu_state}
+use Rattle.risc_model.specs.declared.cpu.Cpu.{Cpu}
+use Rattle.risc_model.specs.declared.event.Event.{Event}
+use Rattle.risc_model.specs.MachineState.{cpu_state}
 use Rattle.oberon_session.specs.Digits.{PlacedWords}
 use Rattle.oberon_session.specs.Ranges.{timer_fits}
 use Rattle.oberon_session.specs.SessionParts.{CountsFit, SessionParts, places_in}

@@ -6,7 +6,7 @@ use Rattle.risc_core.specs.declared.branch.TheConstants.{COUNTER_END}
 use Rattle.risc_devices.specs.DeviceState.{is_phase}
 use Rattle.risc_devices.specs.InputKind.{is_input}
 use Rattle.oberon_session.specs.Draft.{Draft, InputNumbers, PageText, Start}
-use Rattle.risc_machine.specs.declared.inputs.TheConstants.{MAX_COUNT}
+use Rattle.risc_model.specs.declared.inputs.TheConstants.{MAX_COUNT}
 use Rattle.recording_limits.specs.declared.limits.TheConstants.{LAST_CHECKPOINT, MAX_EVENTS}
 
 -- ---- ranges

@@ -4,8 +4,8 @@ use Rattle.std.specs.List.{range_with_len}
 use Rattle.std.specs.Option.{option_or}
 use Rattle.risc_pages.specs.Tables.{table_words, zero_numbers}
 use Rattle.risc_devices.specs.DeviceState.{DeviceState}
-use Rattle.risc_machine.specs.MachineState.{State}
-use Rattle.risc_machine.specs.OneRun.{sent_between, state_from}
+use Rattle.risc_model.specs.MachineState.{State}
+use Rattle.risc_model.specs.OneRun.{sent_between, state_from}
 use Rattle.recording_limits.specs.declared.limits.TheConstants.{MAX_OUTPUT, MAX_PAGES}
 use Rattle.oberon_format.specs.CheckpointParts.{CheckpointParts}
 use Rattle.oberon_format.specs.Recording.{RecordingParts}

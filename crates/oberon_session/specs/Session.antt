@@ -2,8 +2,8 @@
 use Rattle.std.specs.Prelude.{◌≡◌, ◌≤◌, ℕ, List, length, map, Some, None}
 use Rattle.risc_core.specs.Flags.{flags_of}
 use Rattle.risc_devices.specs.Input.{kind_of, value_of}
-use Rattle.risc_machine.specs.declared.event.Event.{Event}
-use Rattle.risc_machine.specs.MachineState.{CpuState}
+use Rattle.risc_model.specs.declared.event.Event.{Event}
+use Rattle.risc_model.specs.MachineState.{CpuState}
 use Rattle.oberon_session.specs.Digits.{all_placed_of}
 use Rattle.oberon_session.specs.Draft.{Draft, InputNumbers, Start}
 use Rattle.oberon_session.specs.Rules.{draft_in, first_fault_of}

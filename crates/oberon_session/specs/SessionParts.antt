@@ -3,10 +3,10 @@ use Rattle.std.specs.Prelude.{ℕ, ◌≡◌, ◌<◌, ◌≤◌, IsTrue, List, 
 use Rattle.std.specs.List.{All}
 use Rattle.std.specs.List.Sorted.{IsStrictlyIncreasing}
 use Rattle.risc_pages.specs.Pages.{IsPage}
-use Rattle.risc_machine.specs.declared.event.Event.{Event}
-use Rattle.risc_machine.specs.InputOrder.{AreOrdered}
-use Rattle.risc_machine.specs.MachineState.{CpuState, IsCpuState}
-use Rattle.risc_machine.specs.declared.inputs.TheConstants.{MAX_COUNT}
+use Rattle.risc_model.specs.declared.event.Event.{Event}
+use Rattle.risc_model.specs.InputOrder.{AreOrdered}
+use Rattle.risc_model.specs.MachineState.{CpuState, IsCpuState}
+use Rattle.risc_model.specs.declared.inputs.TheConstants.{MAX_COUNT}
 use Rattle.oberon_session.specs.Digits.{PlacedWords}
 use Rattle.oberon_session.specs.Ranges.{timer_fits}
 use Rattle.recording_limits.specs.declared.limits.TheConstants.{LAST_CHECKPOINT, MAX_EVENTS}

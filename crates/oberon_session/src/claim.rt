@@ -1,7 +1,7 @@
 //! What a new checkpoint of a recording claims.
 
 use risc_devices::Devices;
-use risc_machine::Cpu;
+use risc_model::Cpu;
 
 /// A machine's state at a count, with the words of its memory, and the bytes that it sent since the checkpoint before.
 #[derive(Drop)]

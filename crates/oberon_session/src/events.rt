@@ -2,7 +2,7 @@
 
 ghost use Rattle.std.specs.Prelude.{◌≡◌, IfOk, IfErr, map};
 ghost use Rattle.std.specs.List.{All};
-ghost use Rattle.risc_machine.specs.InputOrder.{AreOrdered};
+ghost use Rattle.risc_model.specs.InputOrder.{AreOrdered};
 ghost use Rattle.oberon_session.specs.inner.Drafts.{input_view};
 ghost use Rattle.oberon_session.specs.Ranges.{input_counts};
 ghost use Rattle.oberon_session.specs.Session.{numbers_of_event};
@@ -12,7 +12,7 @@ use crate::SessionFault;
 use crate::draft::InputDraft;
 use oberon_format::{MAX_COUNT, MAX_EVENTS};
 use risc_devices::Input;
-use risc_machine::{Event, Inputs};
+use risc_model::{Event, Inputs};
 use std::alloc::Global;
 
 /// The inputs of a session, or the first rule of their ranges and their order that they break.

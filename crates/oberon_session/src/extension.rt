@@ -4,7 +4,7 @@
 ghost use Rattle.std.specs.Prelude.{◌≡◌, ◌+◌, ◌<◌, ◌≤◌, ◌^◌, ◌↔◌, ◌++◌, [], All, IfErr, IfNone, IfOk, IfSome, IsTrue, OnOk, length, map};
 ghost use Rattle.risc_core.specs.declared.branch.TheConstants.{COUNTER_END};
 ghost use Rattle.risc_devices.specs.DeviceState.{IsDeviceState};
-ghost use Rattle.risc_machine.specs.MachineState.{cpu_state};
+ghost use Rattle.risc_model.specs.MachineState.{cpu_state};
 ghost use Rattle.risc_pages.specs.Pages.{ArePages};
 ghost use Rattle.risc_pages.specs.Tables.{IsNamed};
 ghost use Rattle.oberon_format.specs.CheckpointParts.{checkpoint_parts};
@@ -19,7 +19,7 @@ use crate::laying::{LaidPages, lay_words};
 use crate::recorder::{bytes_fit, recording_of};
 use oberon_format::{Checkpoint, LAST_CHECKPOINT, MAX_COUNT, MAX_EVENTS, MAX_PAGES, Recording};
 use risc_devices::Devices;
-use risc_machine::{Cpu, Event, Inputs};
+use risc_model::{Cpu, Event, Inputs};
 use risc_pages::{Pool, Table};
 use std::alloc::{AllocError, Global};
 

@@ -12,7 +12,7 @@ use crate::digits::PlacedPage;
 use crate::range::{counts_fit, rises, timer_fits};
 use oberon_format::MAX_EVENTS;
 use risc_core::COUNTER_END;
-use risc_machine::{Cpu, Inputs};
+use risc_model::{Cpu, Inputs};
 
 /// The first rule that parts break.
 pub fn parts_fault(

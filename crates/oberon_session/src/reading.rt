@@ -3,7 +3,7 @@
 ghost use Rattle.std.specs.Prelude.{◌≡◌, ◌↔◌, ◌<◌, ◌^◌, IfOk, IfErr, IsTrue, length, slice_index};
 ghost use Rattle.serde_json.specs.Errors.{IsMemory};
 ghost use Rattle.serde_json.specs.View.{view};
-ghost use Rattle.risc_machine.specs.MachineState.{cpu_state};
+ghost use Rattle.risc_model.specs.MachineState.{cpu_state};
 ghost use Rattle.oberon_session.specs.inner.Drafts.{draft_view, start_view};
 ghost use Rattle.oberon_session.specs.Session.{Breaks, IsSession, Says, cpu_of};
 ghost use Rattle.oberon_session.specs.inner.Tested.{BreaksDraft, BreaksIn, InOrder, InRange, IsSessionIn, IsTested, StartFits};
@@ -16,7 +16,7 @@ use crate::range::{is_in_range, is_rising};
 use crate::session::Session;
 use crate::shape::read_draft;
 use recording_limits::LONGEST_SESSION;
-use risc_machine::{Cpu, Flags, Inputs};
+use risc_model::{Cpu, Flags, Inputs};
 use serde_json::{Error, Value};
 use std::alloc::Global;
 

@@ -13,7 +13,7 @@ use crate::session::Session;
 use crate::way::reach;
 use oberon_format::{Checkpoint, MAX_OUTPUT, MAX_PAGES, Recording};
 use risc_devices::Devices;
-use risc_machine::Inputs;
+use risc_model::Inputs;
 use risc_pages::Pool;
 use std::alloc::Global;
 

@@ -5,7 +5,7 @@ ghost use Rattle.std.specs.Prelude.{◌≡◌, ◌<◌};
 use crate::SessionFault;
 use crate::digits::PlacedPage;
 use crate::parts::parts_fault;
-use risc_machine::{Cpu, Inputs};
+use risc_model::{Cpu, Inputs};
 use std::marker::Model;
 
 /// A lawful session: a first state, inputs with their counts, and the counts of checkpoints 1 to K.
@@ -43,7 +43,7 @@ impl Model for Session {
 
 impl Session {
     ghost use Rattle.std.specs.Prelude.{◌≡◌, ◌↔◌, IfErr, IfOk, IsOk, map};
-    ghost use Rattle.risc_machine.specs.MachineState.{cpu_state};
+    ghost use Rattle.risc_model.specs.MachineState.{cpu_state};
     ghost use Rattle.oberon_session.specs.Parts.{BreaksParts, placed_view, session_of_parts};
     ghost use Rattle.oberon_session.specs.SessionParts.{IsLawful};
 

@@ -4,14 +4,15 @@ ghost use Rattle.std.specs.Prelude.{◌≡◌, ◌-◌, ◌<◌, ◌≤◌, IfOk
 ghost use Rattle.risc_core.specs.declared.branch.TheConstants.{COUNTER_END};
 ghost use Rattle.risc_pages.specs.Tables.{IsNamed};
 ghost use Rattle.risc_machine.specs.Wanting.{MayFail};
-ghost use Rattle.risc_machine.specs.Replay.{run_of, sent_of};
+ghost use Rattle.risc_model.specs.Replay.{run_of, sent_of};
 ghost use Rattle.oberon_format.specs.CheckpointParts.{checkpoint_parts};
 ghost use Rattle.oberon_session.specs.inner.Progress.{HasReached, SendsTooMuch, sent_on};
 
 use crate::record_fault::RecordFault;
 use oberon_format::Checkpoint;
 use risc_devices::Devices;
-use risc_machine::{Cpu, Inputs, Machine};
+use risc_machine::Machine;
+use risc_model::{Cpu, Inputs};
 use risc_pages::{Page, Pool};
 use std::alloc::Global;
 

@@ -3,7 +3,8 @@
 ghost use Rattle.std.specs.Prelude.{◌≡◌, ◌≤◌, ◌<◌, All, IfOk, length};
 
 use risc_devices::Devices;
-use risc_machine::{Cpu, Flags, Inputs, Machine, RunFault};
+use risc_machine::{Machine, RunFault};
+use risc_model::{Cpu, Flags, Inputs};
 use risc_pages::{Page, Pool, Table};
 use std::alloc::{AllocError, Global};
 use std::io;

@@ -6,11 +6,12 @@ use Rattle.std.specs.List.Sorted.{IsNonDecreasingBy, IsPartitionPoint}
 use borrow.Author.Tests.{ltb-true, ltb-false}
 use Rattle.risc_devices.specs.DeviceState.{DeviceState}
 use Rattle.risc_devices.specs.Input.{taken_input}
-use Rattle.risc_machine.specs.declared.event.Event.{Event}
-use Rattle.risc_machine.specs.InputOrder.{AreOrdered, count_at}
-use Rattle.risc_machine.specs.Replay.{fed}
+use Rattle.risc_model.specs.declared.event.Event.{Event}
+use Rattle.risc_model.specs.InputOrder.{AreOrdered, count_at}
+use Rattle.risc_model.specs.Replay.{fed}
 use Rattle.risc_machine.specs.inner.Due.{IsNextAt}
-use Rattle.risc_machine.proofs.OrderLemmas.{count_at-is, count_before-next}
+use Rattle.risc_model.proofs.OrderLemmas.{count_at-is, count_before-next}
+use Rattle.risc_model.proofs.RunLemmas.{fed-others}
 
 -- the counts of inputs in order rise
 counts-up : (es : List Event) → AreOrdered es → (j m : ℕ) → j + m < length es → count_at es j ≤ count_at es (j + m)
@@ -62,12 +63,6 @@ count_at-drop : (es : List Event) (p k : ℕ) → count_at (drop p es) k ≡ cou
 count_at-drop es p k =
     let counts = map (λ (e : Event). e.count) es in
     sym (ap (λ (ns : List ℕ). get_or ns k 0) (drop-map (λ (e : Event). e.count) p es)) ∙ get_or-drop p counts k 0
-
--- inputs of other counts do nothing
-pub fed-others : (es : List Event) (n : ℕ) (d : DeviceState) → ((k : ℕ) → k < length es → count_at es k ≢ n) → fed es n d ≡ d
-fed-others [] n d other = refl
-fed-others (x ∷ es) n d other =
-    rw (ne_eqb x.count n (other 0 (omega arith))) (fed-others es n d (λ k h. other (suc k) (omega arith)))
 
 -- inputs of earlier counts do nothing
 pub fed-drop : (p : ℕ) (es : List Event) (n : ℕ) (d : DeviceState) → p ≤ length es → ((k : ℕ) → k < p → count_at es k < n) → fed es n d ≡ fed (drop p es) n d

@@ -1,15 +1,11 @@
-pub mod OrderLemmas
 pub mod LaneLemmas
-pub mod StoredLemmas
 pub mod TimerLemmas
 pub mod DeviceLemmas
 pub mod DueLemmas
-pub mod RunLemmas
+pub mod TurnLemmas
 pub mod CountLemmas
 pub mod RangeLemmas
 pub mod KeepLemmas
-pub mod LawLemmas
 pub mod OutcomeLemmas
-pub mod Examples
 pub mod SilentLemmas
 pub mod EntryLemmas

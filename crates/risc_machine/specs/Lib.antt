@@ -1,10 +1,3 @@
--- The machine: one instruction, and runs that take inputs. Read it in this order:
-pub mod MachineState
-pub mod Lane
-pub mod Exec
-pub mod Replay
-pub mod OneRun
-pub mod InputOrder
+-- When the machine may fail to allocate. What its steps and runs are is in `risc_model`.
 pub mod Wanting
-pub mod Laws
 pub mod inner

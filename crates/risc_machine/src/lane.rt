@@ -1,7 +1,7 @@
 //! Bytes of words.
 ghost use Rattle.std.specs.Prelude.{◌≡◌, ◌<◌, ◌%◌, ◌^◌};
-ghost use Rattle.risc_machine.specs.Lane.{lane_byte, with_lane};
-ghost use Rattle.risc_machine.specs.Exec.{loaded_value, stored_word, stored_value};
+ghost use Rattle.risc_model.specs.Lane.{lane_byte, with_lane};
+ghost use Rattle.risc_model.specs.Exec.{loaded_value, stored_word, stored_value};
 
 /// The lowest byte of a word.
 const BYTE_MASK: u32 = 0xFF;

@@ -1,20 +1,16 @@
-//! The machine: RISC5 processor, memory and devices of the Project Oberon workstation, one instruction at a time and in
-//! runs that take inputs at their counts.
+//! The interpreter: runs the RISC5 workstation of Project Oberon, one instruction at a time or from count to count.
 //!
-//! Instructions, memory and devices themselves live in the crates below; this one puts them together. Its definitions, in
-//! `specs/`, are one machine of whole numbers over a flat map of words; each contract cites them.
+//! What a step and a run give is defined in `risc_model`; each contract here cites it. Instructions, memory and devices
+//! are in the crates below; this crate puts them together and keeps the loop fast.
 #![tactic(auto)]
 
 mod act;
 mod action;
 mod board;
 mod clocked;
-mod cpu;
 mod destination;
-mod event;
-mod inputs;
+mod due;
 mod lane;
-mod laws;
 mod machine;
 mod motion;
 mod operand;
@@ -26,10 +22,6 @@ mod sink;
 mod sorting;
 mod status;
 
-pub use cpu::Cpu;
-pub use event::Event;
-pub use inputs::{Inputs, MAX_COUNT, Unordered};
-pub use laws::{lane_law, run_law, stop_law, stopped_law};
 pub use machine::Machine;
 pub use replay::RunFault;
-pub use risc_core::Flags;
+pub use risc_model::{Cpu, Event, Flags, Inputs, MAX_COUNT, Unordered, lane_law, run_law, stop_law, stopped_law};

@@ -2,7 +2,8 @@
 ghost use Rattle.std.specs.Prelude.{◌≡◌, ◌≤◌, ◌<◌, All, IfOk, length};
 
 use risc_devices::{Devices, Input};
-use risc_machine::{Cpu, Event, Flags, Inputs, MAX_COUNT, Machine};
+use risc_machine::Machine;
+use risc_model::{Cpu, Event, Flags, Inputs, MAX_COUNT};
 use risc_pages::{Page, Pool, Table};
 use std::alloc::{AllocError, Global};
 use std::process::Abort;

@@ -5,7 +5,7 @@ mod recorded;
 
 use oberon_format::{MAX_COUNT, Recording};
 use oberon_session::{SessionFault, make_recording, read_session};
-use risc_machine::{Cpu, Event};
+use risc_model::{Cpu, Event};
 use std::alloc::Global;
 use std::process::Abort;
 

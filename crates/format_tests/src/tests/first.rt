@@ -10,7 +10,7 @@ use recording_texts::{
     header,
 };
 use risc_devices::Devices;
-use risc_machine::Inputs;
+use risc_model::Inputs;
 use risc_pages::Pool;
 use std::alloc::{AllocError, Global};
 

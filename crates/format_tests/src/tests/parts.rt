@@ -3,7 +3,7 @@
 use crate::tests::texts::check_rows;
 use oberon_format::{Checkpoint, Fault, Recording};
 use risc_devices::{Devices, Input};
-use risc_machine::{Cpu, Event, Flags, Inputs};
+use risc_model::{Cpu, Event, Flags, Inputs};
 use risc_pages::{Page, Pool, Table};
 use std::alloc::{AllocError, Global};
 

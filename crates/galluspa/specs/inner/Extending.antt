@@ -1,6 +1,6 @@
 -- A recording on the way to its next checkpoint.
 use Rattle.std.specs.Prelude.{ℕ, List, ⊤}
-use Rattle.risc_machine.specs.declared.event.Event.{Event}
+use Rattle.risc_model.specs.declared.event.Event.{Event}
 use Rattle.oberon_format.specs.Recording.{IsLawful, RecordingParts}
 use Rattle.oberon_format.specs.Text.{Text}
 use Rattle.oberon_session.specs.Extended.{IsExtended, IsNext, IsTooMuch, outcome_of}

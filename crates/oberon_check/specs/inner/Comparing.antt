@@ -1,7 +1,7 @@
 -- What single comparisons say, in the words of their proofs.
 use Rattle.std.specs.Prelude.{ℕ, ◌≡◌, ◌≢◌, ◌<◌, ◌↔◌, List, Bool, Option, MatchOption, IsTrue, slice_index}
 use Rattle.risc_devices.specs.DeviceState.{DeviceState}
-use Rattle.risc_machine.specs.MachineState.{CpuState, State}
+use Rattle.risc_model.specs.MachineState.{CpuState, State}
 use Rattle.oberon_format.specs.Defined.{Outcome}
 use Rattle.oberon_check.specs.declared.part.Part.{Part}
 use Rattle.oberon_check.specs.Difference.{IsDifference, IsFirstDifference}

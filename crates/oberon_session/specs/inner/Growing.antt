@@ -2,7 +2,7 @@
 use Rattle.std.specs.Prelude.{ℕ, ◌≡◌, ◌≢◌, ◌<◌, ◌≤◌, ◌^◌, List, [], ◌∷◌, ◌++◌, length}
 use Rattle.std.specs.List.{All}
 use Rattle.risc_devices.specs.DeviceState.{IsDeviceState}
-use Rattle.risc_machine.specs.MachineState.{cpu_state}
+use Rattle.risc_model.specs.MachineState.{cpu_state}
 use Rattle.risc_pages.specs.Pages.{ArePages}
 use Rattle.risc_pages.specs.Tables.{table_words}
 use Rattle.recording_limits.specs.declared.limits.TheConstants.{MAX_PAGES}

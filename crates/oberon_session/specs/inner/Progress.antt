@@ -3,9 +3,9 @@ use Rattle.std.specs.Prelude.{ℕ, ◌≡◌, ◌≢◌, ◌+◌, ◌-◌, ◌<�
 use Rattle.std.specs.List.{range_with_len}
 use Rattle.risc_pages.specs.declared.page.Page.{Page}
 use Rattle.risc_pages.specs.Tables.{table_words}
-use Rattle.risc_machine.specs.declared.event.Event.{Event}
-use Rattle.risc_machine.specs.MachineState.{State, cpu_state, IsCpuState}
-use Rattle.risc_machine.specs.Replay.{run_of, sent_of}
+use Rattle.risc_model.specs.declared.event.Event.{Event}
+use Rattle.risc_model.specs.MachineState.{State, cpu_state, IsCpuState}
+use Rattle.risc_model.specs.Replay.{run_of, sent_of}
 use Rattle.oberon_format.specs.CheckpointParts.{CheckpointParts, checkpoint_parts}
 use Rattle.oberon_format.specs.Defined.{claim_of}
 use Rattle.oberon_format.specs.Recording.{IsLawful, output_of}

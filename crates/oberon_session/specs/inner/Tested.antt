@@ -7,10 +7,10 @@ use Rattle.serde_json.specs.Data.{Data}
 use Rattle.serde_json.specs.Read.{read}
 use Rattle.risc_core.specs.declared.branch.TheConstants.{COUNTER_END}
 use Rattle.risc_devices.specs.InputKind.{IsInput}
-use Rattle.risc_machine.specs.declared.cpu.Cpu.{Cpu}
-use Rattle.risc_machine.specs.declared.event.Event.{Event}
-use Rattle.risc_machine.specs.InputOrder.{AreOrdered}
-use Rattle.risc_machine.specs.declared.inputs.TheConstants.{MAX_COUNT}
+use Rattle.risc_model.specs.declared.cpu.Cpu.{Cpu}
+use Rattle.risc_model.specs.declared.event.Event.{Event}
+use Rattle.risc_model.specs.InputOrder.{AreOrdered}
+use Rattle.risc_model.specs.declared.inputs.TheConstants.{MAX_COUNT}
 use Rattle.oberon_session.specs.Digits.{all_placed_of}
 use Rattle.oberon_session.specs.Draft.{Draft, InputNumbers, PageText, Start, draft_of}
 use Rattle.oberon_session.specs.inner.Drafts.{page_view, start_view}

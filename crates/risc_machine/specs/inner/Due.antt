@@ -1,7 +1,7 @@
 -- The inputs that a machine has still to take, by their places in the list (this project's own choice).
 use Rattle.std.specs.Prelude.{ℕ, ◌≤◌, ◌<◌, List, length}
-use Rattle.risc_machine.specs.declared.event.Event.{Event}
-use Rattle.risc_machine.specs.InputOrder.{AreOrdered, count_at}
+use Rattle.risc_model.specs.declared.event.Event.{Event}
+use Rattle.risc_model.specs.InputOrder.{AreOrdered, count_at}
 
 -- those before `next` have earlier counts than `at`, and those from it on don't
 pub record IsNextAt (es : List Event) (next at : ℕ) : Type 0 where

@@ -5,7 +5,7 @@ ghost use Rattle.std.specs.Prelude.{◌<◌, ◌^◌, All};
 use super::{START, recording_of};
 use oberon_format::write;
 use oberon_session::{PlacedPage, Session, SessionFault, make_recording};
-use risc_machine::{Cpu, Flags, Inputs};
+use risc_model::{Cpu, Flags, Inputs};
 use risc_pages::Page;
 use std::alloc::Global;
 

@@ -1,7 +1,7 @@
 use Rattle.std.proofs.Common.{◌≡◌, ℕ, List, [], true≢false, refl, sym, ◌∙◌, subst}
 use Rattle.risc_pages.specs.Tables.{table_words}
 use Rattle.risc_pages.specs.Delta.{IsFirstDifferentPage}
-use Rattle.risc_machine.specs.MachineState.{cpu_state}
+use Rattle.risc_model.specs.MachineState.{cpu_state}
 use Rattle.oberon_format.specs.CheckpointParts.{checkpoint_parts}
 use Rattle.oberon_format.specs.Defined.{claim_of}
 use Rattle.oberon_check.proofs.Differing.{sent_first, page_first, same_outcome}

@@ -1,5 +1,5 @@
 use Rattle.std.proofs.Common.{◌<◌, ◌∙◌, ap, ap₂, map}
-use Rattle.risc_machine.specs.MachineState.{cpu_state}
+use Rattle.risc_model.specs.MachineState.{cpu_state}
 use Rattle.oberon_format.specs.CheckpointParts.{checkpoint_parts}
 use Rattle.oberon_session.proofs.Begun.{one-checkpoint, so-first, timer-phase}
 use Rattle.oberon_session.proofs.Mapped.{unmapped}

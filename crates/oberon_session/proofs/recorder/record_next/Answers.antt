@@ -1,6 +1,6 @@
 use Rattle.std.proofs.Common.{◌≢◌, Some, ◌+◌, ◌∙◌, ℕ, List, ap, arith, length, sym, get_or}
 use Rattle.std.proofs.lemmas.Result.{err_from_is_err_and}
-use Rattle.risc_machine.specs.MachineState.{cpu_state}
+use Rattle.risc_model.specs.MachineState.{cpu_state}
 use Rattle.oberon_session.proofs.LaidPages.{few-changes, low-changes}
 use Rattle.oberon_session.proofs.Reaching.{few-sent, inside-of, last-count, last-fit, next-count, recorded-more, refused-output, refused-pages}
 use Rattle.oberon_session.proofs.Steps.{count-rises}

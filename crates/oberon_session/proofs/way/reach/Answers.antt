@@ -1,8 +1,8 @@
 use Rattle.std.proofs.Common.{◌≡◌, ◌-◌, ◌∙◌, List, ℕ, ap, length, subst, sym}
 use Rattle.risc_devices.specs.DeviceState.{DeviceState}
 use Rattle.risc_pages.specs.Tables.{table_words}
-use Rattle.risc_machine.specs.MachineState.{CpuState, State, IsCpuState, cpu_state}
-use Rattle.risc_machine.specs.Replay.{run_of, sent_of}
+use Rattle.risc_model.specs.MachineState.{CpuState, State, IsCpuState, cpu_state}
+use Rattle.risc_model.specs.Replay.{run_of, sent_of}
 use Rattle.oberon_session.proofs.LaidPages.{changes}
 use Rattle.oberon_session.proofs.way.reach.Goals as goal
 

@@ -1,6 +1,6 @@
 use Rattle.std.proofs.Common.{◌-◌, ◌≤◌, ◌++◌, ◌∙◌, ap, arith, length, refl, sym, List, ℕ}
-use Rattle.risc_machine.specs.Replay.{sent_of}
-use Rattle.risc_machine.proofs.RunLemmas.{run_of-none, sent_of-none}
+use Rattle.risc_model.specs.Replay.{sent_of}
+use Rattle.risc_model.proofs.RunLemmas.{run_of-none, sent_of-none}
 use Rattle.oberon_session.proofs.Runs.{run-on, sent-grows, sent-on}
 use Rattle.oberon_session.proofs.way.run_in_pieces.Goals as goal
 

@@ -1,5 +1,5 @@
 use Rattle.std.proofs.Common.{◌≡◌, ◌-◌, ◌≤◌, length}
-use Rattle.risc_machine.specs.Replay.{run_of, sent_of}
+use Rattle.risc_model.specs.Replay.{run_of, sent_of}
 use Rattle.oberon_session.proofs.way.run_in_pieces.Given as goal
 
 abbrev pub invariant-loop-at : goal.invariant-loop-at

@@ -1,0 +1,17 @@
+use Rattle.std.proofs.Common.{arith}
+use Rattle.risc_model.proofs.OrderLemmas.{count_at-is}
+use Rattle.risc_machine.proofs.DueLemmas.{next-up_to}
+use Rattle.risc_machine.proofs.due.quiet_until.Goals as goal
+
+pub returns-then-due-to-clause-next : goal.returns-then-due-to-clause-next
+returns-then-due-to-clause-next c =
+    let es = c.args.events.now in
+    let here = count_at-is es c.args.place c.index-events-place.result c.if-place-events.true in
+    let rest = c.requires.next.rest c.args.place (omega arith) c.if-place-events.true in
+    next-up_to es c.args.place c.args.at _ c.requires.next (omega arith) (λ _. omega arith)
+
+pub returns-else-due-to-clause-next : goal.returns-else-due-to-clause-next
+returns-else-due-to-clause-next c =
+    let es = c.args.events.now in
+    next-up_to es c.args.place c.args.at c.args.to c.requires.next c.requires.more
+    (λ inside. let here = count_at-is es c.args.place c.index-events-place.result inside in let late = c.if-due-to.false in omega arith)

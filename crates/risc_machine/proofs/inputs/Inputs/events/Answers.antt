@@ -1,5 +1,0 @@
-use Rattle.std.proofs.Common.{rules}
-use Rattle.risc_machine.proofs.inputs.Inputs.events.Goals as goal
-
-pub returns-clause-events : goal.returns-clause-events
-returns-clause-events c = search rules

@@ -1,5 +1,0 @@
-use Rattle.risc_machine.proofs.LawLemmas.{run_of-on, sent_of-on}
-use Rattle.risc_machine.proofs.laws.run_law.Goals as goal
-
-pub returns : goal.returns
-returns c = (run_of-on, sent_of-on)

@@ -1,0 +1,51 @@
+//! The inputs that a run has still to take, by their places in the list.
+ghost use Rattle.std.specs.Prelude.{◌≡◌, ◌≤◌, ◌<◌, ◌+◌};
+ghost use Rattle.risc_model.specs.InputOrder.{AreOrdered};
+ghost use Rattle.risc_model.specs.Replay.{fed};
+ghost use Rattle.risc_machine.specs.inner.Due.{IsNextAt};
+
+use risc_devices::Devices;
+use risc_model::Event;
+
+/// The place of the first input whose count is `at` or a later one.
+pub(crate) fn first_from(events: &[Event], at: u64) -> usize
+    requires { AreOrdered events.now }
+    ensures { IsNextAt events.now result at }
+{
+    events.partition_point(|event| event.count < at)
+}
+
+/// Takes the inputs of the count `at`, the first of which is at `place`. Returns the place after them.
+#[cold]
+#[inline(never)]
+pub(crate) fn take_inputs(devices: &mut Devices, events: &[Event], place: usize, at: u64) -> usize
+    requires { IsNextAt events.now place at }
+    ensures devices { devices.new ≡ fed events.now at devices.old }
+    ensures next { IsNextAt events.now result (at + 1) }
+{
+    for next in place..events.len() {
+        let event = events[next];
+        if event.count != at {
+            return next;
+        }
+        devices.take(event.input);
+    }
+    events.len()
+}
+
+/// The count up to which no input comes: that of the input at a place, or `to` if this comes first.
+pub(crate) fn quiet_until(events: &[Event], place: usize, at: u64, to: u64) -> u64
+    requires next { IsNextAt events.now place (at + 1) }
+    requires more { at < to }
+    ensures later { at < result }
+    ensures inside { result ≤ to }
+    ensures next { IsNextAt events.now place result }
+{
+    if place < events.len() {
+        let due = events[place].count;
+        if due < to {
+            return due;
+        }
+    }
+    to
+}

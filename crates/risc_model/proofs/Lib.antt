@@ -1,0 +1,6 @@
+pub mod OrderLemmas
+pub mod StoredLemmas
+pub mod RunLemmas
+pub mod CountLemmas
+pub mod LawLemmas
+pub mod Examples

@@ -1,0 +1,13 @@
+-- The one uninterrupted run from a first state on, which stands at count 0.
+use Rattle.std.specs.Prelude.{ℕ, ◌-◌, List}
+use Rattle.risc_model.specs.declared.event.Event.{Event}
+use Rattle.risc_model.specs.MachineState.{State}
+use Rattle.risc_model.specs.Replay.{run_of, sent_of}
+
+-- the state at a count
+abbrev pub state_from : List Event → State → ℕ → State
+state_from es first n = run_of es 0 n first
+
+-- the bytes that are sent from one count up to another
+abbrev pub sent_between : List Event → State → ℕ → ℕ → List ℕ
+sent_between es first from to = sent_of es from (to - from) (state_from es first from)

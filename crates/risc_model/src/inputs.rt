@@ -1,0 +1,88 @@
+//! Lists of inputs in order. One input with its count is in `event`; what an input does is in `risc_devices`.
+ghost use Rattle.std.specs.Prelude.{◌≡◌, IfOk, IfErr, IfNone, IfSome};
+ghost use Rattle.risc_model.specs.InputOrder.{AreOrdered, IsFirstWrong};
+
+use crate::event::Event;
+use std::marker::Model;
+
+/// The greatest count that an input or a checkpoint may have: 2^40 (this project's own choice).
+pub const MAX_COUNT: u64 = 1 << 40;
+
+/// Inputs whose counts don't fall and are at most `MAX_COUNT` (this project's own choice). Contracts see the list of events.
+#[derive(Drop)]
+pub struct Inputs {
+    list: Vec<Event>,
+}
+
+impl Model for Inputs {
+    ghost use Rattle.std.specs.Prelude.{List};
+    ghost use Rattle.risc_model.specs.declared.event.Event.{Event};
+    ghost use Rattle.risc_model.specs.InputOrder.{AreOrdered};
+
+    ghost Value = { List Event };
+
+    ghost view = { λ i. i.list.items };
+
+    ghost invariant = { λ i. AreOrdered i.list.items };
+}
+
+/// Events that are not in order, with the first wrong place: there the count falls, or is above `MAX_COUNT`.
+#[derive(Drop)]
+pub struct Unordered {
+    /// The events, as they were handed in.
+    pub list: Vec<Event>,
+    /// The place of the first event that is wrong.
+    pub at: usize,
+}
+
+impl Unordered {
+    ghost use Rattle.std.specs.Prelude.{◌≡◌};
+
+    /// The refusal's number, which is 1.
+    pub fn number(&self) -> u8
+        ensures { result ≡ 1 }
+    {
+        1
+    }
+}
+
+impl Inputs {
+    /// The inputs of a list, whose counts don't fall and are at most `MAX_COUNT`.
+    ///
+    /// Another list is handed back, with the first place at which it is wrong. This takes no memory.
+    pub fn new(list: Vec<Event>) -> Result<Inputs, Unordered>
+        ensures list { IfOk result (λ inputs. inputs ≡ list.items) }
+        ensures ordered { IfOk result (λ _. AreOrdered list.items) }
+        ensures handed_back { IfErr result (λ unordered. unordered.list ≡ list) }
+        ensures first_wrong { IfErr result (λ unordered. IsFirstWrong list.items unordered.at) }
+    {
+        match first_wrong(&list) {
+            None => Ok(Inputs { list }),
+            Some(at) => Err(Unordered { list, at }),
+        }
+    }
+
+    /// The events, in order.
+    #[inline]
+    pub fn events(&self) -> &[Event]
+        ensures events { result.now ≡ self.now }
+        ensures ordered { AreOrdered self.now }
+    {
+        self.list.as_slice()
+    }
+}
+
+/// The first place at which the order is broken.
+fn first_wrong(list: &[Event]) -> Option<usize>
+    ensures none { IfNone result (AreOrdered list.now) }
+    ensures some { IfSome result (λ at. IsFirstWrong list.now at) }
+{
+    let mut least = 0;
+    for (place, event) in list.iter().enumerate() {
+        if event.count < least || event.count > MAX_COUNT {
+            return Some(place);
+        }
+        least = event.count;
+    }
+    None
+}

@@ -1,0 +1,18 @@
+//! The model of the RISC5 workstation: what a machine is, what one instruction does to it, and what a run gives that takes
+//! inputs at their counts.
+//!
+//! The definitions in `specs/` describe one machine of whole numbers over a flat map of words. The contracts of every crate
+//! above cite them. This crate runs nothing: the interpreter is in `risc_machine`, and what it needs of instructions,
+//! addresses and devices is in the crates below.
+#![tactic(auto)]
+
+mod cpu;
+mod event;
+mod inputs;
+mod laws;
+
+pub use cpu::Cpu;
+pub use event::Event;
+pub use inputs::{Inputs, MAX_COUNT, Unordered};
+pub use laws::{lane_law, run_law, stop_law, stopped_law};
+pub use risc_core::Flags;
