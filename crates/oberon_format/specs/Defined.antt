@@ -2,14 +2,10 @@
 use Rattle.std.specs.Prelude.{ℕ, ◌≡◌, ◌-◌, List}
 use Rattle.risc_pages.specs.Tables.{table_words}
 use Rattle.risc_model.specs.MachineState.{State}
-use Rattle.risc_model.specs.OneRun.{sent_between, state_from}
+pub use Rattle.risc_model.specs.OneRun.{Outcome}
+use Rattle.risc_model.specs.OneRun.{outcome_between, sent_between, state_from}
 use Rattle.oberon_format.specs.CheckpointParts.{CheckpointParts}
 use Rattle.oberon_format.specs.Recording.{RecordingParts, checkpoint_at, count_at}
-
--- a state, and the bytes sent since the checkpoint before
-pub record Outcome : Type 0 where
-  pub state : State
-  pub sent : List ℕ
 
 -- what a checkpoint says over a pool: its memory is the content of its table, without page numbers
 abbrev pub claim_of : List (List ℕ) → CheckpointParts → Outcome
@@ -29,7 +25,7 @@ output_between r from to = sent_between r.inputs (claimed r 0).state from to
 
 -- what this run gives at checkpoint k, with its output since the checkpoint before. At checkpoint 0 that is no output
 abbrev pub defined : RecordingParts → ℕ → Outcome
-defined r k = record { state = state_at r (count_at r k); sent = output_between r (count_at r (k - 1)) (count_at r k) }
+defined r k = outcome_between r.inputs (claimed r 0).state (count_at r (k - 1)) (count_at r k)
 
 -- checkpoint k claims what the run gives
 abbrev pub IsTrueAt : RecordingParts → ℕ → Type 0

@@ -11,3 +11,12 @@ state_from es first n = run_of es 0 n first
 -- the bytes that are sent from one count up to another
 abbrev pub sent_between : List Event → State → ℕ → ℕ → List ℕ
 sent_between es first from to = sent_of es from (to - from) (state_from es first from)
+
+-- a state, and the bytes sent on the way to it
+pub record Outcome : Type 0 where
+  pub state : State
+  pub sent : List ℕ
+
+-- what the run gives from one count up to another: the state at the later one, and the bytes sent between them
+abbrev pub outcome_between : List Event → State → ℕ → ℕ → Outcome
+outcome_between es first from to = record { state = state_from es first to; sent = sent_between es first from to }
