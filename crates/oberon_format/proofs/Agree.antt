@@ -15,7 +15,7 @@ use Rattle.oberon_format.specs.Ranges.{is_version}
 use Rattle.oberon_format.specs.Recording.{RecordingParts, checkpoint_at, table_before, output_of}
 use Rattle.oberon_format.specs.Rules.{rules}
 use Rattle.oberon_format.specs.inner.Tested.{HasNumbers, StandIn}
-use Rattle.oberon_format.specs.Text.{EachAt, IsEvent, IsChange, IsChanged, IsCheckpoint, IsLaidOut}
+use Rattle.oberon_format.specs.inner.Offsets.{EachAt, IsEvent, IsChange, IsChanged, IsCheckpoint, IsLaidOut}
 use Rattle.oberon_format.specs.TextFields.{fields_of, event_of, checkpoint_of, change_at, change_of, number_before, page_number_of, first_fault_of}
 use Rattle.oberon_format.proofs.ChangeLemmas.{change_in, changes-make, after-same}
 use Rattle.oberon_format.proofs.PartLemmas.{member, table_next}

@@ -1,6 +1,6 @@
--- A text that is laid out of a lawful recording is the bytes of that recording: so there is no other.
+-- Bytes that have at each offset what a lawful recording has there are its encoding.
 use Rattle.std.proofs.Common.{◌≡◌, ◌<◌, ◌≤◌, ◌+◌, ◌-◌, ◌*◌, ◌∙◌, ℕ, zero, suc, true, List, [], ◌∷◌, ◌++◌, length, take, drop, get_or, refl, sym, ap, subst, inl, inr, arith, add-zero}
-use Rattle.std.specs.Prelude.{slice_range}
+use Rattle.std.specs.Prelude.{All, slice_range}
 use Rattle.std.specs.List.{flat_map}
 use Rattle.std.proofs.lemmas.List.{get_or-take, get_or-drop, get_or_past, length-take, length-drop, take-append-drop}
 use Rattle.std.proofs.lemmas.Bool.{cases_lt}
@@ -24,8 +24,9 @@ use Rattle.oberon_format.specs.Layout.{word_at, long_at, page_offset, event_star
 use Rattle.oberon_format.specs.PartFields.{changes_laid, start_laid}
 use Rattle.oberon_format.specs.Ranges.{is_version}
 use Rattle.oberon_format.specs.Recording.{RecordingParts, IsLawful, IsFit, checkpoint_at, table_before, output_of}
-use Rattle.oberon_format.specs.inner.Spelling.{word_bytes, long_bytes, words_bytes, event_bytes, cpu_bytes, device_bytes, front_bytes, change_bytes, changes_bytes, changed_bytes, tail_bytes, checkpoint_bytes, checkpoints_bytes, header_bytes, spelling}
-use Rattle.oberon_format.specs.Text.{EachAt, AreWords, AreBytes, IsEvent, IsCpu, IsDevices, IsFront, IsChange, IsChanged, IsCheckpoint, IsLaidOut, TextIn}
+use Rattle.oberon_format.specs.Encoding.{word_bytes, long_bytes, words_bytes, event_bytes, cpu_bytes, device_bytes, front_bytes, change_bytes, changes_bytes, changed_bytes, tail_bytes, checkpoint_bytes, checkpoints_bytes, header_bytes, encoding}
+use Rattle.oberon_format.specs.Text.{AreBytes, IsUnclocked, TextIn}
+use Rattle.oberon_format.specs.inner.Offsets.{EachAt, AreWords, IsEvent, IsCpu, IsDevices, IsFront, IsChange, IsChanged, IsCheckpoint, IsLaidOut}
 use Rattle.oberon_format.proofs.Numbers.{little_from-drop}
 use Rattle.oberon_format.proofs.Keys.{range-split}
 use Rattle.oberon_format.proofs.RuleLemmas.{version_cases}
@@ -283,10 +284,10 @@ header_back v text r h room is =
 holds_front : (text : List ℕ) (n : ℕ) (xs : List ℕ) → Holds text 0 n xs → take n text ≡ xs
 holds_front text n xs h = let e : n ≡ 0 + n - 0 = omega arith in ap (λ (k : ℕ). take k text) e ∙ h.is
 
--- a text laid out of a lawful recording in a version is the bytes of the recording in that version
-is_spelling : (v : ℕ) (text : List ℕ) (r : RecordingParts) → IsBytes text → IsLawful r → IsLaidOut v text r → text ≡ spelling v r
-unfolding spelling start_laid
-is_spelling v text r h p is =
+-- as a whole
+is_encoding : (v : ℕ) (text : List ℕ) (r : RecordingParts) → IsBytes text → IsLawful r → IsLaidOut v text r → text ≡ encoding v r
+unfolding encoding start_laid
+is_encoding v text r h p is =
     let cs = r.checkpoints in
     let np = length r.pool in
     let ne = length r.inputs in
@@ -320,10 +321,15 @@ is_spelling v text r h p is =
     let back : drop (offset (length cs)) text ≡ out = ap (λ (k : ℕ). drop k text) (sym end) ∙ is.output in
     sym (take-append-drop (offset (length cs)) text) ∙ ap (λ (l : List ℕ). l ++ drop (offset (length cs)) text) front ∙ ap (λ (l : List ℕ). head ++ l) back
 
--- a text of a recording in a version is the bytes of the recording in that version
-pub spelled_back : (v : ℕ) (text : List ℕ) (r : RecordingParts) → AreBytes text → TextIn v text r → text ≡ spelling v r
-spelled_back v text r bytes is = is_spelling v text r (all_bytes text bytes) is.lawful is.laid
+-- in version 1 the timers of such a recording don't count
+unclocked_in : (v : ℕ) (text : List ℕ) (r : RecordingParts) → IsLaidOut v text r → v ≡ FIRST_VERSION → All IsUnclocked r.checkpoints
+unclocked_in v text r is first k d lt = let whole = (is.checkpoints_stand k d lt).in_first first in record { rate = whole.rate; phase = whole.phase }
 
--- so a recording has at most one text of each version
-pub same_text : (v : ℕ) (r : RecordingParts) (t u : List ℕ) → AreBytes t → AreBytes u → TextIn v t r → TextIn v u r → u ≡ t
-same_text v r t u ht hu a b = spelled_back v u r hu b ∙ sym (spelled_back v t r ht a)
+-- so the bytes are the file of the recording
+pub text_of_laid : (v : ℕ) (text : List ℕ) (r : RecordingParts) → AreBytes text → IsLawful r → IsLaidOut v text r → TextIn v text r
+text_of_laid v text r bytes lawful is = record {
+  lawful = lawful;
+  known = is.known;
+  unclocked = unclocked_in v text r is;
+  is = is_encoding v text r (all_bytes text bytes) lawful is;
+}

@@ -15,6 +15,7 @@ use Rattle.oberon_format.specs.Recording.{RecordingParts}
 use Rattle.oberon_format.specs.Text.{Text}
 use Rattle.oberon_format.proofs.ChangeLemmas.{after-same}
 use Rattle.oberon_format.proofs.PartLemmas.{laid_within, size_few}
+use Rattle.oberon_format.proofs.Encoded.{laid}
 use Rattle.oberon_format.proofs.Places.{start-laid}
 use Rattle.oberon_format.proofs.Room.{start_none, named_first}
 use Rattle.oberon_format.proofs.TextLemmas.{number_where, number_else}
@@ -327,11 +328,11 @@ first_fault_of-take n text over within =
 -- of the table, and the output
 pub text_within : (text : List ℕ) (r : RecordingParts) → Text text r → length text ≤ LONGEST_TEXT
 text_within text r some =
-    let laid = some.is.laid in
+    let facts = laid some.version text r some.is in
     let lawful = some.is.lawful in
-    let long = laid.long in
-    let count = laid.checkpoint_count in
-    let end = start-laid some.version text r laid (length r.checkpoints) (omega arith) in
+    let long = facts.long in
+    let count = facts.checkpoint_count in
+    let end = start-laid some.version text r facts (length r.checkpoints) (omega arith) in
     let same : start text (checkpoints text) ≡ start text (length r.checkpoints) = ap (start text) count in
     let near = laid_within some.version r (length r.checkpoints) in
     let few_pages = lawful.pages in

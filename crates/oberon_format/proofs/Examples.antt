@@ -16,7 +16,7 @@ use Rattle.oberon_format.specs.Layout.{word_at, long_at, event_start, page_numbe
 use Rattle.oberon_format.specs.PartFields.{checkpoint_fields, no_event, start_laid, fault_of_parts}
 use Rattle.oberon_format.specs.Ranges.{is_count, is_output, is_event, are_keys}
 use Rattle.oberon_format.specs.Rules.{rules, checkpoint_rules, page_number_rules, change_rules, end_rules}
-use Rattle.oberon_format.specs.inner.Spelling.{word_bytes, long_bytes}
+use Rattle.oberon_format.specs.Encoding.{word_bytes, long_bytes}
 use Rattle.oberon_format.specs.TextFields.{first_fault_of, number_before}
 
 -- the text of a header: its magic is right, its numbers are given by their bytes

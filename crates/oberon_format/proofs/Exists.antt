@@ -24,7 +24,10 @@ use Rattle.oberon_format.specs.Ranges.{in_ranges, are_keys}
 use Rattle.oberon_format.specs.Recording.{RecordingParts, output_of}
 use Rattle.oberon_format.specs.Formed.{IsFormed, AreFormed}
 use Rattle.oberon_format.specs.inner.Tested.{HasNumbers, Meets, StandIn}
-use Rattle.oberon_format.specs.Text.{EachAt, AreWords, AreBytes, IsPageAt, IsEventAt, IsCpu, IsDevices, IsFront, IsLaidOut, Text}
+use Rattle.oberon_format.specs.Text.{AreBytes, Text}
+use Rattle.oberon_format.proofs.Back.{text_of_laid}
+use Rattle.oberon_format.proofs.Encoded.{laid}
+use Rattle.oberon_format.specs.inner.Offsets.{EachAt, AreWords, IsPageAt, IsEventAt, IsCpu, IsDevices, IsFront, IsLaidOut}
 use Rattle.oberon_format.specs.TextFields.{change_of, checkpoint_of, first_fault_of, number_before, page_number_of}
 use Rattle.oberon_format.proofs.Agree.{text_agrees}
 use Rattle.oberon_format.proofs.Back.{all_bytes}
@@ -390,9 +393,9 @@ has_recording text bytes meets =
     let cs = checkpoints_of text (checkpoints text) bytes meets (omega arith) in
     let output = output_all text (checkpoints text) (output_offset text + output_below text (checkpoints text)) cs.list meets refl refl cs.output in
     let r : RecordingParts = record { pool = ps.pool; inputs = es.list; checkpoints = cs.list } in
-    let laid : IsLaidOut (version text) text r = text_read text ps.pool es.list cs.list meets ps.count ps.stand es.count es.stand cs.count cs.stand output in
+    let facts : IsLaidOut (version text) text r = text_read text ps.pool es.list cs.list meets ps.count ps.stand es.count es.stand cs.count cs.stand output in
     let ordered = events_ordered text es.list meets es.count es.stand in
-    (r, record { version = version text; is = record { lawful = read_lawful text r meets ps.whole ordered cs.formed laid; laid = laid } })
+    (r, record { version = version text; is = text_of_laid (version text) text r bytes (read_lawful text r meets ps.whole ordered cs.formed facts) facts })
 
 -- a text has a recording or a first fault
 by_fault : (text : List ℕ) (o : Option Fault) → AreBytes text → first_fault_of text ≡ o
@@ -400,9 +403,9 @@ by_fault : (text : List ℕ) (o : Option Fault) → AreBytes text → first_faul
 by_fault text None bytes e = has_recording text bytes (none_meets text e)
 by_fault text (Some f) bytes e = λ r is.
     let v = is.version in
-    let laid = is.is.laid in
+    let facts = laid v text r is.is in
     let lawful = is.is.lawful in
-    let none : first_fault_of text ≡ None = text_agrees v text r (lawful_formed r lawful) laid ∙ lawful_faultless v r laid.known lawful in
+    let none : first_fault_of text ≡ None = text_agrees v text r (lawful_formed r lawful) facts ∙ lawful_faultless v r facts.known lawful in
     absurd cc
 
 pub text_or_fault : (text : List ℕ) → AreBytes text

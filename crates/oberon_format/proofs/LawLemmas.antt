@@ -1,5 +1,5 @@
 -- The laws of texts and recordings.
-use Rattle.std.proofs.Common.{◌≡◌, ◌<◌, ◌-◌, ◌^◌, ℕ, zero, suc, List, [], ◌∷◌, ◌++◌, length, get_or, subst, arith}
+use Rattle.std.proofs.Common.{◌≡◌, refl, ◌<◌, ◌-◌, ◌^◌, ℕ, zero, suc, List, [], ◌∷◌, ◌++◌, length, get_or, subst, arith}
 use Rattle.std.specs.List.{flat_map}
 use Rattle.std.specs.Int.{byte_at, bytes_low_first}
 use Rattle.std.proofs.lemmas.List.Elements.{All-nil, All-cons, All-append, All-replicate}
@@ -15,11 +15,13 @@ use Rattle.oberon_format.specs.Layout.{version}
 use Rattle.oberon_format.specs.Migration.{IsMigrated}
 use Rattle.oberon_format.specs.Formed.{IsFormed, AreFormed, AreWritable}
 use Rattle.oberon_format.specs.Recording.{RecordingParts, IsLawful, output_of}
-use Rattle.oberon_format.specs.inner.Spelling.{word_bytes, long_bytes, words_bytes, event_bytes, cpu_bytes, device_bytes, front_bytes, change_bytes, changes_bytes, changed_bytes, tail_bytes, checkpoint_bytes, checkpoints_bytes, header_bytes, spelling}
-use Rattle.oberon_format.specs.Text.{AreBytes, IsLaidOut, TextIn, Text}
-use Rattle.oberon_format.proofs.Back.{same_text}
-use Rattle.oberon_format.proofs.One.{in_version, same_recording}
-use Rattle.oberon_format.proofs.Spelled.{laid_out, spelled, writable}
+use Rattle.oberon_format.specs.Encoding.{word_bytes, long_bytes, words_bytes, event_bytes, cpu_bytes, device_bytes, front_bytes, change_bytes, changes_bytes, changed_bytes, tail_bytes, checkpoint_bytes, checkpoints_bytes, header_bytes, encoding}
+use Rattle.oberon_format.specs.Text.{AreBytes, TextIn, Text}
+use Rattle.oberon_format.specs.PartFields.{fault_of_parts}
+use Rattle.oberon_format.specs.TextFields.{first_fault_of}
+use Rattle.oberon_format.proofs.Agree.{text_agrees}
+use Rattle.oberon_format.proofs.One.{in_version, same_recording, same_text}
+use Rattle.oberon_format.proofs.Encoded.{laid_out, encoded, writable}
 
 -- the bytes of numbers are bytes
 byte_small : (i n : ℕ) → byte_at i n < 2 ^ 8
@@ -92,31 +94,36 @@ header_are r = join _ _ (join _ _ (join _ _ (join _ _ (join _ _ (word_are _) (wo
 output_are : (cs : List CheckpointParts) → AreFormed cs → AreBytes (output_of cs)
 output_are cs formed = all_are (λ (c : CheckpointParts). c.sent) cs (λ i d lt. (formed i d lt).bytes)
 
-spelling_are : (r : RecordingParts) → AreFormed r.checkpoints → AreBytes (spelling VERSION r)
-unfolding spelling
-spelling_are r formed =
+encoding_are : (r : RecordingParts) → AreFormed r.checkpoints → AreBytes (encoding VERSION r)
+unfolding encoding
+encoding_are r formed =
     join _ _ (join _ _ (join _ _ (join _ _ (header_are r) (all_are words_bytes r.pool (λ i d lt. words_are_bytes (get_or r.pool i d)))) (all_are event_bytes r.inputs (λ i d lt. event_are (get_or r.inputs i d))))
     (checkpoints_are zero_numbers r.checkpoints (λ i lt. formed i no_checkpoint lt)))
     (output_are r.checkpoints formed)
 
--- parts whose numbers fit have a text that is laid out of them
-pub text_of_parts : (r : RecordingParts) → AreWritable r → (text : List ℕ) × AreBytes text × IsLaidOut VERSION text r
-text_of_parts r fits = (spelling VERSION r, spelling_are r (λ i d lt. (fits.checkpoints i d lt).formed), laid_out r fits)
+-- parts whose numbers fit are encoded in bytes
+pub text_of_parts : (r : RecordingParts) → AreWritable r → AreBytes (encoding VERSION r)
+text_of_parts r fits = encoding_are r (λ i d lt. (fits.checkpoints i d lt).formed)
+
+-- and their encoding has their first fault
+pub fault_of_encoding : (r : RecordingParts) → AreWritable r → first_fault_of (encoding VERSION r) ≡ fault_of_parts r
+fault_of_encoding r fits =
+    text_agrees VERSION (encoding VERSION r) r (λ i d lt. (fits.checkpoints i d lt).formed) (laid_out VERSION r refl (λ first. absurd (omega arith)) fits)
 
 -- a lawful recording has a text of the version that is written
 pub one_text : (r : RecordingParts) → IsLawful r → (text : List ℕ) × AreBytes text × TextIn VERSION text r
-one_text r lawful = (spelling VERSION r, spelling_are r (λ i d lt. ((writable r lawful).checkpoints i d lt).formed), spelled r lawful)
+one_text r lawful = (encoding VERSION r, text_of_parts r (writable r lawful), encoded r lawful)
 
 -- what is read of the text that is written is what was written
 pub read_back : (r s : RecordingParts) (text : List ℕ) → TextIn VERSION text r → Text text s → s ≡ r
 read_back r s text written read = same_recording text s r read (record { version = VERSION; is = written })
 
 -- and what is written of what was read of a text of that version is the text
-pub written_back : (text other : List ℕ) (r : RecordingParts) → AreBytes text → AreBytes other → version text ≡ VERSION → Text text r → TextIn VERSION other r → other ≡ text
-written_back text other r bytes others is read written = same_text VERSION r text other bytes others (in_version VERSION text r is read) written
+pub written_back : (text other : List ℕ) (r : RecordingParts) → version text ≡ VERSION → Text text r → TextIn VERSION other r → other ≡ text
+written_back text other r is read written = same_text VERSION r text other (in_version VERSION text r is read) written
 
 -- a text that was migrated is its own migration
-pub migrated_again : (text migrated again : List ℕ) → AreBytes migrated → AreBytes again → IsMigrated text migrated → IsMigrated migrated again → again ≡ migrated
-migrated_again text migrated again bytes others first second =
+pub migrated_again : (text migrated again : List ℕ) → IsMigrated text migrated → IsMigrated migrated again → again ≡ migrated
+migrated_again text migrated again first second =
     let one : second.recording ≡ first.recording = read_back first.recording second.recording migrated first.written second.read in
-    same_text VERSION first.recording migrated again bytes others first.written (subst (λ (r : RecordingParts). TextIn VERSION again r) one second.written)
+    same_text VERSION first.recording migrated again first.written (subst (λ (r : RecordingParts). TextIn VERSION again r) one second.written)

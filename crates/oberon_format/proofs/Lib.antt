@@ -21,7 +21,7 @@ pub mod LawfulLemmas
 pub mod ReadLemmas
 pub mod WriteLemmas
 pub mod Stands
-pub mod Spelled
+pub mod Encoded
 pub mod Back
 pub mod One
 pub mod Exists

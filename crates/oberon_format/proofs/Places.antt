@@ -8,8 +8,8 @@ use Rattle.oberon_format.specs.Layout.{version, pages, events, start, checkpoint
 use Rattle.oberon_format.specs.PartFields.{changes_laid, start_laid}
 use Rattle.oberon_format.specs.Ranges.{is_version}
 use Rattle.oberon_format.specs.Recording.{RecordingParts, checkpoint_at, table_before}
-use Rattle.oberon_format.specs.inner.Spelling.{checkpoint_bytes}
-use Rattle.oberon_format.specs.Text.{IsCheckpoint, IsLaidOut}
+use Rattle.oberon_format.specs.Encoding.{checkpoint_bytes}
+use Rattle.oberon_format.specs.inner.Offsets.{IsCheckpoint, IsLaidOut}
 use Rattle.oberon_format.proofs.RuleLemmas.{version_cases}
 
 -- the table before checkpoint k of those that follow a table

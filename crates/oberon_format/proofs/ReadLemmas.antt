@@ -18,7 +18,7 @@ use Rattle.oberon_format.specs.Recording.{RecordingParts, IsLawful, output_of, t
 use Rattle.oberon_format.specs.Rules.{event_rules, event_floor, place_floor, stood}
 use Rattle.oberon_format.specs.Formed.{AreFormed}
 use Rattle.oberon_format.specs.inner.Tested.{HasNumbers, Meets, StandIn}
-use Rattle.oberon_format.specs.Text.{EachAt, IsPageAt, IsEventAt, IsFront, IsWhole, IsChanged, IsCheckpoint, IsLaidOut}
+use Rattle.oberon_format.specs.inner.Offsets.{EachAt, IsPageAt, IsEventAt, IsFront, IsWhole, IsChanged, IsCheckpoint, IsLaidOut}
 use Rattle.oberon_format.specs.TextFields.{fields_of, event_of, change_of, number_before, page_number_of}
 use Rattle.oberon_format.proofs.Agree.{tables_stand, text_agrees}
 use Rattle.oberon_format.proofs.ChangeLemmas.{AreLawful, lawful-are, after-same}

@@ -9,8 +9,8 @@ use Rattle.oberon_format.proofs.Numbers.{little_from-drop}
 use Rattle.oberon_format.proofs.Places.{bytes_at, bytes_at-next}
 use Rattle.oberon_format.specs.CheckpointParts.{CheckpointParts}
 use Rattle.oberon_format.specs.Layout.{long_at, word_at}
-use Rattle.oberon_format.specs.inner.Spelling.{long_bytes, word_bytes, words_bytes, checkpoint_bytes, checkpoints_bytes}
-use Rattle.oberon_format.specs.Text.{AreWords, EachAt}
+use Rattle.oberon_format.specs.Encoding.{long_bytes, word_bytes, words_bytes, checkpoint_bytes, checkpoints_bytes}
+use Rattle.oberon_format.specs.inner.Offsets.{AreWords, EachAt}
 
 -- numbers of four bytes
 abbrev pub AreWide : List ℕ → Type 0

@@ -13,7 +13,7 @@ use Rattle.oberon_format.specs.CheckpointParts.{CheckpointParts, checkpoint_part
 use Rattle.oberon_format.specs.Layout.{checkpoint_size}
 use Rattle.oberon_format.specs.PartFields.{start_laid}
 use Rattle.oberon_format.specs.Recording.{RecordingParts, checkpoint_at, table_before, output_of}
-use Rattle.oberon_format.specs.inner.Spelling.{change_bytes, checkpoint_bytes, checkpoints_bytes}
+use Rattle.oberon_format.specs.Encoding.{change_bytes, checkpoint_bytes, checkpoints_bytes}
 use Rattle.oberon_format.proofs.CheckpointLemmas.{checkpoint_at-is}
 use Rattle.oberon_format.proofs.PartLemmas.{laid_next}
 use Rattle.oberon_format.proofs.Places.{bytes_at, bytes_at-next}

@@ -9,7 +9,8 @@ use Rattle.oberon_format.specs.Migration.{IsMigrated}
 use Rattle.oberon_format.specs.PartFields.{fault_of_parts}
 use Rattle.oberon_format.specs.Recording.{RecordingParts, IsLawful}
 use Rattle.oberon_format.specs.Layout.{version}
-use Rattle.oberon_format.specs.Text.{AreBytes, IsLaidOut, TextIn, Text}
+use Rattle.oberon_format.specs.Encoding.{encoding}
+use Rattle.oberon_format.specs.Text.{AreBytes, TextIn, Text}
 use Rattle.oberon_format.specs.TextFields.{first_fault_of}
 
 -- a text is that of at most one recording
@@ -18,7 +19,7 @@ HasOneRecording = (text : List ℕ) (r s : RecordingParts) → Text text r → T
 
 -- a recording has at most one text of each version
 abbrev pub HasOneTextAtMost : Type 0
-HasOneTextAtMost = (version : ℕ) (r : RecordingParts) (text other : List ℕ) → AreBytes text → AreBytes other → TextIn version text r → TextIn version other r → other ≡ text
+HasOneTextAtMost = (version : ℕ) (r : RecordingParts) (text other : List ℕ) → TextIn version text r → TextIn version other r → other ≡ text
 
 -- and a lawful recording has one of the version that is written
 abbrev pub HasOneText : Type 0
@@ -30,11 +31,11 @@ HasReadBack = (r s : RecordingParts) (text : List ℕ) → TextIn VERSION text r
 
 -- what is written of a recording that was read is the text of which it was read, where that is of the version that is written
 abbrev pub HasWrittenBack : Type 0
-HasWrittenBack = (text other : List ℕ) (r : RecordingParts) → AreBytes text → AreBytes other → version text ≡ VERSION → Text text r → TextIn VERSION other r → other ≡ text
+HasWrittenBack = (text other : List ℕ) (r : RecordingParts) → version text ≡ VERSION → Text text r → TextIn VERSION other r → other ≡ text
 
 -- a text that was migrated is its own migration
 abbrev pub IsMigratedOnce : Type 0
-IsMigratedOnce = (text migrated again : List ℕ) → AreBytes migrated → AreBytes again → IsMigrated text migrated → IsMigrated migrated again → again ≡ migrated
+IsMigratedOnce = (text migrated again : List ℕ) → IsMigrated text migrated → IsMigrated migrated again → again ≡ migrated
 
 -- each text has a recording exactly where it has no first fault
 abbrev pub HasTextOrFault : Type 0
@@ -44,13 +45,13 @@ HasTextOrFault = (text : List ℕ) → AreBytes text → MatchOption (first_faul
 abbrev pub HasNamedFault : Type 0
 HasNamedFault = (text : List ℕ) → IfSome (first_fault_of text) IsNamedFault
 
--- parts whose numbers fit their fields, lawful or not, have a text that is laid out of them
+-- parts whose numbers fit their fields, lawful or not, are encoded in bytes
 abbrev pub HasTextOfParts : Type 0
-HasTextOfParts = (r : RecordingParts) → AreWritable r → (text : List ℕ) × AreBytes text × IsLaidOut VERSION text r
+HasTextOfParts = (r : RecordingParts) → AreWritable r → AreBytes (encoding VERSION r)
 
--- a text that is laid out of parts, in the version that is written, has the fault of the parts
+-- and their encoding has the first fault of the parts
 abbrev pub HasFaultOfParts : Type 0
-HasFaultOfParts = (text : List ℕ) (r : RecordingParts) → AreFormed r.checkpoints → IsLaidOut VERSION text r → first_fault_of text ≡ fault_of_parts r
+HasFaultOfParts = (r : RecordingParts) → AreWritable r → first_fault_of (encoding VERSION r) ≡ fault_of_parts r
 
 -- no text of a recording is longer than the longest
 abbrev pub HasLongestText : Type 0

@@ -1,4 +1,4 @@
--- Recordings and their texts. Read it in this order: a recording, its text, the first fault of a text, migration, numbers, laws.
+-- Recordings and their texts. Read it in this order: a recording, its encoding, the first fault of a text, migration, numbers, laws.
 pub mod Fields
 pub mod Ranges
 pub mod CheckpointParts
@@ -6,6 +6,7 @@ pub mod Recording
 pub mod Defined
 pub mod Changes
 pub mod Layout
+pub mod Encoding
 pub mod Text
 pub mod FirstFault
 pub mod Rules

@@ -26,6 +26,6 @@ pub(crate) fn all_formed_law(checkpoints: &[Checkpoint])
 }
 
 /// Each byte is a number below 256, as its type says.
-fn bytes_fit(bytes: &[u8])
+pub(crate) fn bytes_fit(bytes: &[u8])
     ensures { All (λ byte. byte < 2 ^ 8) bytes.now }
 {}

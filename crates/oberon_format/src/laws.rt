@@ -58,17 +58,17 @@ pub fn cut_text_law()
     ensures { HasFaultWithin }
 {}
 
-/// Parts whose numbers fit their fields, lawful or not, have a text of version 2 that is laid out of them.
+/// Parts whose numbers fit their fields, lawful or not, are encoded in bytes.
 pub fn text_of_parts_law()
     ensures { HasTextOfParts }
 {}
 
-/// A text of version 2 that is laid out of parts, lawful or not, has the first fault of these parts.
+/// The encoding of parts whose numbers fit their fields, lawful or not, has the first fault of these parts.
 pub fn fault_of_parts_law()
     ensures { HasFaultOfParts }
 {}
 
-/// Parts are lawful exactly where the text laid out of them has no fault.
+/// Parts are lawful exactly if they have no fault.
 pub fn lawful_parts_law()
     ensures { IsMadeOfParts }
 {}

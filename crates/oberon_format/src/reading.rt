@@ -8,7 +8,8 @@ ghost use Rattle.oberon_format.specs.Recording.{output_of};
 ghost use Rattle.oberon_format.specs.Ranges.{in_ranges, are_keys};
 ghost use Rattle.oberon_format.specs.Rules.{stood};
 ghost use Rattle.oberon_format.specs.inner.Tested.{IsSized, Meets, HasNumbers, StandIn};
-ghost use Rattle.oberon_format.specs.Text.{EachAt, AreWords, IsPageAt, IsEvent, IsEventAt, IsCpu, IsDevices, IsFront, Text};
+ghost use Rattle.oberon_format.specs.Text.{Text};
+ghost use Rattle.oberon_format.specs.inner.Offsets.{EachAt, AreWords, IsPageAt, IsEvent, IsEventAt, IsCpu, IsDevices, IsFront};
 ghost use Rattle.oberon_format.specs.TextFields.{fields_of, checkpoint_of, change_of, page_number_of, AnswersText};
 ghost use Rattle.risc_devices.specs.InputKind.{IsInput};
 ghost use Rattle.risc_model.specs.MachineState.{cpu_state};
@@ -16,7 +17,7 @@ ghost use Rattle.risc_model.specs.MachineState.{cpu_state};
 use crate::change::Change;
 use crate::checkpoint::Checkpoint;
 use crate::fault::Fault;
-use crate::formed::all_formed_law;
+use crate::formed::{all_formed_law, bytes_fit};
 use crate::layout::{
     AUXILIARY_AT, CHANGE_COUNT_AT, CHANGE_LEN, CHANGES_AT, CHECKPOINT_LEN, COUNTER_AT, EVENT_LEN,
     FLAGS_AT, HEADER_LEN, KEYS_AT, KIND_AT, LEDS_AT, MOUSE_AT, PHASE_AT, PLACES, RATE_AT,
@@ -54,7 +55,8 @@ fn recording_of(alloc: Global, text: &[u8], output: usize) -> Result<Recording, 
     let pool = pool_of(alloc, text)?;
     let inputs = inputs_of(alloc, text)?;
     let checkpoints = checkpoints_of(alloc, text, output)?;
-    // What the types of the parts say of them.
+    // What the types of the bytes and of the parts say of them.
+    bytes_fit(text);
     all_formed_law(&checkpoints);
     let _pages = pool.len();
     let _events = inputs.events();

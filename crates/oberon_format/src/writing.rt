@@ -8,7 +8,7 @@ ghost use Rattle.oberon_format.specs.Changes.{changes};
 ghost use Rattle.oberon_format.specs.CheckpointParts.{checkpoint_parts};
 ghost use Rattle.oberon_format.specs.PartFields.{start_laid};
 ghost use Rattle.oberon_format.specs.Recording.{IsLawful, output_of};
-ghost use Rattle.oberon_format.specs.inner.Spelling.{word_bytes, long_bytes, words_bytes, event_bytes, cpu_bytes, device_bytes, front_bytes, change_bytes, changes_bytes, checkpoint_bytes, checkpoints_bytes, header_bytes, spelling};
+ghost use Rattle.oberon_format.specs.Encoding.{word_bytes, long_bytes, words_bytes, event_bytes, cpu_bytes, device_bytes, front_bytes, change_bytes, changes_bytes, checkpoint_bytes, checkpoints_bytes, header_bytes, encoding};
 ghost use Rattle.oberon_format.specs.Text.{TextIn};
 
 use crate::change::change_count;
@@ -27,14 +27,14 @@ use std::alloc::{AllocError, Global};
 pub fn write(alloc: Global, r: &Recording) -> Result<Vec<u8>, AllocError>
     ensures { IfOk result (λ text. TextIn VERSION text.items r.now) }
 {
-    let text = spell(alloc, r)?;
+    let text = encode(alloc, r)?;
     Ok(text)
 }
 
 /// The bytes of a recording, one part after the other.
-#[tactic(auto, unfolding(crate::specs::inner::Spelling::spelling))]
-fn spell(alloc: Global, r: &Recording) -> Result<Vec<u8>, AllocError>
-    ensures bytes { IfOk result (λ text. text.items ≡ spelling VERSION r.now) }
+#[tactic(auto, unfolding(crate::specs::Encoding::encoding))]
+fn encode(alloc: Global, r: &Recording) -> Result<Vec<u8>, AllocError>
+    ensures bytes { IfOk result (λ text. text.items ≡ encoding VERSION r.now) }
     ensures lawful { IfOk result (λ _. IsLawful r.now) }
 {
     let mut out = Vec::with_capacity(alloc, text_len(r))?;
@@ -72,7 +72,7 @@ fn output_len(r: &Recording) -> usize
 }
 
 /// Adds the four bytes of a number.
-#[tactic(auto, unfolding(crate::specs::inner::Spelling::word_bytes))]
+#[tactic(auto, unfolding(crate::specs::Encoding::word_bytes))]
 fn push_word(out: &mut Vec<u8>, number: u32) -> Result<(), AllocError>
     ensures { OnOk result (out.new.items ≡ out.old.items ++ word_bytes number) }
 {
@@ -82,7 +82,7 @@ fn push_word(out: &mut Vec<u8>, number: u32) -> Result<(), AllocError>
 }
 
 /// Adds the eight bytes of a number.
-#[tactic(auto, unfolding(crate::specs::inner::Spelling::long_bytes))]
+#[tactic(auto, unfolding(crate::specs::Encoding::long_bytes))]
 fn push_long(out: &mut Vec<u8>, number: u64) -> Result<(), AllocError>
     ensures { OnOk result (out.new.items ≡ out.old.items ++ long_bytes number) }
 {
@@ -102,7 +102,7 @@ fn push_words(out: &mut Vec<u8>, numbers: &[u32]) -> Result<(), AllocError>
 }
 
 /// Adds the header.
-#[tactic(auto, unfolding(crate::specs::inner::Spelling::header_bytes))]
+#[tactic(auto, unfolding(crate::specs::Encoding::header_bytes))]
 fn push_header(out: &mut Vec<u8>, r: &Recording) -> Result<(), AllocError>
     ensures { OnOk result (out.new.items ≡ out.old.items ++ header_bytes VERSION r.now) }
 {
@@ -125,7 +125,7 @@ fn push_pool(out: &mut Vec<u8>, pool: &Pool) -> Result<(), AllocError>
 }
 
 /// Adds an event.
-#[tactic(auto, unfolding(crate::specs::inner::Spelling::event_bytes))]
+#[tactic(auto, unfolding(crate::specs::Encoding::event_bytes))]
 fn push_event(out: &mut Vec<u8>, event: &Event) -> Result<(), AllocError>
     ensures { OnOk result (out.new.items ≡ out.old.items ++ event_bytes event.now) }
 {
@@ -145,7 +145,7 @@ fn push_events(out: &mut Vec<u8>, events: &[Event]) -> Result<(), AllocError>
 }
 
 /// Adds the processor of a checkpoint.
-#[tactic(auto, unfolding(crate::specs::inner::Spelling::cpu_bytes))]
+#[tactic(auto, unfolding(crate::specs::Encoding::cpu_bytes))]
 fn push_cpu(out: &mut Vec<u8>, cpu: &Cpu) -> Result<(), AllocError>
     ensures { OnOk result (out.new.items ≡ out.old.items ++ cpu_bytes (cpu_state cpu.now)) }
 {
@@ -157,7 +157,7 @@ fn push_cpu(out: &mut Vec<u8>, cpu: &Cpu) -> Result<(), AllocError>
 }
 
 /// Adds the devices of a checkpoint.
-#[tactic(auto, unfolding(crate::specs::inner::Spelling::device_bytes))]
+#[tactic(auto, unfolding(crate::specs::Encoding::device_bytes))]
 fn push_devices(out: &mut Vec<u8>, devices: &Devices) -> Result<(), AllocError>
     ensures { OnOk result (out.new.items ≡ out.old.items ++ device_bytes devices.now) }
 {
@@ -171,7 +171,7 @@ fn push_devices(out: &mut Vec<u8>, devices: &Devices) -> Result<(), AllocError>
 }
 
 /// Adds what a checkpoint begins with.
-#[tactic(auto, unfolding(crate::specs::inner::Spelling::front_bytes))]
+#[tactic(auto, unfolding(crate::specs::Encoding::front_bytes))]
 fn push_front(out: &mut Vec<u8>, checkpoint: &Checkpoint) -> Result<(), AllocError>
     requires { length checkpoint.now.sent.items ≤ MAX_OUTPUT }
     ensures { OnOk result (out.new.items ≡ out.old.items ++ front_bytes (checkpoint_parts checkpoint.now)) }
@@ -183,7 +183,7 @@ fn push_front(out: &mut Vec<u8>, checkpoint: &Checkpoint) -> Result<(), AllocErr
 }
 
 /// Adds the number of changes from one table to another, and each of them.
-#[tactic(auto, unfolding(crate::specs::inner::Spelling::changes_bytes))]
+#[tactic(auto, unfolding(crate::specs::Encoding::changes_bytes))]
 fn push_changes(out: &mut Vec<u8>, before: &Table, table: &Table) -> Result<(), AllocError>
     ensures { OnOk result (out.new.items ≡ out.old.items ++ changes_bytes (changes before.now table.now)) }
 {
@@ -197,7 +197,7 @@ fn push_changes(out: &mut Vec<u8>, before: &Table, table: &Table) -> Result<(), 
 }
 
 /// Adds a change.
-#[tactic(auto, unfolding(crate::specs::inner::Spelling::change_bytes))]
+#[tactic(auto, unfolding(crate::specs::Encoding::change_bytes))]
 fn push_change(out: &mut Vec<u8>, place: u32, number: u32) -> Result<(), AllocError>
     ensures { OnOk result (out.new.items ≡ out.old.items ++ change_bytes (record { place = place; number = number })) }
 {
@@ -206,7 +206,7 @@ fn push_change(out: &mut Vec<u8>, place: u32, number: u32) -> Result<(), AllocEr
 }
 
 /// Adds a checkpoint after a table, but for its output.
-#[tactic(auto, unfolding(crate::specs::inner::Spelling::checkpoint_bytes, crate::specs::inner::Spelling::tail_bytes, crate::specs::inner::Spelling::changed_bytes))]
+#[tactic(auto, unfolding(crate::specs::Encoding::checkpoint_bytes, crate::specs::Encoding::tail_bytes, crate::specs::Encoding::changed_bytes))]
 fn push_checkpoint(
     out: &mut Vec<u8>,
     before: &Table,

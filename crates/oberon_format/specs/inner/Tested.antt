@@ -15,7 +15,7 @@ use Rattle.oberon_format.specs.Ranges.{is_version}
 use Rattle.oberon_format.specs.PartFields.{fields_laid}
 use Rattle.oberon_format.specs.Recording.{RecordingParts, table_before}
 use Rattle.oberon_format.specs.Rules.{change_rules, event_rules, checkpoint_rules, named_len, whole}
-use Rattle.oberon_format.specs.Text.{EachAt, IsCheckpoint}
+use Rattle.oberon_format.specs.inner.Offsets.{EachAt, IsCheckpoint}
 use Rattle.oberon_format.specs.TextFields.{fields_of, first_fault_of, checkpoint_of, number_before}
 
 -- the header is there, its version is known, it names few enough pages, events and checkpoints,

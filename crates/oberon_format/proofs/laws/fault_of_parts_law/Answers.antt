@@ -1,6 +1,5 @@
-use Rattle.oberon_format.specs.declared.layout.TheConstants.{VERSION}
-use Rattle.oberon_format.proofs.Agree.{text_agrees}
+use Rattle.oberon_format.proofs.LawLemmas.{fault_of_encoding}
 use Rattle.oberon_format.proofs.laws.fault_of_parts_law.Goals as goal
 
 pub returns : goal.returns
-returns c = text_agrees VERSION
+returns c = fault_of_encoding

@@ -4,7 +4,7 @@ use Rattle.std.proofs.lemmas.Bool.Decides.{nat_tests}
 use Rattle.risc_devices.specs.DeviceState.{DeviceState}
 use Rattle.oberon_format.specs.declared.layout.TheConstants.{KEYS_AT}
 use Rattle.oberon_format.specs.declared.ranges.TheConstants.{MAX_KEYS, SERIAL_END}
-use Rattle.oberon_format.specs.Text.{IsDevices}
+use Rattle.oberon_format.specs.inner.Offsets.{IsDevices}
 use Rattle.oberon_format.proofs.Keys.{keys-stand, length-range}
 use Rattle.oberon_format.proofs.Numbers.{serial_whole}
 use Rattle.oberon_format.proofs.reading.devices_of.Goals as goal

@@ -2,7 +2,7 @@ use Rattle.std.proofs.Common.{◌≡◌, ◌∙◌, ◌++◌, ℕ, List, length,
 use Rattle.std.specs.List.{flat_map}
 use Rattle.oberon_format.specs.declared.layout.TheConstants.{PLACES}
 use Rattle.oberon_format.specs.Changes.{changes, changes_below}
-use Rattle.oberon_format.specs.inner.Spelling.{word_bytes, change_bytes, changes_bytes}
+use Rattle.oberon_format.specs.Encoding.{word_bytes, change_bytes, changes_bytes}
 use Rattle.oberon_format.proofs.WriteLemmas.{changes_skipped, changes_next}
 use Rattle.oberon_format.proofs.writing.push_changes.Goals.{then-entry+in_ok-push_change, else-entry}
 use Rattle.oberon_format.proofs.writing.push_changes.Goals as goal

@@ -1,7 +1,7 @@
 use Rattle.std.proofs.Common.{◌≡◌, ◌++◌, length}
 use Rattle.std.specs.List.{flat_map}
 use Rattle.oberon_format.specs.Changes.{changes, changes_below}
-use Rattle.oberon_format.specs.inner.Spelling.{word_bytes, change_bytes}
+use Rattle.oberon_format.specs.Encoding.{word_bytes, change_bytes}
 use Rattle.oberon_format.proofs.writing.push_changes.Given as goal
 
 abbrev pub invariant-loop-p : goal.invariant-loop-p

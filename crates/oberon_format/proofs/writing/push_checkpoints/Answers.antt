@@ -4,7 +4,7 @@ use Rattle.risc_pages.specs.Tables.{zero_numbers}
 use Rattle.oberon_format.specs.declared.layout.TheConstants.{VERSION}
 use Rattle.oberon_format.specs.CheckpointParts.{CheckpointParts, checkpoint_parts, no_checkpoint}
 use Rattle.oberon_format.specs.Recording.{table_before}
-use Rattle.oberon_format.specs.inner.Spelling.{checkpoint_bytes, checkpoints_bytes}
+use Rattle.oberon_format.specs.Encoding.{checkpoint_bytes, checkpoints_bytes}
 use Rattle.oberon_format.proofs.CheckpointLemmas.{checkpoint_at-is}
 use Rattle.oberon_format.proofs.Places.{bytes_at}
 use Rattle.oberon_format.proofs.WriteLemmas.{checkpoints_more, sent_le}

@@ -2,7 +2,7 @@ use Rattle.std.proofs.Common.{◌≡◌, ◌++◌, map, take}
 use Rattle.risc_pages.specs.Tables.{zero_numbers}
 use Rattle.oberon_format.specs.declared.layout.TheConstants.{VERSION}
 use Rattle.oberon_format.specs.CheckpointParts.{checkpoint_parts}
-use Rattle.oberon_format.specs.inner.Spelling.{checkpoints_bytes}
+use Rattle.oberon_format.specs.Encoding.{checkpoints_bytes}
 use Rattle.oberon_format.proofs.writing.push_checkpoints.Given as goal
 
 abbrev pub invariant-loop-k : goal.invariant-loop-k

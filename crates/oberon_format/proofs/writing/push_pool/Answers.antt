@@ -1,6 +1,6 @@
 use Rattle.std.proofs.Common.{◌∙◌, ◌++◌, ℕ, List, ap, arith}
 use Rattle.risc_pages.specs.Pages.{zero_page}
-use Rattle.oberon_format.specs.inner.Spelling.{words_bytes}
+use Rattle.oberon_format.specs.Encoding.{words_bytes}
 use Rattle.oberon_format.proofs.WriteLemmas.{written_next, next_page}
 use Rattle.oberon_format.proofs.writing.push_pool.Goals as goal
 

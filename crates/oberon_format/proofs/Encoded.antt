@@ -1,7 +1,7 @@
--- The bytes of a recording are laid out as its text.
-use Rattle.std.proofs.Common.{◌≡◌, ◌<◌, ◌≤◌, ◌+◌, ◌-◌, ◌^◌, ◌∙◌, ℕ, List, ◌++◌, length, drop, get_or, refl, sym, ap, subst, arith, length-append}
+-- What is at each offset of the encoding of a recording.
+use Rattle.std.proofs.Common.{◌≡◌, ◌<◌, ◌≤◌, true, inl, inr, ◌+◌, ◌-◌, ◌^◌, ◌∙◌, ℕ, List, ◌++◌, length, drop, get_or, refl, sym, ap, subst, arith, length-append}
 use Rattle.std.proofs.lemmas.List.{length-replicate, drop_at, get_or_default}
-use Rattle.std.specs.Prelude.{slice_index, replicate}
+use Rattle.std.specs.Prelude.{All, slice_index, replicate}
 use Rattle.std.specs.List.{flat_map}
 use Rattle.std.proofs.lemmas.Bool.Decides.{nat_tests}
 use Rattle.risc_core.specs.Flags.{flags_number}
@@ -13,7 +13,7 @@ use Rattle.risc_model.specs.MachineState.{CpuState}
 use Rattle.risc_pages.specs.Pages.{IsPage}
 use Rattle.risc_pages.specs.Tables.{zero_numbers, IsTable}
 use Rattle.oberon_format.specs.declared.change.Change.{Change}
-use Rattle.oberon_format.specs.declared.layout.TheConstants.{MAGIC, VERSION, HEADER_LEN, PAGE_LEN, EVENT_LEN, CHANGE_LEN, FRONT_LEN, MAGIC_AT, VERSION_AT, PAGES_AT, EVENTS_AT, CHECKPOINTS_AT, LAST_AT, KIND_AT, VALUE_AT, REGISTERS_AT, AUXILIARY_AT, COUNTER_AT, FLAGS_AT, STOP_AT, TIMER_AT, SWITCHES_AT, LEDS_AT, MOUSE_AT, SERIAL_AT, WAITING_AT, KEYS_AT, SENT_AT, RATE_AT, PHASE_AT, CHANGE_COUNT_AT, CHANGES_AT, NUMBER_AT}
+use Rattle.oberon_format.specs.declared.layout.TheConstants.{MAGIC, FIRST_VERSION, VERSION, HEADER_LEN, PAGE_LEN, EVENT_LEN, CHANGE_LEN, FRONT_LEN, MAGIC_AT, VERSION_AT, PAGES_AT, EVENTS_AT, CHECKPOINTS_AT, LAST_AT, KIND_AT, VALUE_AT, REGISTERS_AT, AUXILIARY_AT, COUNTER_AT, FLAGS_AT, STOP_AT, TIMER_AT, SWITCHES_AT, LEDS_AT, MOUSE_AT, SERIAL_AT, WAITING_AT, KEYS_AT, SENT_AT, TABLE_AT, RATE_AT, PHASE_AT, CHANGE_COUNT_AT, CHANGES_AT, NUMBER_AT}
 use Rattle.oberon_format.specs.declared.ranges.TheConstants.{MAX_KEYS}
 use Rattle.oberon_format.specs.Changes.{changes, no_change}
 use Rattle.oberon_format.specs.CheckpointParts.{CheckpointParts, no_checkpoint}
@@ -21,11 +21,14 @@ use Rattle.oberon_format.specs.Layout.{word_at, version, pages, events, checkpoi
 use Rattle.oberon_format.specs.PartFields.{changes_laid, start_laid}
 use Rattle.oberon_format.specs.Formed.{IsWritable, AreWritable}
 use Rattle.oberon_format.specs.Recording.{RecordingParts, IsLawful, checkpoint_at, table_before, output_of}
-use Rattle.oberon_format.specs.inner.Spelling.{word_bytes, long_bytes, words_bytes, event_bytes, cpu_bytes, device_bytes, front_bytes, change_bytes, changes_bytes, changed_bytes, tail_bytes, checkpoint_bytes, checkpoints_bytes, header_bytes, spelling}
-use Rattle.oberon_format.specs.Text.{IsEvent, IsCpu, IsDevices, IsFront, IsChange, IsChanged, IsCheckpoint, IsLaidOut, TextIn}
+use Rattle.oberon_format.specs.Encoding.{word_bytes, long_bytes, words_bytes, event_bytes, cpu_bytes, device_bytes, front_bytes, change_bytes, changes_bytes, changed_bytes, tail_bytes, checkpoint_bytes, checkpoints_bytes, header_bytes, encoding}
+use Rattle.oberon_format.specs.Ranges.{is_version}
+use Rattle.oberon_format.specs.Text.{IsUnclocked, TextIn}
+use Rattle.oberon_format.specs.inner.Offsets.{IsEvent, IsCpu, IsDevices, IsFront, IsChange, IsChanged, IsCheckpoint, IsLaidOut}
 use Rattle.oberon_format.proofs.ChangeLemmas.{change_in, changes-few, changes-lawful, changes-new}
 use Rattle.oberon_format.proofs.LawfulLemmas.{flags_fit, serial_fits}
 use Rattle.oberon_format.proofs.Places.{start-found}
+use Rattle.oberon_format.proofs.RuleLemmas.{version_cases}
 use Rattle.oberon_format.proofs.Stands.{AreWide, Stands, AreSpaced, stands_whole, stands_left, stands_right, stands_behind, stands_from, stands_range, word_stands, long_stands, words_stand, each_stands, blocks_stand, length-blocks, length-word_bytes, length-long_bytes, length-words_bytes, length-flat_map}
 use Rattle.oberon_format.proofs.WriteLemmas.{sent_le}
 
@@ -247,6 +250,33 @@ checkpoint_stands text offset before c p s =
       in_second = λ is. changed_stands text offset before c p.formed.devices p.formed.table (stands_right text offset FRONT_LEN f t s (length-front_bytes c p));
     }
 
+-- and one of version 1
+first_stands : (text : List ℕ) (offset : ℕ) (before : List ℕ) (c : CheckpointParts) → IsWritable c → IsUnclocked c
+    → Stands text offset (checkpoint_bytes FIRST_VERSION before c) → IsCheckpoint FIRST_VERSION text offset before c
+unfolding checkpoint_bytes tail_bytes
+first_stands text offset before c p none s =
+    let f = front_bytes c in
+    let t = tail_bytes FIRST_VERSION before c in
+    record {
+      front = front_stands text offset c p (stands_left text offset f t s);
+      in_first = λ is. record {
+        rate = none.rate;
+        phase = none.phase;
+        table = words_stand text (offset + TABLE_AT) c.table p.formed.table.fit (stands_right text offset FRONT_LEN f t s (length-front_bytes c p));
+      };
+      in_second = λ is. absurd (omega arith);
+    }
+
+-- so in each version that is known
+checkpoint_stands_in : (v : ℕ) (text : List ℕ) (offset : ℕ) (before : List ℕ) (c : CheckpointParts) → is_version v ≡ true → IsWritable c → (v ≡ FIRST_VERSION → IsUnclocked c)
+    → Stands text offset (checkpoint_bytes v before c) → IsCheckpoint v text offset before c
+checkpoint_stands_in v text offset before c known p unclocked s =
+    let P : ℕ → Type 0 = λ n. Stands text offset (checkpoint_bytes n before c) → IsCheckpoint n text offset before c in
+    elim (version_cases v known) [
+      | inl first ↦ subst P (sym first) (first_stands text offset before c p (unclocked first)) s
+      | inr second ↦ subst P (sym second) (checkpoint_stands text offset before c p) s
+    ]
+
 -- whose length its changes tell
 length-checkpoint_bytes : (before : List ℕ) (c : CheckpointParts) → IsWritable c → length (checkpoint_bytes VERSION before c) ≡ checkpoint_size VERSION (changes_laid VERSION before c)
 unfolding checkpoint_bytes tail_bytes changed_bytes changes_bytes
@@ -255,29 +285,50 @@ length-checkpoint_bytes before c p =
     let all = length-flat_map change_bytes CHANGE_LEN (changes before c.table) (λ i d h. length-change_bytes (get_or (changes before c.table) i d)) in
     simp (length-append, length-word_bytes) (omega arith)
 
+-- and which is fixed in version 1
+length-first_bytes : (before : List ℕ) (c : CheckpointParts) → IsWritable c → length (checkpoint_bytes FIRST_VERSION before c) ≡ checkpoint_size FIRST_VERSION (changes_laid FIRST_VERSION before c)
+unfolding checkpoint_bytes tail_bytes
+length-first_bytes before c p =
+    let front = length-front_bytes c p in
+    let words = length-words_bytes c.table in
+    let count = p.formed.table.count in
+    simp length-append (omega arith)
+
+length-checkpoint_in : (v : ℕ) (before : List ℕ) (c : CheckpointParts) → is_version v ≡ true → IsWritable c → length (checkpoint_bytes v before c) ≡ checkpoint_size v (changes_laid v before c)
+length-checkpoint_in v before c known p =
+    let P : ℕ → Type 0 = λ n. length (checkpoint_bytes n before c) ≡ checkpoint_size n (changes_laid n before c) in
+    elim (version_cases v known) [
+      | inl first ↦ subst P (sym first) (length-first_bytes before c p)
+      | inr second ↦ subst P (sym second) (length-checkpoint_bytes before c p)
+    ]
+
+-- a version that is known fits four bytes
+version_fits : (v : ℕ) → is_version v ≡ true → v < 2 ^ 32
+version_fits v known = elim (version_cases v known) [ | inl first ↦ omega arith | inr second ↦ omega arith ]
+
 pub length-page_bytes : (page : List ℕ) → IsPage page → length (words_bytes page) ≡ PAGE_LEN
 length-page_bytes page h = let l = h.whole in omega (arith, length-words_bytes page)
 
-record Header (text : List ℕ) (r : RecordingParts) : Type 0 where
+record Header (of : ℕ) (text : List ℕ) (r : RecordingParts) : Type 0 where
   m : word_at text MAGIC_AT ≡ MAGIC
-  v : version text ≡ VERSION
+  v : version text ≡ of
   p : pages text ≡ length r.pool
   e : events text ≡ length r.inputs
   k : checkpoints text ≡ length r.checkpoints
   z : word_at text LAST_AT ≡ 0
 
-length-header_bytes : (r : RecordingParts) → length (header_bytes VERSION r) ≡ HEADER_LEN
+length-header_bytes : (v : ℕ) (r : RecordingParts) → length (header_bytes v r) ≡ HEADER_LEN
 unfolding header_bytes
-length-header_bytes r = simp (length-append, length-word_bytes)
+length-header_bytes v r = simp (length-append, length-word_bytes)
 
-header_stands : (text : List ℕ) (r : RecordingParts) → AreWritable r → Stands text 0 (header_bytes VERSION r) → Header text r
+header_stands : (v : ℕ) (text : List ℕ) (r : RecordingParts) → v < 2 ^ 32 → AreWritable r → Stands text 0 (header_bytes v r) → Header v text r
 unfolding header_bytes
-header_stands text r p s =
+header_stands v text r small p s =
     let few_pages = p.pages in
     let few_events = p.events in
     let few_checkpoints = p.few in
     let a = word_bytes MAGIC in
-    let b = word_bytes VERSION in
+    let b = word_bytes v in
     let d = word_bytes (length r.pool) in
     let e = word_bytes (length r.inputs) in
     let f = word_bytes (length r.checkpoints) in
@@ -287,62 +338,62 @@ header_stands text r p s =
     let s3 = stands_left text 0 (a ++ b ++ d) e s4 in
     let s2 = stands_left text 0 (a ++ b) d s3 in
     let l1 : length a ≡ VERSION_AT = length-word_bytes MAGIC in
-    let l2 : length (a ++ b) ≡ PAGES_AT = omega (arith, length-append a b, length-word_bytes VERSION) in
+    let l2 : length (a ++ b) ≡ PAGES_AT = omega (arith, length-append a b, length-word_bytes v) in
     let l3 : length (a ++ b ++ d) ≡ EVENTS_AT = omega (arith, length-append (a ++ b) d, length-word_bytes (length r.pool)) in
     let l4 : length (a ++ b ++ d ++ e) ≡ CHECKPOINTS_AT = omega (arith, length-append (a ++ b ++ d) e, length-word_bytes (length r.inputs)) in
     let l5 : length (a ++ b ++ d ++ e ++ f) ≡ LAST_AT = omega (arith, length-append (a ++ b ++ d ++ e) f, length-word_bytes (length r.checkpoints)) in
     record {
       m = word_stands text MAGIC_AT MAGIC (stands_left text 0 a b s2) (omega arith);
-      v = word_stands text VERSION_AT VERSION (stands_from text VERSION_AT a b s2 l1) (omega arith);
+      v = word_stands text VERSION_AT v (stands_from text VERSION_AT a b s2 l1) (omega arith);
       p = word_stands text PAGES_AT (length r.pool) (stands_from text PAGES_AT (a ++ b) d s3 l2) (omega arith);
       e = word_stands text EVENTS_AT (length r.inputs) (stands_from text EVENTS_AT (a ++ b ++ d) e s4 l3) (omega arith);
       k = word_stands text CHECKPOINTS_AT (length r.checkpoints) (stands_from text CHECKPOINTS_AT (a ++ b ++ d ++ e) f s5 l4) (omega arith);
       z = word_stands text LAST_AT 0 (stands_from text LAST_AT (a ++ b ++ d ++ e ++ f) g s l5) (omega arith);
     }
 
--- the bytes of parts whose numbers fit are laid out as their text
-pub laid_out : (r : RecordingParts) → AreWritable r → IsLaidOut VERSION (spelling VERSION r) r
-unfolding spelling start_laid
-laid_out r p =
+-- of parts whose numbers fit, lawful or not
+pub laid_out : (v : ℕ) (r : RecordingParts) → is_version v ≡ true → (v ≡ FIRST_VERSION → All IsUnclocked r.checkpoints) → AreWritable r → IsLaidOut v (encoding v r) r
+unfolding encoding start_laid
+laid_out v r known unclocked p =
     let cs = r.checkpoints in
     let fits : (i : ℕ) → i < length cs → IsWritable (checkpoint_at r i) = λ i h. p.checkpoints i no_checkpoint h in
-    let H = header_bytes VERSION r in
+    let H = header_bytes v r in
     let P = flat_map words_bytes r.pool in
     let E = flat_map event_bytes r.inputs in
-    let C = checkpoints_bytes VERSION zero_numbers cs in
+    let C = checkpoints_bytes v zero_numbers cs in
     let O = output_of cs in
     let text = H ++ P ++ E ++ C ++ O in
-    let offset = start_laid VERSION r in
+    let offset = start_laid v r in
     let s5 = stands_whole text in
     let s4 = stands_left text 0 (H ++ P ++ E ++ C) O s5 in
     let s3 = stands_left text 0 (H ++ P ++ E) C s4 in
     let s2 = stands_left text 0 (H ++ P) E s3 in
-    let header = header_stands text r p (stands_left text 0 H P s2) in
+    let header = header_stands v text r (version_fits v known) p (stands_left text 0 H P s2) in
     let np = length r.pool in
     let ne = length r.inputs in
     let page_len : (i : ℕ) (d : List ℕ) → i < length r.pool → length (words_bytes (get_or r.pool i d)) ≡ PAGE_LEN = λ i d h. length-page_bytes (get_or r.pool i d) (p.pool i d h) in
     let event_len : (i : ℕ) (d : Event) → i < length r.inputs → length (event_bytes (get_or r.inputs i d)) ≡ EVENT_LEN = λ i d h. length-event_bytes (get_or r.inputs i d) in
-    let spaced : AreSpaced offset VERSION zero_numbers cs = λ k h. ap (λ (n : ℕ). offset k + n) (sym (length-checkpoint_bytes (table_before cs k) (checkpoint_at r k) (fits k h))) in
-    let l1 : length H ≡ HEADER_LEN = length-header_bytes r in
+    let spaced : AreSpaced offset v zero_numbers cs = λ k h. ap (λ (n : ℕ). offset k + n) (sym (length-checkpoint_in v (table_before cs k) (checkpoint_at r k) known (fits k h))) in
+    let l1 : length H ≡ HEADER_LEN = length-header_bytes v r in
     let lp = length-flat_map words_bytes PAGE_LEN r.pool page_len in
     let le = length-flat_map event_bytes EVENT_LEN r.inputs event_len in
-    let lc : offset (length cs) ≡ offset 0 + length C = length-blocks VERSION offset zero_numbers cs spaced in
+    let lc : offset (length cs) ≡ offset 0 + length C = length-blocks v offset zero_numbers cs spaced in
     let l2 : length (H ++ P) ≡ page_offset np = omega (arith, length-append H P) in
     let first : offset 0 ≡ event_start np ne = refl in
     let l3 : length (H ++ P ++ E) ≡ offset 0 = omega (arith, length-append (H ++ P) E) in
     let l4 : length (H ++ P ++ E ++ C) ≡ offset (length cs) = omega (arith, length-append (H ++ P ++ E) C) in
     let pages_at = each_stands words_bytes PAGE_LEN text HEADER_LEN r.pool page_len (stands_from text HEADER_LEN H P s2 l1) in
     let events_at = each_stands event_bytes EVENT_LEN text (page_offset np) r.inputs event_len (stands_from text (page_offset np) (H ++ P) E s3 l2) in
-    let blocks = blocks_stand VERSION text offset zero_numbers cs spaced (stands_from text (offset 0) (H ++ P ++ E) C s4 l3) in
-    let stand : (k : ℕ) → k < length cs → IsCheckpoint VERSION text (offset k) (table_before cs k) (checkpoint_at r k) =
-    λ k h. checkpoint_stands text (offset k) (table_before cs k) (checkpoint_at r k) (fits k h) (blocks k h) in
-    let found : (k : ℕ) → k ≤ length cs → start text k ≡ offset k = start-found VERSION text r refl header.v header.p header.e stand in
+    let blocks = blocks_stand v text offset zero_numbers cs spaced (stands_from text (offset 0) (H ++ P ++ E) C s4 l3) in
+    let stand : (k : ℕ) → k < length cs → IsCheckpoint v text (offset k) (table_before cs k) (checkpoint_at r k) =
+    λ k h. checkpoint_stands_in v text (offset k) (table_before cs k) (checkpoint_at r k) known (fits k h) (λ first. unclocked first k no_checkpoint h) (blocks k h) in
+    let found : (k : ℕ) → k ≤ length cs → start text k ≡ offset k = start-found v text r known header.v header.p header.e stand in
     let end : output_offset text ≡ offset (length cs) = ap (start text) header.k ∙ found (length cs) (omega arith) in
     record {
       long = omega (arith, length-append (H ++ P ++ E ++ C) O);
       magic = header.m;
       version = header.v;
-      known = refl;
+      known = known;
       page_count = header.p;
       event_count = header.e;
       checkpoint_count = header.k;
@@ -350,8 +401,8 @@ laid_out r p =
       pages_stand = λ i d h. words_stand text (page_offset i) (get_or r.pool i d) (p.pool i d h).fit (pages_at i d h);
       events_stand = λ i d h. event_stands text (event_offset text i) (get_or r.inputs i d) (rw header.p (events_at i d h));
       checkpoints_stand = λ k d h.
-          subst (λ (c : CheckpointParts). IsCheckpoint VERSION text (start text k) (table_before cs k) c) (get_or_default cs k no_checkpoint d h)
-          (subst (λ (n : ℕ). IsCheckpoint VERSION text n (table_before cs k) (checkpoint_at r k)) (sym (found k (omega arith))) (stand k h));
+          subst (λ (c : CheckpointParts). IsCheckpoint v text (start text k) (table_before cs k) c) (get_or_default cs k no_checkpoint d h)
+          (subst (λ (n : ℕ). IsCheckpoint v text n (table_before cs k) (checkpoint_at r k)) (sym (found k (omega arith))) (stand k h));
       output = ap (λ (k : ℕ). drop k text) end ∙ drop_at (H ++ P ++ E ++ C) O (offset (length cs)) l4;
     }
 
@@ -385,6 +436,10 @@ writable r p =
       checkpoints = λ i d h. subst IsWritable (get_or_default cs i no_checkpoint d h) (fits i h);
     }
 
--- and so its bytes are its text
-pub spelled : (r : RecordingParts) → IsLawful r → TextIn VERSION (spelling VERSION r) r
-spelled r lawful = record { lawful = lawful; laid = laid_out r (writable r lawful) }
+-- so what is at each offset of a recording's bytes
+pub laid : (v : ℕ) (text : List ℕ) (r : RecordingParts) → TextIn v text r → IsLaidOut v text r
+laid v text r is = subst (λ (bytes : List ℕ). IsLaidOut v bytes r) (sym is.is) (laid_out v r is.known is.unclocked (writable r is.lawful))
+
+-- a lawful recording has an encoding in the version that is written
+pub encoded : (r : RecordingParts) → IsLawful r → TextIn VERSION (encoding VERSION r) r
+encoded r lawful = record { lawful = lawful; known = refl; unclocked = λ first. absurd (omega arith); is = refl }

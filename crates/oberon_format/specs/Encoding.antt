@@ -66,7 +66,7 @@ header_bytes version r =
     word_bytes MAGIC ++ word_bytes version ++ word_bytes (length r.pool) ++ word_bytes (length r.inputs)
     ++ word_bytes (length r.checkpoints) ++ word_bytes 0
 
-unfoldable pub spelling : ℕ → RecordingParts → List ℕ
-spelling version r =
+unfoldable pub encoding : ℕ → RecordingParts → List ℕ
+encoding version r =
     header_bytes version r ++ flat_map words_bytes r.pool ++ flat_map event_bytes r.inputs
     ++ checkpoints_bytes version zero_numbers r.checkpoints ++ output_of r.checkpoints
