@@ -1,8 +1,8 @@
-/* Refuses requests for memory: a library to preload into a program.
+/* Refuses memory requests: a library to preload into a program.
 
-   It counts the program's calls of malloc, realloc and pthread_create, from 1, and refuses the one whose number is in the
-   environment's REFUSE_AT; where REFUSE_ON is set, each one after it too. As the program ends it writes how many calls there
-   were to the file that REFUSE_COUNT names. */
+   It counts the program's calls of malloc, realloc and pthread_create, from 1. It refuses the call whose number is in the
+   environment variable REFUSE_AT and, if REFUSE_ON is set, each one after it too. At exit it writes the number of calls to
+   the file that REFUSE_COUNT names. */
 #define _GNU_SOURCE
 #include <dlfcn.h>
 #include <errno.h>

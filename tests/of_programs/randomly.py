@@ -1,4 +1,4 @@
-"""Makes a random program with its first state and its inputs out of a seed."""
+"""Makes a random program, with its initial state and inputs, from a seed."""
 
 import struct
 from random import Random

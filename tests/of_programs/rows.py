@@ -1,6 +1,6 @@
 """Small programs whose outcome is known: what may come between an operation and the branch after it, and stores into code.
 
-Each begins with R10 at the device words, and with a timer that counts each instruction unless it says otherwise.
+Each begins with R10 at the device words, and with a timer that counts every instruction unless it says otherwise.
 """
 
 from collections.abc import Mapping, Sequence

@@ -1,8 +1,8 @@
 """Records a program with a checkpoint at each count and with few, and compares all that is said of it.
 
-With a checkpoint at each count the machine begins anew at each instruction, so nothing that it decoded or put off is left
-from the one before. With few checkpoints it runs on. Both have to come to the same states, and the check and the C replayers,
-which are other emulators, have to accept all of them.
+With a checkpoint at every count the machine starts again at each instruction, so nothing that it decoded or deferred is left
+from the one before. With few checkpoints it runs on. Both have to reach the same states, and the check and the C replayers,
+which are independent emulators, have to accept all of them.
 """
 
 import re

@@ -1,4 +1,4 @@
-"""A headless Chromium, spoken to over a pipe in the DevTools protocol: pages are opened, asked, clicked, typed into and looked at."""
+"""Drives a headless Chromium over a pipe, with the DevTools protocol: opens pages, evaluates, clicks, types and takes pictures."""
 
 import base64
 import json

@@ -1,4 +1,4 @@
-"""tools/claim: false recordings made of true ones."""
+"""tools/claim: false recordings made from true ones."""
 
 from samples import JUMP, PROGRAM, STORED, ToolTest, record, rejoining, run, session, tool
 

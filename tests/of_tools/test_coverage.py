@@ -1,4 +1,4 @@
-"""tools/coverage, and examples/suite: that it exercises everything, and that emulators which are wrong fail it."""
+"""tools/coverage, and examples/suite: it exercises everything, and wrong emulators fail it."""
 
 import subprocess
 

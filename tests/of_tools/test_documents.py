@@ -14,12 +14,15 @@ from samples import EXAMPLES, PROGRAM, TOP, ToolTest, run, tool
 
 GUIDES = ("recording-your-system", "suites", "debugging")
 SHOWING = [*sorted((TOP / "docs/lessons").glob("*.md")), *(TOP / f"docs/{name}.md" for name in GUIDES)]
+CRATES = sorted(TOP.glob("crates/*/README.md"))
 LINKING = [
     TOP / "README.md", *sorted(TOP.glob("*/README.md")), EXAMPLES / "suite/README.md", *sorted(TOP.glob("docs/*.md")),
-    *sorted(TOP.glob("docs/lessons/*.md")),
+    *sorted(TOP.glob("docs/lessons/*.md")), *CRATES,
 ]
 CONSOLE = re.compile(r"^```console\n(.*?)^```$", re.DOTALL | re.MULTILINE)
 TABLE = re.compile(r"^<!-- (tools/listing .*) -->\n((?:\|.*\n)+)", re.MULTILINE)
+QUOTED = re.compile(r"^```text\n(.*?)^```$", re.DOTALL | re.MULTILINE)
+SOURCE = re.compile(r"`((?:src|specs)/[\w./]+)`")
 LINK = re.compile(r"\]\(([^)#:]+)(?:#[^)]*)?\)")
 PARTS = ("tools", "examples", "crates", "docs", "bench")
 
@@ -94,6 +97,14 @@ class DocumentsTest(ToolTest):
         for document in LINKING:
             for link in LINK.findall(document.read_text()):
                 self.assertTrue((document.parent / link).exists(), f"{document.name}: {link}")
+
+    def test_crates_quote_their_contracts_and_name_their_files(self) -> None:
+        for document in CRATES:
+            sources = "".join(path.read_text() for path in sorted(document.parent.glob("src/*.rt")))
+            for contract in QUOTED.findall(document.read_text()):
+                self.assertIn(contract, sources, document)
+            for name in SOURCE.findall(document.read_text()):
+                self.assertTrue((document.parent / name).exists(), f"{document}: {name}")
 
     def test_the_face_is_the_one_that_the_program_draws(self) -> None:
         drawn = run([PROGRAM, "screen", "--at", 4], (EXAMPLES / "face.orsr").read_bytes()).output

@@ -1,4 +1,4 @@
-"""tools/explain: what differs where a claim is false, and the fields of texts that are refused; and both in the page."""
+"""tools/explain: what differs if a claim is false, and the fields of refused files; and both in the report."""
 
 import base64
 import io

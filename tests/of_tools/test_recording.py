@@ -1,4 +1,4 @@
-"""The reader of recordings, over both versions of their text."""
+"""The decoder of recordings in Python, over both versions."""
 
 import hashlib
 import random

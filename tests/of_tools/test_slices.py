@@ -1,4 +1,4 @@
-"""tools/slice and tools/join: the stretches of a recording, and the whole line out of theirs."""
+"""tools/slice and tools/join: the slices of a recording, and the line of the whole from theirs."""
 
 from itertools import pairwise
 from pathlib import Path

@@ -1,4 +1,4 @@
-"""tools/suite: TAP, expectations, statuses, earlier runs, JUnit's XML, and the page."""
+"""tools/suite: TAP, expectations, exit statuses, earlier runs, JUnit XML, and the page."""
 
 import base64
 import io

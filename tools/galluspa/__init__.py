@@ -1,1 +1,1 @@
-"""What the tools for users of oberon_replay are made of. Nothing in here replays, judges or draws: the program does."""
+"""The modules of the tools for users of oberon_replay. Nothing here replays, judges or draws: the program does."""

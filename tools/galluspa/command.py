@@ -1,4 +1,4 @@
-"""What the tools' commands share: the words that they take, how they read files, and how they end."""
+"""What the tools' commands share: parsing arguments, reading files, and exit statuses."""
 
 import argparse
 import importlib
@@ -25,19 +25,19 @@ class Parser(argparse.ArgumentParser):
         )
 
     def error(self, message: str) -> NoReturn:
-        raise Refused(f"{message} (--help tells the words)")
+        raise Refused(f"{message} (see --help)")
 
     def take_program(self) -> None:
         """Adds the option that names the program to ask."""
-        self.add_argument("--program", metavar="PATH", help="the program to ask; if left out, what this repository built")
+        self.add_argument("--program", metavar="PATH", help="the program to call (default: the one that this repository built)")
 
     def take_library(self) -> None:
         """Adds the option that names the shared library to call."""
         self.add_argument(
             "--library", metavar="PATH",
-            help="the shared library to call, libgalluspa.so; if left out, GALLUSPA_LIBRARY names it, or it is the first "
-                 "that is found in lib/ beside the folder of the tools, in crates/galluspa/out/ or out/lib/ of this "
-                 "repository, where it was installed with these tools, and where the system looks for libraries",
+            help="the shared library to call, libgalluspa.so; the default is the environment variable GALLUSPA_LIBRARY, or "
+                 "the first that is found in lib/ beside the folder of the tools, in crates/galluspa/out/ or out/lib/ of "
+                 "this repository, where it was installed with these tools, and where the system looks for libraries",
         )
 
 

@@ -1,7 +1,7 @@
 """What the instructions of recordings exercise: operations, results, branches, memory, device words, inputs and stops.
 
-Each table has a cell for each thing that docs/machine.md tells apart. Which cells an instruction counts for is seen by its word and
-by the states before and after it, which are the program's.
+Each table has a cell for each case that docs/machine.md distinguishes. The instruction word, and the program's states before and
+after it, decide for which cells an instruction counts.
 """
 
 from collections import Counter

@@ -1,4 +1,4 @@
-"""The page of what a suite exercises."""
+"""Makes the page of what a suite exercises."""
 
 from collections.abc import Iterator, Sequence
 from dataclasses import dataclass

@@ -1,6 +1,6 @@
 """What is false about a recording: where the first false checkpoint and the machine differ, and what wrote the first part.
 
-What the machine has says the library, and how a screen looks the program.
+The library says what the machine has, and the program draws the screens.
 """
 
 from collections.abc import Iterable, Iterator

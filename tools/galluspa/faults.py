@@ -1,6 +1,6 @@
 """What a recording's first fault is about: the field with its bytes and the rule that it breaks, by docs/formats.md.
 
-That there is a fault, and at which byte, says the program. Here its field is looked up.
+The program says that there is a fault, and at which byte. This module looks up its field.
 """
 
 import struct

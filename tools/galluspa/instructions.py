@@ -1,7 +1,7 @@
-"""Writes instructions in the notation of N. Wirth's The RISC Architecture: mnemonics, and assignments that tell what they do.
+"""Writes instructions in the notation of N. Wirth's The RISC Architecture: mnemonics, and assignments that say what they do.
 
-A mark (') behind a mnemonic is bit u: with the carry, of words without sign, or the upper half. The manual has no mnemonics for
-bytes: LDB and STB stand beside LDR and STR here. Numbers are decimal, or hexadecimal with an H at their end.
+A mark (') after a mnemonic is bit u: with the carry, of unsigned words, or the upper half. The manual has no mnemonics for
+bytes: here they are LDB and STB. Numbers are decimal, or hexadecimal with an H at the end.
 """
 
 from collections.abc import Sequence

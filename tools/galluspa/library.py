@@ -1,4 +1,4 @@
-"""The library for C, by ctypes: what a checkpoint claims, and the proved machine, advanced from count to count."""
+"""Calls the library for C through ctypes: what a checkpoint claims, and the proved machine, advanced from count to count."""
 
 import ctypes
 import os

@@ -1,4 +1,4 @@
-"""The live machine in a report: what web/galluspa.html holds, and the recording that it opens."""
+"""Puts the live machine into a report: the parts of web/galluspa.html, and the recording that it opens."""
 
 import base64
 import gzip

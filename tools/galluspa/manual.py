@@ -1,4 +1,4 @@
-"""What a tool's own words say of it, as a manual page (mdoc) and as words to complete."""
+"""Makes manual pages (mdoc) and completion for bash from the tools' own help."""
 
 import argparse
 import re
@@ -13,7 +13,7 @@ from types import ModuleType
 from galluspa.command import Parser
 
 PREFIX = "galluspa-"
-STATUS = "0 if all is well, 1 if something that was looked at is not, and 2, after one line on standard error, for bad input."
+STATUS = "0 if all is well, 1 if something that was examined is not, and 2, after one line on standard error, for bad input."
 
 
 @dataclass(frozen=True)

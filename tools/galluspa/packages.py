@@ -1,4 +1,4 @@
-"""What is installed of Galluspa, as a tree of files; and the tree as a package of Debian and as a tarball."""
+"""Lists what is installed of Galluspa, as a tree of files, and packs the tree as a Debian package and as a tarball."""
 
 import gzip
 import hashlib

@@ -1,4 +1,4 @@
-"""The page that shows a recording, and the same as plain text."""
+"""Makes the page that shows a recording, and the same as plain text."""
 
 import base64
 import hashlib

@@ -1,4 +1,4 @@
-"""The screens of checkpoints as pictures: drawn by the program, and each kept once."""
+"""The screens of checkpoints as pictures, drawn by the program and each stored once."""
 
 import hashlib
 import io

@@ -1,4 +1,4 @@
-"""The built program, which gives every verdict, every picture and every recording that the tools show."""
+"""Calls the built program, which gives every verdict, every picture and every recording that the tools show."""
 
 import os
 import re

@@ -1,7 +1,7 @@
-"""Reads and writes recordings, of versions 1 and 2, as docs/formats.md lays them out.
+"""Decodes and encodes recordings in versions 1 and 2, as docs/formats.md specifies them.
 
-Whether a text is lawful says the program, and only it: ask it first (`lawful` does). A text that the program would refuse
-is refused here too, or read in some way, but never with a traceback. What is written is lawful where its numbers are.
+Only the program says whether bytes are a valid recording: ask it first (`lawful` does). Bytes that the program would refuse are
+refused here too, or decoded in some way, but never with a traceback. The encoded bytes are valid if the numbers are.
 """
 
 import struct

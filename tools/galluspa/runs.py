@@ -1,4 +1,4 @@
-"""Runs of a suite: kept as JSON, compared with an earlier one, and written as JUnit's XML."""
+"""Runs of a suite: kept as JSON, compared with an earlier run, and written as JUnit XML."""
 
 import hashlib
 import json

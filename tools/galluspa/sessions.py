@@ -1,4 +1,4 @@
-"""Writes sessions: of a memory image with registers and inputs, and of the first state of a recording."""
+"""Writes sessions, from a memory image with registers and inputs, and from the initial state of a recording."""
 
 import csv
 import json

@@ -1,4 +1,4 @@
-"""How the parts of a claimed state are written, and what changed from one checkpoint to the next."""
+"""Prints the parts of a claimed state, and what changed from one checkpoint to the next."""
 
 from collections.abc import Iterator
 from dataclasses import dataclass

@@ -1,7 +1,6 @@
-"""The single instructions of a recording's run: recorded anew by the program, with a checkpoint at each count.
+"""The single instructions of a recording's run: the program records it again with a checkpoint at every count.
 
-So each state that is looked at is one that the proved recorder gave. A run of 10^9 instructions is looked at in part: from each
-checkpoint on, so many of them.
+So each state comes from the proved recorder. Of a long run only the first instructions after each checkpoint are examined.
 """
 
 from bisect import bisect_left

@@ -1,4 +1,4 @@
-"""The stretches of a recording between two of its checkpoints, as recordings of their own, and the line that theirs make."""
+"""Cuts slices, the stretches of a recording between two checkpoints, and joins their verdict lines to that of the whole."""
 
 import re
 from array import array

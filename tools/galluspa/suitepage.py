@@ -1,4 +1,4 @@
-"""The page of a suite: each recording with its last screen, its line and its time."""
+"""Makes the page of a suite: each recording with its last screen, its verdict line and its time."""
 
 import base64
 import io

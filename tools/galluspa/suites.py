@@ -1,4 +1,4 @@
-"""Suites: the recordings under a folder, what their answers have to begin with, and what the program answers."""
+"""Suites: the recordings under a folder, the expected beginnings of their verdict lines, and what the program answers."""
 
 import json
 import time

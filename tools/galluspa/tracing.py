@@ -1,6 +1,6 @@
-"""The run of a recording, looked at an instruction at a time: what each did, as the library's machine shows it.
+"""Traces the run of a recording one instruction at a time, with what each changed, on the library's machine.
 
-A run begins at the last checkpoint at or before a count that is known to be true, so a look at its end costs one segment.
+A trace begins at the last checkpoint at or before a count that is known to be true, so the end of a run costs one segment.
 """
 
 from collections.abc import Callable, Iterable, Iterator, Sequence
