@@ -1,4 +1,4 @@
--- What joins the calls of a caller into one run, with the law of `risc_machine` that a run goes on from a run (`RunLaw`).
+-- What joins the calls of a caller into one run, with the law of `risc_model` that a run goes on from a run (`RunLaw`).
 use Rattle.std.specs.Prelude.{ℕ, ◌≡◌, ◌+◌, ◌<◌, ◌≤◌, List, ◌++◌, length}
 use Rattle.risc_model.specs.declared.event.Event.{Event}
 use Rattle.risc_model.specs.InputOrder.{count_at}
