@@ -10,7 +10,7 @@ use Rattle.oberon_format.specs.Defined.{Outcome, claimed, defined, IsTrueAt}
 use Rattle.oberon_check.specs.declared.part.Part.{Part}
 use Rattle.oberon_check.specs.declared.verdict.Verdict.{Verdict}
 use Rattle.oberon_check.specs.declared.verdict.Verdict.TheVariants.{Accepted, FalseAt}
-use Rattle.oberon_check.specs.Difference.{IsFirstDifference, IsDifference}
+use Rattle.oberon_check.specs.Difference.{first_difference, IsDifference}
 use Rattle.oberon_check.specs.Segment.{replayed, IsSegmentPart, Finding, IsTrueFinding}
 use Rattle.oberon_check.specs.Collecting.{segment_at, part_at, StandsBelow}
 use Rattle.oberon_check.specs.Verdict.{IsVerdict}
@@ -19,7 +19,7 @@ use Rattle.oberon_check.specs.Gathering.{IsEachOnce, HasFinding, below_answer, H
 use Rattle.oberon_check.proofs.Replays.{HoldBelow, replayed-defined}
 use Rattle.oberon_check.proofs.Collects.{IsTruth, truth}
 use Rattle.oberon_check.proofs.Tallying.{not_some}
-use Rattle.oberon_check.proofs.Unique.{same_if, one_first}
+use Rattle.oberon_check.proofs.Parts.{not_first}
 use Rattle.oberon_check.proofs.Gathered.{AllBack, at_most_once, stands_or_behind, told_stands}
 
 -- where the checkpoints up to one are true, the segments below it hold
@@ -50,12 +50,12 @@ hold_below_answer r lawful (FalseAt checkpoint count part) is =
 -- where two outcomes are the same, no part differs
 no_part : (x y : Outcome) (o : Option Part) → x ≡ y → IsDifference x y o → o ≡ None
 no_part x y None same is = refl
-no_part x y (Some p) same is = absurd (is.differs (same_if p x y same))
+no_part x y (Some p) same is = absurd (not_first x y p same is)
 
 -- where they differ first in a part, it is this one
-this_part : (x y : Outcome) (p : Part) (o : Option Part) → IsFirstDifference x y p → IsDifference x y o → o ≡ Some p
-this_part x y p None first same = absurd (first.differs (same_if p x y same))
-this_part x y p (Some q) first is = ap Some (one_first x y q p is first)
+this_part : (x y : Outcome) (p : Part) (o : Option Part) → first_difference x y ≡ Some p → IsDifference x y o → o ≡ Some p
+this_part x y p None first same = absurd (not_first x y p same first)
+this_part x y p (Some q) first is = sym is ∙ first
 
 -- a finding below the answer's is of a segment that held
 held_below : (r : RecordingParts) → IsLawful r → (vs : List Finding) → ((k : ℕ) → k < length vs → IsTruth r vs k) → (v : Verdict) → IsVerdict r v
@@ -105,8 +105,8 @@ has_answer r cut ps vs b lawful truths (FalseAt checkpoint count part) is =
     let inside : s < last_of r = omega arith in
     let hold = hold_below_answer r lawful (FalseAt checkpoint count part) is in
     let same : replayed r s ≡ defined r (s + 1) = replayed-defined r lawful s inside hold in
-    let P : (ℕ × Outcome) → Type 0 = λ x. IsFirstDifference (claimed r x.0) x.1 part in
-    let first : IsFirstDifference (claimed r (s + 1)) (replayed r s) part = subst P (λ i. (sym next i, (ap (λ (n : ℕ). defined r n) (sym next) ∙ sym same) i)) is.differs in
+    let P : (ℕ × Outcome) → Type 0 = λ x. first_difference (claimed r x.0) x.1 ≡ Some part in
+    let first : first_difference (claimed r (s + 1)) (replayed r s) ≡ Some part = subst P (λ i. (sym next i, (ap (λ (n : ℕ). defined r n) (sym next) ∙ sym same) i)) is.differs in
     let at = stands_to r cut ps vs b lawful truths (FalseAt checkpoint count part) is s inside (omega arith) in
     let Q : ℕ → Type 0 = λ n. IsSegmentPart r n (part_at vs at.0) in
     let replay = subst Q at.2 (truths at.0 at.1).replay in

@@ -7,7 +7,7 @@ use Rattle.oberon_format.specs.Defined.{Outcome, claimed, IsTrueAt}
 use Rattle.oberon_check.specs.declared.part.Part.{Part}
 use Rattle.oberon_check.specs.declared.collector.CollectFault.{CollectFault}
 use Rattle.oberon_check.specs.declared.collector.CollectFault.TheVariants.{Double, Missing}
-use Rattle.oberon_check.specs.Difference.{IsFirstDifference}
+use Rattle.oberon_check.specs.Difference.{first_difference}
 use Rattle.oberon_check.specs.Verdict.{IsAccepted, IsFirstFalse}
 use Rattle.oberon_check.specs.Segment.{replayed, IsSegmentPart, Finding, IsTrueFinding}
 use Rattle.oberon_check.specs.Collecting.{segment_at, part_at, StandsBelow, IsFirstDouble, IsCollectFault}
@@ -66,12 +66,12 @@ first_false r vs n f count is_count lawful truths is hold =
     let t = truths k is.0.1 in
     let inside : f.0 < last_of r = let h = t.inside in let e = is.0.2 in omega arith in
     let P : (ℕ × Option Part) → Type 0 = λ x. IsSegmentPart r x.0 x.1 in
-    let differs : IsFirstDifference (claimed r (f.0 + 1)) (replayed r f.0) f.1 = subst P (λ i. (is.0.2 i, is.0.3 i)) t.replay in
+    let differs : first_difference (claimed r (f.0 + 1)) (replayed r f.0) ≡ Some f.1 = subst P (λ i. (is.0.2 i, is.0.3 i)) t.replay in
     record {
       above = omega arith;
       inside = omega arith;
       before = λ j some below. true_to r lawful f.0 (omega arith) hold j some (omega arith);
-      differs = subst (λ (x : Outcome). IsFirstDifference (claimed r (f.0 + 1)) x f.1) (replayed-defined r lawful f.0 inside hold) differs;
+      differs = subst (λ (x : Outcome). first_difference (claimed r (f.0 + 1)) x ≡ Some f.1) (replayed-defined r lawful f.0 inside hold) differs;
       count_is = is_count;
     }
 

@@ -3,20 +3,29 @@
 use Rattle.std.proofs.Common.{◌≡◌, ◌<◌, ℕ, zero, suc, [], ◌∷◌, List, get_or, Option, None, Some, map, refl, inl, inr, arith}
 use Rattle.std.specs.Prelude.{codes, Contains}
 use Rattle.std.specs.Fmt.{digits}
+use Rattle.risc_devices.specs.DeviceState.{DeviceState}
+use Rattle.risc_model.specs.MachineState.{CpuState}
+use Rattle.oberon_format.specs.FirstFault.{Rule, each}
 use Rattle.oberon_format.specs.Recording.{RecordingParts}
 use Rattle.oberon_check.specs.declared.part.Part.{Part}
 use Rattle.oberon_check.specs.declared.part.Part.TheVariants.{R, H, Pc, Flags, Stop, Timer, Rate, Phase, Switches, Leds, Mouse, Serial, Keys, Sent, Page}
 use Rattle.oberon_check.specs.declared.verdict.Verdict.TheVariants.{Accepted, FalseAt}
-use Rattle.oberon_check.specs.Difference.{rank}
+use Rattle.oberon_check.specs.Difference.{register_parts, control_parts, device_parts}
 use Rattle.oberon_check.specs.Line.{part_name, line_of, status_of}
 use Rattle.oberon_check.specs.Segment.{Finding}
 use Rattle.oberon_check.specs.inner.Tally.{lesser_of, end_of}
 use Rattle.oberon_check.specs.Work.{IsBehind, IsJob, failed_of}
 
 -- registers first, then the processor's other parts, the devices, the output, and the pages last
-order : map rank (R 0 ∷ R 15 ∷ H ∷ Pc ∷ Flags ∷ Stop ∷ Timer ∷ Rate ∷ Phase ∷ Switches ∷ Leds ∷ Mouse ∷ Serial ∷ Keys ∷ Sent ∷ Page 0 ∷ Page 1023 ∷ [])
-    ≡ 0 ∷ 15 ∷ 16 ∷ 17 ∷ 18 ∷ 19 ∷ 20 ∷ 21 ∷ 22 ∷ 23 ∷ 24 ∷ 25 ∷ 26 ∷ 27 ∷ 28 ∷ 29 ∷ 1052 ∷ []
-order = refl
+order_of_registers : (a b : List ℕ) → map (λ (rule : Rule Part). rule.1) (register_parts a b) ≡ R 0 ∷ R 1 ∷ R 2 ∷ R 3 ∷ R 4 ∷ R 5 ∷ R 6 ∷ R 7 ∷ R 8 ∷ R 9 ∷ R 10 ∷ R 11 ∷ R 12 ∷ R 13 ∷ R 14 ∷ R 15 ∷ []
+unfolding each
+order_of_registers a b = refl
+
+order_of_devices : (a b : DeviceState) → map (λ (rule : Rule Part). rule.1) (device_parts a b) ≡ Timer ∷ Rate ∷ Phase ∷ Switches ∷ Leds ∷ Mouse ∷ Serial ∷ Keys ∷ []
+order_of_devices a b = refl
+
+order_of_control : (a b : CpuState) → map (λ (rule : Rule Part). rule.1) (control_parts a b) ≡ H ∷ Pc ∷ Flags ∷ Stop ∷ []
+order_of_control a b = refl
 
 names : map part_name (R 0 ∷ R 15 ∷ H ∷ Pc ∷ Rate ∷ Phase ∷ Sent ∷ Page 1023 ∷ [])
     ≡ codes "R0" ∷ codes "R15" ∷ codes "H" ∷ codes "PC" ∷ codes "rate" ∷ codes "phase" ∷ codes "out" ∷ codes "page 1023" ∷ []

@@ -1,8 +1,9 @@
 pub mod Replays
-pub mod Differing
+pub mod Rules
 pub mod Tallying
 pub mod Collects
 pub mod Sizes
+pub mod Parts
 pub mod Unique
 pub mod Existence
 pub mod Tops

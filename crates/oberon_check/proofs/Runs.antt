@@ -6,8 +6,8 @@ use Rattle.oberon_claims.specs.Pass.{PassRecord, BookId, fresh_pass, pass_with_j
 use Rattle.oberon_format.specs.Recording.{RecordingParts, last_of}
 use Rattle.oberon_check.specs.declared.part.Part.{Part}
 use Rattle.oberon_check.specs.Segment.{Finding, IsRun}
-use Rattle.oberon_check.specs.Work.{IsJob, InPieces, one_failed, failed_of, HasDone}
-use Rattle.oberon_check.specs.inner.Progress.{AddsJob, AddsRun}
+use Rattle.oberon_check.specs.Work.{IsBehind, IsJob, InPieces, one_failed, failed_of, HasDone}
+use Rattle.oberon_check.specs.inner.Progress.{AddsJob, AddsRun, IsLooked}
 use Rattle.std.proofs.lemmas.List.Elements.{All-push}
 
 -- the verdicts of the segments from first on, up to end, all of which held
@@ -106,20 +106,17 @@ run_whole r first end p q vs ws h is = record {
   is_run = held_run first end h.piece h.held;
 }
 
--- what a look leaves
-pub record Looked (p q : PassRecord) : Type 0 where
-  pub book : q.book ≡ p.book
-  pub taken : q.taken ≡ p.taken
-  pub told : q.told ≡ p.told
-  pub ended : q.ended ≡ p.ended
-  pub shown : (x : ℕ) → Contains p.shown x → Contains q.shown x
+pub looked : (o : Option ℕ) (p q : PassRecord) → IfSome o (λ x. q ≡ pass_with_shown p x) → IfNone o (q ≡ p) → IsLooked p q
+looked None p q some none = subst (IsLooked p) (sym none) (record { book = refl; taken = refl; told = refl; ended = refl; shown = λ x c. c })
+looked (Some x) p q some none = subst (IsLooked p) (sym some) (record { book = refl; taken = refl; told = refl; ended = refl; shown = λ y c. Contains-append_left p.shown (x ∷ []) y c })
 
-pub looked : (o : Option ℕ) (p q : PassRecord) → IfSome o (λ x. q ≡ pass_with_shown p x) → IfNone o (q ≡ p) → Looked p q
-looked None p q some none = subst (Looked p) (sym none) (record { book = refl; taken = refl; told = refl; ended = refl; shown = λ x c. c })
-looked (Some x) p q some none = subst (Looked p) (sym some) (record { book = refl; taken = refl; told = refl; ended = refl; shown = λ y c. Contains-append_left p.shown (x ∷ []) y c })
+-- the value that a look shows
+pub shown_behind : (x first : ℕ) (p q : PassRecord) → q ≡ pass_with_shown p x → x < first → IsBehind q.shown first
+shown_behind x first p q is below =
+    (x, subst (λ (h : PassRecord). Contains h.shown x) (sym is) (Contains-append_right p.shown (x ∷ []) x (0, omega arith, refl)), below)
 
-pub job_passed : (r : RecordingParts) (cut job x : ℕ) (p q : PassRecord) (vs : List Finding) → Looked p q → q ≡ pass_with_shown p x → x < job * cut → AddsJob r cut job p q vs vs
-job_passed r cut job x p q vs l is below = record {
+pub job_passed : (r : RecordingParts) (cut job : ℕ) (p q : PassRecord) (vs : List Finding) → IsLooked p q → IsBehind q.shown (job * cut) → AddsJob r cut job p q vs vs
+job_passed r cut job p q vs l behind = record {
   book = l.book;
   taken = l.taken;
   ended = l.ended;
@@ -128,10 +125,10 @@ job_passed r cut job x p q vs l is below = record {
   verdicts = sym (append-nil vs);
   told = l.told ∙ sym (append-nil p.told);
   recordings = λ k d small. absurd (omega arith);
-  is_job = inl (refl, (x, subst (λ (h : PassRecord). Contains h.shown x) (sym is) (Contains-append_right p.shown (x ∷ []) x (0, omega arith, refl)), below));
+  is_job = inl (refl, behind);
 }
 
-pub job_run : (r : RecordingParts) (cut job first end : ℕ) (p m q : PassRecord) (vs ws : List Finding) → Looked p m → first ≡ job * cut → end ≡ min (job * cut + cut) (last_of r) → AddsRun r first end m q vs ws → AddsJob r cut job p q vs ws
+pub job_run : (r : RecordingParts) (cut job first end : ℕ) (p m q : PassRecord) (vs ws : List Finding) → IsLooked p m → first ≡ job * cut → end ≡ min (job * cut + cut) (last_of r) → AddsRun r first end m q vs ws → AddsJob r cut job p q vs ws
 job_run r cut job first end p m q vs ws l f e run = record {
   book = run.book ∙ l.book;
   taken = run.taken ∙ l.taken;

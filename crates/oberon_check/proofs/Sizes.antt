@@ -10,6 +10,11 @@ use Rattle.risc_model.specs.MachineState.{CpuState, State}
 use Rattle.risc_model.specs.Exec.{moved_on, with_register, with_outcome, operated, branched, load_at, device_store, store_at, perform, fetched, counted, exec}
 use Rattle.risc_model.specs.Replay.{feed, fed, run_of}
 
+-- sixteen registers and 262,144 words
+pub record IsSized (s : State) : Type 0 where
+  pub registers : length s.cpu.r ≡ 16
+  pub words : length s.words ≡ 262144
+
 -- as many registers, and as many words
 pub record SameSizes (s t : State) : Type 0 where
   pub registers : length t.cpu.r ≡ length s.cpu.r

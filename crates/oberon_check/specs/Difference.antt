@@ -1,72 +1,73 @@
 -- The first part in which two outcomes differ: states, each with the bytes that were sent on the way to it.
 -- The parts and their order are this project's own choice.
-use Rattle.std.specs.Prelude.{ℕ, ◌≡◌, ◌+◌, ◌<◌, Option, MatchOption, slice_index}
+use Rattle.std.specs.Prelude.{ℕ, ◌≡◌, ◌==◌, ◌&&◌, nat_eq, Bool, true, false, List, [], ◌∷◌, ◌++◌, Option, Some, MatchOption, All, slice_index}
+use Rattle.std.specs.Bool.{beq}
+use Rattle.std.specs.Cmp.Lexicographic.{pointwise}
 use Rattle.risc_pages.specs.Pages.{page_at}
+use Rattle.risc_devices.specs.DeviceState.{DeviceState}
+use Rattle.risc_model.specs.MachineState.{CpuState, Flags as FlagsState}
 use Rattle.oberon_format.specs.Defined.{Outcome}
+use Rattle.oberon_format.specs.FirstFault.{Rule, each, first_broken}
 use Rattle.oberon_check.specs.declared.part.Part.{Part}
 use Rattle.oberon_check.specs.declared.part.Part.TheVariants.{R, H, Pc, Flags, Stop, Timer, Rate, Phase, Switches, Leds, Mouse, Serial, Keys, Sent, Page}
 
--- where a part stands in the order of the parts
-abbrev pub rank : Part → ℕ
-rank (R i) = i
-rank H = 16
-rank Pc = 17
-rank Flags = 18
-rank Stop = 19
-rank Timer = 20
-rank Rate = 21
-rank Phase = 22
-rank Switches = 23
-rank Leds = 24
-rank Mouse = 25
-rank Serial = 26
-rank Keys = 27
-rank Sent = 28
-rank (Page p) = 29 + p
+-- the four flags are the same
+abbrev pub same_flags : FlagsState → FlagsState → Bool
+same_flags f g = beq f.n g.n && beq f.z g.z && beq f.c g.c && beq f.v g.v
 
--- there are 16 registers and 1,024 pages
-abbrev pub IsPart : Part → Type 0
-IsPart (R i) = i < 16
-IsPart H = Unit {0}
-IsPart Pc = Unit {0}
-IsPart Flags = Unit {0}
-IsPart Stop = Unit {0}
-IsPart Timer = Unit {0}
-IsPart Rate = Unit {0}
-IsPart Phase = Unit {0}
-IsPart Switches = Unit {0}
-IsPart Leds = Unit {0}
-IsPart Mouse = Unit {0}
-IsPart Serial = Unit {0}
-IsPart Keys = Unit {0}
-IsPart Sent = Unit {0}
-IsPart (Page p) = p < 1024
+-- each register with its test: whether it is the same
+abbrev pub register_parts : List ℕ → List ℕ → List (Rule Part)
+register_parts a b = each 16 (λ i. (slice_index a i == slice_index b i, R i) ∷ [])
 
--- the two outcomes have the same in this part. The serial line's part is its byte and whether it was received; page p is
--- the words 256 * p to 256 * p + 255 of the memory
-abbrev pub IsSame : Part → Outcome → Outcome → Type 0
-IsSame (R i) x y = slice_index x.state.cpu.r i ≡ slice_index y.state.cpu.r i
-IsSame H x y = x.state.cpu.h ≡ y.state.cpu.h
-IsSame Pc x y = x.state.cpu.pc ≡ y.state.cpu.pc
-IsSame Flags x y = x.state.cpu.flags ≡ y.state.cpu.flags
-IsSame Stop x y = x.state.cpu.stop ≡ y.state.cpu.stop
-IsSame Timer x y = x.state.devices.timer ≡ y.state.devices.timer
-IsSame Rate x y = x.state.devices.rate ≡ y.state.devices.rate
-IsSame Phase x y = x.state.devices.phase ≡ y.state.devices.phase
-IsSame Switches x y = x.state.devices.switches ≡ y.state.devices.switches
-IsSame Leds x y = x.state.devices.leds ≡ y.state.devices.leds
-IsSame Mouse x y = x.state.devices.mouse ≡ y.state.devices.mouse
-IsSame Serial x y = (x.state.devices.serial ≡ y.state.devices.serial) × (x.state.devices.received ≡ y.state.devices.received)
-IsSame Keys x y = x.state.devices.keys ≡ y.state.devices.keys
-IsSame Sent x y = x.sent ≡ y.sent
-IsSame (Page p) x y = page_at x.state.words p ≡ page_at y.state.words p
+-- the processor's other parts
+abbrev pub control_parts : CpuState → CpuState → List (Rule Part)
+control_parts a b =
+    (a.h == b.h, H)
+    ∷ (a.pc == b.pc, Pc)
+    ∷ (same_flags a.flags b.flags, Flags)
+    ∷ (a.stop == b.stop, Stop)
+    ∷ []
 
--- the two differ in this part, and have the same in each part before it
-pub record IsFirstDifference (x y : Outcome) (part : Part) : Type 0 where
-  pub is_part : IsPart part
-  pub before : (q : Part) → IsPart q → rank q < rank part → IsSame q x y
-  pub differs : ¬ (IsSame part x y)
+-- the parts of the processor
+abbrev pub cpu_parts : CpuState → CpuState → List (Rule Part)
+cpu_parts a b = register_parts a.r b.r ++ control_parts a b
+
+-- the parts of the devices. The serial line's part is its byte and whether it was received
+abbrev pub device_parts : DeviceState → DeviceState → List (Rule Part)
+device_parts a b =
+    (a.timer == b.timer, Timer)
+    ∷ (a.rate == b.rate, Rate)
+    ∷ (a.phase == b.phase, Phase)
+    ∷ (a.switches == b.switches, Switches)
+    ∷ (a.leds == b.leds, Leds)
+    ∷ (a.mouse == b.mouse, Mouse)
+    ∷ (a.serial == b.serial && beq a.received b.received, Serial)
+    ∷ (pointwise nat_eq a.keys b.keys, Keys)
+    ∷ []
+
+-- the pages of the memory: page p is the words 256 * p to 256 * p + 255
+abbrev pub page_parts : List ℕ → List ℕ → List (Rule Part)
+page_parts a b = each 1024 (λ p. (pointwise nat_eq (page_at a p) (page_at b p), Page p) ∷ [])
+
+-- all parts in their order
+abbrev pub parts : Outcome → Outcome → List (Rule Part)
+parts x y =
+    cpu_parts x.state.cpu y.state.cpu
+    ++ (device_parts x.state.devices y.state.devices
+    ++ (pointwise nat_eq x.sent y.sent, Sent)
+    ∷ page_parts x.state.words y.state.words)
+
+-- the first part whose test fails
+unfoldable pub first_difference : Outcome → Outcome → Option Part
+first_difference x y = first_broken (parts x y)
 
 -- the first part in which the two differ, none exactly where they are the same outcome
 abbrev pub IsDifference : Outcome → Outcome → Option Part → Type 0
-IsDifference x y part = MatchOption part (x ≡ y) (IsFirstDifference x y)
+IsDifference x y part = MatchOption part (x ≡ y) (λ p. first_difference x y ≡ Some p)
+
+-- what this says, without a computation: the part's own test fails, and that of each part before it holds
+pub record IsFirstDifference (x y : Outcome) (part : Part) : Type 0 where
+  pub before : List (Rule Part)
+  pub after : List (Rule Part)
+  pub place : parts x y ≡ before ++ (false, part) ∷ after
+  pub same : All (λ rule. rule.0 ≡ true) before

@@ -1,11 +1,22 @@
 -- Laws of the definitions.
-use Rattle.std.specs.Prelude.{◌≡◌, ◌↔◌, ℕ, List}
+use Rattle.std.specs.Prelude.{◌≡◌, ◌↔◌, ℕ, List, ◌≤◌, None, Some}
 use Rattle.oberon_format.specs.Migration.{IsMigrated}
-use Rattle.oberon_format.specs.Recording.{RecordingParts, IsLawful}
+use Rattle.oberon_format.specs.Recording.{RecordingParts, IsLawful, last_of}
 use Rattle.oberon_format.specs.Text.{AreBytes}
+use Rattle.oberon_format.specs.Defined.{Outcome, claimed, defined, IsTrueAt}
+use Rattle.oberon_check.specs.declared.part.Part.{Part}
 use Rattle.oberon_check.specs.declared.verdict.Verdict.{Verdict}
+use Rattle.oberon_check.specs.Difference.{first_difference, IsFirstDifference}
 use Rattle.oberon_check.specs.Verdict.{IsVerdict}
 use Rattle.oberon_check.specs.Headline.{IsLineOf}
+
+-- the first part in which two outcomes differ is the one whose test fails and before which each test holds
+abbrev pub FirstDifference : Type 0
+FirstDifference = (x y : Outcome) (part : Part) → (first_difference x y ≡ Some part) ↔ IsFirstDifference x y part
+
+-- a checkpoint of a lawful recording is true exactly when no part of what it claims differs from what the run gives
+abbrev pub NoDifference : Type 0
+NoDifference = (r : RecordingParts) → IsLawful r → (k : ℕ) → k ≤ last_of r → (first_difference (claimed r k) (defined r k) ≡ None) ↔ IsTrueAt r k
 
 -- a lawful recording has a verdict, and no other one
 abbrev pub OneVerdict : Type 0

@@ -1,11 +1,11 @@
 -- The verdict on a recording, against one uninterrupted run from its first state.
-use Rattle.std.specs.Prelude.{ℕ, ◌≡◌, ◌<◌, ◌≤◌}
+use Rattle.std.specs.Prelude.{ℕ, ◌≡◌, ◌<◌, ◌≤◌, Some}
 use Rattle.oberon_format.specs.Recording.{RecordingParts, count_at, last_of}
 use Rattle.oberon_format.specs.Defined.{claimed, defined, IsTrueAt}
 use Rattle.oberon_check.specs.declared.part.Part.{Part}
 use Rattle.oberon_check.specs.declared.verdict.Verdict.{Verdict}
 use Rattle.oberon_check.specs.declared.verdict.Verdict.TheVariants.{Accepted, FalseAt}
-use Rattle.oberon_check.specs.Difference.{IsFirstDifference}
+use Rattle.oberon_check.specs.Difference.{first_difference}
 
 -- each checkpoint is the state and the output that the run gives at its count. Checkpoint 0 is taken as given. The
 -- verdict names the number of checkpoints after it, and the last one's count
@@ -19,7 +19,7 @@ pub record IsFirstFalse (r : RecordingParts) (checkpoint count : ℕ) (part : Pa
   pub above : 0 < checkpoint
   pub inside : checkpoint ≤ last_of r
   pub before : (j : ℕ) → 0 < j → j < checkpoint → IsTrueAt r j
-  pub differs : IsFirstDifference (claimed r checkpoint) (defined r checkpoint) part
+  pub differs : first_difference (claimed r checkpoint) (defined r checkpoint) ≡ Some part
   pub count_is : count ≡ count_at r checkpoint
 
 -- the verdict: all checkpoints are true, or this one is the first false one

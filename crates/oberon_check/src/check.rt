@@ -90,6 +90,23 @@ pub(crate) fn shares_of(
     Ok(done)
 }
 
+/// The verdict that the workers' results come to, if memory sufficed for each.
+fn verdict_of(
+    alloc: Global,
+    r: &Recording,
+    claims: Claims,
+    cut: u32,
+    results: Vec<Result<Done, AllocError>>,
+) -> Result<Verdict, AllocError>
+    requires len { vec_len results ≡ claims.workers }
+    requires parts { All (λ d. IfOk d (IsShareOf r.now cut claims)) results.items }
+    ensures { IfOk result (IsVerdict r.now) }
+{
+    let done = shares_of(alloc, r, &claims, cut, results)?;
+    let verdict = gather(alloc, r, claims, done)?;
+    Ok(verdict)
+}
+
 /// The verdict on a recording, by so many workers that share its jobs, each in a thread of its own. Neither `workers` nor
 /// `cut`, the number of segments in a job, bears on the answer.
 ///
@@ -110,6 +127,5 @@ pub fn check_recording<R: Threads + Wait + Sync, G: Gate + Sync>(
     let jobs = (r.count() - 1).div_ceil(cut);
     let (claims, passes) = Claims::new(alloc, jobs, workers)?;
     let results = work_all(rt, alloc, r, &claims, passes, cut, gate)?;
-    let done = shares_of(alloc, r, &claims, cut, results)?;
-    Ok(gather(alloc, r, claims, done)?)
+    Ok(verdict_of(alloc, r, claims, cut, results)?)
 }

@@ -2,11 +2,14 @@
 //!
 //! Here live the comparisons of the processor, of the devices and of the whole. Pages are compared by `risc_pages`, and
 //! the bytes sent while the machine runs.
+ghost use Rattle.std.specs.Prelude.{◌≡◌, IfNone};
 ghost use Rattle.risc_pages.specs.Tables.{IsNamed};
 ghost use Rattle.risc_model.specs.MachineState.{cpu_state};
 ghost use Rattle.oberon_format.specs.CheckpointParts.{checkpoint_parts};
 ghost use Rattle.oberon_format.specs.Defined.{claim_of};
-ghost use Rattle.oberon_check.specs.inner.Comparing.{IsCpuDifference, IsDeviceDifference, IsDifferenceBy, IsFirstRegister};
+ghost use Rattle.oberon_format.specs.FirstFault.{first_broken};
+ghost use Rattle.oberon_check.specs.Difference.{register_parts, control_parts, cpu_parts, device_parts};
+ghost use Rattle.oberon_check.specs.inner.Comparing.{IsDifferenceBy};
 
 use crate::part::Part;
 use oberon_format::Checkpoint;
@@ -16,24 +19,22 @@ use risc_model::Cpu;
 use risc_pages::Pool;
 
 /// The first register that isn't the same.
-fn register_difference(a: &[u32; 16], b: &[u32; 16]) -> Option<u8>
-    ensures { IsFirstRegister a.now b.now result }
+fn register_difference(a: &[u32; 16], b: &[u32; 16]) -> Option<Part>
+    ensures part { result ≡ first_broken (register_parts a.now b.now) }
+    ensures same { IfNone result (a.now ≡ b.now) }
 {
     for i in 0..16u8 {
         if a[i as usize] != b[i as usize] {
-            return Some(i);
+            return Some(Part::R(i));
         }
     }
     None
 }
 
-/// The first part in which two processors differ, whatever is around them.
-fn cpu_difference(claimed: &Cpu, cpu: &Cpu) -> Option<Part>
-    ensures { IsCpuDifference (cpu_state claimed.now) (cpu_state cpu.now) result }
+/// The first part after the registers in which two processors differ.
+fn control_difference(claimed: &Cpu, cpu: &Cpu) -> Option<Part>
+    ensures { result ≡ first_broken (control_parts (cpu_state claimed.now) (cpu_state cpu.now)) }
 {
-    if let Some(i) = register_difference(&claimed.r, &cpu.r) {
-        return Some(Part::R(i));
-    }
     if claimed.h != cpu.h {
         return Some(Part::H);
     }
@@ -49,9 +50,20 @@ fn cpu_difference(claimed: &Cpu, cpu: &Cpu) -> Option<Part>
     None
 }
 
+/// The first part in which two processors differ, whatever is around them.
+fn cpu_difference(claimed: &Cpu, cpu: &Cpu) -> Option<Part>
+    ensures part { result ≡ first_broken (cpu_parts (cpu_state claimed.now) (cpu_state cpu.now)) }
+    ensures same { IfNone result (cpu_state claimed.now ≡ cpu_state cpu.now) }
+{
+    if let Some(part) = register_difference(&claimed.r, &cpu.r) {
+        return Some(part);
+    }
+    control_difference(claimed, cpu)
+}
+
 /// The first part in which devices differ, where the processors beside them don't.
 fn device_difference(claimed: &Devices, devices: &Devices) -> Option<Part>
-    ensures { IsDeviceDifference claimed.now devices.now result }
+    ensures { result ≡ first_broken (device_parts claimed.now devices.now) }
 {
     if claimed.timer() != devices.timer() {
         return Some(Part::Timer);

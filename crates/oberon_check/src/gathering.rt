@@ -1,21 +1,37 @@
 //! What all workers' shares come to.
 //!
 //! Here lives the end of a shared check. A single worker's share lives in `worker`.
-ghost use Rattle.std.specs.Prelude.{◌≡◌, ℕ, vec_len, All, IfOk};
+ghost use Rattle.std.specs.Prelude.{◌≡◌, ℕ, [], ◌∷◌, ◌++◌, vec_len, All, IfOk, OnOk};
 ghost use Rattle.oberon_check.specs.declared.collector.CollectFault.{CollectFault};
 ghost use Rattle.oberon_check.specs.Collecting.{IsCollectFault};
 ghost use Rattle.oberon_check.specs.Gathering.{all_findings, IsGathered};
 ghost use Rattle.oberon_check.specs.Verdict.{IsVerdict};
-ghost use Rattle.oberon_check.specs.Work.{IsShareOf};
+ghost use Rattle.oberon_check.specs.Work.{IsDone, IsShareOf};
 ghost use Rattle.oberon_check.specs.inner.Progress.{GathersTrue};
 
 use crate::collector::collect;
 use crate::segment::SegmentVerdict;
 use crate::verdict::Verdict;
 use crate::worker::Done;
-use oberon_claims::Claims;
+use oberon_claims::{Claims, Pass};
 use oberon_format::Recording;
 use std::alloc::{AllocError, Global};
+
+/// Takes a share apart: its pass joins the passes, and its verdicts the verdicts.
+fn take_apart(
+    one: Done,
+    passes: &mut Vec<Pass>,
+    verdicts: &mut Vec<SegmentVerdict>,
+) -> Result<(), AllocError>
+    ensures passes { OnOk result (passes.new.items ≡ passes.old.items ++ one.pass ∷ []) }
+    ensures verdicts { OnOk result (verdicts.new.items ≡ verdicts.old.items ++ one.verdicts) }
+    ensures done { OnOk result (IsDone one) }
+{
+    let (pass, mut mine) = one.into_parts();
+    passes.push(pass)?;
+    verdicts.append(&mut mine)?;
+    Ok(())
+}
 
 /// The verdicts of all shares, one share after another, once the book is closed on their passes. The collector finds no fault in
 /// them.
@@ -37,9 +53,7 @@ fn all_verdicts(
     let mut passes = Vec::new(alloc);
     let mut verdicts = Vec::new(alloc);
     for one in done {
-        let (pass, mut mine) = one.into_parts();
-        passes.push(pass)?;
-        verdicts.append(&mut mine)?;
+        take_apart(one, &mut passes, &mut verdicts)?;
     }
     let _ledger = claims.finish(passes);
     Ok(verdicts)

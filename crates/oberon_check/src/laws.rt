@@ -1,7 +1,14 @@
 //! The laws of this crate's definitions, each the contract of a function that does nothing.
-ghost use Rattle.oberon_check.specs.Laws.{OneLine, OneVerdict, SameLine};
+ghost use Rattle.oberon_check.specs.Laws.{FirstDifference, NoDifference, OneLine, OneVerdict, SameLine};
 
 use oberon_format::{one_recording_law, text_or_fault_law};
+
+/// The first part in which two outcomes differ is the first one whose test fails, and a checkpoint is true exactly when no
+/// part differs.
+pub const fn difference_law()
+    ensures first { FirstDifference }
+    ensures none { NoDifference }
+{}
 
 /// A lawful recording has exactly one verdict.
 pub const fn verdict_law()

@@ -21,7 +21,7 @@ pub use check::{CheckFault, check_recording};
 pub use collector::{CollectFault, collect};
 pub use gate::{FreeGate, Gate};
 pub use gathering::gather;
-pub use laws::{line_law, migration_law, verdict_law};
+pub use laws::{difference_law, line_law, migration_law, verdict_law};
 pub use part::Part;
 pub use report::{Report, check_bytes};
 pub use segment::{SegmentVerdict, replay_segment};

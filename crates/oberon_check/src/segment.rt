@@ -3,6 +3,7 @@
 //! Here live segment verdicts, which can only be made true. What many of them come to lives in `collector`.
 ghost use Rattle.std.specs.Prelude.{◌≡◌, ◌+◌, ◌<◌, IfOk};
 ghost use Rattle.oberon_format.specs.Recording.{last_of};
+ghost use Rattle.oberon_check.specs.Segment.{IsTrueFinding};
 
 use crate::difference::first_difference;
 use crate::part::Part;
@@ -53,12 +54,10 @@ impl SegmentVerdict {
     }
 }
 
-/// Replays segment `i` from what its checkpoint claims, and compares with what the next checkpoint claims. It fails
-/// only for want of memory.
-pub fn replay_segment(alloc: Global, r: &Recording, i: u32) -> Result<SegmentVerdict, AllocError>
+/// The first part in which a replay of segment `i` differs from what the next checkpoint claims.
+fn replayed_part(alloc: Global, r: &Recording, i: u32) -> Result<Option<Part>, AllocError>
     requires { i < last_of r.now }
-    ensures recording { IfOk result (λ v. v.recording ≡ r.now) }
-    ensures segment { IfOk result (λ v. v.segment ≡ i) }
+    ensures { IfOk result (λ part. IsTrueFinding (record { recording = r.now; segment = i; part = part })) }
 {
     let from = r.checkpoint(i);
     let to = r.checkpoint(i + 1);
@@ -68,6 +67,17 @@ pub fn replay_segment(alloc: Global, r: &Recording, i: u32) -> Result<SegmentVer
         return Err(AllocError);
     };
     let part = first_difference(&machine, same, r.pool(), to);
+    Ok(part)
+}
+
+/// Replays segment `i` from what its checkpoint claims, and compares with what the next checkpoint claims. It fails
+/// only when memory runs out.
+pub fn replay_segment(alloc: Global, r: &Recording, i: u32) -> Result<SegmentVerdict, AllocError>
+    requires { i < last_of r.now }
+    ensures recording { IfOk result (λ v. v.recording ≡ r.now) }
+    ensures segment { IfOk result (λ v. v.segment ≡ i) }
+{
+    let part = replayed_part(alloc, r, i)?;
     Ok(SegmentVerdict {
         recording: Snapshot::of(r),
         segment: i,

@@ -2,11 +2,12 @@
 //!
 //! Here live the loop of a worker and what it leaves. The claims themselves live in `oberon_claims`, what all workers' shares
 //! come to in `gathering`, and the threads in `check`. Nothing here waits.
-ghost use Rattle.std.specs.Prelude.{◌≡◌, ◌<◌, ◌≤◌, ◌*◌, IfOk, OnOk};
+ghost use Rattle.std.specs.Prelude.{◌≡◌, ◌<◌, ◌≤◌, ◌*◌, IfOk, IsTrue, OnOk};
 ghost use Rattle.std.specs.Int.{div_ceil};
 ghost use Rattle.oberon_claims.specs.Pass.{fresh_pass};
 ghost use Rattle.oberon_format.specs.Recording.{last_of};
-ghost use Rattle.oberon_check.specs.inner.Progress.{AddsJob, AddsRun};
+ghost use Rattle.oberon_check.specs.Work.{IsBehind};
+ghost use Rattle.oberon_check.specs.inner.Progress.{AddsJob, AddsRun, IsLooked};
 
 use crate::gate::Gate;
 use crate::segment::{SegmentVerdict, replay_segment};
@@ -93,7 +94,19 @@ fn replay_run(
     Ok(())
 }
 
-/// Does a job, or passes it over where a value shown is below its first segment.
+/// Whether a job that begins at this segment is passed over: a value that the pass is shown is below the segment.
+fn is_passed_over(claims: &Claims, pass: &mut Pass, first: u32) -> bool
+    requires { pass.old.book ≡ claims.now }
+    ensures looked { IsLooked pass.old pass.new }
+    ensures shown { IsTrue result → IsBehind pass.new.shown first }
+{
+    match claims.look(pass) {
+        Some(shown) => shown < first,
+        None => false,
+    }
+}
+
+/// Does a job, or passes it over.
 fn do_job(
     alloc: Global,
     r: &Recording,
@@ -110,9 +123,7 @@ fn do_job(
 {
     let last = r.count() - 1;
     let first = job * cut;
-    if let Some(shown) = claims.look(pass)
-        && shown < first
-    {
+    if is_passed_over(claims, pass, first) {
         return Ok(());
     }
     let end = if cut < last - first {

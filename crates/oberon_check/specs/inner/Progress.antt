@@ -36,6 +36,14 @@ pub record AddsRun (r : RecordingParts) (first end : ℕ) (p q : PassRecord) (vs
   pub recordings : All (λ v. v.recording ≡ r) piece
   pub is_run : IsRun first end piece
 
+-- what a look leaves
+pub record IsLooked (p q : PassRecord) : Type 0 where
+  pub book : q.book ≡ p.book
+  pub taken : q.taken ≡ p.taken
+  pub told : q.told ≡ p.told
+  pub ended : q.ended ≡ p.ended
+  pub shown : (x : ℕ) → Contains p.shown x → Contains q.shown x
+
 -- what the answer of true findings rests on: the shares that they come from
 abbrev pub GathersTrue : RecordingParts → List DoneRecord → List Finding → Type 0
 GathersTrue r done findings =

@@ -3,6 +3,3 @@ use Rattle.oberon_check.proofs.check.check_recording.Goals as goal
 
 pub work_all-requires-clause-jobs : goal.work_all-requires-clause-jobs
 work_all-requires-clause-jobs g c = search rules
-
-pub gather-requires-clause-parts : goal.gather-requires-clause-parts
-gather-requires-clause-parts g c = (c.args.cut, c.in_ok-done.ensures.parts)

@@ -1,4 +1,5 @@
-use Rattle.std.proofs.Common.{rules}
+use Rattle.std.proofs.Common.{arith, rules}
+use Rattle.std.proofs.lemmas.Grind.{common_steps}
 use Rattle.oberon_check.proofs.difference.device_difference.Goals as goal
 
 pub returns-then-timer : goal.returns-then-timer
@@ -20,10 +21,10 @@ pub returns-then-mouse : goal.returns-then-mouse
 returns-then-mouse c = search rules
 
 pub returns-then-serial : goal.returns-then-serial
-returns-then-serial c = search rules
+returns-then-serial c = grind (arith, common_steps)
 
 pub returns-then-ne : goal.returns-then-ne
-returns-then-ne c = search rules
+returns-then-ne c = grind (arith, common_steps)
 
 pub returns : goal.returns
-returns c = search rules
+returns c = grind (arith, common_steps)

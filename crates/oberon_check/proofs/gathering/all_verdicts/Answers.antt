@@ -21,14 +21,12 @@ pub loop-one-preserved : goal.loop-one-preserved
 loop-one-preserved c =
     let i = c.loop-one.invariant in
     let one : DoneRecord = c.in-Some.one in
-    let is = c.into_parts-pass.ensures.parts in
+    let apart = c.in_ok-take_apart.ensures in
     let step = c.in-Some.ensures.steps in
     let at = ap (λ (l : List DoneRecord). c.loop-one.yielded ++ l) (sym step.0) ∙ i.rest in record {
-      passes = c.in_ok-push.ensures.items ∙ ap (λ (d : DoneRecord). c.loop-one.passes.items ++ d.pass ∷ []) is
-          ∙ ap (λ (l : List PassRecord). l ++ one.pass ∷ []) i.passes ∙ sym (map-append (λ (d : DoneRecord). d.pass) c.loop-one.yielded (one ∷ []));
-      verdicts = c.in_ok-append.ensures.items ∙ ap (λ (d : DoneRecord). c.loop-one.verdicts.items ++ d.verdicts) is
-          ∙ ap (λ (l : List Finding). l ++ one.verdicts) i.verdicts ∙ sym (findings_snoc c.loop-one.yielded one);
-      done = All-push IsDone c.loop-one.yielded one i.done c.into_parts-pass.ensures.done;
+      passes = apart.passes ∙ ap (λ (l : List PassRecord). l ++ one.pass ∷ []) i.passes ∙ sym (map-append (λ (d : DoneRecord). d.pass) c.loop-one.yielded (one ∷ []));
+      verdicts = apart.verdicts ∙ ap (λ (l : List Finding). l ++ one.verdicts) i.verdicts ∙ sym (findings_snoc c.loop-one.yielded one);
+      done = All-push IsDone c.loop-one.yielded one i.done apart.done;
       rest = append_assoc c.loop-one.yielded (one ∷ []) _ ∙ at;
     }
 

@@ -1,9 +1,6 @@
 use Rattle.std.proofs.Common.{rules}
 use Rattle.oberon_check.proofs.segment.replay_segment.Goals as goal
 
-pub returns-in_default-clause-segment : goal.returns-in_default-clause-segment
-returns-in_default-clause-segment c = search rules
-
 pub invariant_of-result : goal.invariant_of-result
 invariant_of-result c = search rules
 

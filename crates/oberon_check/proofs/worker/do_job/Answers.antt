@@ -1,19 +1,17 @@
 use Rattle.std.proofs.Common.{◌≡◌, ◌+◌, ◌*◌, min, refl, arith}
 use Rattle.oberon_format.specs.Recording.{last_of}
-use Rattle.oberon_check.proofs.Runs.{looked, job_passed, job_run}
+use Rattle.oberon_check.proofs.Runs.{job_passed, job_run}
 use Rattle.oberon_check.proofs.worker.do_job.Goals as goal
 use Rattle.oberon_check.proofs.worker.do_job.Goals.{then-cut-last, else-cut-last}
 
+pub returns-then-is_passed_over : goal.returns-then-is_passed_over
+returns-then-is_passed_over c =
+    job_passed c.args.r.now c.args.cut c.args.job _ _ _ c.is_passed_over.ensures.looked (c.is_passed_over.ensures.shown c.if-is_passed_over.true)
+
 pub returns : goal.returns
 returns c =
-    let l = looked c.look.result c.args.pass.now c.look.new.pass c.look.ensures.joins c.look.ensures.stays in
-    job_passed c.args.r.now c.args.cut c.args.job c.in-Some.shown _ _ _ l c.in-Some.ensures.joins c.if-shown-first.true
-
-pub returns-2 : goal.returns-2
-returns-2 c =
-    let l = looked c.look.result c.args.pass.now c.look.new.pass c.look.ensures.joins c.look.ensures.stays in
     let count = c.count-last.ensures.count in
     let below = c.requires.job in
     let end : c.if-cut-last.end ≡ min (c.args.job * c.args.cut + c.args.cut) (last_of c.args.r.now) =
     elim c.if-cut-last.branch [ then-cut-last w ↦ (let t = w.if-cut-last.true in let e = w.end-is in omega arith) | else-cut-last w ↦ (let t = w.if-cut-last.false in let e = w.end-is in omega arith) ] in
-    job_run c.args.r.now c.args.cut c.args.job _ _ _ _ _ _ _ l refl end c.in_ok-replay_run.ensures
+    job_run c.args.r.now c.args.cut c.args.job _ _ _ _ _ _ _ c.is_passed_over.ensures.looked refl end c.in_ok-replay_run.ensures

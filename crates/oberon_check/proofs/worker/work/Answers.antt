@@ -1,4 +1,4 @@
-use Rattle.std.proofs.Common.{ap, ◌∙◌, arith}
+use Rattle.std.proofs.Common.{ap, ◌∙◌, arith, rules}
 use Rattle.oberon_claims.specs.Pass.{PassRecord}
 use Rattle.oberon_check.proofs.Tops.{top, top_below, top_more}
 use Rattle.oberon_check.proofs.Runs.{done_more, adds_recordings}
@@ -24,3 +24,6 @@ loop-job-preserved g c =
       recordings = adds_recordings c.args.r.now c.args.cut c.in-Some.job _ _ _ _ i.recordings d;
       done = done_more c.args.r.now c.args.cut c.in-Some.job _ _ _ _ _ i.done s.taken d;
     }
+
+pub invariant_of-result : goal.invariant_of-result
+invariant_of-result g c = search rules
