@@ -6,3 +6,4 @@ mod TruthLemmas
 mod FrameLemmas
 mod InputLemmas
 mod ExtendLemmas
+mod RecordLemmas

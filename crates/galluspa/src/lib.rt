@@ -29,7 +29,7 @@ mod refusal;
 mod words;
 
 use crate::answer::put;
-pub use laws::frame_law;
+pub use laws::{frame_law, record_law};
 pub use raw::{RawInput, RawState};
 pub use refusal::{
     DONE, NO_CHECKPOINT, NO_RECORDING, NO_ROOM, OUT_OF_MEMORY, OUT_OF_RANGE, TOO_MANY_CHECKPOINTS,
