@@ -7,3 +7,4 @@ mod FrameLemmas
 mod InputLemmas
 mod ExtendLemmas
 mod RecordLemmas
+mod JoinLemmas

@@ -28,6 +28,16 @@ FrameLaw =
     → ((i : ℕ) → i < length before → count_at before i < from) → ((i : ℕ) → i < length after → from + n ≤ count_at after i)
     → sent_of due from n s ≡ sent_of (before ++ (due ++ after)) from n s)
 
+-- two runs, the second from where the first ends, are one run with the inputs of both, and send what both send; if the inputs of
+-- the first come before its end, and those of the second at it or later
+abbrev pub JoinLaw : Type 0
+JoinLaw =
+    (first second : List RawInput) (old mid new : RawState) (old_words mid_words new_words sent more : List ℕ)
+    → All (λ i. i.count < mid.count) first → All (λ i. mid.count ≤ i.count) second
+    → HasRun first mid.count old old_words mid mid_words sent
+    → HasRun second new.count mid mid_words new new_words more
+    → HasRun (first ++ second) new.count old old_words new new_words (sent ++ more)
+
 -- ---- recordings that are made while a machine runs
 
 -- the bytes are a recording all of whose claims are true. Its last checkpoint claims this state, and each input comes before it
