@@ -6,3 +6,5 @@ mod TruthLemmas
 mod FrameLemmas
 mod InputLemmas
 mod ExtendLemmas
+mod RecordLemmas
+mod JoinLemmas

@@ -1,9 +1,22 @@
--- What joins the calls of a caller into one run, with the law of `risc_model` that a run goes on from a run (`RunLaw`).
+-- What joins the calls of a caller into one run, with the law of `risc_model` that a run goes on from a run (`RunLaw`), and what
+-- makes the recordings of such a run true.
 use Rattle.std.specs.Prelude.{ℕ, ◌≡◌, ◌+◌, ◌<◌, ◌≤◌, List, ◌++◌, length}
+use Rattle.std.specs.List.{All}
 use Rattle.risc_model.specs.declared.event.Event.{Event}
 use Rattle.risc_model.specs.InputOrder.{count_at}
 use Rattle.risc_model.specs.MachineState.{State}
 use Rattle.risc_model.specs.Replay.{run_of, sent_of}
+use Rattle.oberon_format.specs.Defined.{IsTrueAt, claimed}
+use Rattle.oberon_format.specs.Recording.{RecordingParts, last_of}
+use Rattle.oberon_format.specs.Text.{TextIn}
+use Rattle.oberon_format.specs.declared.layout.TheConstants.{VERSION}
+use Rattle.oberon_session.specs.Extended.{last_count}
+use Rattle.galluspa.specs.declared.raw.RawInput.{RawInput}
+use Rattle.galluspa.specs.declared.raw.RawState.{RawState}
+use Rattle.galluspa.specs.Advance.{HasRun}
+use Rattle.galluspa.specs.Extend.{IsBeginning, IsExtension}
+use Rattle.galluspa.specs.Raw.{state_of}
+use Rattle.galluspa.specs.Record.{IsAccepted}
 
 -- a run with the inputs of its own counts alone is the run with all inputs, and sends the same
 abbrev pub FrameLaw : Type 0
@@ -14,3 +27,34 @@ FrameLaw =
     × ((before due after : List Event) (from n : ℕ) (s : State)
     → ((i : ℕ) → i < length before → count_at before i < from) → ((i : ℕ) → i < length after → from + n ≤ count_at after i)
     → sent_of due from n s ≡ sent_of (before ++ (due ++ after)) from n s)
+
+-- two runs, the second from where the first ends, are one run with the inputs of both, and send what both send; if the inputs of
+-- the first come before its end, and those of the second at it or later
+abbrev pub JoinLaw : Type 0
+JoinLaw =
+    (first second : List RawInput) (old mid new : RawState) (old_words mid_words new_words sent more : List ℕ)
+    → All (λ i. i.count < mid.count) first → All (λ i. mid.count ≤ i.count) second
+    → HasRun first mid.count old old_words mid mid_words sent
+    → HasRun second new.count mid mid_words new new_words more
+    → HasRun (first ++ second) new.count old old_words new new_words (sent ++ more)
+
+-- ---- recordings that are made while a machine runs
+
+-- the bytes are a recording all of whose claims are true. Its last checkpoint claims this state, and each input comes before it
+pub record IsTrueUpTo (text : List ℕ) (state : RawState) (words : List ℕ) : Type 0 where
+  pub recording : RecordingParts
+  pub is_text : TextIn VERSION text recording
+  pub truth : (k : ℕ) → k < length recording.checkpoints → IsTrueAt recording k
+  pub count_is : last_count recording ≡ state.count
+  pub claims : (claimed recording (last_of recording)).state ≡ state_of state words
+  pub past : All (λ e. e.count < state.count) recording.inputs
+
+-- the recording that begins with a state is true up to it; one that is extended by what a run gives is true up to the state that
+-- the run comes to; and a check accepts each such recording
+abbrev pub RecordLaw : Type 0
+RecordLaw =
+    ((state : RawState) (words text : List ℕ) → IsBeginning state words text → IsTrueUpTo text state words)
+    × ((text : List ℕ) (inputs : List RawInput) (old new : RawState) (old_words new_words sent new_text : List ℕ)
+    → IsTrueUpTo text old old_words → HasRun inputs new.count old old_words new new_words sent
+    → IsExtension text inputs new new_words sent new_text → IsTrueUpTo new_text new new_words)
+    × ((text : List ℕ) (state : RawState) (words : List ℕ) (live : IsTrueUpTo text state words) → IsAccepted live.recording text)

@@ -5,6 +5,10 @@
 //! has to be freed. A machine lives with the caller as plain numbers: a `RawState` and its 262,144 words. The slices of one call
 //! must not overlap, and no pointer is null, not even that of an empty slice. Nothing else is asked of the caller: each number is
 //! tested, and one that is out of its range is refused.
+//!
+//! Three laws join the calls. A run needs only the inputs of its own counts (`frame_law`). Calls from count to count are one run
+//! (`join_law`). A recording that is begun, and extended by what `galluspa_advance` gives, claims only what is true, and is
+//! accepted (`record_law`).
 #![tactic(auto)]
 
 ghost use Rattle.std.specs.Prelude.{◌≡◌, ◌≢◌, ◌<◌, ◌≤◌, length, take};
@@ -29,7 +33,7 @@ mod refusal;
 mod words;
 
 use crate::answer::put;
-pub use laws::frame_law;
+pub use laws::{frame_law, join_law, record_law};
 pub use raw::{RawInput, RawState};
 pub use refusal::{
     DONE, NO_CHECKPOINT, NO_RECORDING, NO_ROOM, OUT_OF_MEMORY, OUT_OF_RANGE, TOO_MANY_CHECKPOINTS,
