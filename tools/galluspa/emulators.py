@@ -16,7 +16,6 @@ from galluspa.recording import PAGE_BYTES, PLACES
 
 MEMORY_BYTES = PLACES * PAGE_BYTES
 PLACE = "{count}"
-NUMBERS = ("H", "PC", "flags", "stop", "timer", "rate", "phase", "switches", "LEDs", "mouse", "serial")
 
 
 @dataclass(frozen=True)
@@ -71,7 +70,7 @@ def _shown(told: str, shown: object) -> Shown:
     if not isinstance(shown, dict) or not shown:
         raise Refused(f"{told}: what it prints is no object with the parts of a state")
     readers: dict[str, Callable[[object], object]] = {
-        **dict.fromkeys(NUMBERS, _number), "R": _numbers(16, 16), "keys": _numbers(0, 16), "out": _bytes,
+        **dict.fromkeys(states.WORDS, _number), "R": _numbers(16, 16), "keys": _numbers(0, 16), "out": _bytes,
         "memory": _file, "memory_sha256": _digest,
     }
     read: dict[str, object] = {}
@@ -82,7 +81,7 @@ def _shown(told: str, shown: object) -> Shown:
             read[name] = readers[name](value)
         except ValueError as error:
             raise Refused(f"{told}: {name} is {error}") from error
-    registers = {f"R{at}": value for at, value in enumerate(read.pop("R", []))}
+    registers = dict(zip(states.REGISTERS, read.pop("R", [])))
     memory, digest, sent = (read.pop(name, None) for name in ("memory", "memory_sha256", "out"))
     return Shown({**registers, **read}, memory, digest, sent)
 

@@ -10,7 +10,7 @@ from pathlib import Path
 
 from galluspa.command import Refused
 from galluspa.program import TOP
-from galluspa.recording import PLACES, WORDS_IN_PAGE, Checkpoint, Event
+from galluspa.recording import PLACES, STATE_WORDS, WORDS_IN_PAGE, Checkpoint, Event
 
 NAME = "libgalluspa.so"
 VARIABLE = "GALLUSPA_LIBRARY"
@@ -73,20 +73,9 @@ class Machine:
         """The state as a checkpoint claims it, without its memory."""
         it = self.state
         return Checkpoint(
-            start=0,
             count=it.count,
             registers=tuple(it.r),
-            h=it.h,
-            pc=it.pc,
-            flags=it.flags,
-            stop=it.stop,
-            timer=it.timer,
-            rate=it.rate,
-            phase=it.phase,
-            switches=it.switches,
-            leds=it.leds,
-            mouse=it.mouse,
-            serial=it.serial,
+            **{name: getattr(it, name) for name in (*STATE_WORDS, "rate", "phase")},
             keys=bytes(it.keys[: it.key_count]),
             output=sent,
             table=array("I"),

@@ -7,6 +7,7 @@ from pathlib import Path
 
 from galluspa.command import Refused, number
 from galluspa.recording import FLAGS, KINDS, PAGE_BYTES, PLACES, Event, Recording
+from galluspa.states import REGISTERS
 
 MEMORY_BYTES = PLACES * PAGE_BYTES
 COUNTS = 1 << 40
@@ -15,7 +16,6 @@ CHECKPOINTS = 4096
 MOUSE = 0x073FF3FF
 KIND_NUMBERS = {name: kind for kind, name in KINDS.items()}
 MOST = {"timer": 0xFFFFFFFF, "switches": 0xFFF, "mouse": MOUSE, "key": 0xFF, "serial": 0xFF}
-REGISTERS = [f"R{at}" for at in range(16)]
 
 
 @dataclass

@@ -5,6 +5,12 @@ from dataclasses import dataclass
 
 from galluspa.recording import FLAGS, KINDS, STOPS, Checkpoint, Event
 
+REGISTERS = [f"R{at}" for at in range(16)]
+# The parts of a state that are one word, in the order of parts: how the program names them, and their attributes here.
+WORDS = {
+    "H": "h", "PC": "pc", "flags": "flags", "stop": "stop", "timer": "timer", "rate": "rate", "phase": "phase",
+    "switches": "switches", "LEDs": "leds", "mouse": "mouse", "serial": "serial",
+}
 
 @dataclass(frozen=True)
 class Part:
@@ -17,11 +23,10 @@ class Part:
 
 def values(checkpoint: Checkpoint) -> dict[str, int | list[int]]:
     """The parts of a state but for its memory, by their names, as numbers; the keys as a list of them."""
-    it = checkpoint
     return {
-        **{f"R{at}": value for at, value in enumerate(it.registers)},
-        "H": it.h, "PC": it.pc, "flags": it.flags, "stop": it.stop, "timer": it.timer, "rate": it.rate, "phase": it.phase,
-        "switches": it.switches, "LEDs": it.leds, "mouse": it.mouse, "serial": it.serial, "keys": list(it.keys),
+        **dict(zip(REGISTERS, checkpoint.registers, strict=True)),
+        **{name: getattr(checkpoint, attribute) for name, attribute in WORDS.items()},
+        "keys": list(checkpoint.keys),
     }
 
 
@@ -40,7 +45,7 @@ def registers(checkpoint: Checkpoint, before: Checkpoint | None) -> list[Part]:
     """R0 to R15."""
     olds = before.registers if before else checkpoint.registers
     pairs = enumerate(zip(checkpoint.registers, olds, strict=True))
-    return [Part(f"R{at}", f"{value:08X}", value != old) for at, (value, old) in pairs]
+    return [Part(REGISTERS[at], f"{value:08X}", value != old) for at, (value, old) in pairs]
 
 
 def others(checkpoint: Checkpoint, before: Checkpoint | None, version: int) -> list[Part]:
