@@ -7,12 +7,12 @@ from collections.abc import Mapping, Sequence
 from dataclasses import dataclass
 
 from galluspa import states
-from galluspa.recording import Checkpoint, Event
-from galluspa.sessions import KIND_NUMBERS, Session
-from galluspa.words import (
+from galluspa.assembler import (
     ADD, ALWAYS, AND, ANN, BYTE, CC, DEVICES, DIV, EQ, FAD, JUMP_HERE, LINK, MOV, NE, SERIAL, SUB, SWITCHES, TIMER,
     branch, branch_register, imm, load, reg, store,
 )
+from galluspa.recording import Checkpoint, Event
+from galluspa.sessions import KIND_NUMBERS, Session
 from of_programs.trial import Case, Finding, memory_of
 
 END = 1 << 18

@@ -138,10 +138,6 @@ class Page:
         """Has files that the page saves go to a folder."""
         self._ask("Browser.setDownloadBehavior", behavior="allow", downloadPath=str(folder.resolve()))
 
-    def prefer(self, scheme: str) -> None:
-        """Makes the reader's scheme of colours `light` or `dark`."""
-        self._ask("Emulation.setEmulatedMedia", features=[{"name": "prefers-color-scheme", "value": scheme}])
-
     def reload(self) -> None:
         """Loads the page anew."""
         self._ask("Page.reload")

@@ -27,11 +27,11 @@ class Parser(argparse.ArgumentParser):
     def error(self, message: str) -> NoReturn:
         raise Refused(f"{message} (--help tells the words)")
 
-    def take_program(self) -> None:
+    def add_program_option(self) -> None:
         """Adds the option that names the program to ask."""
         self.add_argument("--program", metavar="PATH", help="the program to ask; if left out, what this repository built")
 
-    def take_library(self) -> None:
+    def add_library_option(self) -> None:
         """Adds the option that names the shared library to call."""
         self.add_argument(
             "--library", metavar="PATH",
@@ -41,7 +41,7 @@ class Parser(argparse.ArgumentParser):
         )
 
 
-def whole(least: int, most: int) -> Callable[[str], int]:
+def whole_number(least: int, most: int) -> Callable[[str], int]:
     """A reader of whole numbers in a range, decimal or with 0x in front, for an option."""
 
     def read(text: str) -> int:
@@ -74,10 +74,10 @@ def read_file(path: str | Path) -> bytes:
         raise Refused(f"{path}: {error.strerror}") from error
 
 
-def progress(told: str, is_last: bool = False) -> None:
+def progress(message: str, is_last: bool = False) -> None:
     """Renews the line of progress on standard error, where there is a terminal to see it; no text takes it away."""
     if sys.stderr.isatty():
-        print(f"\033[K{told}", end="\n" if is_last else "\r", file=sys.stderr, flush=True)
+        print(f"\033[K{message}", end="\n" if is_last else "\r", file=sys.stderr, flush=True)
 
 
 def write_file(path: str | Path, content: bytes) -> None:

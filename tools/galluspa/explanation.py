@@ -40,7 +40,7 @@ class Around:
     first: int
     last: int
     writers: list[Step]
-    stood: list[int]
+    matching: list[int]
     earlier: list[int]
     setting: Step | None
 
@@ -71,7 +71,7 @@ class Screens:
         claimed, defined = (pbm[start : start + ROW_BYTES] for pbm in (self.claimed, self.defined))
         return int.from_bytes(claimed, "big") ^ int.from_bytes(defined, "big")
 
-    def told(self) -> str:
+    def summary(self) -> str:
         """How many dots differ, and where."""
         left, right, top, bottom = self.box()
         many = self.number()
@@ -123,8 +123,8 @@ class FalseClaim:
             return None
         pairs = zip(claimed, defined)
         at = next((at for at, (one, other) in enumerate(pairs) if one != other), min(len(claimed), len(defined)))
-        told = f"claimed are {len(claimed):,} bytes, the machine sent {len(defined):,}; they differ from byte {at:,} on"
-        return told, *([*states.hexdump(sent[at : at + BYTES_SHOWN], at)] or ["no byte"] for sent in self.sent)
+        summary = f"claimed are {len(claimed):,} bytes, the machine sent {len(defined):,}; they differ from byte {at:,} on"
+        return summary, *([*states.hexdump(sent[at : at + BYTES_SHOWN], at)] or ["no byte"] for sent in self.sent)
 
 
 def explain_false(run: Run, program: Program, read: Recording, claim: tuple[int, str], steps: int) -> FalseClaim:
@@ -201,10 +201,10 @@ def _around(run: Run, read: Recording, number: int, start: Machine, focus: Part,
     machine = start.copy()
     sent = run.advance(machine, max(first, count - steps))
     looked_from, value = machine.count, value_at(focus, machine, sent)
-    stood, writers = [looked_from] * (value == wanted), []
+    matching, writers = [looked_from] * (value == wanted), []
     last = count + steps // 10
     for step, now, is_written in along(focus, value, with_progress(run.steps(machine, last), last)):
-        stood += [step.after.count] * (now == wanted)
+        matching += [step.after.count] * (now == wanted)
         if is_written and step.before.count < count:
             writers = [*writers[1 - WRITERS :], step]
     is_set_before = not writers and value_at(focus, start, b"") != value
@@ -212,7 +212,7 @@ def _around(run: Run, read: Recording, number: int, start: Machine, focus: Part,
         first=looked_from,
         last=last,
         writers=writers,
-        stood=stood,
+        matching=matching,
         earlier=[at for at in range(number) if _claims(read, at, focus, wanted)],
         setting=_setting(run, start, looked_from, focus, value) if is_set_before else None,
     )
@@ -238,7 +238,7 @@ def _setting(run: Run, machine: Machine, to: int, part: Part, value: Value) -> S
     return next(run.steps(machine, to))
 
 
-def told_of_writers(it: FalseClaim) -> str:
+def writers_summary(it: FalseClaim) -> str:
     """What is shown below it: the last instructions before the checkpoint that wrote the part, or the one that set it."""
     looked = it.count - it.around.first
     if it.around.writers:
@@ -249,19 +249,19 @@ def told_of_writers(it: FalseClaim) -> str:
     return f"{none} At their start it was what it was at checkpoint {it.number - 1}."
 
 
-def told_of_counts(it: FalseClaim) -> str:
+def counts_summary(it: FalseClaim) -> str:
     """When the part had the claimed value."""
-    before = [count for count in it.around.stood if count < it.count]
-    after = [count for count in it.around.stood if count > it.count]
+    before = [count for count in it.around.matching if count < it.count]
+    after = [count for count in it.around.matching if count > it.count]
     nearest = [f"last at {count}, {it.count - count:,} before" for count in before[-1:]]
     nearest += [f"first at {count}, {count - it.count:,} after" for count in after[:1]]
     number = f"{len(before) + len(after):,}" if nearest else "none"
-    told = f"{it.focus} had the claimed value at {number} of the counts {it.around.first} to {it.around.last}"
+    summary = f"{it.focus} had the claimed value at {number} of the counts {it.around.first} to {it.around.last}"
     if nearest:
-        told += f": {'; '.join(nearest)}"
+        summary += f": {'; '.join(nearest)}"
     if earlier := it.around.earlier:
-        told += f"; and at the earlier {'checkpoints' if len(earlier) > 1 else 'checkpoint'} {states.ranges(earlier)}"
-    return f"{told}."
+        summary += f"; and at the earlier {'checkpoints' if len(earlier) > 1 else 'checkpoint'} {states.ranges(earlier)}"
+    return f"{summary}."
 
 
 def instructions_of(it: FalseClaim) -> Iterator[str]:
@@ -272,9 +272,9 @@ def instructions_of(it: FalseClaim) -> Iterator[str]:
 
 def table(rows: Iterable[tuple[str, str, str]]) -> Iterator[str]:
     """Rows of a name, what is claimed, and what the machine has, in columns."""
-    told = list(rows)
-    name, claimed = (max(len(row[column]) for row in told) for column in (0, 1))
-    return (f"{row[0]:{name}}  {row[1]:{claimed}}  {row[2]}".rstrip() for row in told)
+    kept = list(rows)
+    name, claimed = (max(len(row[column]) for row in kept) for column in (0, 1))
+    return (f"{row[0]:{name}}  {row[1]:{claimed}}  {row[2]}".rstrip() for row in kept)
 
 
 def plain(it: FalseClaim, most: int = WORDS_SHOWN) -> Iterator[str]:
@@ -285,9 +285,9 @@ def plain(it: FalseClaim, most: int = WORDS_SHOWN) -> Iterator[str]:
     if len(it.words) > most:
         yield f".. and {len(it.words) - most:,} more words of memory"
     if output := it.output():
-        told, claimed, defined = output
-        yield from ("", f"out: {told}", "claimed", *claimed, "the machine", *defined)
+        summary, claimed, defined = output
+        yield from ("", f"out: {summary}", "claimed", *claimed, "the machine", *defined)
     if it.screens:
-        yield from ("", f"The screen: {it.screens.told()}.", SIGNS)
+        yield from ("", f"The screen: {it.screens.summary()}.", SIGNS)
         yield from table([("", "claimed", "the machine"), *(("", *row) for row in it.screens.rows())])
-    yield from ("", told_of_writers(it), *instructions_of(it), "", told_of_counts(it))
+    yield from ("", writers_summary(it), *instructions_of(it), "", counts_summary(it))

@@ -55,8 +55,8 @@ class Field:
 
 def explain_fault(text: bytes, number: int, at: int) -> Fault:
     """What the first fault of a text is about, given its number and its byte."""
-    teller = {1: _short, 2: _magic, 3: _version, 4: _limit, 5: _event, 6: _checkpoint, 7: _page, 8: _trailing}
-    return teller[number](text, at)
+    explain = {1: _short, 2: _magic, 3: _version, 4: _limit, 5: _event, 6: _checkpoint, 7: _page, 8: _trailing}
+    return explain[number](text, at)
 
 
 def _fault(text: bytes, field: Field, where: str = "") -> Fault:

@@ -116,7 +116,7 @@ class Library:
 
     @staticmethod
     def find(given: str | None) -> "Library":
-        """The library that was given, or else the first that is found where take_library says."""
+        """The library that was given, or else the first that is found where add_library_option says."""
         if named := given or os.environ.get(VARIABLE):
             if not Path(named).is_file():
                 raise Refused(f"no library at {named}")

@@ -93,11 +93,11 @@ def _multiarch() -> str:
 def commands_of(program: Program) -> dict[str, list[str]]:
     """The commands of the program and the options of each, as its help tells them."""
 
-    def told(*words: str) -> str:
-        return subprocess.run([program.path, *words, "--help"], stdout=subprocess.PIPE, check=False).stdout.decode("ascii", "replace")
+    def help_of(*arguments: str) -> str:
+        return subprocess.run([program.path, *arguments, "--help"], stdout=subprocess.PIPE, check=False).stdout.decode("ascii", "replace")
 
-    names = re.findall(r"^  (\w+) ", told().partition("Commands:")[2].partition("\n\n")[0], re.MULTILINE)
-    return {name: re.findall(r"^ +(?:-\w, )?(--\w+)", told(name), re.MULTILINE) for name in names if name != "help"}
+    names = re.findall(r"^  (\w+) ", help_of().partition("Commands:")[2].partition("\n\n")[0], re.MULTILINE)
+    return {name: re.findall(r"^ +(?:-\w, )?(--\w+)", help_of(name), re.MULTILINE) for name in names if name != "help"}
 
 
 def architecture() -> str:
@@ -153,9 +153,9 @@ Description: proved emulator and checker of Project Oberon's RISC5 workstation
     write_tree([File(name, content) for name, content in of_package.items()], room / "tree/DEBIAN")
     for path in [room / "tree", *(room / "tree").rglob("*")]:
         path.chmod(0o755 if path.is_dir() else path.stat().st_mode)
-    words = ["dpkg-deb", "--root-owner-group", "--build", str(room / "tree"), str(room / "it.deb")]
+    command = ["dpkg-deb", "--root-owner-group", "--build", str(room / "tree"), str(room / "it.deb")]
     environment = {"SOURCE_DATE_EPOCH": str(when), "PATH": "/usr/bin:/bin"}
-    made = subprocess.run(words, stdout=subprocess.PIPE, stderr=subprocess.STDOUT, check=False, env=environment)
+    made = subprocess.run(command, stdout=subprocess.PIPE, stderr=subprocess.STDOUT, check=False, env=environment)
     if made.returncode:
         raise Refused(f"dpkg-deb: {made.stdout.decode('utf-8', 'replace').strip().splitlines()[-1]}")
     return (room / "it.deb").read_bytes()

@@ -47,7 +47,7 @@ def png(pbm: bytes) -> bytes:
     return out.getvalue()
 
 
-def set_off(pbm: bytes, other: bytes) -> bytes:
+def with_differences_in_red(pbm: bytes, other: bytes) -> bytes:
     """A picture that the program printed, as PNG in which the dots that another one has differently are red: dark where they
     are set, and light where they are not."""
     picture, another = (Image.open(io.BytesIO(it)).convert("1") for it in (pbm, other))

@@ -36,14 +36,14 @@ class Answer:
     @cached_property
     def false_claim(self) -> tuple[int, str] | None:
         """The first false checkpoint and its first false part, where the line names them."""
-        told = _FALSE_LINE.fullmatch(self.line) if self.status == FALSE else None
-        return (int(told[1]), told[2]) if told else None
+        match = _FALSE_LINE.fullmatch(self.line) if self.status == FALSE else None
+        return (int(match[1]), match[2]) if match else None
 
     @cached_property
     def fault(self) -> tuple[int, int] | None:
         """The number of a recording's first fault and its byte, where the line names them."""
-        told = _REFUSED_LINE.fullmatch(self.line) if self.status == REFUSED else None
-        return (int(told[1]), int(told[2])) if told else None
+        match = _REFUSED_LINE.fullmatch(self.line) if self.status == REFUSED else None
+        return (int(match[1]), int(match[2])) if match else None
 
 
 @dataclass(frozen=True)

@@ -35,7 +35,7 @@ class Change:
 
     kind: str
     name: str
-    told: str
+    detail: str
 
 
 def run_of(outcomes: Sequence[Outcome]) -> Run:
@@ -57,10 +57,10 @@ def text_of(kept: Run) -> str:
 def read_run(path: str) -> Run:
     """The run that a file keeps."""
     try:
-        told = json.loads(read_file(path))
-        if told["format"] != FORMAT or told["version"] != 1:
+        kept = json.loads(read_file(path))
+        if kept["format"] != FORMAT or kept["version"] != 1:
             raise ValueError
-        run = {name: Kept(**it) for name, it in told["recordings"].items()}
+        run = {name: Kept(**it) for name, it in kept["recordings"].items()}
     except (ValueError, KeyError, TypeError, AttributeError, RecursionError) as error:
         raise Refused(f"{path}: not a run of a suite, as --keep writes it") from error
     if not all(isinstance(it.answered, str) and isinstance(it.seconds, int | float) for it in run.values()):
@@ -106,8 +106,8 @@ def junit(suite: str, outcomes: Sequence[Outcome]) -> bytes:
         if it.is_ok:
             ElementTree.SubElement(test, "system-out").text = _in_xml(it.answered)
         else:
-            told = _in_xml(f"expected {it.case.expected}, answered {it.answered}")
-            ElementTree.SubElement(test, "failure", {"message": told}).text = told
+            message = _in_xml(f"expected {it.case.expected}, answered {it.answered}")
+            ElementTree.SubElement(test, "failure", {"message": message}).text = message
     ElementTree.indent(top)
     return ElementTree.tostring(top, "utf-8", xml_declaration=True) + b"\n"
 

@@ -65,7 +65,7 @@ def _rows(items: list[str], in_row: int) -> str:
 def of_recording(name: str, read: Recording) -> Session:
     """The session of a recording's first state, inputs and counts; refused where no session can say that state."""
     first, *later = read.checkpoints
-    unsaid = [
+    inexpressible = [
         what
         for what, value in (
             ("stop", first.stop), ("timer", first.timer), ("switches", first.switches), ("LEDs", first.leds),
@@ -73,8 +73,8 @@ def of_recording(name: str, read: Recording) -> Session:
         )
         if value
     ]
-    if unsaid:
-        raise Refused(f"{name}: its first state has {', '.join(unsaid)} other than 0, which a session cannot say")
+    if inexpressible:
+        raise Refused(f"{name}: its first state has {', '.join(inexpressible)} other than 0, which a session cannot say")
     return Session(
         registers=list(first.registers),
         h=first.h,

@@ -50,11 +50,11 @@ def found(read: Recording, first: int, last: int, line: str) -> Found | None:
     if accepted := _ACCEPTED.fullmatch(line):
         is_whole = (int(accepted[1]), int(accepted[2])) == (last - first, read.checkpoints[last].count - begin)
         return Found(first, last) if is_whole else None
-    told = _FALSE.fullmatch(line)
-    false = first + int(told[1]) if told else 0
-    if not first < false <= last or read.checkpoints[false].count - begin != int(told[2]):
+    match = _FALSE.fullmatch(line)
+    false = first + int(match[1]) if match else 0
+    if not first < false <= last or read.checkpoints[false].count - begin != int(match[2]):
         return None
-    return Found(first, last, false, told[3])
+    return Found(first, last, false, match[3])
 
 
 def joined(read: Recording, lines: Iterable[Found]) -> Found:

@@ -82,6 +82,6 @@ def tap(number: int, outcome: Outcome) -> str:
     name = outcome.case.name.replace("#", r"\#")
     if outcome.is_ok:
         return f"ok {number} - {name}: {outcome.answered}"
-    told = {"expected": outcome.case.expected, "answered": outcome.answered}
-    lines = [f"  {key}: {json.dumps(value)}" for key, value in told.items()]
+    details = {"expected": outcome.case.expected, "answered": outcome.answered}
+    lines = [f"  {key}: {json.dumps(value)}" for key, value in details.items()]
     return "\n".join([f"not ok {number} - {name}", "  ---", *lines, "  ..."])
