@@ -29,13 +29,15 @@ class Parser(argparse.ArgumentParser):
 
     def add_program_option(self) -> None:
         """Adds the option that names the program to ask."""
-        self.add_argument("--program", metavar="PATH", help="the program to ask; if left out, what this repository built")
+        self.add_argument(
+            "--program", metavar="PATH", help="the program to ask; if left out, what this repository built")
 
     def add_library_option(self) -> None:
         """Adds the option that names the shared library to call."""
         self.add_argument(
             "--library", metavar="PATH",
-            help="the shared library to call, libgalluspa.so; if left out, GALLUSPA_LIBRARY names it, or it is the first "
+            help="the shared library to call, libgalluspa.so; if left out, GALLUSPA_LIBRARY names it, or it is the "
+                 "first "
                  "that is found in lib/ beside the folder of the tools, in crates/galluspa/out/ or out/lib/ of this "
                  "repository, where it was installed with these tools, and where the system looks for libraries",
         )
@@ -97,7 +99,8 @@ def with_libraries(name: str) -> ModuleType:
 
 
 def run(main: Callable[[Sequence[str]], int]) -> NoReturn:
-    """Runs a tool over the words behind its name, and ends with its status: 2, after one line, where something is refused."""
+    """Runs a tool over the words behind its name, and ends with its status: 2, after one line, where something is
+    refused."""
     try:
         status = main(sys.argv[1:])
         sys.stdout.flush()

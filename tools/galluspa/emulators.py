@@ -20,8 +20,8 @@ PLACE = "{count}"
 
 @dataclass(frozen=True)
 class Shown:
-    """What an emulator shows of its state at a count: the parts by their names, its memory or a digest of it, and what it
-    has sent. Whatever it does not show is None, and is not compared."""
+    """What an emulator shows of its state at a count: the parts by their names, its memory or a digest of it, and what
+    it has sent. Whatever it does not show is None, and is not compared."""
 
     parts: dict[str, int | list[int]]
     memory: bytes | None

@@ -1,4 +1,5 @@
-"""What is false about a recording: where the first false checkpoint and the machine differ, and what wrote the first part.
+"""What is false about a recording: where the first false checkpoint and the machine differ, and what wrote the first
+part.
 
 What the machine has says the library, and how a screen looks the program.
 """
@@ -33,9 +34,9 @@ class Difference:
 
 @dataclass(frozen=True)
 class Around:
-    """The instructions around the false checkpoint that were looked at one by one, from a count up to another: the last of
-    those before it that wrote a part, and the counts at which the part had the claimed value; also the earlier checkpoints
-    that claim it, and an instruction that set the part before them all."""
+    """The instructions around the false checkpoint that were looked at one by one, from a count up to another: the last
+    of those before it that wrote a part, and the counts at which the part had the claimed value; also the earlier
+    checkpoints that claim it, and an instruction that set the part before them all."""
 
     first: int
     last: int
@@ -79,8 +80,8 @@ class Screens:
                 f"and {_span('y', ROWS - 1 - bottom, ROWS - 1 - top)}, counted from the left and from below")
 
     def rows(self) -> Iterator[tuple[str, str]]:
-        """The dots around those that differ, row by row from the top, claimed and the machine's: # and . for those that are
-        alike, + and - for those that differ, where the dot is set and where it is not."""
+        """The dots around those that differ, row by row from the top, claimed and the machine's: # and . for those that
+        are alike, + and - for those that differ, where the dot is set and where it is not."""
         left, right, top, bottom = self.box()
         left = max(0, min(left - 4, 8 * ROW_BYTES - DOTS_WIDE))
         top = max(0, min(top - 2, ROWS - DOTS_HIGH))
@@ -123,7 +124,8 @@ class FalseClaim:
             return None
         pairs = zip(claimed, defined)
         at = next((at for at, (one, other) in enumerate(pairs) if one != other), min(len(claimed), len(defined)))
-        summary = f"claimed are {len(claimed):,} bytes, the machine sent {len(defined):,}; they differ from byte {at:,} on"
+        summary = (f"claimed are {len(claimed):,} bytes, the machine sent {len(defined):,}; "
+                   f"they differ from byte {at:,} on")
         return summary, *([*states.hexdump(sent[at : at + BYTES_SHOWN], at)] or ["no byte"] for sent in self.sent)
 
 
@@ -226,7 +228,8 @@ def _claims(read: Recording, at: int, part: Part, value: Value) -> bool:
 
 
 def _setting(run: Run, machine: Machine, to: int, part: Part, value: Value) -> Step:
-    """An instruction after which a part has a value that it has at a later count, and before which it has another one."""
+    """An instruction after which a part has a value that it has at a later count, and before which it has another
+    one."""
     sent = b""
     while to - machine.count > 1:
         later = machine.copy()
@@ -239,7 +242,8 @@ def _setting(run: Run, machine: Machine, to: int, part: Part, value: Value) -> S
 
 
 def writers_summary(it: FalseClaim) -> str:
-    """What is shown below it: the last instructions before the checkpoint that wrote the part, or the one that set it."""
+    """What is shown below it: the last instructions before the checkpoint that wrote the part, or the one that set
+    it."""
     looked = it.count - it.around.first
     if it.around.writers:
         return f"The last instructions before count {it.count} that wrote {it.focus}:"
@@ -260,7 +264,8 @@ def counts_summary(it: FalseClaim) -> str:
     if nearest:
         summary += f": {'; '.join(nearest)}"
     if earlier := it.around.earlier:
-        summary += f"; and at the earlier {'checkpoints' if len(earlier) > 1 else 'checkpoint'} {states.ranges(earlier)}"
+        noun = "checkpoints" if len(earlier) > 1 else "checkpoint"
+        summary += f"; and at the earlier {noun} {states.ranges(earlier)}"
     return f"{summary}."
 
 
@@ -281,7 +286,8 @@ def plain(it: FalseClaim, most: int = WORDS_SHOWN) -> Iterator[str]:
     """The lines of a text that explains a false claim, with so many words of memory at most."""
     differences = [*it.parts, *it.memory(most)]
     if differences:
-        yield from table([("", "claimed", "the machine"), *((one.name, one.claimed, one.defined) for one in differences)])
+        rows = ((one.name, one.claimed, one.defined) for one in differences)
+        yield from table([("", "claimed", "the machine"), *rows])
     if len(it.words) > most:
         yield f".. and {len(it.words) - most:,} more words of memory"
     if output := it.output():

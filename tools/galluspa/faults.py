@@ -113,8 +113,8 @@ def _event(text: bytes, at: int) -> Fault:
 
 @dataclass(frozen=True)
 class _Claim:
-    """A checkpoint of the text: its number, where it begins and ends by what it says, the count of the one before it, and
-    how many bytes were sent up to that."""
+    """A checkpoint of the text: its number, where it begins and ends by what it says, the count of the one before it,
+    and how many bytes were sent up to that."""
 
     number: int
     start: int
@@ -187,8 +187,8 @@ def _page(text: bytes, at: int) -> Fault:
                      f"a page number is at most P, the number of pages, {pages}")
     number = (at - claim.start - CHANGES_AT) // CHANGE_BYTES
     place, page = struct.unpack_from("<2I", text, at)
-    rule = f"a place is below 1,024 and above that of the change before; a page number is at most P, {pages}, and not " \
-           "the one that stood at the place"
+    rule = (f"a place is below 1,024 and above that of the change before; a page number is at most P, {pages}, "
+            "and not the one that stood at the place")
     return Fault(f"change {number}{where}, page number {page} at place {place}", at, text[at : at + 8], rule)
 
 
@@ -200,7 +200,8 @@ def _short(text: bytes, at: int) -> Fault:
     if _number(text, 4) == 1 and at < tables + WHOLE_BYTES * number or at < tables:
         least = tables + (WHOLE_BYTES * number if _number(text, 4) == 1 else 0)
         what = "its pages, events and checkpoints" if _number(text, 4) == 1 else "its pages and events"
-        return Fault(f"the text ends in {what}", at, b"", f"by its header, a text with {what} has at least {least:,} bytes")
+        rule = f"by its header, a text with {what} has at least {least:,} bytes"
+        return Fault(f"the text ends in {what}", at, b"", rule)
     claims = list(_whole(text))
     if len(claims) < number:
         start = claims[-1].end if claims else tables

@@ -13,7 +13,9 @@ from types import ModuleType
 from galluspa.command import Parser
 
 PREFIX = "galluspa-"
-STATUS = "0 if all is well, 1 if something that was looked at is not, and 2, after one line on standard error, for bad input."
+STATUS = (
+    "0 if all is well, 1 if something that was looked at is not, and 2, after one line on standard error, for bad input."
+)
 
 
 @dataclass(frozen=True)
@@ -126,7 +128,9 @@ complete -o default -F _galluspa @NAMES@
 
 def completion(tools: list[Tool], commands: dict[str, list[str]]) -> str:
     """The completion for bash: of the program's commands with their options, and of the tools' options."""
-    options = {**commands, **{it.command: [option for action in it.options for option in action.option_strings] for it in tools}}
+    options = dict(commands)
+    for it in tools:
+        options[it.command] = [option for action in it.options for option in action.option_strings]
     given = {name: " ".join(words) for name, words in options.items() if words}
     cases = [f"        {name}) COMPREPLY=($(compgen -W '{words}' -- \"$word\")) ;;" for name, words in given.items()]
     names = " ".join(["oberon_replay", *(it.command for it in tools)])

@@ -32,7 +32,8 @@ def library_folder(given: Path | None) -> Path:
         if all((folder / name).is_file() for name in LIBRARIES):
             return folder
     names = " and ".join(LIBRARIES)
-    raise Refused(f"{names} are not in {folders[0]}: build them (examples/c/install FOLDER), and name FOLDER/lib with --library")
+    raise Refused(
+        f"{names} are not in {folders[0]}: build them (examples/c/install FOLDER), and name FOLDER/lib with --library")
 
 
 @dataclass(frozen=True)
@@ -46,7 +47,8 @@ class File:
 
 @dataclass(frozen=True)
 class Contents:
-    """What a package is made of: the program, the folder of the library, the version and the date of the manual pages."""
+    """What a package is made of: the program, the folder of the library, the version and the date of the manual
+    pages."""
 
     program: Program
     library: Path
@@ -94,7 +96,8 @@ def commands_of(program: Program) -> dict[str, list[str]]:
     """The commands of the program and the options of each, as its help tells them."""
 
     def help_of(*arguments: str) -> str:
-        return subprocess.run([program.path, *arguments, "--help"], stdout=subprocess.PIPE, check=False).stdout.decode("ascii", "replace")
+        ran = subprocess.run([program.path, *arguments, "--help"], stdout=subprocess.PIPE, check=False)
+        return ran.stdout.decode("ascii", "replace")
 
     names = re.findall(r"^  (\w+) ", help_of().partition("Commands:")[2].partition("\n\n")[0], re.MULTILINE)
     return {name: re.findall(r"^ +(?:-\w, )?(--\w+)", help_of(name), re.MULTILINE) for name in names if name != "help"}
@@ -103,7 +106,8 @@ def commands_of(program: Program) -> dict[str, list[str]]:
 def architecture() -> str:
     """The name that Debian has for this machine."""
     try:
-        return subprocess.run(["dpkg", "--print-architecture"], stdout=subprocess.PIPE, check=True).stdout.decode().strip()
+        ran = subprocess.run(["dpkg", "--print-architecture"], stdout=subprocess.PIPE, check=True)
+        return ran.stdout.decode().strip()
     except (OSError, subprocess.CalledProcessError) as error:
         raise Refused("dpkg is not there: a package of Debian is made on Debian") from error
 

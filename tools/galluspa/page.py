@@ -31,7 +31,8 @@ BYTES_AROUND = 128
 
 @dataclass(frozen=True)
 class Shown:
-    """A checkpoint as the page shows it; the picture is base64, and empty where the screen is that of an earlier one."""
+    """A checkpoint as the page shows it; the picture is base64, and empty where the screen is that of an earlier
+    one."""
 
     number: int
     count: int
@@ -57,7 +58,8 @@ class Line:
 
 @dataclass(frozen=True)
 class Fault:
-    """Where a text is refused: the byte, whether the text ends there, the field and its rule, and the lines around it."""
+    """Where a text is refused: the byte, whether the text ends there, the field and its rule, and the lines around
+    it."""
 
     at: int
     is_end: bool
@@ -136,7 +138,8 @@ class Report:
         before = None
         for number, checkpoint in enumerate(self.recording.checkpoints):
             yield f"checkpoint {number} at {checkpoint.count}"
-            shown = [f"{part.name} {part.text}" for part in self._parts(checkpoint, before) if self._is_shown(part, before)]
+            parts = self._parts(checkpoint, before)
+            shown = [f"{part.name} {part.text}" for part in parts if self._is_shown(part, before)]
             shown += [f"next {self._next(checkpoint)}"] if self._next(checkpoint) else []
             shown += [f"out {line}" for line in states.text(checkpoint.output).split("\n") if checkpoint.output]
             if places := self._places(checkpoint, before):
@@ -204,7 +207,8 @@ class Report:
         return [part.text for part in self._parts(checkpoint, None) if part.name == name]
 
     def _pictures(self) -> list[tuple[str, str]]:
-        """The claimed screen and the machine's where they differ, with their names: base64, the dots that differ set off."""
+        """The claimed screen and the machine's where they differ, with their names: base64, the dots that differ set
+        off."""
         if not self.false or not self.false.screens:
             return []
         it = self.false.screens

@@ -54,7 +54,8 @@ class Program:
 
     @staticmethod
     def find(given: str | None) -> "Program":
-        """The program that was given, or else the one that was built in this repository, or installed with these tools."""
+        """The program that was given, or else the one that was built in this repository, or installed with these
+        tools."""
         path = Path(given) if given else INSTALLED if INSTALLED.is_file() and not BUILT.is_file() else BUILT
         if not path.is_file() or not os.access(path, os.X_OK):
             advice = "" if given else "; build it (rt run in crates/oberon_replay), or name one with --program"

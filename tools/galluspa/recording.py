@@ -1,7 +1,8 @@
 """Reads and writes recordings, of versions 1 and 2, as docs/formats.md lays them out.
 
-Whether a text is lawful says the program, and only it: ask it first (`lawful` does). A text that the program would refuse
-is refused here too, or read in some way, but never with a traceback. What is written is lawful where its numbers are.
+Whether a text is lawful says the program, and only it: ask it first (`lawful` does). A text that the program would
+refuse is refused here too, or read in some way, but never with a traceback. What is written is lawful where its numbers
+are.
 """
 
 import struct
@@ -29,12 +30,13 @@ FLAGS = "NZCV"
 _HEADER = struct.Struct("<4s5I")
 _EVENT = struct.Struct("<QII")
 
-# The fields of a checkpoint in the order in which they are encoded: those of both versions, among them a word for each of
-# STATE_WORDS, and those of version 2 alone. The table follows the first of these in version 1, and its changes follow both in
-# version 2.
+# The fields of a checkpoint in the order in which they are encoded: those of both versions, among them a word for each
+# of STATE_WORDS, and those of version 2 alone. The table follows the first of these in version 1, and its changes follow
+# both in version 2.
 STATE_WORDS = ("h", "pc", "flags", "stop", "timer", "switches", "leds", "mouse", "serial")
 _FIXED_FIELDS = {
-    "count": "Q", "registers": "16I", **dict.fromkeys(STATE_WORDS, "I"), "key_count": "I", "keys": "16s", "output_length": "I",
+    "count": "Q", "registers": "16I", **dict.fromkeys(STATE_WORDS, "I"),
+    "key_count": "I", "keys": "16s", "output_length": "I",
 }
 _TIMER_FIELDS = {"rate": "I", "phase": "I", "change_count": "I"}
 _FIXED, _TIMER = (struct.Struct("<" + "".join(fields.values())) for fields in (_FIXED_FIELDS, _TIMER_FIELDS))
@@ -59,7 +61,8 @@ class Event:
 class Checkpoint:
     """What is claimed of the machine at a count, with the bytes sent since the checkpoint before.
 
-    A recording of version 1 has rate and phase 0. `start` is the offset of its first byte in the text that it was read from.
+    A recording of version 1 has rate and phase 0. `start` is the offset of its first byte in the text that it was read
+    from.
     """
 
     count: int
@@ -239,7 +242,8 @@ def table_of(pages: Mapping[int, int]) -> array:
 
 
 def of_display(checkpoint: Checkpoint, pages: bytes) -> bytes:
-    """The text of a recording of one state, that of a checkpoint, whose memory is 0 but for the pages from the display's on."""
+    """The text of a recording of one state, that of a checkpoint, whose memory is 0 but for the pages from the
+    display's on."""
     number = len(pages) // PAGE_BYTES
     table = table_of({PLACES - number + at: at + 1 for at in range(number)})
     alone = replace(checkpoint, count=0, output=b"", table=table)

@@ -74,7 +74,8 @@ def of_recording(name: str, read: Recording) -> Session:
         if value
     ]
     if inexpressible:
-        raise Refused(f"{name}: its first state has {', '.join(inexpressible)} other than 0, which a session cannot say")
+        parts = ", ".join(inexpressible)
+        raise Refused(f"{name}: its first state has {parts} other than 0, which a session cannot say")
     return Session(
         registers=list(first.registers),
         h=first.h,
@@ -91,7 +92,8 @@ def of_recording(name: str, read: Recording) -> Session:
 def image_at(name: str, image: bytes, address: int) -> bytes:
     """A memory that begins with zeros and has an image from a byte address on."""
     if address + len(image) > MEMORY_BYTES:
-        raise Refused(f"{name}: {len(image):,} bytes from {address:X} on go beyond the memory of {MEMORY_BYTES:,} bytes")
+        raise Refused(
+            f"{name}: {len(image):,} bytes from {address:X} on go beyond the memory of {MEMORY_BYTES:,} bytes")
     return bytes(address) + image
 
 

@@ -14,7 +14,8 @@ WORDS = {
 
 @dataclass(frozen=True)
 class Part:
-    """A part of a state but for its memory: its name in the lines of the program, what is claimed, and whether it changed."""
+    """A part of a state but for its memory: its name in the lines of the program, what is claimed, and whether it
+    changed."""
 
     name: str
     text: str
@@ -106,7 +107,8 @@ def event(taken: Event) -> str:
 
 def text(sent: bytes) -> str:
     """Bytes as text: line feeds and signs of ASCII as they are, other bytes as a backslash and two digits."""
-    return "".join(chr(byte) if 0x20 <= byte < 0x7F and byte != 0x5C or byte == 10 else f"\\{byte:02x}" for byte in sent)
+    plain = {10, *range(0x20, 0x7F)} - {ord("\\")}
+    return "".join(chr(byte) if byte in plain else f"\\{byte:02x}" for byte in sent)
 
 
 def ranges(numbers: list[int]) -> str:

@@ -1,4 +1,5 @@
-"""The stretches of a recording between two of its checkpoints, as recordings of their own, and the line that theirs make."""
+"""The stretches of a recording between two of its checkpoints, as recordings of their own, and the line that theirs
+make."""
 
 import re
 from array import array
@@ -15,8 +16,8 @@ _FALSE = re.compile(r"false checkpoint (\d+) at (\d+) part (.+)")
 
 
 def stretch(read: Recording, first: int, last: int) -> Recording:
-    """The recording from one checkpoint to a later one: what the first claims is its first state, counts and inputs begin at 0
-    again, and its pool has the pages that it names, in the order in which it names them."""
+    """The recording from one checkpoint to a later one: what the first claims is its first state, counts and inputs
+    begin at 0 again, and its pool has the pages that it names, in the order in which it names them."""
     begin, end = read.checkpoints[first].count, read.checkpoints[last].count
     from_here, up_to = (bisect_left(read.events, count, key=attrgetter("count")) for count in (begin, end))
     numbers = {0: 0}
@@ -35,8 +36,8 @@ def _renumbered(claim: Checkpoint, numbers: dict[int, int]) -> array:
 
 @dataclass(frozen=True)
 class Found:
-    """What the line of a stretch says: the first false checkpoint by its number in the whole recording and its first false
-    part; or neither, where all were found true."""
+    """What the line of a stretch says: the first false checkpoint by its number in the whole recording and its first
+    false part; or neither, where all were found true."""
 
     first: int
     last: int
@@ -58,7 +59,8 @@ def found(read: Recording, first: int, last: int, line: str) -> Found | None:
 
 
 def joined(read: Recording, lines: Iterable[Found]) -> Found:
-    """What the lines of stretches say of the whole recording: the least false checkpoint, once all before it were looked at."""
+    """What the lines of stretches say of the whole recording: the least false checkpoint, once all before it were
+    looked at."""
     lines = list(lines)
     last = len(read.checkpoints) - 1
     least = min((it for it in lines if it.false is not None), key=lambda it: it.false, default=Found(0, last))
