@@ -65,18 +65,25 @@ MAY_BE_UNUSED void read_checkpoint(Recording *r) {
     r->next = end;
 }
 
+/* The inputs of the recording in these bytes, and how many there are. */
+MAY_BE_UNUSED Event *read_events(const uint8_t *bytes, size_t *many) {
+    const uint8_t *at = bytes + HEADER_BYTES + PAGE_BYTES * number(bytes + 8, 4);
+    *many = number(bytes + 12, 4);
+    Event *events = malloc(sizeof(Event) * *many + 1);
+    if (!events) die("no memory");
+    for (size_t i = 0; i < *many; i++, at += EVENT_BYTES)
+        events[i] = (Event){number(at, 8), (uint32_t)number(at + 8, 4), (uint32_t)number(at + 12, 4)};
+    return events;
+}
+
 /* Reads the recording in these bytes, which it goes on to use, up to its first checkpoint. */
 MAY_BE_UNUSED Recording open_recording(const uint8_t *bytes) {
     uint64_t pages = number(bytes + 8, 4);
-    Recording r = {.version = number(bytes + 4, 4), .many = number(bytes + 12, 4), .checkpoints = number(bytes + 16, 4)};
-    const uint8_t *at = bytes + HEADER_BYTES + PAGE_BYTES * pages;
-    r.pool = malloc(PAGE_BYTES * pages + 1);
-    r.events = malloc(sizeof(Event) * r.many + 1);
-    if (!r.pool || !r.events) die("no memory");
+    Recording r = {.version = number(bytes + 4, 4), .checkpoints = number(bytes + 16, 4)};
+    if (!(r.pool = malloc(PAGE_BYTES * pages + 1))) die("no memory");
     read_words(r.pool, bytes + HEADER_BYTES, PAGE * pages);
-    for (size_t i = 0; i < r.many; i++, at += EVENT_BYTES)
-        r.events[i] = (Event){number(at, 8), (uint32_t)number(at + 8, 4), (uint32_t)number(at + 12, 4)};
-    r.next = r.output = at;
+    r.events = read_events(bytes, &r.many);
+    r.next = r.output = bytes + HEADER_BYTES + PAGE_BYTES * pages + EVENT_BYTES * r.many;
     for (uint64_t k = 0; k < r.checkpoints; k++) r.output = end_of(r.output, r.version);
     read_checkpoint(&r);
     return r;

@@ -30,9 +30,9 @@ FLAGS = "NZCV"
 _HEADER = struct.Struct("<4s5I")
 _EVENT = struct.Struct("<QII")
 
-# The fields of a checkpoint in the order in which they are encoded: those of both versions, among them a word for each
-# of STATE_WORDS, and those of version 2 alone. The table follows the first of these in version 1, and its changes follow
-# both in version 2.
+# The fields of a checkpoint in the order in which they are encoded: those of both versions, among them a word for
+# each of STATE_WORDS, and those of version 2 alone. The table follows the first of these in version 1, and its
+# changes follow both in version 2.
 STATE_WORDS = ("h", "pc", "flags", "stop", "timer", "switches", "leds", "mouse", "serial")
 _FIXED_FIELDS = {
     "count": "Q", "registers": "16I", **dict.fromkeys(STATE_WORDS, "I"),
