@@ -14,7 +14,8 @@ from galluspa.command import Parser
 
 PREFIX = "galluspa-"
 STATUS = (
-    "0 if all is well, 1 if something that was looked at is not, and 2, after one line on standard error, for bad input."
+    "0 if all is well, 1 if something that was looked at is not, and 2, after one line on standard error, "
+    "for bad input."
 )
 
 
