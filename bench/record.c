@@ -12,7 +12,7 @@
  *   inputs    jumps to itself while a switch moves at each count: at most 1,000,000 steps
  *   sends     sends a byte with nearly each instruction: at most 1,000,000 steps
  */
-#include "machine.h"
+#include "recording.h"
 
 /* ---- a small assembler ---- */
 
@@ -185,10 +185,7 @@ static const Program programs[] = {
 
 /* ---- their recordings ---- */
 
-typedef struct { uint64_t count; uint32_t parts[FIELDS], table[PAGES], sent; uint8_t keys[KEYS]; } Checkpoint;
 typedef struct { uint32_t *words, *before, pages; } Pool;
-
-static void write_number(uint64_t n, int bytes) { while (bytes--) { putchar((int)(n & 255)); n >>= 8; } }
 
 static void *room_for(size_t many, size_t size) {
     void *room = calloc(many + 1, size);
@@ -197,7 +194,7 @@ static void *room_for(size_t many, size_t size) {
 }
 
 /* Adds the pages of memory that changed to the pool, under new numbers in the table. */
-static void lay_pages(const uint32_t *memory, Pool *pool, uint32_t *table) {
+static void add_pages(const uint32_t *memory, Pool *pool, uint32_t *table) {
     for (uint32_t p = 0; p < PAGES; p++) {
         const uint32_t *page = memory + PAGE * p;
         if (!memcmp(page, pool->before + PAGE * p, 4 * PAGE)) continue;
@@ -216,19 +213,6 @@ static Event *events_of(const Program *program, uint64_t steps, size_t *many) {
     return events;
 }
 
-static void write_checkpoint(const Checkpoint *c, const uint32_t *before) {
-    uint32_t changes = 0;
-    for (uint32_t p = 0; p < PAGES; p++) changes += c->table[p] != before[p];
-    write_number(c->count, 8);
-    for (int i = 0; i < FIELDS; i++)
-        if (i != 21 && i != 22) write_number(c->parts[i], 4); /* rate and phase stand behind the rest */
-    fwrite(c->keys, 1, KEYS, stdout);
-    write_number(c->sent, 4);
-    write_number(c->parts[21], 4); write_number(c->parts[22], 4); write_number(changes, 4);
-    for (uint32_t p = 0; p < PAGES; p++)
-        if (c->table[p] != before[p]) { write_number(p, 4); write_number(c->table[p], 4); }
-}
-
 static int make(const Program *program, uint64_t steps, uint32_t segments, uint32_t rate) {
     static const uint32_t zeros[PAGES];
     Machine m = {.memory = room_for(WORDS, 4), .rate = rate};
@@ -242,23 +226,21 @@ static int make(const Program *program, uint64_t steps, uint32_t segments, uint3
         list[k].count = steps / segments * k;
         run(&m, events, many, &next, at, list[k].count);
         at = list[k].count;
-        lay_out(&m, list[k].parts);
+        parts_of(&m, list[k].parts);
         memcpy(list[k].keys, m.keys, KEYS);
         list[k].sent = (uint32_t)(m.sent_length - sent);
         sent = m.sent_length;
         if (k) memcpy(list[k].table, list[k - 1].table, sizeof list[k].table);
-        lay_pages(m.memory, &pool, list[k].table);
+        add_pages(m.memory, &pool, list[k].table);
     }
     if (m.stop || sent > 1048576) die("the program stopped, or sent too much");
-    fwrite("ORSR", 1, 4, stdout);
-    write_number(2, 4); write_number(pool.pages, 4); write_number(many, 4); write_number(segments + 1, 4); write_number(0, 4);
-    for (size_t i = 0; i < (size_t)PAGE * pool.pages; i++) write_number(pool.words[i], 4);
-    for (size_t i = 0; i < many; i++) {
-        write_number(events[i].count, 8); write_number(events[i].kind, 4); write_number(events[i].value, 4);
-    }
-    for (uint32_t k = 0; k <= segments; k++) write_checkpoint(&list[k], k ? list[k - 1].table : zeros);
-    fwrite(m.sent, 1, sent, stdout);
-    return 0;
+    uint8_t *text = room_for(most_bytes(2, pool.pages, many, segments + 1, sent), 1);
+    uint8_t *to = write_header(text, 2, pool.pages, (uint32_t)many, segments + 1);
+    to = write_words(to, pool.words, (size_t)PAGE * pool.pages);
+    for (size_t i = 0; i < many; i++) to = write_event(to, &events[i]);
+    for (uint32_t k = 0; k <= segments; k++) to = write_checkpoint(to, 2, &list[k], k ? list[k - 1].table : zeros);
+    to = write_bytes(to, m.sent, sent);
+    return fwrite(text, 1, (size_t)(to - text), stdout) != (size_t)(to - text);
 }
 
 int main(int argc, char **argv) {

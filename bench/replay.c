@@ -1,4 +1,4 @@
-/* A plain replayer of recordings of version 2, to measure the proved one against.
+/* A plain replayer of recordings, to measure the proved one against.
  *
  *   replay FILE ..     replays each recording and prints the line that `oberon_replay check` prints
  */

@@ -5,9 +5,11 @@
  * The two are compared every FRAME instructions; a frame at whose end they differ is run again in frames of a tenth, down to a
  * single instruction. With -f 1 each instruction is compared. Ends with status 0 if they never differ, and 1 if they do.
  *
- * The emulator is bench/machine.h. To test another one, replace load, seen and advance, which are all that knows of it. */
+ * The emulator is bench/machine.h, and bench/recording.h reads the inputs. To test another one, replace load, seen and advance,
+ * which are all that knows of it. */
 #include "galluspa.h"
 #include "machine.h"
+#include "recording.h" /* after the emulator, which may be another than the one beside it */
 
 enum { SENT = 1 << 20 };
 
@@ -149,10 +151,8 @@ static size_t inputs_at_random(galluspa_input *inputs, size_t many, uint64_t ste
     return many;
 }
 
-static uint32_t word_at(const uint8_t *p) { return p[0] | (uint32_t)p[1] << 8 | (uint32_t)p[2] << 16 | (uint32_t)p[3] << 24; }
-
 /* The inputs of a recording, whose first state goes to the side; its last count goes to `to`. */
-static size_t open_recording(const char *name, Side *c, galluspa_input **inputs, uint64_t *to) {
+static size_t inputs_of(const char *name, Side *c, galluspa_input **inputs, uint64_t *to) {
     uint8_t *text = malloc(GALLUSPA_LONGEST + 1);
     FILE *file = fopen(name, "rb");
     if (!text || !file) { perror(name); exit(3); }
@@ -160,14 +160,14 @@ static size_t open_recording(const char *name, Side *c, galluspa_input **inputs,
     fclose(file);
     uint8_t code = galluspa_claim(text, length, 0, &c->state, c->words, GALLUSPA_WORDS);
     static Side last;
-    if (!code) code = galluspa_claim(text, length, word_at(text + 16) - 1, &last.state, last.words, GALLUSPA_WORDS);
+    if (!code) code = galluspa_claim(text, length, (uint32_t)number(text + 16, 4) - 1, &last.state, last.words, GALLUSPA_WORDS);
     if (code) { fprintf(stderr, "%s: refused: %u\n", name, code); exit(2); }
     *to = last.state.count;
-    size_t many = word_at(text + 12);
-    uint8_t *at = text + 24 + 1024 * (size_t)word_at(text + 8);
+    size_t many;
+    Event *events = read_events(text, &many);
     if (!(*inputs = malloc((many + 1) * sizeof **inputs))) die("no memory");
-    for (size_t i = 0; i < many; i++, at += 16)
-        (*inputs)[i] = (galluspa_input){word_at(at) | (uint64_t)word_at(at + 4) << 32, word_at(at + 8), word_at(at + 12)};
+    for (size_t i = 0; i < many; i++) (*inputs)[i] = (galluspa_input){events[i].count, events[i].kind, events[i].value};
+    free(events);
     free(text);
     return many;
 }
@@ -187,7 +187,7 @@ int main(int argc, char **argv) {
         uint64_t to = steps;
         char *end;
         seed = strtoull(argv[i], &end, 10) * 0x9E3779B97F4A7C15u + 1;
-        if (*end) many = open_recording(argv[i], &c, &inputs, &to);
+        if (*end) many = inputs_of(argv[i], &c, &inputs, &to);
         else {
             fill(&c);
             if (!(inputs = malloc(100 * sizeof *inputs))) die("no memory");

@@ -3,7 +3,7 @@
 from collections.abc import Iterator, Sequence
 from dataclasses import dataclass
 
-from galluspa.words import ADD, AND, JUMP_HERE, NE, ROR, SUB, U, XOR, branch, imm, load, reg
+from galluspa.assembler import ADD, AND, JUMP_HERE, NE, ROR, SUB, U, XOR, branch, imm, load, reg
 from of_programs.rows import Row
 
 MASK = 0xFFFFFFFF

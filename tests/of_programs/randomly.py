@@ -3,12 +3,12 @@
 import struct
 from random import Random
 
-from galluspa.recording import Event
-from galluspa.sessions import KIND_NUMBERS, MOST, MOUSE, Session
-from galluspa.words import (
+from galluspa.assembler import (
     ADD, ALWAYS, AND, BYTE, DEVICES, DIV, FAD, LINK, MOV, MUL, SUB, U, V, XOR,
     branch, branch_register, imm, load, reg, store,
 )
+from galluspa.recording import Event
+from galluspa.sessions import KIND_NUMBERS, MOST, MOUSE, Session
 from of_programs.trial import Case
 
 WORDS = 1 << 18

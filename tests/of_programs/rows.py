@@ -1,4 +1,5 @@
-"""Small programs whose outcome is known: what may come between an operation and the branch after it, and stores into code.
+"""Small programs whose outcome is known: what may come between an operation and the branch after it, and stores into
+code.
 
 Each begins with R10 at the device words, and with a timer that counts every instruction unless it says otherwise.
 """
@@ -6,13 +7,14 @@ Each begins with R10 at the device words, and with a timer that counts every ins
 from collections.abc import Mapping, Sequence
 from dataclasses import dataclass
 
-from galluspa.recording import Checkpoint, Event
-from galluspa.sessions import KIND_NUMBERS, Session
-from galluspa.words import (
+from galluspa import states
+from galluspa.assembler import (
     ADD, ALWAYS, AND, ANN, BYTE, CC, DEVICES, DIV, EQ, FAD, JUMP_HERE, LINK, MOV, NE, SERIAL, SUB, SWITCHES, TIMER,
     branch, branch_register, imm, load, reg, store,
 )
-from of_programs.trial import PART_NAMES, Case, Finding, memory_of
+from galluspa.recording import Checkpoint, Event
+from galluspa.sessions import KIND_NUMBERS, Session
+from of_programs.trial import Case, Finding, memory_of
 
 END = 1 << 18
 RUNNING, FLOAT, DIVISOR, FETCH, ADDRESS = range(5)
@@ -50,13 +52,12 @@ class Row:
 
     def unexpected(self, last: Checkpoint, shown_by: str) -> list[Finding]:
         """What is not as expected at the last checkpoint."""
-        names = {name: field for field, name in PART_NAMES.items()}
-        found = []
-        for part, wanted in self.expected.items():
-            value = last.registers[int(part[1:])] if part[0] == "R" else getattr(last, names.get(part, part))
-            if value != wanted:
-                found.append(Finding(last.count, part, f"{shown_by} has {value}, and {wanted} is expected"))
-        return found
+        values = states.values(last)
+        return [
+            Finding(last.count, part, f"{shown_by} has {values[part]}, and {wanted} is expected")
+            for part, wanted in self.expected.items()
+            if values[part] != wanted
+        ]
 
 
 def _loop(*words: int) -> list[int]:

@@ -1,8 +1,8 @@
 """Records a program with a checkpoint at each count and with few, and compares all that is said of it.
 
-With a checkpoint at every count the machine starts again at each instruction, so nothing that it decoded or deferred is left
-from the one before. With few checkpoints it runs on. Both have to reach the same states, and the check and the C replayers,
-which are independent emulators, have to accept all of them.
+With a checkpoint at every count the machine starts again at each instruction, so nothing that it decoded or deferred
+is left from the one before. With few checkpoints it runs on. Both have to reach the same states, and the check and the
+C replayers, which are independent emulators, have to accept all of them.
 """
 
 import re
@@ -12,6 +12,7 @@ from dataclasses import dataclass, replace
 from pathlib import Path
 from tempfile import TemporaryDirectory
 
+from galluspa import states
 from galluspa.command import Refused
 from galluspa.program import ACCEPTED
 from galluspa.recording import PAGE_BYTES, Checkpoint, Recording, read, write
@@ -20,8 +21,6 @@ from galluspa.sessions import Session
 DENSE, FEW, ONE = "a checkpoint at each count", "a few checkpoints", "one checkpoint at the end"
 WORKERS = (1, 4)
 FALSE_LINE = re.compile(r"false checkpoint \d+ at (\d+) part (.*)")
-FIELDS = ("h", "pc", "flags", "stop", "timer", "rate", "phase", "switches", "leds", "mouse", "serial", "keys")
-PART_NAMES = {"h": "H", "pc": "PC", "leds": "LEDs"}
 
 
 @dataclass(frozen=True)
@@ -136,9 +135,8 @@ def _states_apart(dense: Recording, others: Mapping[str, Recording]) -> Iterator
 
 def _first_difference(dense: Recording, wanted: Checkpoint, other: Recording, claimed: Checkpoint) -> str:
     """The first part in which two checkpoints differ but for what was sent; empty if there is none."""
-    registers = zip(wanted.registers, claimed.registers, strict=True)
-    parts = [f"R{at}" for at, (one, two) in enumerate(registers) if one != two]
-    parts += [PART_NAMES.get(field, field) for field in FIELDS if getattr(wanted, field) != getattr(claimed, field)]
+    claimed_values = states.values(claimed)
+    parts = [name for name, value in states.values(wanted).items() if claimed_values[name] != value]
     if not parts:
         numbers = enumerate(zip(wanted.table, claimed.table, strict=True))
         parts = [f"page {at}" for at, (one, two) in numbers if (one or two) and dense.page(one) != other.page(two)]

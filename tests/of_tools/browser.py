@@ -1,4 +1,5 @@
-"""Drives a headless Chromium over a pipe, with the DevTools protocol: opens pages, evaluates, clicks, types and takes pictures."""
+"""Drives a headless Chromium over a pipe, with the DevTools protocol: opens pages, evaluates, clicks, types and takes
+pictures."""
 
 import base64
 import json
@@ -137,10 +138,6 @@ class Page:
     def save_into(self, folder: Path) -> None:
         """Has files that the page saves go to a folder."""
         self._ask("Browser.setDownloadBehavior", behavior="allow", downloadPath=str(folder.resolve()))
-
-    def prefer(self, scheme: str) -> None:
-        """Makes the reader's scheme of colours `light` or `dark`."""
-        self._ask("Emulation.setEmulatedMedia", features=[{"name": "prefers-color-scheme", "value": scheme}])
 
     def reload(self) -> None:
         """Loads the page anew."""

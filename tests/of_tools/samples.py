@@ -7,17 +7,18 @@ import struct
 import subprocess
 import tempfile
 import unittest
-from array import array
-from collections.abc import Iterable, Sequence
+from collections.abc import Iterable, Mapping, Sequence
 from dataclasses import dataclass
 from pathlib import Path
 
-from galluspa.recording import PLACES, Checkpoint, Event, Recording, write
+from galluspa.recording import Checkpoint, Event, Recording, page_of, table_of, write
 
 TOP = Path(__file__).resolve().parents[2]
 TOOLS = TOP / "tools"
 EXAMPLES = TOP / "examples"
 PROGRAM = TOP / "crates/oberon_replay/out/oberon_replay"
+# The recording of version 1 with R0 = 5 after 100 instructions: 9,504 bytes.
+STORED = (TOP / "crates/oberon_replay/stdin").read_bytes()
 JUMP = 0xE7FFFFFF
 
 
@@ -73,54 +74,27 @@ def session(words: Iterable[int], checkpoints: Iterable[int], inputs: Iterable[t
     }
 
 
-def page(*words: int) -> bytes:
-    """A page that begins with these words."""
-    return struct.pack("<256I", *words, *[0] * (256 - len(words)))
+def claim(count: int, pages: Mapping[int, int] | None = None, **parts: object) -> Checkpoint:
+    """A checkpoint with these parts, and with the first page of the pool at place 0 if no other pages are given."""
+    return Checkpoint(count, table=table_of({0: 1} if pages is None else pages), **parts)
 
 
-@dataclass(frozen=True)
-class Claim:
-    """A checkpoint to lay out: R0 to R15 and nine words from H to the serial byte, rate and phase, output, and places' pages."""
-
-    count: int
-    words: Sequence[int]
-    keys: bytes
-    rate: int
-    phase: int
-    output: bytes
-    pages: dict[int, int]
-
-    def checkpoint(self) -> Checkpoint:
-        """The same as a checkpoint of a recording."""
-        others = dict(zip(("h", "pc", "flags", "stop", "timer", "switches", "leds", "mouse", "serial"), self.words[16:], strict=True))
-        table = array("I", [self.pages.get(place, 0) for place in range(PLACES)])
-        return Checkpoint(count=self.count, registers=tuple(self.words[:16]), **others, rate=self.rate, phase=self.phase,
-                          keys=self.keys, output=self.output, table=table)
-
-
-def lay(version: int, pool: Sequence[bytes], events: Sequence[tuple], claims: Sequence[Claim]) -> bytes:
-    """The text of a recording in a version; rate and phase are left out in version 1."""
-    checkpoints = [claim.checkpoint() for claim in claims]
-    return write(Recording(version, b"".join(pool), [Event(*event) for event in events], checkpoints))
+def encoded(
+    version: int, pool: Iterable[bytes], checkpoints: Iterable[Checkpoint], events: Iterable[Event] = ()
+) -> bytes:
+    """A recording in a version; in version 1, rate and phase are left out."""
+    return write(Recording(version, b"".join(pool), list(events), list(checkpoints)))
 
 
 def rejoining(claimed: int) -> bytes:
     """A recording that claims R5 in its first checkpoint, where the machine has 1, and is right in its second."""
-    first, second = ([0] * 5 + [claimed] + [0] * 19), ([0] * 5 + [1] + [0] * 19)
-    claims = [
-        Claim(count, words, b"", 0, 0, b"", {0: 1}) for count, words in ((0, [0] * 25), (2, first), (4, second))
-    ]
-    return lay(1, [page(0x45000001, 0xE7FFFFFE)], [], claims)
+    first, second = (claim(count, registers=in_register(5, value)) for count, value in ((2, claimed), (4, 1)))
+    return encoded(1, [page_of(0x45000001, 0xE7FFFFFE)], [claim(0), first, second])
 
 
-def stored() -> bytes:
-    """The text of version 1 of a recording with R0 = 5 after 100 instructions: 9,504 bytes."""
-    first = Claim(0, [0] * 25, b"", 0, 0, b"", {0: 1})
-    second = Claim(100, [5] + [0] * 16 + [100] + [0] * 7, b"", 0, 0, b"", {0: 1})
-    return lay(1, [page(0x40000005)], [], [first, second])
-
-
-STORED = stored()
+def in_register(at: int, value: int) -> tuple[int, ...]:
+    """Registers of which one has a value, and all others are 0."""
+    return tuple(value if other == at else 0 for other in range(16))
 
 
 class ToolTest(unittest.TestCase):

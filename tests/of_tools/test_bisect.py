@@ -63,10 +63,10 @@ MISTAKES = (
     Mistake("a device", "machine.h", "(m->waiting != 0) << 28", "(m->waiting > 1) << 28", FIRST + 11),
     Mistake("a key that stays", "machine.h", "m->waiting--;", "", FIRST + 12),
     Mistake("a link that leaves the flags", "machine.h", "put(m, 15, 4 * next);", "m->r[15] = 4 * next;", FIRST + 15),
-    Mistake("an input late by one", "replay.h", "(Event){number(event, 8),", "(Event){number(event, 8) + 1,", KEYS_AT),
+    Mistake("an input late by one", "recording.h", "(Event){number(at, 8),", "(Event){number(at, 8) + 1,", KEYS_AT),
     Mistake("a millisecond late by one", "machine.h", "++m->phase == m->rate", "++m->phase > m->rate", 6),
 )
-SOURCES = ("bench/machine.h", "bench/replay.h", "examples/c/state.c")
+SOURCES = ("bench/machine.h", "bench/recording.h", "bench/replay.h", "examples/c/state.c")
 
 
 def compile_state(folder: Path, mistake: Mistake | None) -> None:

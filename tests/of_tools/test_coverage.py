@@ -4,7 +4,8 @@ import subprocess
 
 import browser
 from galluspa.coverage import CELLS
-from samples import EXAMPLES, JUMP, STORED, TOP, Claim, ToolTest, lay, page, record, run, session, tool
+from galluspa.recording import page_of
+from samples import EXAMPLES, JUMP, STORED, TOP, ToolTest, claim, encoded, record, run, session, tool
 
 SUITE = EXAMPLES / "suite"
 # A mistake in bench/machine.h, and the recordings that show it.
@@ -58,8 +59,7 @@ class CoverageTest(ToolTest):
         self.assertEqual(lines[0], "1 recordings, 1 instructions")
 
     def test_a_recording_that_no_session_begins_is_named(self) -> None:
-        lit = Claim(0, [0] * 22 + [1, 0, 0], b"", 0, 0, b"", {0: 1})
-        lines = self.coverage(lay(2, [page(JUMP)], [], [lit]))
+        lines = self.coverage(encoded(2, [page_of(JUMP)], [claim(0, leds=1)]))
         self.assertEqual(lines[1], "not looked at: it.orsr: its first state has LEDs other than 0, which a session cannot say")
         lines = self.coverage(STORED[:-1])
         self.assertEqual(lines[1], "not looked at: it.orsr: refused 1 short at byte 9503")
@@ -107,7 +107,7 @@ class OwnSuiteTest(ToolTest):
         machine = (TOP / "bench/machine.h").read_text()
         self.assertIn(old, machine)
         self.file("c/machine.h", machine.replace(old, new, 1))
-        for name in ("replay.h", "replay.c"):
+        for name in ("recording.h", "replay.h", "replay.c"):
             self.file(f"c/{name}", (TOP / "bench" / name).read_bytes())
         replay = self.folder / "c/replay"
         subprocess.run(["cc", "-O1", "-w", "-o", replay, self.folder / "c/replay.c"], check=True)

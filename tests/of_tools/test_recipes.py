@@ -1,7 +1,8 @@
-"""The recipes of docs/suites.md, run exactly as shown: GNU parallel over ssh to two accounts, Slurm job arrays, and make.
+"""The recipes of docs/suites.md, run exactly as shown: GNU parallel over ssh to two accounts, Slurm job arrays, and
+make.
 
-Servers listen on free ports of 127.0.0.1, with keys made for the test. At the end the test removes accounts, processes and files.
-If a package cannot be installed, the test is skipped and says so.
+Servers listen on free ports of 127.0.0.1, with keys made for the test. At the end the test removes accounts, processes
+and files. If a package cannot be installed, the test is skipped and says so.
 """
 
 import os

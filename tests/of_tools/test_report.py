@@ -2,7 +2,6 @@
 
 import base64
 import io
-import struct
 import time
 import unittest
 from pathlib import Path
@@ -10,7 +9,8 @@ from pathlib import Path
 from PIL import Image
 
 import browser
-from samples import EXAMPLES, JUMP, PROGRAM, STORED, Claim, ToolTest, lay, page, record, rejoining, run, session, tool
+from galluspa.recording import Event, page_of
+from samples import EXAMPLES, JUMP, PROGRAM, STORED, ToolTest, claim, encoded, record, rejoining, run, session, tool
 
 # The dots of a page's pictures, row by row from the top: a bit for each that is dark, as a base64 text.
 DOTS = """
@@ -85,23 +85,21 @@ class ReportWordsTest(ReportTest):
         for text in (
             b"",
             b"ORSR",
-            struct.pack("<4s5I", b"ORSR", 1, 0, 0, 1, 0) + bytes(4228),
+            encoded(1, [], [claim(0, {})]),
             record(session([0x000C0000], [1, 1 << 40])),
             record(session([0xC7000001], [1, 2, 9])),
         ):
             self.assertIn(b"<h1", self.report(text).read_bytes())
 
     def test_what_is_claimed_of_a_false_part_is_shown(self) -> None:
-        words = [*[0] * 17, 0, *[0] * 7]
-        true = Claim(0, words, b"", 0, 0, b"", {0: 1})
-        pool = [page(JUMP), page(JUMP, 0xABCD)]
+        pool = [page_of(JUMP), page_of(JUMP, 0xABCD)]
         for false, line, shown in (
-            (Claim(5, words, b"", 0, 0, b"", {0: 2}), "part page 0", "00000000  ff ff ff e7 cd ab 00 00"),
-            (Claim(5, words, b"", 0, 0, b"Hi", {0: 1}), "part out", "00000000  48 69"),
-            (Claim(5, words, b"\x41", 0, 0, b"", {0: 1}), "part keys", "Claimed is\n<code>41</code>"),
-            (Claim(5, [*[0] * 18, 2, *[0] * 6], b"", 0, 0, b"", {0: 1}), "part flags", "<code>--C-</code>"),
+            (claim(5, {0: 2}), "part page 0", "00000000  ff ff ff e7 cd ab 00 00"),
+            (claim(5, output=b"Hi"), "part out", "00000000  48 69"),
+            (claim(5, keys=b"\x41"), "part keys", "Claimed is\n<code>41</code>"),
+            (claim(5, flags=2), "part flags", "<code>--C-</code>"),
         ):
-            told = self.report(lay(1, pool, [], [true, false])).read_text()
+            told = self.report(encoded(1, pool, [claim(0), false])).read_text()
             self.assertIn(f"false checkpoint 1 at 5 {line}</h1>", told)
             self.assertIn(shown, told)
 
@@ -127,11 +125,13 @@ class ReportInBrowserTest(ReportTest):
             self.assertTrue(page.printed().startswith(b"%PDF"))
 
     def test_nothing_overlaps_in_windows_of_any_width(self) -> None:
-        words = [*[0xFFFFFFFF] * 17, 262143, 15, 0, 0xFFFFFFFF, 0xFFF, 0xFF, 0x073FF3FF, 0x1FF]
-        first = Claim(0, [0] * 25, b"", 0, 0, b"", {0: 1})
-        wide = Claim(1000000, words, b"A" * 16, 0xFFFFFFFF, 0xFFFFFFFE, b"A" * 400, {0: 1, 1000: 2})
-        laid = lay(2, [page(JUMP), page(1)], [(5, 3, 0x073FF3FF)], [first, wide])
-        for text in ((EXAMPLES / "face.orsr").read_bytes(), laid, STORED[:-1]):
+        wide = claim(
+            1000000, {0: 1, 1000: 2}, registers=(0xFFFFFFFF,) * 16, h=0xFFFFFFFF, pc=262143, flags=15, timer=0xFFFFFFFF,
+            rate=0xFFFFFFFF, phase=0xFFFFFFFE, switches=0xFFF, leds=0xFF, mouse=0x073FF3FF, serial=0x1FF, keys=b"A" * 16,
+            output=b"A" * 400,
+        )
+        widest = encoded(2, [page_of(JUMP), page_of(1)], [claim(0), wide], [Event(5, 3, 0x073FF3FF)])
+        for text in ((EXAMPLES / "face.orsr").read_bytes(), widest, STORED[:-1]):
             with self.browser.page(self.report(text, "a" * 200 + ".orsr")) as opened:
                 for width in browser.WIDTHS:
                     opened.resize(width, 1000)

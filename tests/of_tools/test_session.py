@@ -3,7 +3,8 @@
 import json
 import struct
 
-from samples import EXAMPLES, JUMP, PROGRAM, STORED, Claim, ToolTest, lay, page, record, run, session, tool
+from galluspa.recording import page_of
+from samples import EXAMPLES, JUMP, PROGRAM, STORED, ToolTest, claim, encoded, record, run, session, tool
 
 # R1 := -56; R0 := the byte at 1024 in memory; it is sent; then a jump to itself.
 PROGRAM_WORDS = (0x5100FFC8, 0x90200000, 0xA0100000, JUMP)
@@ -12,7 +13,7 @@ PROGRAM_WORDS = (0x5100FFC8, 0x90200000, 0xA0100000, JUMP)
 class SessionTest(ToolTest):
     def image(self) -> object:
         """A memory image with a program at its start and a byte at 1024."""
-        return self.file("memory.bin", page(*PROGRAM_WORDS) + b"A")
+        return self.file("memory.bin", page_of(*PROGRAM_WORDS) + b"A")
 
     def test_helps(self) -> None:
         self.assert_helps("session")
@@ -62,16 +63,14 @@ class SessionTest(ToolTest):
         self.assertEqual(record(tool("session", "--of", self.file("it.orsr", recorded)).output), recorded)
 
     def test_says_what_a_session_cannot_say(self) -> None:
-        for at, name in ((18, "flags"), (19, "stop"), (20, "timer"), (21, "switches"), (22, "LEDs"), (23, "mouse"), (24, "serial")):
-            words = [0] * 25
-            words[at] = 1
-            text = lay(1, [], [], [Claim(0, words, b"", 0, 0, b"", {})])
+        for name in ("flags", "stop", "timer", "switches", "LEDs", "mouse", "serial"):
+            text = encoded(1, [], [claim(0, {}, **{name.lower(): 1})])
             ran = tool("session", "--of", self.file("it.orsr", text))
             if name == "flags":
                 self.assertEqual(json.loads(ran.output)["start"]["flags"], 1)
             else:
                 self.assert_refused(ran, f"its first state has {name} other than 0")
-        text = lay(1, [], [], [Claim(0, [0] * 25, b"\x00", 0, 0, b"", {})])
+        text = encoded(1, [], [claim(0, {}, keys=b"\x00")])
         self.assert_refused(tool("session", "--of", self.file("it.orsr", text)), "keys")
 
     def test_refuses_bad_input(self) -> None:

@@ -4,7 +4,7 @@ from itertools import pairwise
 from pathlib import Path
 
 from galluspa import recording
-from samples import EXAMPLES, JUMP, PROGRAM, Claim, Ran, ToolTest, lay, page, record, rejoining, run, session, tool
+from samples import EXAMPLES, JUMP, PROGRAM, Ran, ToolTest, claim, encoded, record, rejoining, run, session, tool
 
 FACE = EXAMPLES / "face.orsr"
 
@@ -86,9 +86,8 @@ class JoinTest(SlicesTest):
         self.assertEqual((self.folder / "1-2.line").read_text(), "accepted 1 checkpoints 2 steps\n")
 
     def test_what_is_sent_is_compared_stretch_by_stretch(self) -> None:
-        words = [0] * 25
-        claims = [Claim(at, words, b"", 0, 0, output, {0: 1}) for at, output in ((0, b""), (5, b""), (9, b"x"), (12, b""))]
-        false = self.file("false.orsr", lay(2, [page(JUMP)], [], claims))
+        claims = [claim(at, output=output) for at, output in ((0, b""), (5, b""), (9, b"x"), (12, b""))]
+        false = self.file("false.orsr", encoded(2, [recording.page_of(JUMP)], claims))
         self.assert_whole(self.join(false, 0, 1, 2, 3), false)
 
     def test_stretches_may_overlap_and_come_in_any_order(self) -> None:

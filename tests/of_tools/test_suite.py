@@ -4,9 +4,7 @@ import base64
 import io
 import json
 import os
-import pty
 import re
-import subprocess
 from xml.etree import ElementTree
 
 from PIL import Image

@@ -27,21 +27,23 @@ class Parser(argparse.ArgumentParser):
     def error(self, message: str) -> NoReturn:
         raise Refused(f"{message} (see --help)")
 
-    def take_program(self) -> None:
+    def add_program_option(self) -> None:
         """Adds the option that names the program to ask."""
-        self.add_argument("--program", metavar="PATH", help="the program to call (default: the one that this repository built)")
+        self.add_argument(
+            "--program", metavar="PATH", help="the program to call (default: the one that this repository built)")
 
-    def take_library(self) -> None:
+    def add_library_option(self) -> None:
         """Adds the option that names the shared library to call."""
         self.add_argument(
             "--library", metavar="PATH",
-            help="the shared library to call, libgalluspa.so; the default is the environment variable GALLUSPA_LIBRARY, or "
-                 "the first that is found in lib/ beside the folder of the tools, in crates/galluspa/out/ or out/lib/ of "
-                 "this repository, where it was installed with these tools, and where the system looks for libraries",
+            help="the shared library to call, libgalluspa.so; the default is the environment variable "
+                 "GALLUSPA_LIBRARY, or the first that is found in lib/ beside the folder of the tools, in "
+                 "crates/galluspa/out/ or out/lib/ of this repository, where it was installed with these tools, and "
+                 "where the system looks for libraries",
         )
 
 
-def whole(least: int, most: int) -> Callable[[str], int]:
+def whole_number(least: int, most: int) -> Callable[[str], int]:
     """A reader of whole numbers in a range, decimal or with 0x in front, for an option."""
 
     def read(text: str) -> int:
@@ -74,10 +76,10 @@ def read_file(path: str | Path) -> bytes:
         raise Refused(f"{path}: {error.strerror}") from error
 
 
-def progress(told: str, is_last: bool = False) -> None:
+def progress(message: str, is_last: bool = False) -> None:
     """Renews the line of progress on standard error, where there is a terminal to see it; no text takes it away."""
     if sys.stderr.isatty():
-        print(f"\033[K{told}", end="\n" if is_last else "\r", file=sys.stderr, flush=True)
+        print(f"\033[K{message}", end="\n" if is_last else "\r", file=sys.stderr, flush=True)
 
 
 def write_file(path: str | Path, content: bytes) -> None:
@@ -97,7 +99,8 @@ def with_libraries(name: str) -> ModuleType:
 
 
 def run(main: Callable[[Sequence[str]], int]) -> NoReturn:
-    """Runs a tool over the words behind its name, and ends with its status: 2, after one line, where something is refused."""
+    """Runs a tool over the words behind its name, and ends with its status: 2, after one line, where something is
+    refused."""
     try:
         status = main(sys.argv[1:])
         sys.stdout.flush()

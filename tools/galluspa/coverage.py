@@ -1,7 +1,7 @@
 """What the instructions of recordings exercise: operations, results, branches, memory, device words, inputs and stops.
 
-Each table has a cell for each case that docs/machine.md distinguishes. The instruction word, and the program's states before and
-after it, decide for which cells an instruction counts.
+Each table has a cell for each case that docs/machine.md distinguishes. The instruction word, and the program's states
+before and after it, decide for which cells an instruction counts.
 """
 
 from collections import Counter
@@ -43,25 +43,30 @@ ADDRESSES = ["offset above 0", "offset 0", "offset below 0", "sum below 0", "sum
 TABLES = [
     Table("operations", "Each operation with a register (R) or an immediate operand (im), and with the bits u and v.",
           OPERATIONS, OPERANDS),
-    Table("results", "N and Z as a register is written: by an operation, a load, or a link.", [*WITHOUT_FLOATS, "LDR", "LDB", "link"],
-          ["negative", "zero", "positive"], frozenset({("LDB", "negative"), ("link", "negative"), ("link", "zero")})),
+    Table("results", "N and Z as a register is written: by an operation, a load, or a link.",
+          [*WITHOUT_FLOATS, "LDR", "LDB", "link"], ["negative", "zero", "positive"],
+          frozenset({("LDB", "negative"), ("link", "negative"), ("link", "zero")})),
     Table("carry and overflow", "C and V after a sum and a difference, without a carry and with one.",
           ["ADD", "ADD with carry", "SUB", "SUB with carry"], ["neither", "C", "V", "C and V"]),
-    Table("shifts", "By how many bits, before the count is taken modulo 32.", OPERATIONS[1:4], ["by 0", "by 1 to 31", "by more"]),
-    Table("branches", "Each condition taken and not, to a register and by an offset, with a link and without. A branch to the "
-          "next word counts for none, as both ways lead there.", BRANCHES, TARGETS,
-          frozenset({*(("B", it) for it in TARGETS if it.endswith("not")), *(("BNO", it) for it in TARGETS if it.endswith("taken"))})),
-    Table("targets", "Where branches that are taken lead.", ["forward", "back", "to itself", "R15 with a link"], ["taken"]),
-    Table("memory", "Loads and stores of words and bytes in RAM: the two low bits of the address, and how it is made.", MOVES,
-          [*LANES, *ADDRESSES]),
+    Table("shifts", "By how many bits, before the count is taken modulo 32.", OPERATIONS[1:4],
+          ["by 0", "by 1 to 31", "by more"]),
+    Table("branches", "Each condition taken and not, to a register and by an offset, with a link and without. A branch "
+          "to the next word counts for none, as both ways lead there.", BRANCHES, TARGETS,
+          frozenset({*(("B", it) for it in TARGETS if it.endswith("not")),
+                     *(("BNO", it) for it in TARGETS if it.endswith("taken"))})),
+    Table("targets", "Where branches that are taken lead.", ["forward", "back", "to itself", "R15 with a link"],
+          ["taken"]),
+    Table("memory", "Loads and stores of words and bytes in RAM: the two low bits of the address, and how it is made.",
+          MOVES, [*LANES, *ADDRESSES]),
     Table("device words", "Each of the sixteen words, read and written as a word and as a byte.", WORDS, MOVES),
     Table("device bytes", "The lanes of device words.", ["LDB", "STB"], LANES),
-    Table("inputs", "Each kind, at a machine that runs and at one that has stopped.", list(KINDS.values()), ["taken", "stopped"]),
+    Table("inputs", "Each kind, at a machine that runs and at one that has stopped.", list(KINDS.values()),
+          ["taken", "stopped"]),
     Table("devices", "What devices do beside.", ["a key is dropped, as sixteen wait", "a key is read, and none waits",
           "a read clears received", "the timer counts a millisecond", "the timer is set while it counts"], ["seen"]),
     Table("stops", "Each way to stop. Floating point stands among the operations.",
-          ["divisor 0", "divisor 0, with u", "divisor below 0", "divisor below 0, with u", "fetch, by going on", "fetch, by a branch",
-           *(f"address, by {move}" for move in MOVES)], ["stopped"]),
+          ["divisor 0", "divisor 0, with u", "divisor below 0", "divisor below 0, with u", "fetch, by going on",
+           "fetch, by a branch", *(f"address, by {move}" for move in MOVES)], ["stopped"]),
 ]
 CELLS = [cell for table in TABLES for cell in table.cells()]
 
@@ -146,7 +151,8 @@ def _result(name: str, after: Checkpoint) -> Cell:
 def _operation(word: int, before: Checkpoint, after: Checkpoint) -> Iterator[Cell]:
     op, u, v = word >> 16 & 15, _bit(word, 29), _bit(word, 28)
     is_immediate = _bit(word, 30)
-    operand = _signed(word, 16) if is_immediate and v else word & 0xFFFF if is_immediate else before.registers[word & 15]
+    immediate = _signed(word, 16) if v else word & 0xFFFF
+    operand = immediate if is_immediate else before.registers[word & 15]
     name = OPERATIONS[op]
     yield "operations", name, ("im" if is_immediate else "R") + " u" * u + " v" * v
     if name in OPERATIONS[1:4]:

@@ -16,13 +16,12 @@ from galluspa.recording import PAGE_BYTES, PLACES
 
 MEMORY_BYTES = PLACES * PAGE_BYTES
 PLACE = "{count}"
-NUMBERS = ("H", "PC", "flags", "stop", "timer", "rate", "phase", "switches", "LEDs", "mouse", "serial")
 
 
 @dataclass(frozen=True)
 class Shown:
-    """What an emulator shows of its state at a count: the parts by their names, its memory or a digest of it, and what it
-    has sent. Whatever it does not show is None, and is not compared."""
+    """What an emulator shows of its state at a count: the parts by their names, its memory or a digest of it, and what
+    it has sent. Whatever it does not show is None, and is not compared."""
 
     parts: dict[str, int | list[int]]
     memory: bytes | None
@@ -49,40 +48,40 @@ class Emulator:
     def at(self, count: int) -> Shown:
         """Its state at a count."""
         words = [word.replace(PLACE, str(count)) for word in self.words]
-        told = shlex.join(words)
+        command = shlex.join(words)
         try:
             ran = subprocess.run(
                 words, stdin=subprocess.DEVNULL, stdout=subprocess.PIPE, timeout=self.seconds, check=False)
         except OSError as error:
             raise Refused(f"{words[0]}: {error.strerror}") from error
         except subprocess.TimeoutExpired as error:
-            raise Refused(f"{told}: no answer in {self.seconds:g} s") from error
+            raise Refused(f"{command}: no answer in {self.seconds:g} s") from error
         if ran.returncode:
-            raise Refused(f"{told}: it ended with status {ran.returncode}")
+            raise Refused(f"{command}: it ended with status {ran.returncode}")
         try:
             shown = json.loads(ran.stdout)
         except (ValueError, RecursionError) as error:
-            raise Refused(f"{told}: what it prints is no JSON") from error
-        return _shown(told, shown)
+            raise Refused(f"{command}: what it prints is no JSON") from error
+        return _shown(command, shown)
 
 
-def _shown(told: str, shown: object) -> Shown:
+def _shown(command: str, shown: object) -> Shown:
     """What an object shows; refused where a member is none, or has another type."""
     if not isinstance(shown, dict) or not shown:
-        raise Refused(f"{told}: what it prints is no object with the parts of a state")
+        raise Refused(f"{command}: what it prints is no object with the parts of a state")
     readers: dict[str, Callable[[object], object]] = {
-        **dict.fromkeys(NUMBERS, _number), "R": _numbers(16, 16), "keys": _numbers(0, 16), "out": _bytes,
+        **dict.fromkeys(states.WORDS, _number), "R": _numbers(16, 16), "keys": _numbers(0, 16), "out": _bytes,
         "memory": _file, "memory_sha256": _digest,
     }
     read: dict[str, object] = {}
     for name, value in shown.items():
         if name not in readers:
-            raise Refused(f"{told}: {name!r} is none of {', '.join(readers)}")
+            raise Refused(f"{command}: {name!r} is none of {', '.join(readers)}")
         try:
             read[name] = readers[name](value)
         except ValueError as error:
-            raise Refused(f"{told}: {name} is {error}") from error
-    registers = {f"R{at}": value for at, value in enumerate(read.pop("R", []))}
+            raise Refused(f"{command}: {name} is {error}") from error
+    registers = dict(zip(states.REGISTERS, read.pop("R", [])))
     memory, digest, sent = (read.pop(name, None) for name in ("memory", "memory_sha256", "out"))
     return Shown({**registers, **read}, memory, digest, sent)
 

@@ -1,4 +1,5 @@
-"""What is false about a recording: where the first false checkpoint and the machine differ, and what wrote the first part.
+"""What is false about a recording: where the first false checkpoint and the machine differ, and what wrote the first
+part.
 
 The library says what the machine has, and the program draws the screens.
 """
@@ -33,14 +34,14 @@ class Difference:
 
 @dataclass(frozen=True)
 class Around:
-    """The instructions around the false checkpoint that were looked at one by one, from a count up to another: the last of
-    those before it that wrote a part, and the counts at which the part had the claimed value; also the earlier checkpoints
-    that claim it, and an instruction that set the part before them all."""
+    """The instructions around the false checkpoint that were looked at one by one, from a count up to another: the last
+    of those before it that wrote a part, and the counts at which the part had the claimed value; also the earlier
+    checkpoints that claim it, and an instruction that set the part before them all."""
 
     first: int
     last: int
     writers: list[Step]
-    stood: list[int]
+    matching: list[int]
     earlier: list[int]
     setting: Step | None
 
@@ -71,7 +72,7 @@ class Screens:
         claimed, defined = (pbm[start : start + ROW_BYTES] for pbm in (self.claimed, self.defined))
         return int.from_bytes(claimed, "big") ^ int.from_bytes(defined, "big")
 
-    def told(self) -> str:
+    def summary(self) -> str:
         """How many dots differ, and where."""
         left, right, top, bottom = self.box()
         many = self.number()
@@ -79,8 +80,8 @@ class Screens:
                 f"and {_span('y', ROWS - 1 - bottom, ROWS - 1 - top)}, counted from the left and from below")
 
     def rows(self) -> Iterator[tuple[str, str]]:
-        """The dots around those that differ, row by row from the top, claimed and the machine's: # and . for those that are
-        alike, + and - for those that differ, where the dot is set and where it is not."""
+        """The dots around those that differ, row by row from the top, claimed and the machine's: # and . for those that
+        are alike, + and - for those that differ, where the dot is set and where it is not."""
         left, right, top, bottom = self.box()
         left = max(0, min(left - 4, 8 * ROW_BYTES - DOTS_WIDE))
         top = max(0, min(top - 2, ROWS - DOTS_HIGH))
@@ -123,8 +124,9 @@ class FalseClaim:
             return None
         pairs = zip(claimed, defined)
         at = next((at for at, (one, other) in enumerate(pairs) if one != other), min(len(claimed), len(defined)))
-        told = f"claimed are {len(claimed):,} bytes, the machine sent {len(defined):,}; they differ from byte {at:,} on"
-        return told, *([*states.hexdump(sent[at : at + BYTES_SHOWN], at)] or ["no byte"] for sent in self.sent)
+        summary = (f"claimed are {len(claimed):,} bytes, the machine sent {len(defined):,}; "
+                   f"they differ from byte {at:,} on")
+        return summary, *([*states.hexdump(sent[at : at + BYTES_SHOWN], at)] or ["no byte"] for sent in self.sent)
 
 
 def explain_false(run: Run, program: Program, read: Recording, claim: tuple[int, str], steps: int) -> FalseClaim:
@@ -201,10 +203,10 @@ def _around(run: Run, read: Recording, number: int, start: Machine, focus: Part,
     machine = start.copy()
     sent = run.advance(machine, max(first, count - steps))
     looked_from, value = machine.count, value_at(focus, machine, sent)
-    stood, writers = [looked_from] * (value == wanted), []
+    matching, writers = [looked_from] * (value == wanted), []
     last = count + steps // 10
     for step, now, is_written in along(focus, value, with_progress(run.steps(machine, last), last)):
-        stood += [step.after.count] * (now == wanted)
+        matching += [step.after.count] * (now == wanted)
         if is_written and step.before.count < count:
             writers = [*writers[1 - WRITERS :], step]
     is_set_before = not writers and value_at(focus, start, b"") != value
@@ -212,7 +214,7 @@ def _around(run: Run, read: Recording, number: int, start: Machine, focus: Part,
         first=looked_from,
         last=last,
         writers=writers,
-        stood=stood,
+        matching=matching,
         earlier=[at for at in range(number) if _claims(read, at, focus, wanted)],
         setting=_setting(run, start, looked_from, focus, value) if is_set_before else None,
     )
@@ -226,7 +228,8 @@ def _claims(read: Recording, at: int, part: Part, value: Value) -> bool:
 
 
 def _setting(run: Run, machine: Machine, to: int, part: Part, value: Value) -> Step:
-    """An instruction after which a part has a value that it has at a later count, and before which it has another one."""
+    """An instruction after which a part has a value that it has at a later count, and before which it has another
+    one."""
     sent = b""
     while to - machine.count > 1:
         later = machine.copy()
@@ -238,8 +241,9 @@ def _setting(run: Run, machine: Machine, to: int, part: Part, value: Value) -> S
     return next(run.steps(machine, to))
 
 
-def told_of_writers(it: FalseClaim) -> str:
-    """What is shown below it: the last instructions before the checkpoint that wrote the part, or the one that set it."""
+def writers_summary(it: FalseClaim) -> str:
+    """What is shown below it: the last instructions before the checkpoint that wrote the part, or the one that set
+    it."""
     looked = it.count - it.around.first
     if it.around.writers:
         return f"The last instructions before count {it.count} that wrote {it.focus}:"
@@ -249,19 +253,20 @@ def told_of_writers(it: FalseClaim) -> str:
     return f"{none} At their start it was what it was at checkpoint {it.number - 1}."
 
 
-def told_of_counts(it: FalseClaim) -> str:
+def counts_summary(it: FalseClaim) -> str:
     """When the part had the claimed value."""
-    before = [count for count in it.around.stood if count < it.count]
-    after = [count for count in it.around.stood if count > it.count]
+    before = [count for count in it.around.matching if count < it.count]
+    after = [count for count in it.around.matching if count > it.count]
     nearest = [f"last at {count}, {it.count - count:,} before" for count in before[-1:]]
     nearest += [f"first at {count}, {count - it.count:,} after" for count in after[:1]]
     number = f"{len(before) + len(after):,}" if nearest else "none"
-    told = f"{it.focus} had the claimed value at {number} of the counts {it.around.first} to {it.around.last}"
+    summary = f"{it.focus} had the claimed value at {number} of the counts {it.around.first} to {it.around.last}"
     if nearest:
-        told += f": {'; '.join(nearest)}"
+        summary += f": {'; '.join(nearest)}"
     if earlier := it.around.earlier:
-        told += f"; and at the earlier {'checkpoints' if len(earlier) > 1 else 'checkpoint'} {states.ranges(earlier)}"
-    return f"{told}."
+        noun = "checkpoints" if len(earlier) > 1 else "checkpoint"
+        summary += f"; and at the earlier {noun} {states.ranges(earlier)}"
+    return f"{summary}."
 
 
 def instructions_of(it: FalseClaim) -> Iterator[str]:
@@ -272,22 +277,23 @@ def instructions_of(it: FalseClaim) -> Iterator[str]:
 
 def table(rows: Iterable[tuple[str, str, str]]) -> Iterator[str]:
     """Rows of a name, what is claimed, and what the machine has, in columns."""
-    told = list(rows)
-    name, claimed = (max(len(row[column]) for row in told) for column in (0, 1))
-    return (f"{row[0]:{name}}  {row[1]:{claimed}}  {row[2]}".rstrip() for row in told)
+    kept = list(rows)
+    name, claimed = (max(len(row[column]) for row in kept) for column in (0, 1))
+    return (f"{row[0]:{name}}  {row[1]:{claimed}}  {row[2]}".rstrip() for row in kept)
 
 
 def plain(it: FalseClaim, most: int = WORDS_SHOWN) -> Iterator[str]:
     """The lines of a text that explains a false claim, with so many words of memory at most."""
     differences = [*it.parts, *it.memory(most)]
     if differences:
-        yield from table([("", "claimed", "the machine"), *((one.name, one.claimed, one.defined) for one in differences)])
+        rows = ((one.name, one.claimed, one.defined) for one in differences)
+        yield from table([("", "claimed", "the machine"), *rows])
     if len(it.words) > most:
         yield f".. and {len(it.words) - most:,} more words of memory"
     if output := it.output():
-        told, claimed, defined = output
-        yield from ("", f"out: {told}", "claimed", *claimed, "the machine", *defined)
+        summary, claimed, defined = output
+        yield from ("", f"out: {summary}", "claimed", *claimed, "the machine", *defined)
     if it.screens:
-        yield from ("", f"The screen: {it.screens.told()}.", SIGNS)
+        yield from ("", f"The screen: {it.screens.summary()}.", SIGNS)
         yield from table([("", "claimed", "the machine"), *(("", *row) for row in it.screens.rows())])
-    yield from ("", told_of_writers(it), *instructions_of(it), "", told_of_counts(it))
+    yield from ("", writers_summary(it), *instructions_of(it), "", counts_summary(it))

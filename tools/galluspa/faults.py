@@ -7,12 +7,11 @@ import struct
 from collections.abc import Callable, Iterator, Sequence
 from dataclasses import dataclass
 
-from galluspa.recording import KINDS, PAGE_BYTES, PLACES
+from galluspa.recording import (
+    CHANGE_BYTES, CHANGES_AT, EVENT_BYTES, FIXED_BYTES, HEADER_BYTES, KINDS, OFFSETS, PAGE_BYTES, PLACES, TABLE_BYTES,
+)
 
-HEADER, EVENT = 24, 16
-FRONT, TABLE = 132, 4 * PLACES
-WHOLE = FRONT + TABLE
-CHANGED, CHANGE = 144, 8
+WHOLE_BYTES = FIXED_BYTES + TABLE_BYTES
 LONGEST_OUTPUT = 1 << 20
 MOST_COUNT = 1 << 40
 MOUSE = 0x073FF3FF
@@ -56,8 +55,8 @@ class Field:
 
 def explain_fault(text: bytes, number: int, at: int) -> Fault:
     """What the first fault of a text is about, given its number and its byte."""
-    teller = {1: _short, 2: _magic, 3: _version, 4: _limit, 5: _event, 6: _checkpoint, 7: _page, 8: _trailing}
-    return teller[number](text, at)
+    explain = {1: _short, 2: _magic, 3: _version, 4: _limit, 5: _event, 6: _checkpoint, 7: _page, 8: _trailing}
+    return explain[number](text, at)
 
 
 def _fault(text: bytes, field: Field, where: str = "") -> Fault:
@@ -98,8 +97,8 @@ def _limit(text: bytes, at: int) -> Fault:
 
 
 def _event(text: bytes, at: int) -> Fault:
-    number = (at - HEADER - PAGE_BYTES * _number(text, 8)) // EVENT
-    least = _number(text, at - EVENT, 8) if number else 0
+    number = (at - HEADER_BYTES - PAGE_BYTES * _number(text, 8)) // EVENT_BYTES
+    least = _number(text, at - EVENT_BYTES, 8) if number else 0
     most, rule = RANGES.get(_number(text, at + 8), (0, ""))
     field = _first_broken(text, [
         Field("the count", at, 8, f"a count is at most 2^40, and not below that of the event before, {least}",
@@ -114,8 +113,8 @@ def _event(text: bytes, at: int) -> Fault:
 
 @dataclass(frozen=True)
 class _Claim:
-    """A checkpoint of the text: its number, where it begins and ends by what it says, the count of the one before it, and
-    how many bytes were sent up to that."""
+    """A checkpoint of the text: its number, where it begins and ends by what it says, the count of the one before it,
+    and how many bytes were sent up to that."""
 
     number: int
     start: int
@@ -127,12 +126,17 @@ class _Claim:
 def _claims(text: bytes) -> Iterator[_Claim]:
     """The checkpoints of a text, as far as it has their first bytes."""
     version, pages, events, number, _ = struct.unpack_from("<5I", text, 4)
-    start, before, sent = HEADER + PAGE_BYTES * pages + EVENT * events, -1, 0
+    start, before, sent = HEADER_BYTES + PAGE_BYTES * pages + EVENT_BYTES * events, -1, 0
     for at in range(number):
-        length = WHOLE if version == 1 else CHANGED + CHANGE * _number(text, start + CHANGED - 4)
+        length = WHOLE_BYTES if version == 1 else _changed_bytes(text, start)
         yield _Claim(at, start, start + length, before, sent)
-        before, sent = _number(text, start, 8), sent + _number(text, start + FRONT - 4)
+        before, sent = _number(text, start, 8), sent + _number(text, start + OFFSETS["output_length"])
         start += length
+
+
+def _changed_bytes(text: bytes, start: int) -> int:
+    """How many bytes a checkpoint of version 2 has."""
+    return CHANGES_AT + CHANGE_BYTES * _number(text, start + OFFSETS["change_count"])
 
 
 def _checkpoint(text: bytes, at: int) -> Fault:
@@ -142,31 +146,35 @@ def _checkpoint(text: bytes, at: int) -> Fault:
 
 def _fields(text: bytes, claim: _Claim) -> Iterator[Field]:
     """The fields of a checkpoint that have a range, in their order."""
-    start, is_first = claim.start, claim.number == 0
+    is_first = claim.number == 0
+
+    def field(name: str, member: str, size: int, rule: str, keeps: Callable[[int], bool]) -> Field:
+        return Field(name, claim.start + OFFSETS[member], size, rule, keeps)
+
     rule = "the count of checkpoint 0 is 0" if is_first else \
         f"a count is above that of the checkpoint before, {claim.before}, and at most 2^40"
-    yield Field("the count", start, 8, rule,
+    yield field("the count", "count", 8, rule,
                 lambda count: count == 0 if is_first else claim.before < count <= MOST_COUNT)
-    for name, offset, most, rule in (
-        ("PC", 76, (1 << 22) - 1, "below 4,194,304"), ("flags", 80, 15, "below 16"), ("stop", 84, 4, "at most 4"),
-        ("switches", 92, 4095, "below 4,096"), ("LEDs", 96, 255, "below 256"),
+    for name, most, rule in (
+        ("PC", (1 << 22) - 1, "below 4,194,304"), ("flags", 15, "below 16"), ("stop", 4, "at most 4"),
+        ("switches", 4095, "below 4,096"), ("LEDs", 255, "below 256"),
     ):
-        yield Field(name, start + offset, 4, f"{name} {'are' if name[-1] in 'sS' else 'is'} {rule}", _up_to(most))
-    yield Field("mouse", start + 100, 4, "mouse is inside the mask 073FF3FF", lambda mouse: not mouse & ~MOUSE)
-    yield Field("serial", start + 104, 4, "serial is below 512", _up_to(511))
-    keys = _number(text, start + 108)
-    yield Field("the number of keys", start + 108, 4, "there are at most 16 keys", _up_to(16))
-    yield Field("the keys", start + 112, 16, f"the bytes at or after the number of keys, {keys}, are 0",
+        yield field(name, name.lower(), 4, f"{name} {'are' if name[-1] in 'sS' else 'is'} {rule}", _up_to(most))
+    yield field("mouse", "mouse", 4, "mouse is inside the mask 073FF3FF", lambda mouse: not mouse & ~MOUSE)
+    yield field("serial", "serial", 4, "serial is below 512", _up_to(511))
+    keys = _number(text, claim.start + OFFSETS["key_count"])
+    yield field("the number of keys", "key_count", 4, "there are at most 16 keys", _up_to(16))
+    yield field("the keys", "keys", 16, f"the bytes at or after the number of keys, {keys}, are 0",
                 lambda bits: keys > 15 or not bits >> 8 * keys)
-    yield Field("the output length", start + 128, 4,
+    yield field("the output length", "output_length", 4,
                 "the output length of checkpoint 0 is 0" if is_first else
                 f"the output lengths up to here are at most 1,048,576 in all; before it they are {claim.sent}",
                 _up_to(0 if is_first else LONGEST_OUTPUT - claim.sent))
     if _number(text, 4) == 2:
-        rate = _number(text, start + 132)
-        yield Field("phase", start + 136, 4, f"phase is below the rate, {rate}, or 0 where that is 0",
+        rate = _number(text, claim.start + OFFSETS["rate"])
+        yield field("phase", "phase", 4, f"phase is below the rate, {rate}, or 0 where that is 0",
                     _up_to(max(rate, 1) - 1))
-        yield Field("the number of changes", start + 140, 4, "there are at most 1,024 changes", _up_to(PLACES))
+        yield field("the number of changes", "change_count", 4, "there are at most 1,024 changes", _up_to(PLACES))
 
 
 def _page(text: bytes, at: int) -> Fault:
@@ -174,29 +182,30 @@ def _page(text: bytes, at: int) -> Fault:
     claim = next(claim for claim in _claims(text) if claim.start < at < claim.end)
     where = f" of checkpoint {claim.number}"
     if _number(text, 4) == 1:
-        place = (at - claim.start - FRONT) // 4
+        place = (at - claim.start - FIXED_BYTES) // 4
         return Fault(f"the page number of place {place}{where}", at, text[at : at + 4],
                      f"a page number is at most P, the number of pages, {pages}")
-    number = (at - claim.start - CHANGED) // CHANGE
+    number = (at - claim.start - CHANGES_AT) // CHANGE_BYTES
     place, page = struct.unpack_from("<2I", text, at)
-    rule = f"a place is below 1,024 and above that of the change before; a page number is at most P, {pages}, and not " \
-           "the one that stood at the place"
+    rule = (f"a place is below 1,024 and above that of the change before; a page number is at most P, {pages}, "
+            "and not the one that stood at the place")
     return Fault(f"change {number}{where}, page number {page} at place {place}", at, text[at : at + 8], rule)
 
 
 def _short(text: bytes, at: int) -> Fault:
-    if at < HEADER:
-        return Fault("the text ends in the header", at, b"", f"a text has at least {HEADER} bytes")
+    if at < HEADER_BYTES:
+        return Fault("the text ends in the header", at, b"", f"a text has at least {HEADER_BYTES} bytes")
     pages, events, number = struct.unpack_from("<3I", text, 8)
-    tables = HEADER + PAGE_BYTES * pages + EVENT * events
-    if _number(text, 4) == 1 and at < tables + WHOLE * number or at < tables:
-        least = tables + (WHOLE * number if _number(text, 4) == 1 else 0)
+    tables = HEADER_BYTES + PAGE_BYTES * pages + EVENT_BYTES * events
+    if _number(text, 4) == 1 and at < tables + WHOLE_BYTES * number or at < tables:
+        least = tables + (WHOLE_BYTES * number if _number(text, 4) == 1 else 0)
         what = "its pages, events and checkpoints" if _number(text, 4) == 1 else "its pages and events"
-        return Fault(f"the text ends in {what}", at, b"", f"by its header, a text with {what} has at least {least:,} bytes")
+        rule = f"by its header, a text with {what} has at least {least:,} bytes"
+        return Fault(f"the text ends in {what}", at, b"", rule)
     claims = list(_whole(text))
     if len(claims) < number:
         start = claims[-1].end if claims else tables
-        needs = start + CHANGED if at < start + CHANGED else start + CHANGED + CHANGE * _number(text, start + CHANGED - 4)
+        needs = start + (CHANGES_AT if at < start + CHANGES_AT else _changed_bytes(text, start))
         return Fault(f"the text ends in checkpoint {len(claims)}, which begins at byte {start}", at, b"",
                      f"with that checkpoint the text has at least {needs:,} bytes")
     rule = f"with all that its checkpoints say was sent the text has {_end(text):,} bytes"
@@ -214,7 +223,7 @@ def _whole(text: bytes) -> Iterator[_Claim]:
 def _end(text: bytes) -> int:
     """Where a text ends by what its checkpoints say."""
     last = list(_claims(text))[-1]
-    return last.end + last.sent + _number(text, last.start + FRONT - 4)
+    return last.end + last.sent + _number(text, last.start + OFFSETS["output_length"])
 
 
 def _trailing(text: bytes, at: int) -> Fault:

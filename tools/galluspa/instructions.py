@@ -1,7 +1,8 @@
-"""Writes instructions in the notation of N. Wirth's The RISC Architecture: mnemonics, and assignments that say what they do.
+"""Writes instructions in the notation of N. Wirth's The RISC Architecture: mnemonics, and assignments that say what
+they do.
 
-A mark (') after a mnemonic is bit u: with the carry, of unsigned words, or the upper half. The manual has no mnemonics for
-bytes: here they are LDB and STB. Numbers are decimal, or hexadecimal with an H at the end.
+A mark (') after a mnemonic is bit u: with the carry, of unsigned words, or the upper half. The manual has no mnemonics
+for bytes: here they are LDB and STB. Numbers are decimal, or hexadecimal with an H at the end.
 """
 
 from collections.abc import Sequence
@@ -31,7 +32,8 @@ def instruction(word: int, at: int) -> Instruction:
 
 
 def written(word: int) -> frozenset[str]:
-    """The registers and flags that an instruction writes unless it stops; those of a branch it writes where it is taken."""
+    """The registers and flags that an instruction writes unless it stops; those of a branch it writes where it is
+    taken."""
     if is_branch(word):
         return frozenset(("R15", "flags") if _bit(word, 28) else ())
     if is_store(word):
@@ -94,7 +96,8 @@ def _move(name: str, a: int, operand: str, word: int) -> Instruction:
 
 
 def _memory(word: int) -> Instruction:
-    a, b, offset, is_store, is_byte = word >> 24 & 15, word >> 20 & 15, _signed(word, 20), _bit(word, 29), _bit(word, 28)
+    a, b, offset = word >> 24 & 15, word >> 20 & 15, _signed(word, 20)
+    is_store, is_byte = _bit(word, 29), _bit(word, 28)
     name = ("ST" if is_store else "LD") + ("B" if is_byte else "R")
     sum_of = f"R{b}" + (f" {'-' if offset < 0 else '+'} {abs(offset)}" if offset else "")
     place = f"Mem[{sum_of}]" + (", a byte" if is_byte else "")

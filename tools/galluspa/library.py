@@ -1,4 +1,5 @@
-"""Calls the library for C through ctypes: what a checkpoint claims, and the proved machine, advanced from count to count."""
+"""Calls the library for C through ctypes: what a checkpoint claims, and the proved machine, advanced from count to
+count."""
 
 import ctypes
 import os
@@ -10,7 +11,7 @@ from pathlib import Path
 
 from galluspa.command import Refused
 from galluspa.program import TOP
-from galluspa.recording import PLACES, WORDS_IN_PAGE, Checkpoint, Event
+from galluspa.recording import PLACES, STATE_WORDS, WORDS_IN_PAGE, Checkpoint, Event
 
 NAME = "libgalluspa.so"
 VARIABLE = "GALLUSPA_LIBRARY"
@@ -73,20 +74,9 @@ class Machine:
         """The state as a checkpoint claims it, without its memory."""
         it = self.state
         return Checkpoint(
-            start=0,
             count=it.count,
             registers=tuple(it.r),
-            h=it.h,
-            pc=it.pc,
-            flags=it.flags,
-            stop=it.stop,
-            timer=it.timer,
-            rate=it.rate,
-            phase=it.phase,
-            switches=it.switches,
-            leds=it.leds,
-            mouse=it.mouse,
-            serial=it.serial,
+            **{name: getattr(it, name) for name in (*STATE_WORDS, "rate", "phase")},
             keys=bytes(it.keys[: it.key_count]),
             output=sent,
             table=array("I"),
@@ -127,7 +117,7 @@ class Library:
 
     @staticmethod
     def find(given: str | None) -> "Library":
-        """The library that was given, or else the first that is found where take_library says."""
+        """The library that was given, or else the first that is found where add_library_option says."""
         if named := given or os.environ.get(VARIABLE):
             if not Path(named).is_file():
                 raise Refused(f"no library at {named}")

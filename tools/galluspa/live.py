@@ -6,7 +6,6 @@ import hashlib
 import json
 import re
 from dataclasses import dataclass
-from pathlib import Path
 
 from markupsafe import Markup
 
@@ -14,13 +13,16 @@ from galluspa.command import Refused
 from galluspa.program import TOP
 
 PAGE = TOP / "web/galluspa.html"
-POLICY = "default-src 'none'; script-src {scripts} 'wasm-unsafe-eval'; worker-src blob:; style-src 'unsafe-inline'; img-src data: blob:; " \
-         "base-uri 'none'; form-action 'none'"
+POLICY = (
+    "default-src 'none'; script-src {scripts} 'wasm-unsafe-eval'; worker-src blob:; style-src 'unsafe-inline'; "
+    "img-src data: blob:; base-uri 'none'; form-action 'none'"
+)
 
 
 @dataclass(frozen=True)
 class Live:
-    """The parts of a report that runs: the policy of its scripts, the machine with its style sheet, the recording, and the script that begins."""
+    """The parts of a report that runs: the policy of its scripts, the machine with its style sheet, the recording, and
+    the script that begins."""
 
     policy: str
     style: Markup

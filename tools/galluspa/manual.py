@@ -13,16 +13,18 @@ from types import ModuleType
 from galluspa.command import Parser
 
 PREFIX = "galluspa-"
-STATUS = "0 if all is well, 1 if something that was examined is not, and 2, after one line on standard error, for bad input."
+STATUS = (
+    "0 if all is well, 1 if something that was examined is not, and 2, after one line on standard error, for bad input."
+)
 
 
 @dataclass(frozen=True)
 class Tool:
-    """A tool: its name, the first sentence of its file, and its words."""
+    """A tool: its name, the first paragraph of its comment, and its command line."""
 
     name: str
     does: str
-    words: Parser
+    parser: Parser
 
     @property
     def command(self) -> str:
@@ -32,19 +34,24 @@ class Tool:
     @property
     def options(self) -> list[argparse.Action]:
         """Its options, help among them."""
-        return [it for it in self.words._actions if it.option_strings]
+        return [it for it in self.parser._actions if it.option_strings]
 
     @property
     def operands(self) -> list[argparse.Action]:
         """Its other words."""
-        return [it for it in self.words._actions if not it.option_strings]
+        return [it for it in self.parser._actions if not it.option_strings]
 
 
 def tools_of(folder: Path) -> list[Tool]:
     """The tools for users in a folder: files that can be run and have a function `parser`."""
     paths = (path for path in sorted(folder.iterdir()) if path.is_file() and path.stat().st_mode & 0o111)
     scripts = ((path.name, _script(path)) for path in paths)
-    return [Tool(name, script.__doc__.split("\n")[0], script.parser()) for name, script in scripts if hasattr(script, "parser")]
+    return [Tool(name, _summary(script), script.parser()) for name, script in scripts if hasattr(script, "parser")]
+
+
+def _summary(script: ModuleType) -> str:
+    """The first paragraph of a script's own comment."""
+    return " ".join(script.__doc__.split("\n\n")[0].split())
 
 
 def _script(path: Path) -> ModuleType:
@@ -63,12 +70,12 @@ def page(tool: Tool, date: str) -> str:
         f".Nd {_escaped(about[0].lower() + about[1:])}",
         ".Sh SYNOPSIS", ".Nm", *(f".Op {_flags(it)}" for it in tool.options),
         *(f".Ar {_metavar(it)}{' ..' * bool(it.nargs)}" for it in tool.operands),
-        ".Sh DESCRIPTION", *_prose(" ".join(tool.words.description.split())), ".Bl -tag -width Ds",
+        ".Sh DESCRIPTION", *_prose(" ".join(tool.parser.description.split())), ".Bl -tag -width Ds",
     ]
     for it in [*tool.operands, *tool.options]:
         if it.help:
             lines += [f".It {_flags(it) if it.option_strings else 'Ar ' + _metavar(it)}", *_prose(_sentence(it.help))]
-    example = tool.words.epilog.split("\n", 1)[1].strip().replace(f"tools/{tool.name}", tool.command)
+    example = tool.parser.epilog.split("\n", 1)[1].strip().replace(f"tools/{tool.name}", tool.command)
     return "\n".join([
         *lines, ".El", ".Sh EXIT STATUS", *_prose(STATUS),
         ".Sh EXAMPLES", f".Dl {_escaped(example)}", ".Sh SEE ALSO", ".Xr oberon_replay 1", "",
@@ -121,12 +128,14 @@ complete -o default -F _galluspa @NAMES@
 
 def completion(tools: list[Tool], commands: dict[str, list[str]]) -> str:
     """The completion for bash: of the program's commands with their options, and of the tools' options."""
-    options = {**commands, **{it.command: [option for action in it.options for option in action.option_strings] for it in tools}}
+    options = dict(commands)
+    for it in tools:
+        options[it.command] = [option for action in it.options for option in action.option_strings]
     given = {name: " ".join(words) for name, words in options.items() if words}
     cases = [f"        {name}) COMPREPLY=($(compgen -W '{words}' -- \"$word\")) ;;" for name, words in given.items()]
     names = " ".join(["oberon_replay", *(it.command for it in tools)])
     replaced = {"@COMMANDS@": " ".join([*commands, "help", "--help"]), "@CASES@": "\n".join(cases), "@NAMES@": names}
     text = COMPLETION
-    for mark, told in replaced.items():
-        text = text.replace(mark, told)
+    for mark, value in replaced.items():
+        text = text.replace(mark, value)
     return text

@@ -32,7 +32,8 @@ def library_folder(given: Path | None) -> Path:
         if all((folder / name).is_file() for name in LIBRARIES):
             return folder
     names = " and ".join(LIBRARIES)
-    raise Refused(f"{names} are not in {folders[0]}: build them (examples/c/install FOLDER), and name FOLDER/lib with --library")
+    raise Refused(
+        f"{names} are not in {folders[0]}: build them (examples/c/install FOLDER), and name FOLDER/lib with --library")
 
 
 @dataclass(frozen=True)
@@ -46,7 +47,8 @@ class File:
 
 @dataclass(frozen=True)
 class Contents:
-    """What a package is made of: the program, the folder of the library, the version and the date of the manual pages."""
+    """What a package is made of: the program, the folder of the library, the version and the date of the manual
+    pages."""
 
     program: Program
     library: Path
@@ -93,17 +95,19 @@ def _multiarch() -> str:
 def commands_of(program: Program) -> dict[str, list[str]]:
     """The commands of the program and the options of each, as its help tells them."""
 
-    def told(*words: str) -> str:
-        return subprocess.run([program.path, *words, "--help"], stdout=subprocess.PIPE, check=False).stdout.decode("ascii", "replace")
+    def help_of(*arguments: str) -> str:
+        ran = subprocess.run([program.path, *arguments, "--help"], stdout=subprocess.PIPE, check=False)
+        return ran.stdout.decode("ascii", "replace")
 
-    names = re.findall(r"^  (\w+) ", told().partition("Commands:")[2].partition("\n\n")[0], re.MULTILINE)
-    return {name: re.findall(r"^ +(?:-\w, )?(--\w+)", told(name), re.MULTILINE) for name in names if name != "help"}
+    names = re.findall(r"^  (\w+) ", help_of().partition("Commands:")[2].partition("\n\n")[0], re.MULTILINE)
+    return {name: re.findall(r"^ +(?:-\w, )?(--\w+)", help_of(name), re.MULTILINE) for name in names if name != "help"}
 
 
 def architecture() -> str:
     """The name that Debian has for this machine."""
     try:
-        return subprocess.run(["dpkg", "--print-architecture"], stdout=subprocess.PIPE, check=True).stdout.decode().strip()
+        ran = subprocess.run(["dpkg", "--print-architecture"], stdout=subprocess.PIPE, check=True)
+        return ran.stdout.decode().strip()
     except (OSError, subprocess.CalledProcessError) as error:
         raise Refused("dpkg is not there: a package of Debian is made on Debian") from error
 
@@ -153,9 +157,9 @@ Description: proved emulator and checker of Project Oberon's RISC5 workstation
     write_tree([File(name, content) for name, content in of_package.items()], room / "tree/DEBIAN")
     for path in [room / "tree", *(room / "tree").rglob("*")]:
         path.chmod(0o755 if path.is_dir() else path.stat().st_mode)
-    words = ["dpkg-deb", "--root-owner-group", "--build", str(room / "tree"), str(room / "it.deb")]
+    command = ["dpkg-deb", "--root-owner-group", "--build", str(room / "tree"), str(room / "it.deb")]
     environment = {"SOURCE_DATE_EPOCH": str(when), "PATH": "/usr/bin:/bin"}
-    made = subprocess.run(words, stdout=subprocess.PIPE, stderr=subprocess.STDOUT, check=False, env=environment)
+    made = subprocess.run(command, stdout=subprocess.PIPE, stderr=subprocess.STDOUT, check=False, env=environment)
     if made.returncode:
         raise Refused(f"dpkg-deb: {made.stdout.decode('utf-8', 'replace').strip().splitlines()[-1]}")
     return (room / "it.deb").read_bytes()

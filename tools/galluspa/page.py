@@ -18,7 +18,7 @@ from galluspa.faults import explain_fault
 from galluspa.instructions import instruction
 from galluspa.library import Library
 from galluspa.live import Live
-from galluspa.pictures import Screens, screens, set_off
+from galluspa.pictures import Screens, screens, with_differences_in_red
 from galluspa.program import ACCEPTED, REFUSED, Answer, Program
 from galluspa.recording import PAGE_BYTES, PLACES, WORDS_IN_PAGE, Checkpoint, Recording
 from galluspa.states import Part
@@ -31,7 +31,8 @@ BYTES_AROUND = 128
 
 @dataclass(frozen=True)
 class Shown:
-    """A checkpoint as the page shows it; the picture is base64, and empty where the screen is that of an earlier one."""
+    """A checkpoint as the page shows it; the picture is base64, and empty where the screen is that of an earlier
+    one."""
 
     number: int
     count: int
@@ -57,11 +58,12 @@ class Line:
 
 @dataclass(frozen=True)
 class Fault:
-    """Where a text is refused: the byte, whether the text ends there, the field and its rule, and the lines around it."""
+    """Where a text is refused: the byte, whether the text ends there, the field and its rule, and the lines around
+    it."""
 
     at: int
     is_end: bool
-    told: list[str]
+    explanation: list[str]
     lines: list[Line]
 
 
@@ -126,7 +128,7 @@ class Report:
         """The lines of a text that tells the line, the first state, and what changed at each checkpoint."""
         yield self.answer.line
         if fault := self._fault():
-            yield from fault.told
+            yield from fault.explanation
             yield from (line.before + line.marked + line.after for line in fault.lines)
         if self.false:
             yield from explanation.plain(self.false)
@@ -136,16 +138,17 @@ class Report:
         before = None
         for number, checkpoint in enumerate(self.recording.checkpoints):
             yield f"checkpoint {number} at {checkpoint.count}"
-            told = [f"{part.name} {part.text}" for part in self._parts(checkpoint, before) if self._is_told(part, before)]
-            told += [f"next {self._next(checkpoint)}"] if self._next(checkpoint) else []
-            told += [f"out {line}" for line in states.text(checkpoint.output).split("\n") if checkpoint.output]
+            parts = self._parts(checkpoint, before)
+            shown = [f"{part.name} {part.text}" for part in parts if self._is_shown(part, before)]
+            shown += [f"next {self._next(checkpoint)}"] if self._next(checkpoint) else []
+            shown += [f"out {line}" for line in states.text(checkpoint.output).split("\n") if checkpoint.output]
             if places := self._places(checkpoint, before):
-                told.append(f"places {places}")
-            yield from (f"  {line}" for line in told)
+                shown.append(f"places {places}")
+            yield from (f"  {line}" for line in shown)
             before = checkpoint
 
     @staticmethod
-    def _is_told(part: Part, before: Checkpoint | None) -> bool:
+    def _is_shown(part: Part, before: Checkpoint | None) -> bool:
         is_blank = part.text.strip("0-, ") in ("", "running", "none")
         return part.is_changed if before else not is_blank
 
@@ -182,8 +185,8 @@ class Report:
         if checkpoint.stop or checkpoint.pc >= PLACES * WORDS_IN_PAGE:
             return ""
         word = self.recording.word(checkpoint, checkpoint.pc)
-        told = instruction(word, checkpoint.pc)
-        return f"{checkpoint.pc}  {word:08X}  {told.mnemonic}   {told.meaning}"
+        decoded = instruction(word, checkpoint.pc)
+        return f"{checkpoint.pc}  {word:08X}  {decoded.mnemonic}   {decoded.meaning}"
 
     def _marks(self, shown: Shown, part: Part) -> Markup:
         """The class of a part's cell."""
@@ -204,11 +207,12 @@ class Report:
         return [part.text for part in self._parts(checkpoint, None) if part.name == name]
 
     def _pictures(self) -> list[tuple[str, str]]:
-        """The claimed screen and the machine's where they differ, with their names: base64, the dots that differ set off."""
+        """The claimed screen and the machine's where they differ, with their names: base64, the dots that differ set
+        off."""
         if not self.false or not self.false.screens:
             return []
         it = self.false.screens
-        drawn = (set_off(it.claimed, it.defined), set_off(it.defined, it.claimed))
+        drawn = (with_differences_in_red(it.claimed, it.defined), with_differences_in_red(it.defined, it.claimed))
         return [(name, base64.b64encode(content).decode()) for name, content in zip(("claimed", "the machine"), drawn)]
 
     def _inputs(self) -> Iterator[str]:
@@ -220,13 +224,13 @@ class Report:
         if not self.answer.fault:
             return None
         at = self.answer.fault[1]
-        told = list(explain_fault(self.text, *self.answer.fault).plain())
+        explanation = list(explain_fault(self.text, *self.answer.fault).plain())
         start = max(0, at - BYTES_AROUND) & -16
         content = self.text[start : at + BYTES_AROUND & -16]
         lines = [_marked(line, at - start - 16 * row) for row, line in enumerate(states.hexdump(content, start))]
         if at == start + len(content) and at % 16 == 0:
             lines.append(_marked(f"{at:08X}  ", 0))
-        return Fault(at, at >= len(self.text), told, lines)
+        return Fault(at, at >= len(self.text), explanation, lines)
 
 
 def _marked(line: str, column: int) -> Line:

@@ -16,7 +16,8 @@ RED, LIGHT_RED = (179, 38, 30), (255, 190, 185)
 
 @dataclass(frozen=True)
 class Screens:
-    """The screens of a recording: for each checkpoint the first one with the same dots, and the pictures of those as PNG."""
+    """The screens of a recording: for each checkpoint the first one with the same dots, and the pictures of those as
+    PNG."""
 
     first: list[int]
     pictures: dict[int, bytes]
@@ -35,8 +36,8 @@ def screens(program: Program, read: Recording) -> Screens:
 
 
 def display_alone(read: Recording, checkpoint: Checkpoint) -> bytes:
-    """A recording of one state, that of a checkpoint with its display and no other memory: so that drawing one screen of many
-    does not want the whole text read again."""
+    """A recording of one state, that of a checkpoint with its display and no other memory: so that drawing one screen
+    of many does not want the whole text read again."""
     return of_display(checkpoint, b"".join(map(read.page, checkpoint.table[DISPLAY_START // PAGE_BYTES :])))
 
 
@@ -47,9 +48,9 @@ def png(pbm: bytes) -> bytes:
     return out.getvalue()
 
 
-def set_off(pbm: bytes, other: bytes) -> bytes:
-    """A picture that the program printed, as PNG in which the dots that another one has differently are red: dark where they
-    are set, and light where they are not."""
+def with_differences_in_red(pbm: bytes, other: bytes) -> bytes:
+    """A picture that the program printed, as PNG in which the dots that another one has differently are red: dark where
+    they are set, and light where they are not."""
     picture, another = (Image.open(io.BytesIO(it)).convert("1") for it in (pbm, other))
     red, light = (Image.new("RGB", picture.size, color) for color in (RED, LIGHT_RED))
     shown = picture.convert("RGB")

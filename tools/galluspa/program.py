@@ -36,14 +36,14 @@ class Answer:
     @cached_property
     def false_claim(self) -> tuple[int, str] | None:
         """The first false checkpoint and its first false part, where the line names them."""
-        told = _FALSE_LINE.fullmatch(self.line) if self.status == FALSE else None
-        return (int(told[1]), told[2]) if told else None
+        match = _FALSE_LINE.fullmatch(self.line) if self.status == FALSE else None
+        return (int(match[1]), match[2]) if match else None
 
     @cached_property
     def fault(self) -> tuple[int, int] | None:
         """The number of a recording's first fault and its byte, where the line names them."""
-        told = _REFUSED_LINE.fullmatch(self.line) if self.status == REFUSED else None
-        return (int(told[1]), int(told[2])) if told else None
+        match = _REFUSED_LINE.fullmatch(self.line) if self.status == REFUSED else None
+        return (int(match[1]), int(match[2])) if match else None
 
 
 @dataclass(frozen=True)
@@ -54,7 +54,8 @@ class Program:
 
     @staticmethod
     def find(given: str | None) -> "Program":
-        """The program that was given, or else the one that was built in this repository, or installed with these tools."""
+        """The program that was given, or else the one that was built in this repository, or installed with these
+        tools."""
         path = Path(given) if given else INSTALLED if INSTALLED.is_file() and not BUILT.is_file() else BUILT
         if not path.is_file() or not os.access(path, os.X_OK):
             advice = "" if given else "; build it (rt run in crates/oberon_replay), or name one with --program"

@@ -1,14 +1,16 @@
 """Decodes and encodes recordings in versions 1 and 2, as docs/formats.md specifies them.
 
-Only the program says whether bytes are a valid recording: ask it first (`lawful` does). Bytes that the program would refuse are
-refused here too, or decoded in some way, but never with a traceback. The encoded bytes are valid if the numbers are.
+Only the program says whether bytes are a valid recording: ask it first (`lawful` does). Bytes that the program would
+refuse are refused here too, or decoded in some way, but never with a traceback. The encoded bytes are valid if the
+numbers are.
 """
 
 import struct
 import sys
 from array import array
-from collections.abc import Iterator
-from dataclasses import dataclass, replace
+from collections.abc import Iterator, Mapping, Sequence
+from dataclasses import dataclass, field, replace
+from itertools import accumulate
 
 from galluspa.command import Refused
 from galluspa.program import REFUSED, Program
@@ -27,8 +29,23 @@ FLAGS = "NZCV"
 
 _HEADER = struct.Struct("<4s5I")
 _EVENT = struct.Struct("<QII")
-_STATE = struct.Struct("<Q16I10I16sI")
-_COUNTING = struct.Struct("<3I")
+
+# The fields of a checkpoint in the order in which they are encoded: those of both versions, among them a word for
+# each of STATE_WORDS, and those of version 2 alone. The table follows the first of these in version 1, and its
+# changes follow both in version 2.
+STATE_WORDS = ("h", "pc", "flags", "stop", "timer", "switches", "leds", "mouse", "serial")
+_FIXED_FIELDS = {
+    "count": "Q", "registers": "16I", **dict.fromkeys(STATE_WORDS, "I"),
+    "key_count": "I", "keys": "16s", "output_length": "I",
+}
+_TIMER_FIELDS = {"rate": "I", "phase": "I", "change_count": "I"}
+_FIXED, _TIMER = (struct.Struct("<" + "".join(fields.values())) for fields in (_FIXED_FIELDS, _TIMER_FIELDS))
+
+HEADER_BYTES, EVENT_BYTES, CHANGE_BYTES, TABLE_BYTES = _HEADER.size, _EVENT.size, 8, 4 * PLACES
+FIXED_BYTES = _FIXED.size
+CHANGES_AT = FIXED_BYTES + _TIMER.size
+_FORMATS = {**_FIXED_FIELDS, **_TIMER_FIELDS}
+OFFSETS = dict(zip(_FORMATS, accumulate((struct.calcsize(f"<{it}") for it in _FORMATS.values()), initial=0)))
 
 
 @dataclass(frozen=True)
@@ -44,25 +61,26 @@ class Event:
 class Checkpoint:
     """What is claimed of the machine at a count, with the bytes sent since the checkpoint before.
 
-    A recording of version 1 has rate and phase 0. `start` is the offset of its first byte in the text that it was read from.
+    A recording of version 1 has rate and phase 0. `start` is the offset of its first byte in the text that it was read
+    from.
     """
 
     count: int
-    registers: tuple[int, ...]
-    h: int
-    pc: int
-    flags: int
-    stop: int
-    timer: int
-    rate: int
-    phase: int
-    switches: int
-    leds: int
-    mouse: int
-    serial: int
-    keys: bytes
-    output: bytes
-    table: array
+    registers: tuple[int, ...] = (0,) * 16
+    h: int = 0
+    pc: int = 0
+    flags: int = 0
+    stop: int = 0
+    timer: int = 0
+    rate: int = 0
+    phase: int = 0
+    switches: int = 0
+    leds: int = 0
+    mouse: int = 0
+    serial: int = 0
+    keys: bytes = b""
+    output: bytes = b""
+    table: array = field(default_factory=lambda: NO_TABLE)
     start: int = 0
 
 
@@ -150,17 +168,16 @@ def _claims(text: bytes, version: int, start: int, number: int) -> list[_Claim]:
     table = NO_TABLE
     claims = []
     for _ in range(number):
-        tail = start + _STATE.size
-        rate, phase, changes = _COUNTING.unpack_from(text, tail) if version == 2 else (0, 0, 0)
         if version == 1:
-            end = tail + 4 * PLACES
-            table = _words(text[tail:end])
+            rate, phase, end = 0, 0, start + FIXED_BYTES + TABLE_BYTES
+            table = _words(text[start + FIXED_BYTES : end])
         else:
-            end = tail + _COUNTING.size + 8 * changes
-            table = _changed(table, _words(text[tail + _COUNTING.size : end]))
+            rate, phase, changes = _TIMER.unpack_from(text, start + FIXED_BYTES)
+            end = start + CHANGES_AT + CHANGE_BYTES * changes
+            table = _changed(table, _words(text[start + CHANGES_AT : end]))
         if end > len(text):
             raise ValueError
-        claims.append(_Claim(start, _STATE.unpack_from(text, start), rate, phase, table, end))
+        claims.append(_Claim(start, _FIXED.unpack_from(text, start), rate, phase, table, end))
         start = end
     return claims
 
@@ -185,23 +202,14 @@ def _changed(table: array, changes: array) -> array:
 def _with_output(text: bytes, claims: list[_Claim]) -> Iterator[Checkpoint]:
     sent = claims[-1].end
     for claim in claims:
-        count, *words, keys, length = claim.fields
-        h, pc, flags, stop, timer, switches, leds, mouse, serial, waiting = words[16:]
+        count, *numbers, key_count, keys, length = claim.fields
         yield Checkpoint(
             count=count,
-            registers=tuple(words[:16]),
-            h=h,
-            pc=pc,
-            flags=flags,
-            stop=stop,
-            timer=timer,
+            registers=tuple(numbers[:16]),
+            **dict(zip(STATE_WORDS, numbers[16:], strict=True)),
             rate=claim.rate,
             phase=claim.phase,
-            switches=switches,
-            leds=leds,
-            mouse=mouse,
-            serial=serial,
-            keys=keys[:waiting],
+            keys=keys[:key_count],
             output=text[sent : sent + length],
             table=claim.table,
             start=claim.start,
@@ -210,43 +218,54 @@ def _with_output(text: bytes, claims: list[_Claim]) -> Iterator[Checkpoint]:
 
 
 def write(recording: Recording) -> bytes:
-    """The text of a recording, in its version; in version 1 there is no place for rate and phase."""
+    """Encodes a recording in its version; in version 1 there is no place for rate and phase."""
     header = _HEADER.pack(
         b"ORSR", recording.version, recording.pages, len(recording.events), len(recording.checkpoints), 0
     )
     events = [_EVENT.pack(event.count, event.kind, event.value) for event in recording.events]
     claims, before = [], NO_TABLE
     for checkpoint in recording.checkpoints:
-        claims += [_front(checkpoint), _tail(recording.version, checkpoint, before)]
+        claims += [_fixed_fields(checkpoint), _memory_fields(recording.version, checkpoint, before)]
         before = checkpoint.table
     output = [checkpoint.output for checkpoint in recording.checkpoints]
     return b"".join([header, recording.pool, *events, *claims, *output])
 
 
+def page_of(*words: int) -> bytes:
+    """The content of a page that begins with these words, and is 0 after them."""
+    return _bytes(words).ljust(PAGE_BYTES, b"\0")
+
+
+def table_of(pages: Mapping[int, int]) -> array:
+    """The table that has these page numbers at these places, and 0 at all others."""
+    return array("I", [pages.get(place, 0) for place in range(PLACES)])
+
+
 def of_display(checkpoint: Checkpoint, pages: bytes) -> bytes:
-    """The text of a recording of one state, that of a checkpoint, whose memory is 0 but for the pages from the display's on."""
+    """The text of a recording of one state, that of a checkpoint, whose memory is 0 but for the pages from the
+    display's on."""
     number = len(pages) // PAGE_BYTES
-    table = array("I", [*[0] * (PLACES - number), *range(1, number + 1)])
+    table = table_of({PLACES - number + at: at + 1 for at in range(number)})
     alone = replace(checkpoint, count=0, output=b"", table=table)
     return write(Recording(2, pages, [], [alone]))
 
 
-def _front(checkpoint: Checkpoint) -> bytes:
-    """The fields that both versions share."""
+def _fixed_fields(checkpoint: Checkpoint) -> bytes:
+    """The fields of both versions."""
     it = checkpoint
-    words = (it.h, it.pc, it.flags, it.stop, it.timer, it.switches, it.leds, it.mouse, it.serial)
-    return _STATE.pack(it.count, *it.registers, *words, len(it.keys), it.keys, len(it.output))
+    words = (getattr(it, name) for name in STATE_WORDS)
+    return _FIXED.pack(it.count, *it.registers, *words, len(it.keys), it.keys, len(it.output))
 
 
-def _tail(version: int, checkpoint: Checkpoint, before: array) -> bytes:
+def _memory_fields(version: int, checkpoint: Checkpoint, before: array) -> bytes:
     """The whole table; or rate, phase and the changes of the table before."""
     after = checkpoint.table
     if version == 1:
         return _bytes(after)
     places = [] if after == before else [at for at in range(PLACES) if after[at] != before[at]]
-    changes = array("I", [number for at in places for number in (at, after[at])])
-    return _COUNTING.pack(checkpoint.rate, checkpoint.phase, len(places)) + _bytes(changes)
+    changes = [number for at in places for number in (at, after[at])]
+    return _TIMER.pack(checkpoint.rate, checkpoint.phase, len(places)) + _bytes(changes)
 
 
-def _bytes(words: array) -> bytes:
+def _bytes(words: Sequence[int]) -> bytes:
     return struct.pack(f"<{len(words)}I", *words)

@@ -18,7 +18,8 @@ NOT_IN_XML = re.compile("[^\t\n\r\u0020-\ud7ff\ue000-\ufffd\U00010000-\U0010ffff
 
 @dataclass(frozen=True)
 class Kept:
-    """What is kept of a recording's outcome: the digest of its bytes, what was expected and answered, and the seconds."""
+    """What is kept of a recording's outcome: the digest of its bytes, what was expected and answered, and the
+    seconds."""
 
     sha256: str
     expected: str
@@ -35,7 +36,7 @@ class Change:
 
     kind: str
     name: str
-    told: str
+    detail: str
 
 
 def run_of(outcomes: Sequence[Outcome]) -> Run:
@@ -57,10 +58,10 @@ def text_of(kept: Run) -> str:
 def read_run(path: str) -> Run:
     """The run that a file keeps."""
     try:
-        told = json.loads(read_file(path))
-        if told["format"] != FORMAT or told["version"] != 1:
+        kept = json.loads(read_file(path))
+        if kept["format"] != FORMAT or kept["version"] != 1:
             raise ValueError
-        run = {name: Kept(**it) for name, it in told["recordings"].items()}
+        run = {name: Kept(**it) for name, it in kept["recordings"].items()}
     except (ValueError, KeyError, TypeError, AttributeError, RecursionError) as error:
         raise Refused(f"{path}: not a run of a suite, as --keep writes it") from error
     if not all(isinstance(it.answered, str) and isinstance(it.seconds, int | float) for it in run.values()):
@@ -73,10 +74,12 @@ def changes(before: Run, after: Run) -> list[Change]:
     both = [(name, before[name], it) for name, it in after.items() if name in before]
     return [
         *(Change("changed", name, _told_change(old, new)) for name, old, new in both if old.answered != new.answered),
-        *(Change("rewritten", name, "other bytes, the same answer") for name, old, new in both if _is_rewritten(old, new)),
+        *(Change("rewritten", name, "other bytes, the same answer")
+          for name, old, new in both if _is_rewritten(old, new)),
         *(Change("new", name, it.answered) for name, it in after.items() if name not in before),
         *(Change("gone", name, it.answered) for name, it in before.items() if name not in after),
-        *(Change("slower", name, f"{new.seconds:.2f} s, was {old.seconds:.2f} s") for name, old, new in both if _is_slower(old, new)),
+        *(Change("slower", name, f"{new.seconds:.2f} s, was {old.seconds:.2f} s")
+          for name, old, new in both if _is_slower(old, new)),
     ]
 
 
@@ -97,7 +100,9 @@ def junit(suite: str, outcomes: Sequence[Outcome]) -> bytes:
     """A run as the XML that JUnit writes and CI systems read."""
     seconds = f"{sum(it.seconds for it in outcomes):.3f}"
     wrong = sum(not it.is_ok for it in outcomes)
-    counted = {"name": _in_xml(suite), "tests": str(len(outcomes)), "failures": str(wrong), "errors": "0", "time": seconds}
+    counted = {
+        "name": _in_xml(suite), "tests": str(len(outcomes)), "failures": str(wrong), "errors": "0", "time": seconds,
+    }
     top = ElementTree.Element("testsuites")
     tests = ElementTree.SubElement(top, "testsuite", counted)
     for it in outcomes:
@@ -106,8 +111,8 @@ def junit(suite: str, outcomes: Sequence[Outcome]) -> bytes:
         if it.is_ok:
             ElementTree.SubElement(test, "system-out").text = _in_xml(it.answered)
         else:
-            told = _in_xml(f"expected {it.case.expected}, answered {it.answered}")
-            ElementTree.SubElement(test, "failure", {"message": told}).text = told
+            message = _in_xml(f"expected {it.case.expected}, answered {it.answered}")
+            ElementTree.SubElement(test, "failure", {"message": message}).text = message
     ElementTree.indent(top)
     return ElementTree.tostring(top, "utf-8", xml_declaration=True) + b"\n"
 

@@ -7,6 +7,7 @@ from pathlib import Path
 
 from galluspa.command import Refused, number
 from galluspa.recording import FLAGS, KINDS, PAGE_BYTES, PLACES, Event, Recording
+from galluspa.states import REGISTERS
 
 MEMORY_BYTES = PLACES * PAGE_BYTES
 COUNTS = 1 << 40
@@ -15,7 +16,6 @@ CHECKPOINTS = 4096
 MOUSE = 0x073FF3FF
 KIND_NUMBERS = {name: kind for kind, name in KINDS.items()}
 MOST = {"timer": 0xFFFFFFFF, "switches": 0xFFF, "mouse": MOUSE, "key": 0xFF, "serial": 0xFF}
-REGISTERS = [f"R{at}" for at in range(16)]
 
 
 @dataclass
@@ -65,7 +65,7 @@ def _rows(items: list[str], in_row: int) -> str:
 def of_recording(name: str, read: Recording) -> Session:
     """The session of a recording's first state, inputs and counts; refused where no session can say that state."""
     first, *later = read.checkpoints
-    unsaid = [
+    inexpressible = [
         what
         for what, value in (
             ("stop", first.stop), ("timer", first.timer), ("switches", first.switches), ("LEDs", first.leds),
@@ -73,8 +73,9 @@ def of_recording(name: str, read: Recording) -> Session:
         )
         if value
     ]
-    if unsaid:
-        raise Refused(f"{name}: its first state has {', '.join(unsaid)} other than 0, which a session cannot say")
+    if inexpressible:
+        parts = ", ".join(inexpressible)
+        raise Refused(f"{name}: its first state has {parts} other than 0, which a session cannot say")
     return Session(
         registers=list(first.registers),
         h=first.h,
@@ -91,7 +92,8 @@ def of_recording(name: str, read: Recording) -> Session:
 def image_at(name: str, image: bytes, address: int) -> bytes:
     """A memory that begins with zeros and has an image from a byte address on."""
     if address + len(image) > MEMORY_BYTES:
-        raise Refused(f"{name}: {len(image):,} bytes from {address:X} on go beyond the memory of {MEMORY_BYTES:,} bytes")
+        raise Refused(
+            f"{name}: {len(image):,} bytes from {address:X} on go beyond the memory of {MEMORY_BYTES:,} bytes")
     return bytes(address) + image
 
 

@@ -5,10 +5,17 @@ from dataclasses import dataclass
 
 from galluspa.recording import FLAGS, KINDS, STOPS, Checkpoint, Event
 
+REGISTERS = [f"R{at}" for at in range(16)]
+# The parts of a state that are one word, in the order of parts: how the program names them, and their attributes here.
+WORDS = {
+    "H": "h", "PC": "pc", "flags": "flags", "stop": "stop", "timer": "timer", "rate": "rate", "phase": "phase",
+    "switches": "switches", "LEDs": "leds", "mouse": "mouse", "serial": "serial",
+}
 
 @dataclass(frozen=True)
 class Part:
-    """A part of a state but for its memory: its name in the lines of the program, what is claimed, and whether it changed."""
+    """A part of a state but for its memory: its name in the lines of the program, what is claimed, and whether it
+    changed."""
 
     name: str
     text: str
@@ -17,11 +24,10 @@ class Part:
 
 def values(checkpoint: Checkpoint) -> dict[str, int | list[int]]:
     """The parts of a state but for its memory, by their names, as numbers; the keys as a list of them."""
-    it = checkpoint
     return {
-        **{f"R{at}": value for at, value in enumerate(it.registers)},
-        "H": it.h, "PC": it.pc, "flags": it.flags, "stop": it.stop, "timer": it.timer, "rate": it.rate, "phase": it.phase,
-        "switches": it.switches, "LEDs": it.leds, "mouse": it.mouse, "serial": it.serial, "keys": list(it.keys),
+        **dict(zip(REGISTERS, checkpoint.registers, strict=True)),
+        **{name: getattr(checkpoint, attribute) for name, attribute in WORDS.items()},
+        "keys": list(checkpoint.keys),
     }
 
 
@@ -40,7 +46,7 @@ def registers(checkpoint: Checkpoint, before: Checkpoint | None) -> list[Part]:
     """R0 to R15."""
     olds = before.registers if before else checkpoint.registers
     pairs = enumerate(zip(checkpoint.registers, olds, strict=True))
-    return [Part(f"R{at}", f"{value:08X}", value != old) for at, (value, old) in pairs]
+    return [Part(REGISTERS[at], f"{value:08X}", value != old) for at, (value, old) in pairs]
 
 
 def others(checkpoint: Checkpoint, before: Checkpoint | None, version: int) -> list[Part]:
@@ -101,7 +107,8 @@ def event(taken: Event) -> str:
 
 def text(sent: bytes) -> str:
     """Bytes as text: line feeds and signs of ASCII as they are, other bytes as a backslash and two digits."""
-    return "".join(chr(byte) if 0x20 <= byte < 0x7F and byte != 0x5C or byte == 10 else f"\\{byte:02x}" for byte in sent)
+    plain = {10, *range(0x20, 0x7F)} - {ord("\\")}
+    return "".join(chr(byte) if byte in plain else f"\\{byte:02x}" for byte in sent)
 
 
 def ranges(numbers: list[int]) -> str:

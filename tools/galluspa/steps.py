@@ -1,6 +1,7 @@
 """The single instructions of a recording's run: the program records it again with a checkpoint at every count.
 
-So each state comes from the proved recorder. Of a long run only the first instructions after each checkpoint are examined.
+So each state comes from the proved recorder. Of a long run only the first instructions after each checkpoint are
+examined.
 """
 
 from bisect import bisect_left
@@ -19,8 +20,8 @@ MEMORY_WORDS = recording.PLACES * recording.WORDS_IN_PAGE
 
 @dataclass(frozen=True)
 class Step:
-    """One instruction: the state before the inputs of its count, these inputs, its word, and the state after it. There is no
-    word where the program counter is outside memory."""
+    """One instruction: the state before the inputs of its count, these inputs, its word, and the state after it. There
+    is no word where the program counter is outside memory."""
 
     before: Checkpoint
     inputs: list[Event]
@@ -29,7 +30,8 @@ class Step:
 
 
 def counts_of(read: Recording, most: int) -> list[int]:
-    """The counts of the instructions to look at: of each stretch between two checkpoints its first ones, at most so many in all."""
+    """The counts of the instructions to look at: of each stretch between two checkpoints its first ones, at most so
+    many in all."""
     ends = [checkpoint.count for checkpoint in read.checkpoints]
     of_each = max(1, most // max(1, len(ends) - 1))
     counts = [count for first, last in zip(ends, ends[1:]) for count in range(first, min(last, first + of_each))]
@@ -53,6 +55,7 @@ def steps_of(program: Program, name: str, read: Recording, counts: list[int]) ->
 
 
 def _step(dense: Recording, before: Checkpoint, after: Checkpoint) -> Step:
-    from_here, up_to = (bisect_left(dense.events, count, key=attrgetter("count")) for count in (before.count, before.count + 1))
+    ends = (before.count, before.count + 1)
+    from_here, up_to = (bisect_left(dense.events, count, key=attrgetter("count")) for count in ends)
     word = dense.word(before, before.pc) if before.pc < MEMORY_WORDS else None
     return Step(before, dense.events[from_here:up_to], word, after)

@@ -1,4 +1,5 @@
-"""Cuts slices, the stretches of a recording between two checkpoints, and joins their verdict lines to that of the whole."""
+"""Cuts slices, the stretches of a recording between two checkpoints, and joins their verdict lines to that of the
+whole."""
 
 import re
 from array import array
@@ -15,8 +16,8 @@ _FALSE = re.compile(r"false checkpoint (\d+) at (\d+) part (.+)")
 
 
 def stretch(read: Recording, first: int, last: int) -> Recording:
-    """The recording from one checkpoint to a later one: what the first claims is its first state, counts and inputs begin at 0
-    again, and its pool has the pages that it names, in the order in which it names them."""
+    """The recording from one checkpoint to a later one: what the first claims is its first state, counts and inputs
+    begin at 0 again, and its pool has the pages that it names, in the order in which it names them."""
     begin, end = read.checkpoints[first].count, read.checkpoints[last].count
     from_here, up_to = (bisect_left(read.events, count, key=attrgetter("count")) for count in (begin, end))
     numbers = {0: 0}
@@ -35,8 +36,8 @@ def _renumbered(claim: Checkpoint, numbers: dict[int, int]) -> array:
 
 @dataclass(frozen=True)
 class Found:
-    """What the line of a stretch says: the first false checkpoint by its number in the whole recording and its first false
-    part; or neither, where all were found true."""
+    """What the line of a stretch says: the first false checkpoint by its number in the whole recording and its first
+    false part; or neither, where all were found true."""
 
     first: int
     last: int
@@ -50,15 +51,16 @@ def found(read: Recording, first: int, last: int, line: str) -> Found | None:
     if accepted := _ACCEPTED.fullmatch(line):
         is_whole = (int(accepted[1]), int(accepted[2])) == (last - first, read.checkpoints[last].count - begin)
         return Found(first, last) if is_whole else None
-    told = _FALSE.fullmatch(line)
-    false = first + int(told[1]) if told else 0
-    if not first < false <= last or read.checkpoints[false].count - begin != int(told[2]):
+    match = _FALSE.fullmatch(line)
+    false = first + int(match[1]) if match else 0
+    if not first < false <= last or read.checkpoints[false].count - begin != int(match[2]):
         return None
-    return Found(first, last, false, told[3])
+    return Found(first, last, false, match[3])
 
 
 def joined(read: Recording, lines: Iterable[Found]) -> Found:
-    """What the lines of stretches say of the whole recording: the least false checkpoint, once all before it were looked at."""
+    """What the lines of stretches say of the whole recording: the least false checkpoint, once all before it were
+    looked at."""
     lines = list(lines)
     last = len(read.checkpoints) - 1
     least = min((it for it in lines if it.false is not None), key=lambda it: it.false, default=Found(0, last))

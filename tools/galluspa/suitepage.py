@@ -41,7 +41,9 @@ def templates() -> Environment:
                        undefined=StrictUndefined)
 
 
-def page(program: Program, name: str, outcomes: Sequence[Outcome], jobs: int, changes: list[Change] | None) -> Iterator[str]:
+def page(
+    program: Program, name: str, outcomes: Sequence[Outcome], jobs: int, changes: list[Change] | None
+) -> Iterator[str]:
     """The page, piece by piece: what is not as expected comes first."""
     wrong = sum(not it.is_ok for it in outcomes)
     headline = f"{len(outcomes) - wrong} of {len(outcomes)} as expected"

@@ -1,4 +1,5 @@
-"""Suites: the recordings under a folder, the expected beginnings of their verdict lines, and what the program answers."""
+"""Suites: the recordings under a folder, the expected beginnings of their verdict lines, and what the program answers.
+"""
 
 import json
 import time
@@ -82,6 +83,6 @@ def tap(number: int, outcome: Outcome) -> str:
     name = outcome.case.name.replace("#", r"\#")
     if outcome.is_ok:
         return f"ok {number} - {name}: {outcome.answered}"
-    told = {"expected": outcome.case.expected, "answered": outcome.answered}
-    lines = [f"  {key}: {json.dumps(value)}" for key, value in told.items()]
+    details = {"expected": outcome.case.expected, "answered": outcome.answered}
+    lines = [f"  {key}: {json.dumps(value)}" for key, value in details.items()]
     return "\n".join([f"not ok {number} - {name}", "  ---", *lines, "  ..."])

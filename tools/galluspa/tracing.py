@@ -1,6 +1,7 @@
 """Traces the run of a recording one instruction at a time, with what each changed, on the library's machine.
 
-A trace begins at the last checkpoint at or before a count that is known to be true, so the end of a run costs one segment.
+A trace begins at the last checkpoint at or before a count that is known to be true, so the end of a run costs one
+segment.
 """
 
 from collections.abc import Callable, Iterable, Iterator, Sequence
@@ -48,7 +49,8 @@ class Step:
 
     @property
     def stored_at(self) -> int | None:
-        """The address of the word that the instruction stores to, whether or not it changes; None if it stores nothing."""
+        """The address of the word that the instruction stores to, whether or not it changes; None if it stores
+        nothing."""
         if self.word is None or self.after.stop or not is_store(self.word):
             return None
         return address(self.word, self.before.registers) & ~3
@@ -86,7 +88,8 @@ class Run:
 
     @staticmethod
     def of_answer(library: Library, text: bytes, read: Recording, answer: Answer) -> "Run":
-        """The run of a recording whose checkpoints are true, or are so before the one that the program's answer names."""
+        """The run of a recording whose checkpoints are true, or are so before the one that the program's answer
+        names."""
         return Run(library, text, read, range(answer.false_claim[0] if answer.false_claim else len(read.checkpoints)))
 
     def machine(self, count: int) -> Machine:
@@ -155,8 +158,8 @@ def lines(step: Step) -> Iterator[str]:
 
 
 def changes(step: Step) -> Iterator[str]:
-    """What an instruction and its inputs changed, and the byte that was sent. A program counter that goes on is left out,
-    and so is the phase of the timer."""
+    """What an instruction and its inputs changed, and the byte that was sent. A program counter that goes on is left
+    out, and so is the phase of the timer."""
     parts = [*states.registers(step.after, step.before), *states.others(step.after, step.before, 2)]
     olds = [*states.registers(step.before, None), *states.others(step.before, None, 2)]
     silent = {"phase", *(["PC"] if step.after.pc == (step.before.pc + 1) % (1 << 22) else [])}
