@@ -11,7 +11,7 @@ use std::alloc::{AllocError, Global};
 const CHUNK: usize = 65_536;
 
 /// Why an input was not read.
-#[derive(Clone, Copy, Debug, PartialEq, Eq)]
+#[derive(Clone, Copy)]
 pub enum ReadFault {
     /// A read failed.
     Failed,

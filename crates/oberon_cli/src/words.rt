@@ -19,7 +19,7 @@ const RECORDING_LIMIT: usize = LONGEST_TEXT + 1;
 const SESSION_LIMIT: usize = LONGEST_SESSION + 1;
 
 /// What the program is to do.
-#[derive(Clone, Copy, Debug, PartialEq, Eq)]
+#[derive(Clone, Copy)]
 pub enum Request {
     /// Check the recording that is read: with 1 to 64 workers, each job of 1 to 4,096 segments in a row.
     Check { workers: u32, cut: u32 },
@@ -47,7 +47,7 @@ impl Request {
 }
 
 /// Why the words ask for none of these.
-#[derive(Debug, Drop)]
+#[derive(Drop)]
 pub enum Refusal {
     /// They ask for help, whose text is the error's.
     Help(Error),

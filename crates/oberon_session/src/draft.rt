@@ -5,7 +5,7 @@ ghost use Rattle.std.specs.Prelude.{◌≡◌, length};
 use serde_json::Value;
 
 /// An input: its count, the number of its kind, and its value.
-#[derive(Clone, Copy, Debug)]
+#[derive(Clone, Copy)]
 pub struct InputDraft {
     pub count: u64,
     pub kind: u8,
@@ -13,7 +13,7 @@ pub struct InputDraft {
 }
 
 /// A page: its place, and the digits of its first bytes.
-#[derive(Clone, Copy, Debug)]
+#[derive(Clone, Copy)]
 pub struct PageDraft<'a> {
     pub at: u64,
     pub hex: &'a str,
@@ -30,7 +30,7 @@ pub struct Members<'a> {
 }
 
 /// The numbers of the first state.
-#[derive(Debug, Drop)]
+#[derive(Drop)]
 pub struct StartDraft {
     pub registers: Vec<u64>,
     pub h: u64,
@@ -42,7 +42,7 @@ pub struct StartDraft {
 }
 
 /// The whole of it.
-#[derive(Debug, Drop)]
+#[derive(Drop)]
 pub struct Draft<'a> {
     pub start: StartDraft,
     pub pages: Vec<PageDraft<'a>>,
