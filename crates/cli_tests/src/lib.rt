@@ -1,6 +1,6 @@
 //! Tests of the program, through `oberon_cli::serve`.
 //!
-//! Nothing is exported. The tests use public names alone, so that the library of the program is proved once, without them.
+//! Nothing is exported. The tests use public names alone, so the library of the program is proved once, without them.
 #![tactic(auto)]
 
 #[cfg(test)]

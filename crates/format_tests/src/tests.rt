@@ -1,4 +1,4 @@
-//! Worked examples, each rule broken once, and each call once.
+//! Worked examples: each rule broken once, and each call made once.
 
 mod first;
 mod migrated;
@@ -40,7 +40,7 @@ const TEXTS: [(Fault, &str); 9] = [
     (Fault::Memory, "no memory"),
 ];
 
-/// Whether a fault is shown so.
+/// Reports whether a fault has this text.
 fn is_shown(alloc: Global, fault: Fault, text: &str) -> bool {
     match format!(in alloc; "{fault}") {
         Ok(shown) => shown.as_str() == text,
@@ -48,7 +48,7 @@ fn is_shown(alloc: Global, fault: Fault, text: &str) -> bool {
     }
 }
 
-/// The text of the first fault that is shown otherwise, if there is one.
+/// Returns the text of the first fault whose text is another one, if there is one.
 fn text_not_shown(alloc: Global) -> Option<&'static str> {
     for (fault, text) in &TEXTS {
         if !is_shown(alloc, *fault, text) {

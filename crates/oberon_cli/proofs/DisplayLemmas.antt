@@ -1,4 +1,4 @@
--- How many words a range of a memory has.
+-- The number of words in a range of a memory.
 use Rattle.std.proofs.Common.{◌≡◌, ◌≤◌, ◌+◌, ℕ, List, arith, length, length-drop}
 use Rattle.std.proofs.lemmas.List.{length-take}
 use Rattle.std.specs.Prelude.{slice_range}

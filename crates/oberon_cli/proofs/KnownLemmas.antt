@@ -1,4 +1,4 @@
--- A command that was done answers all bytes of a reader that are known.
+-- A command that succeeds answers all known bytes of a reader.
 use Rattle.std.proofs.Common.{◌≡◌, ◌<◌, ◌≤◌, ◌+◌, ◌∙◌, inl, inr, ℕ, Bool, true, false, List, [], ◌∷◌, ◌++◌, Option, Some, None, arith, sym, refl, subst, ap, length, take, append-nil}
 use lib.Seq.{take-append_seam}
 use Rattle.std.proofs.lemmas.List.{length-take, take_all}
@@ -45,12 +45,12 @@ known_bytes limit xs bytes (Some rest) taken within end = go (nat_lt (length byt
         let same : limit ≡ length bytes = omega (arith, within) in
         rw (taken, same) (sym (take-append_seam bytes rest))
 
--- the line of the fault of a text that is cut off is that of the whole
+-- the line of the fault of a file that is cut is that of the whole
 cut_fault : (n : ℕ) (bytes line : List ℕ) (status : ℕ) → LONGEST_TEXT < n → n ≤ length bytes → IsLineOfFault (take n bytes) line status → IsLineOfFault bytes line status
 cut_fault n bytes line status over within is =
     record { fault = is.fault; is_first = sym (first_fault_of-take n bytes over within) ∙ is.is_first; line_is = is.line_is; status_is = is.status_is }
 
--- a text that is cut off is that of no recording, so that its line is that of the whole
+-- a file that is cut is no recording file, so its line is that of the whole
 cut_report : (n : ℕ) (bytes line : List ℕ) (status : ℕ) → LONGEST_TEXT < n → n ≤ length bytes → IsLineOf (take n bytes) line status → IsLineOf bytes line status
 cut_report n bytes line status over within (inl is) = absurd (cut_is_no_text n bytes is.recording over within is.is_text)
 cut_report n bytes line status over within (inr is) = inr (cut_fault n bytes line status over within is)
@@ -65,7 +65,7 @@ cut_migration : (n : ℕ) (bytes text : List ℕ) (status : ℕ) → LONGEST_TEX
 cut_migration n bytes text status over within (inl is) = absurd (cut_is_no_text n bytes is.migrated.recording over within is.migrated.read)
 cut_migration n bytes text status over within (inr is) = inr (cut_fault n bytes text status over within is)
 
--- the fault of a session's text that is cut off behind more bytes than a session may have is that of the whole
+-- the fault of a session that is cut after more bytes than a session may have is that of the whole
 cut_breaks : (n : ℕ) (bytes : List ℕ) (f : SessionFault) → LONGEST_SESSION < n → n ≤ length bytes → Breaks (take n bytes) f → Breaks bytes f
 cut_breaks n bytes fault.Json over within is = sym (fault-cut n bytes (omega arith) within) ∙ is
 cut_breaks n bytes fault.Shape over within is = sym (fault-cut n bytes (omega arith) within) ∙ is
@@ -82,7 +82,7 @@ cut_record n bytes text status over within (inl is) =
     absurd cc
 cut_record n bytes text status over within (inr is) = inr (record { fault = is.fault; first = cut_breaks n bytes is.fault over within is.first; refusal = is.refusal })
 
--- a fact of the first n bytes that holds of all of them, where there are more
+-- a fact of the first n bytes that holds for all of them, if there are more
 whole : (P : List ℕ → Type 0) (n : ℕ) (bytes : List ℕ) → (n ≤ length bytes → P (take n bytes) → P bytes) → P (take n bytes) → P bytes
 whole P n bytes more first = go (nat_lt (length bytes) n) refl
   where
@@ -92,7 +92,7 @@ whole P n bytes more first = go (nat_lt (length bytes) n) refl
         subst P (take_all n bytes fits) first
     go false e = more (ltb-false (length bytes) n e) first
 
--- the answer to the bytes that are read is the answer to all
+-- the answer to the bytes read is the answer to all bytes
 whole_answer : (request : Request) (bytes text : List ℕ) (status : ℕ) → IsAnswer request (take (limit_of request) bytes) text status → IsAnswer request bytes text status
 whole_answer (Check workers cut) bytes text status =
     whole (λ input. IsLineOf input text status) (LONGEST_TEXT + 1) bytes (λ within. cut_report (LONGEST_TEXT + 1) bytes text status (omega arith) within)
@@ -103,7 +103,7 @@ whole_answer (Screen at) bytes text status =
 whole_answer Migrate bytes text status =
     whole (λ input. IsMigration input text status) (LONGEST_TEXT + 1) bytes (λ within. cut_migration (LONGEST_TEXT + 1) bytes text status (omega arith) within)
 
--- no words ask for no help
+-- no arguments are no request for help
 no_help : IsHelp [] → ⊥
 unfolding clap_on_literals faults
 no_help (inl same) = cc

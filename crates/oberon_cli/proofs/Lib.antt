@@ -1,4 +1,4 @@
--- What the proofs of this crate stand on.
+-- Files that the proofs of this crate depend on.
 mod DisplayLemmas
 mod KnownLemmas
 mod Literals

@@ -1,4 +1,4 @@
--- What words that are written out ask for.
+-- What literal arguments ask for.
 use Rattle.std.proofs.Common.{◌≡◌, [], ◌∷◌, Some, None, refl, codes, inl}
 use Rattle.clap.proofs.OnLiterals.{clap_on_literals}
 use Rattle.oberon_cli.specs.Asked.{IsHelp, request_in, faults, found}

@@ -1,4 +1,4 @@
--- What the typed getter of `clap` reads is the whole number of the definition.
+-- What the typed getter of `clap` reads is the number of the definition.
 use Rattle.std.proofs.Common.{◌≡◌, ◌^◌, ◌<◌, ◌≤◌, ℕ, Bool, List, Option, Some, None, Result, Ok, Err, true, false, arith, refl, cond, option_and_then}
 use Rattle.std.specs.Str.Parse.{ParsesUnsigned, digits_value, without_leading_plus}
 use Rattle.clap.specs.Matches.{ReadsOne}

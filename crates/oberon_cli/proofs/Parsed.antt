@@ -1,4 +1,4 @@
--- What a parse by `clap` says of the definition of what the words ask for.
+-- A parse by `clap`, in terms of the definition of what the arguments ask for.
 use Rattle.std.proofs.Common.{◌≡◌, ◌==◌, ℕ, zero, suc, ◌≢◌, ◌<◌, ◌∙◌, List, [], ◌∷◌, Some, Option, Result, Ok, Err, IfOk, IfErr, IfSome, None, true, false, ◌⊎◌, arith, refl, sym, ap, length, option_and_then, inl, inr}
 use Rattle.std.proofs.lemmas.Bool.{ne_eqb}
 use Rattle.std.specs.Option.{ok_or}
@@ -36,7 +36,7 @@ pub found_is : (a : App) (words : List Text) → a ≡ program_app → subcomman
 unfolding found
 found_is a words e = ap (λ (x : App). subcommand_of x words) e
 
--- where `clap` finds no fault, the words ask for what its subcommand does
+-- if `clap` finds no fault, the arguments ask for what its subcommand does
 pub asked_found : (words : List Text) → 0 < length words → faults words ≡ [] → request_in words ≡ option_and_then (λ p. request_of p.0 p.1) (found words)
 asked_found [] some none = absurd (omega arith)
 asked_found (word ∷ words) some none = rw none refl
@@ -45,14 +45,14 @@ some_kind : (kinds : Kinds) (k : ErrorKind) → IsAmong k kinds → is_empty kin
 some_kind [] k among = absurd among
 some_kind (x ∷ rest) k among = ne_eqb _ _ (λ e. omega arith)
 
--- where it finds one, for nothing
+-- if it finds one, for nothing
 pub asked_none : (words : List Text) (k : ErrorKind) → 0 < length words → IsAmong k (faults words) → request_in words ≡ None
 asked_none [] k some among = absurd (omega arith)
 asked_none (word ∷ words) k some among =
     let has_fault = some_kind (faults (word ∷ words)) k among in
     rw has_fault refl
 
--- an error that isn't a help request refuses the words
+-- an error that is not a help request refuses the arguments
 refused_words : (words : List Text) (k : ErrorKind) → 0 < length words → k ≢ OutOfMemory → k ≢ DisplayHelp → (k ≡ OutOfMemory) ⊎ IsAmong k (faults words)
     → IsRefused words
 refused_words words k some no_memory no_help (inl h) = absurd (no_memory h)
@@ -94,7 +94,7 @@ unread words none nothing = (nothing, λ one. no_list (sym none ∙ one))
     no_list : {X : Type 0} {x : X} → [] ≡ x ∷ [] → ⊥
     no_list e = cc
 
--- matches answer with the command that the words ask for, or refuse them
+-- matches are answered with the command that the arguments ask for, or the arguments are refused
 pub answered : (words : List Text) (o : Option Request) (r : Result Request Refusal) → r ≡ ok_or o Words → request_in words ≡ o → faults words ≡ []
     → IfOk r (λ request. request_in words ≡ Some request) × IfErr r (RefusedBy words)
 answered words o (Ok request) is asks none = (go o is asks, tt)

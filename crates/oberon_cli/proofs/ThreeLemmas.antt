@@ -1,4 +1,4 @@
--- The status 3 stands for faults alone.
+-- Status 3 means a failure, and nothing else.
 use Rattle.std.proofs.Common.{◌≡◌, ◌<◌, ◌⊎◌, inl, inr, ℕ, false, List, arith}
 use Rattle.clap.specs.Walk.{Text}
 use Rattle.oberon_format.specs.Recording.{RecordingParts}
@@ -52,7 +52,7 @@ answer_status Record input text status is = record_status input text status is
 answer_status (Screen at) input text status is = screen_status at input text status is
 answer_status Migrate input text status is = migration_status input text status is
 
--- where no call failed, none has
+-- if no call failed, no status is 3
 still : (old new : Known) → Goes old new → old.failed ≡ false → Fails new → ⊥
 still old new goes before fails = cc
 

@@ -1,4 +1,4 @@
--- What the check answers to the text of a recording whose checkpoints are all true.
+-- What the check answers to a recording file whose checkpoints are all true.
 use Rattle.std.proofs.Common.{◌<◌, ℕ, List, arith, inl, length, refl}
 use Rattle.oberon_format.specs.Defined.{IsTrueAt}
 use Rattle.oberon_format.specs.Recording.{RecordingParts, count_at, last_of}

@@ -1,4 +1,4 @@
--- What the turns of a reading loop take together.
+-- What the turns of a reading loop take in all.
 use Rattle.std.proofs.Common.{◌≡◌, ◌<◌, ◌≤◌, ◌+◌, ◌-◌, ℕ, min, List, ◌++◌, Option, arith, length, length-append, take}
 use Rattle.std.proofs.lemmas.List.{length-take}
 use Rattle.std.proofs.KnownBytes.{Consumes-trans}
@@ -10,18 +10,18 @@ pub fits_limit : (limit taken most room : ℕ) (chunk got : List ℕ) → taken 
     → taken + length got ≤ limit
 fits_limit limit taken most room chunk got within is few = omega (arith, simp length-take at few)
 
--- after a turn, what was taken is taken still, and within the limit
+-- after a turn, the bytes taken are still taken, and within the limit
 pub more_within : (limit : ℕ) (bytes got all : List ℕ) → all ≡ bytes ++ got → length bytes + length got ≤ limit → length all ≤ limit
 more_within limit bytes got all is fits = rw is (simp length-append (omega arith))
 
--- a turn that took a byte is paid for by it
+-- a turn that takes a byte is paid for by it
 pub more_counted : (turn : ℕ) (bytes got all : List ℕ) → all ≡ bytes ++ got → turn ≤ length bytes → 0 < length got → turn + 1 ≤ length all
 more_counted turn bytes got all is counted some = rw is (simp length-append (omega arith))
 
 pub more_taken : (a b c : Option (List ℕ)) (bytes got all : List ℕ) → all ≡ bytes ++ got → Consumes a b bytes → Consumes b c got → Consumes a c all
 more_taken a b c bytes got all is before now = rw is (Consumes-trans a b c bytes got before now)
 
--- a turn that failed lost no more than it had room for
+-- a turn that fails loses no more than it has room for
 pub lost_within : (limit most room : ℕ) (chunk bytes : List ℕ) (a b c : Known) → length bytes ≤ limit → room ≡ min (limit - length bytes) most
     → Consumes a.bytes b.bytes bytes → TakesAtMost (length (take room chunk)) b c → TakesAtMost limit a c
 lost_within limit most room chunk bytes a b c within is before lost =

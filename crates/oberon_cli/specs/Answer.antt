@@ -9,19 +9,19 @@ use Rattle.oberon_cli.specs.declared.words.Request.TheVariants.{Check, Migrate, 
 use Rattle.oberon_format.specs.declared.layout.TheConstants.{LONGEST_TEXT}
 use Rattle.recording_limits.specs.declared.limits.TheConstants.{LONGEST_SESSION}
 
--- the most bytes that the command reads: one more than the longest text of a recording or of a session has
+-- the most bytes that the command reads: one more than the longest file of a recording or of a session
 abbrev pub limit_of : Request → ℕ
 limit_of (Check workers cut) = LONGEST_TEXT + 1
 limit_of Record = LONGEST_SESSION + 1
 limit_of (Screen at) = LONGEST_TEXT + 1
 limit_of Migrate = LONGEST_TEXT + 1
 
--- the most bytes that are read where the words ask for this: none where they ask for no command
+-- the most bytes that are read if the arguments ask for this: none if they ask for no command
 abbrev pub limit_for : Option Request → ℕ
 limit_for (Some request) = limit_of request
 limit_for None = 0
 
--- the text with its status is the answer of the command to the input. Workers and cut don't occur in it
+-- these bytes, with this status, are the answer of the command to the input. Workers and cut have no effect on it
 abbrev pub IsAnswer : Request → List ℕ → List ℕ → ℕ → Type 0
 IsAnswer (Check workers cut) input text status = IsLineOf input text status
 IsAnswer Record input text status = IsRecord input text status

@@ -1,4 +1,4 @@
--- What the words of the command line ask for.
+-- What the arguments of the command line ask for.
 use Rattle.std.specs.Prelude.{◌≡◌, ◌≢◌, ℕ, List, [], ◌∷◌, Option, Some, None, option_map, option_and_then, if◌then◌else◌, codes}
 use Rattle.std.specs.Str.{bytes_eq}
 use Rattle.std.specs.Str.Parse.{digits_value, without_leading_plus}
@@ -13,12 +13,12 @@ use Rattle.oberon_cli.specs.declared.words.Request.{Request}
 use Rattle.oberon_cli.specs.declared.words.Request.TheVariants.{Check, Migrate, Record, Screen}
 use Rattle.recording_limits.specs.declared.limits.TheConstants.{LAST_CHECKPOINT}
 
--- the number that the text writes in decimal digits, perhaps after a plus, where it lies in the range
+-- the number that the string writes in decimal digits, with an optional plus sign, if it is in the range
 abbrev pub whole_number : ℕ → ℕ → Text → Option ℕ
 whole_number low high text =
     if is_unsigned_in low high text then Some (digits_value 10 (without_leading_plus text)) else None
 
--- the number that `clap` found for an argument
+-- the number that `clap` finds for an option
 abbrev pub number_at : ℕ → ℕ → Text → List Row → Option ℕ
 number_at low high id rows = option_and_then (whole_number low high) (one_of id rows)
 
@@ -26,7 +26,7 @@ abbrev pub check_of : List Row → Option Request
 check_of rows = option_and_then (λ workers. option_map (λ cut. Check workers cut)
     (number_at 1 LAST_CHECKPOINT (codes "cut") rows)) (number_at 1 64 (codes "workers") rows)
 
--- what a subcommand with its arguments asks for
+-- what a subcommand with its options asks for
 abbrev pub request_of : Text → List Row → Option Request
 request_of name rows =
     if bytes_eq name (codes "check") then check_of rows
@@ -35,26 +35,26 @@ request_of name rows =
     else if bytes_eq name (codes "migrate") then Some Migrate
     else None
 
--- the kinds of fault that `clap` finds in the words
+-- the kinds of fault that `clap` finds in the arguments
 unfoldable pub faults : List Text → Kinds
 faults words = fault_of program_app words
 
--- the subcommand that `clap` finds in the words, with its arguments
+-- the subcommand that `clap` finds in the arguments, with its options
 unfoldable pub found : List Text → Option (Text × List Row)
 found words = subcommand_of program_app words
 
--- what the words ask for, no words at all for a check
+-- what the arguments ask for; no arguments ask for a check
 abbrev pub request_in : List Text → Option Request
 request_in [] = Some (Check 2 1)
 request_in (word ∷ words) =
     if is_empty (faults (word ∷ words)) then option_and_then (λ p. request_of p.0 p.1) (found (word ∷ words))
     else None
 
--- the words ask for help. `clap` answers some words, as `help` before an unknown command, with one of two kinds of fault, so that these
--- may get help, and may be refused
+-- the arguments ask for help. `clap` reports some arguments, such as `help` before an unknown command, with one of two kinds of
+-- fault, so these may get help or may be refused
 abbrev pub IsHelp : List Text → Type 0
 IsHelp words = IsAmong DisplayHelp (faults words)
 
--- the words ask for nothing, and not for help alone
+-- the arguments ask for nothing, and not for help alone
 abbrev pub IsRefused : List Text → Type 0
 IsRefused words = (request_in words ≡ None) × (faults words ≢ DisplayHelp ∷ [])

@@ -1,4 +1,4 @@
--- The command line, as `clap` reads it: this project's own choice.
+-- The command line, as `clap` reads it (this project's own choice).
 use Rattle.std.specs.Prelude.{ℕ, List, [], ◌∷◌, pos, Some, true, codes}
 use Rattle.clap.specs.Walk.{Rule}
 use Rattle.clap.specs.Simple.{App, Shape, new_app, new_rule, new_shape, with_rule, with_subcommand}
@@ -38,12 +38,12 @@ screen_app = with_rule (new_app (codes "screen")) at_rule
 abbrev pub migrate_app : App
 migrate_app = new_app (codes "migrate")
 
--- one of four commands has to stand there, with no program's name before it
+-- one of four commands is required, with no program name before it
 abbrev pub program_shape : Shape
 program_shape =
     record (new_shape (codes "oberon_replay")) { no_binary_name = true; subcommand_required = true }
 
--- the program before it has its commands
+-- the program before its commands are added
 abbrev pub without_commands_app : App
 without_commands_app = record { top = program_shape; subs = [] }
 

@@ -1,4 +1,4 @@
--- What the program writes for its words and its input, and the status that it ends with.
+-- What the program writes for its arguments and its input, and the status with which it exits.
 use Rattle.std.specs.Prelude.{◌≡◌, ◌≢◌, ◌⊎◌, ℕ, List, Some, codes, false}
 use Rattle.std.specs.Io.KnownBytes.{Appends}
 use Rattle.clap.specs.Walk.{Text}
@@ -9,7 +9,7 @@ use Rattle.oberon_cli.specs.declared.words.Request.{Request}
 use Rattle.oberon_cli.specs.declared.failure.Failure.{Failure}
 use Rattle.oberon_cli.specs.declared.failure.Failure.TheVariants.{Words, Read, Memory}
 
--- a reply: a command's answer, a text with its status, to the bytes that it read; `clap`'s text of help; or a failure
+-- a reply: a command's answer, bytes with a status, to the bytes that it read; `clap`'s help; or a failure
 pub data Outcome : Type 0 where
   answer : Request → List ℕ → List ℕ → ℕ → Outcome
   help : List ℕ → Outcome
@@ -32,45 +32,45 @@ outcome_text (answer request input text status) = text
 outcome_text (help text) = text
 outcome_text (failure why) = failure_line why
 
--- and the status
+-- the status of a reply
 abbrev pub outcome_status : Outcome → ℕ
 outcome_status (answer request input text status) = status
 outcome_status (help text) = 0
 outcome_status (failure why) = failure_status why
 
--- when a failure may be the reply: the words are refused only where they ask for nothing, and `read fault` stands only where they ask
--- for a command and a read failed. Want of memory may come at any time, but in place of no failed read
+-- when a failure may be the reply: arguments are refused only if they ask for nothing, and `read fault` is the reply only if they
+-- ask for a command and a read failed. An allocation may fail at any time, but a failed read is still reported as one
 abbrev pub MayFail : List Text → Known → Known → Failure → Type 0
 MayFail words old new Words = IsRefused words × Goes old new
 MayFail words old new Read = (request : Request) × (request_in words ≡ Some request) × Fails new
 MayFail words old new Memory = Goes old new
 
--- the reply is one to the words, for the bytes that were taken from the reader. Where a read failed it is `read fault`
+-- the reply is one to the arguments, for the bytes taken from the reader. If a read failed it is `read fault`
 abbrev pub IsReplyTo : List Text → Known → Known → Outcome → Type 0
 IsReplyTo words old new (answer request input text status) =
     (request_in words ≡ Some request) × IsReadUpTo (limit_of request) old new input × IsAnswer request input text status
 IsReplyTo words old new (help text) = IsHelp words × Goes old new
 IsReplyTo words old new (failure why) = MayFail words old new why
 
--- all of the text was written and the status is its own; or a write failed after a front of it, and the status is 3
+-- all of the bytes were written and the status is their own; or a write failed after a prefix of them, and the status is 3
 abbrev pub IsSentText : List ℕ → ℕ → Known → Known → ℕ → Type 0
 IsSentText text own old new status = (GainsWhole text old new × (status ≡ own)) ⊎ (GainsFront text old new × (status ≡ 3))
 
 abbrev pub IsSent : Outcome → Known → Known → ℕ → Type 0
 IsSent outcome = IsSentText (outcome_text outcome) (outcome_status outcome)
 
--- some reply to the words was sent
+-- some reply to the arguments was sent
 abbrev pub Replies : List Text → Known → Known → Known → Known → ℕ → Type 0
 Replies words input input' output output' status = (outcome : Outcome) × IsReplyTo words input input' outcome × IsSent outcome output output' status
 
--- where the words ask for a command, the reader's bytes are known, and nothing failed, the command's answer to ALL of these bytes
--- was written, however many they are
+-- if the arguments ask for a command, the reader's bytes are known, and nothing failed, then the command's answer to ALL of these
+-- bytes was written, however many they are
 abbrev pub AnswersAll : List Text → Known → Known → Known → ℕ → Type 0
 AnswersAll words input old new status = (request : Request) (bytes : List ℕ) → request_in words ≡ Some request → input.bytes ≡ Some bytes
     → status ≢ 3 → (text : List ℕ) × IsAnswer request bytes text status × Appends old.bytes new.bytes text
 
--- the status 3 stands for a read or a write that failed, or for want of memory, whose line was then written; and for each of the two
--- where it is the first that failed
+-- status 3 means that a read or a write failed, or an allocation, whose line was then written; and it is the status whenever a
+-- read or a write is the first to fail
 pub record IsThreeForFaults (input input' output output' : Known) (status : ℕ) : Type 0 where
   pub only : status ≡ 3 → Fails input' ⊎ (Fails output' ⊎ GainsWhole (failure_line Memory) output output')
   pub reads : input.failed ≡ false → Fails input' → status ≡ 3

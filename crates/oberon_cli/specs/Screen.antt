@@ -11,7 +11,7 @@ use Rattle.oberon_check.specs.Headline.{IsLineOfFault}
 abbrev pub display_of : RecordingParts → ℕ → List ℕ
 display_of r k = slice_range (table_words r.pool (checkpoint_at r k).table) 237504 262080
 
--- the line where there is no such checkpoint
+-- the line if there is no such checkpoint
 abbrev pub missing_line : ℕ → List ℕ
 missing_line at = codes "no checkpoint " ++ (decimal at ++ codes "\n")
 
@@ -31,7 +31,7 @@ pub record IsMissing (r : RecordingParts) (at : ℕ) (text : List ℕ) (status :
 abbrev pub IsScreenOf : RecordingParts → ℕ → List ℕ → ℕ → Type 0
 IsScreenOf r at text status = IsClaimedScreen r at text status ⊎ IsMissing r at text status
 
--- the input is the text of a recording, and this is the answer on it
+-- the input is a recording file, and this is the answer to its recording
 pub record IsReadScreen (at : ℕ) (input text : List ℕ) (status : ℕ) : Type 0 where
   pub recording : RecordingParts
   pub read : Text input recording

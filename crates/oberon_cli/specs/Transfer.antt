@@ -1,18 +1,18 @@
--- What a loop over a reader or a writer leaves of the bytes that are known to be in them.
+-- What a loop over a reader or a writer does with the bytes that are known to be in them.
 use Rattle.std.specs.Prelude.{◌≡◌, ◌<◌, ◌≤◌, IsTrue, ℕ, List, length, take, Bool, Option}
 use Rattle.std.specs.Io.KnownBytes.{Appends, Consumes, IsAtEnd}
 
--- the bytes that a reader has left, or that a writer was given, where they are known; and whether a call of it has failed, or may
+-- the bytes that a reader still has, or that a writer was given, if they are known; and whether a call of it has failed, or may
 -- have
 pub record Known : Type 0 where
   pub bytes : Option (List ℕ)
   pub failed : Bool
 
--- no call failed on the way from the one to the other
+-- no call failed between the first and the second
 abbrev pub Goes : Known → Known → Type 0
 Goes old new = new.failed ≡ old.failed
 
--- a call failed on the way to it
+-- a call failed between the first and the second
 abbrev pub Fails : Known → Type 0
 Fails new = IsTrue new.failed
 
@@ -27,10 +27,10 @@ pub record IsReadUpTo (limit : ℕ) (old new : Known) (bytes : List ℕ) : Type 
 abbrev pub TakesAtMost : ℕ → Known → Known → Type 0
 TakesAtMost limit old new = (bytes : List ℕ) × (length bytes ≤ limit) × Consumes old.bytes new.bytes bytes
 
--- the writer gained all of the text, and no write failed
+-- the writer got all of the bytes, and no write failed
 abbrev pub GainsWhole : List ℕ → Known → Known → Type 0
 GainsWhole text old new = Appends old.bytes new.bytes text × Goes old new
 
--- a write failed after a front of the text, and the writer gained nothing else
+-- a write failed after a prefix of the bytes, and the writer got nothing else
 abbrev pub GainsFront : List ℕ → Known → Known → Type 0
 GainsFront text old new = (n : ℕ) × (n ≤ length text) × Appends old.bytes new.bytes (take n text) × Fails new

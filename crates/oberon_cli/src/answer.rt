@@ -1,4 +1,4 @@
-//! What each command answers to the bytes of its input. Reading them, and writing the answer, is in `serve`.
+//! What each command answers to the bytes of its input. Reading them, and writing the answer, is in `service`.
 ghost use Rattle.std.specs.Prelude.{IfOk};
 ghost use Rattle.oberon_cli.specs.Answer.{IsAnswer};
 ghost use Rattle.oberon_cli.specs.inner.Requests.{IsWithinLimits};
@@ -13,7 +13,7 @@ use std::alloc::{AllocError, Global};
 use std::sync::Wait;
 use std::thread::Threads;
 
-/// The answer of a command to the bytes of an input. It fails only for want of memory.
+/// Returns the answer of a command to the bytes of an input. Fails only if memory runs out.
 pub fn answer<H: Threads + Wait + Sync>(
     rt: &H,
     alloc: Global,

@@ -1,5 +1,5 @@
-//! The command line as `clap` is to read it: the commands, their options with ranges and defaults, and the texts of help.
-//! What the words of a run ask for is in `words`.
+//! The command line as `clap` reads it: the commands, their options with ranges and defaults, and the help texts. What the
+//! arguments of a run ask for is in `words`.
 ghost use Rattle.std.specs.Prelude.{◌≡◌, IfOk, false};
 ghost use Rattle.clap.specs.Simple.{new_app};
 ghost use Rattle.clap.specs.Words.{app_of, rule_of};
@@ -10,7 +10,7 @@ use clap::{Arg, ArgAction, Command, value_parser};
 use oberon_format::LAST_CHECKPOINT;
 use std::alloc::{AllocError, Global};
 
-/// The command line of the program: one of four commands, with no program's name before it.
+/// Returns the command line of the program: one of four commands, with no program name before it.
 pub fn program<'a>(alloc: Global) -> Result<Command<'a>, AllocError>
     ensures app { IfOk result (λ command. app_of command ≡ program_app) }
 {
@@ -20,7 +20,7 @@ pub fn program<'a>(alloc: Global) -> Result<Command<'a>, AllocError>
         .subcommand(migrate(alloc))
 }
 
-/// The program with its first two commands, which run the machine.
+/// Returns the program with its first two commands, which run the machine.
 fn replaying<'a>(alloc: Global) -> Result<Command<'a>, AllocError>
     ensures app { IfOk result (λ command. app_of command ≡ replaying_app) }
 {
@@ -30,7 +30,7 @@ fn replaying<'a>(alloc: Global) -> Result<Command<'a>, AllocError>
         .subcommand(record(alloc))
 }
 
-/// The program's name, texts and settings.
+/// Returns the program's name, texts and settings.
 fn without_commands<'a>(alloc: Global) -> Result<Command<'a>, AllocError>
     ensures app { IfOk result (λ command. app_of command ≡ without_commands_app) }
 {
@@ -97,7 +97,7 @@ fn migrate<'a>(alloc: Global) -> Command<'a>
     )
 }
 
-/// A command without options, with its texts of help.
+/// Returns a command without options, with its help texts.
 fn command<'a>(alloc: Global, name: &'a str, about: &'a str, example: &'a str) -> Command<'a>
     ensures app { app_of result ≡ new_app name.entry.now }
     ensures local { (fields_of result).has_globals ≡ false }
@@ -147,7 +147,7 @@ fn at<'a>(alloc: Global) -> Arg<'a>
     .value_parser(value_parser!(u32).range(0..=LAST_CHECKPOINT as i64))
 }
 
-/// An option that takes a number, with its text of help; the range is not set yet.
+/// Returns an option that takes a number, with its help text; the range is not set yet.
 fn number<'a>(alloc: Global, name: &'a str, value_name: &'a str, help: &'a str) -> Arg<'a>
     ensures rule { rule_of result ≡ number_rule name.entry.now }
     ensures local { result.global ≡ false }

@@ -8,16 +8,16 @@ use std::alloc::AllocError;
 /// Why there is no answer.
 #[derive(Clone, Copy, Debug, PartialEq, Eq)]
 pub enum Failure {
-    /// The words ask for nothing that the program does.
+    /// The arguments ask for nothing that the program does.
     Words,
     /// The input could not be read.
     Read,
-    /// There was no memory.
+    /// Memory ran out.
     Memory,
 }
 
 impl Failure {
-    /// Its line. Takes no memory.
+    /// Returns the line of the failure. Allocates nothing.
     pub fn line(self) -> &'static str
         ensures { result.now ≡ failure_line self }
     {
@@ -28,7 +28,7 @@ impl Failure {
         }
     }
 
-    /// The status that the program ends with.
+    /// Returns the status with which the program exits.
     pub fn status(self) -> u8
         ensures { result ≡ failure_status self }
     {

@@ -1,9 +1,9 @@
-//! The command line of Project Oberon's recordings: what words ask for, reading the input, the answer of each command, and writing
-//! it.
+//! The command line of Project Oberon's recordings: what arguments ask for, reading the input, the answer of each command, and
+//! writing it.
 //!
-//! `serve` is the whole program as a function of its words, a reader and a writer; `run` is the same with the program's name before
-//! the words and an exit status. Verdicts, recordings and pictures are made by the crates below. The program itself, `oberon_replay`,
-//! only gives `run` the words and the streams of its process.
+//! `serve` is the whole program as a function of its arguments, a reader and a writer; `run` is the same with the program's name
+//! before the arguments and an exit status. The crates below make verdicts, recordings and pictures. The program itself,
+//! `oberon_replay`, only passes the arguments and the streams of its process to `run`.
 #![tactic(auto)]
 
 mod answer;

@@ -1,5 +1,4 @@
-//! What the command `migrate` answers: the text of the same recording in the version that is written. The recording isn't
-//! replayed.
+//! The answer of the command `migrate`: the file of the same recording in the current version. The recording is not replayed.
 ghost use Rattle.std.specs.Prelude.{IfOk};
 ghost use Rattle.oberon_cli.specs.Migrate.{IsMigration};
 
@@ -7,7 +6,8 @@ use crate::refusal::{of_text, refusal_reply};
 use crate::reply::Reply;
 use std::alloc::{AllocError, Global};
 
-/// The text, in the version that is written, of the recording of a text. A text that is refused gets the line of its first fault.
+/// Returns the file, in the current version, of the recording of a file. For a file that is refused, returns the line of its
+/// first fault.
 pub fn migrate(alloc: Global, text: &[u8]) -> Result<Reply, AllocError>
     ensures { IfOk result (λ reply. IsMigration text.now reply.text.items reply.status) }
 {

@@ -1,4 +1,4 @@
-//! What binds the program to its process: its words, and the status that it ends with. The program itself is `serve`.
+//! The program in its process: its arguments, and its exit status. The program itself is `serve`.
 ghost use Rattle.std.specs.Prelude.{◌≡◌, ◌≢◌, IfOk, drop, map, string_bytes};
 ghost use Rattle.std.specs.Process.{exit_status};
 ghost use Rattle.oberon_cli.specs.Reply.{AnswersAll, IsSentText, IsThreeForFaults, Replies, failure_line, failure_status};
@@ -15,7 +15,7 @@ use std::rt::Env;
 use std::sync::Wait;
 use std::thread::Threads;
 
-/// The words of the process, the program's own name before them.
+/// Returns the arguments of the process, after the program's own name.
 pub fn process_words<H: AllocGlobal + Env>(rt: &H) -> Result<Vec<String>, Failure> {
     Ok(
         env::args(rt)
@@ -24,7 +24,8 @@ pub fn process_words<H: AllocGlobal + Env>(rt: &H) -> Result<Vec<String>, Failur
     )
 }
 
-/// Why the words of the process can't be had: want of memory, or anything else, as where one is not UTF-8, which refuses the words.
+/// Why the process has no arguments: an allocation failed; or anything else, for example an argument that is not UTF-8, which
+/// refuses the arguments.
 fn failure_of(kind: ErrorKind) -> Failure
     ensures memory { kind ≡ ErrorKind.OutOfMemory → result ≡ Failure.Memory }
     ensures words { kind ≢ ErrorKind.OutOfMemory → result ≡ Failure.Words }
@@ -35,7 +36,7 @@ fn failure_of(kind: ErrorKind) -> Failure
     }
 }
 
-/// The texts of the words.
+/// Returns the strings of the arguments.
 pub fn texts<'a>(alloc: Global, words: &'a [String]) -> Result<Vec<&'a str>, AllocError>
     ensures { IfOk result (λ texts. map (λ text. text.now) texts.items ≡ map string_bytes words.now) }
 {
@@ -46,7 +47,7 @@ pub fn texts<'a>(alloc: Global, words: &'a [String]) -> Result<Vec<&'a str>, All
     Ok(texts)
 }
 
-/// Serves the words behind the first, which is the program's own name, and ends with the status that this answers.
+/// Serves the arguments after the first, which is the program's own name, and returns the exit status.
 pub fn run<'a, H: Threads + Wait + Sync, R: Source, W: Sink>(
     rt: &H,
     alloc: Global,
@@ -64,14 +65,14 @@ pub fn run<'a, H: Threads + Wait + Sync, R: Source, W: Sink>(
     ExitCode::from(serve(rt, alloc, behind_name(words), input, output))
 }
 
-/// The words behind the first.
+/// Returns the arguments after the first.
 fn behind_name<'a>(words: &'a [&'a str]) -> &'a [&'a str]
     ensures { result.now ≡ drop 1 words.now }
 {
     &words[words.len().min(1)..]
 }
 
-/// Writes the line of a failure, and ends with the status that this answers.
+/// Writes the line of a failure, and returns the exit status.
 pub fn fail<W: Sink>(output: &mut W, failure: Failure) -> ExitCode
     ensures { IsSentText (failure_line failure) (failure_status failure) (W.known output.old) (W.known output.new)
         (exit_status result) }

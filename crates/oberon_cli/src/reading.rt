@@ -7,7 +7,7 @@ ghost use Rattle.oberon_cli.specs.inner.Failures.{GainsInTurn, IsReadFault};
 use crate::source::Source;
 use std::alloc::{AllocError, Global};
 
-/// The most bytes that one read asks for: what a pipe holds.
+/// The most bytes that one read asks for: the capacity of a pipe.
 const CHUNK: usize = 65_536;
 
 /// Why an input was not read.
@@ -29,8 +29,9 @@ impl From<AllocError> for ReadFault {
     }
 }
 
-/// Reads the input to its end, or `limit` bytes of it where it has more, in at most `limit + 1` turns. The first read that
-/// fails ends it. Whatever happens, no more than `limit` bytes are taken from the input.
+/// Reads the input to its end, or `limit` bytes of it if it has more, in at most `limit + 1` turns.
+///
+/// The first read that fails ends it. In no case are more than `limit` bytes taken from the input.
 pub fn read_up_to<R: Source>(
     alloc: Global,
     input: &mut R,
@@ -55,7 +56,7 @@ pub fn read_up_to<R: Source>(
     Err(ReadFault::Failed)
 }
 
-/// One turn: the bytes of one read go to the end of `bytes`, at least one where the input has not ended. Answers whether it has.
+/// Reads once, and appends the bytes to `bytes`: at least one if the input has not ended. Returns whether it has ended.
 fn read_turn<R: Source>(
     input: &mut R,
     chunk: &mut [u8],

@@ -1,4 +1,4 @@
-//! What the command `record` answers: the text of the recording of a session.
+//! The answer of the command `record`: the file of the recording of a session.
 ghost use Rattle.std.specs.Prelude.{◌≡◌, IfOk, None, OnErr, Some};
 ghost use Rattle.oberon_cli.specs.Record.{IsRecord, IsRecordOf, IsRefusal};
 
@@ -7,9 +7,11 @@ use oberon_format::write;
 use oberon_session::{Session, make_recording, read_session};
 use std::alloc::{AllocError, Global};
 
-/// The text of the recording of the session that a text says. A text that is no session gets the line `session refused` with the
-/// number and the name of the first rule that it breaks, and a session whose recording would be too large the line
-/// `record refused` with those of the recorder's fault.
+/// Returns the file of the recording of a session's file.
+///
+/// For a file that is no session, returns the line `session refused` with the number and the name of the first rule that it
+/// breaks. For a session whose recording would be too large, returns the line `record refused` with those of the recorder's
+/// fault.
 pub fn record(alloc: Global, text: &[u8]) -> Result<Reply, AllocError>
     ensures { IfOk result (λ reply. IsRecord text.now reply.text.items reply.status) }
 {
@@ -19,7 +21,7 @@ pub fn record(alloc: Global, text: &[u8]) -> Result<Reply, AllocError>
     }
 }
 
-/// The answer on a session.
+/// Returns the answer to a session.
 #[tactic(auto, using(crate::proofs::TruthLemmas::accepted))]
 fn record_of(alloc: Global, session: &Session) -> Result<Reply, AllocError>
     ensures { IfOk result (λ reply. IsRecordOf session.now reply.text.items reply.status) }
@@ -33,7 +35,7 @@ fn record_of(alloc: Global, session: &Session) -> Result<Reply, AllocError>
     }
 }
 
-/// The answer where there is a fault of this number and this name. One without a number is want of memory.
+/// Returns the answer for a fault with this number and this name. One without a number is an allocation failure.
 fn fault_reply(
     alloc: Global,
     what: &str,
@@ -51,7 +53,7 @@ fn fault_reply(
     })
 }
 
-/// The number of a fault. One without a number is want of memory.
+/// Returns the number of a fault. One without a number is an allocation failure.
 fn number_of(number: Option<u8>) -> Result<u8, AllocError>
     ensures ok { IfOk result (λ known. number ≡ Some known) }
     ensures err { OnErr result (number ≡ None) }

@@ -1,4 +1,4 @@
-//! The answer where the text of a recording has a fault, whatever the command was to do with the recording.
+//! The answer if a recording file has a fault, whatever the command.
 ghost use Rattle.std.specs.Prelude.{◌≡◌, ◌≢◌, IfOk, OnErr};
 ghost use Rattle.oberon_format.specs.Line.{fault_line};
 
@@ -6,7 +6,7 @@ use crate::reply::Reply;
 use oberon_format::{Fault, refusal};
 use std::alloc::{AllocError, Global};
 
-/// The fault of a text. Want of memory is none.
+/// Returns the fault of a file. An allocation failure is none.
 pub fn of_text(fault: Fault) -> Result<Fault, AllocError>
     ensures ok { IfOk result (λ same. (same ≡ fault) × (fault ≢ Fault.Memory)) }
     ensures err { OnErr result (fault ≡ Fault.Memory) }
@@ -17,7 +17,7 @@ pub fn of_text(fault: Fault) -> Result<Fault, AllocError>
     }
 }
 
-/// The answer where the text has a fault.
+/// Returns the answer if the file has a fault.
 pub fn refusal_reply(alloc: Global, fault: Fault) -> Result<Reply, AllocError>
     requires { fault ≢ Fault.Memory }
     ensures text { IfOk result (λ reply. reply.text.items ≡ fault_line fault) }

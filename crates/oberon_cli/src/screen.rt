@@ -1,4 +1,4 @@
-//! What the command `screen` answers: the screen that a checkpoint claims. The recording isn't replayed.
+//! The answer of the command `screen`: the screen that a checkpoint claims. The recording is not replayed.
 ghost use Rattle.std.specs.Prelude.{◌≡◌, ◌<◌, length, IfOk};
 ghost use Rattle.risc_devices.specs.Picture.{IsPicture};
 ghost use Rattle.oberon_cli.specs.Screen.{IsScreen, IsScreenOf, display_of, missing_line};
@@ -13,11 +13,13 @@ use std::alloc::{AllocError, Global};
 /// The number of the display's first word ("Project Oberon" 2013, the hardware chapters).
 const FIRST_WORD: u32 = 237_504;
 
-/// How many words the display has: 768 lines of 32.
+/// The number of words of the display: 768 lines of 32.
 const WORDS: u32 = 24_576;
 
-/// The picture of the display in the memory that checkpoint `at` of the recording of a text claims. A text that is refused gets
-/// the line of its first fault, whatever `at` is, and a recording with no such checkpoint the line `no checkpoint` with `at`.
+/// Returns the picture of the display in the memory that checkpoint `at` of a recording file claims.
+///
+/// For a file that is refused, returns the line of its first fault, whatever `at` is. For a recording with no such checkpoint,
+/// returns the line `no checkpoint` with `at`.
 pub fn screen(alloc: Global, text: &[u8], at: u32) -> Result<Reply, AllocError>
     ensures { IfOk result (λ reply. IsScreen at text.now reply.text.items reply.status) }
 {
@@ -27,7 +29,7 @@ pub fn screen(alloc: Global, text: &[u8], at: u32) -> Result<Reply, AllocError>
     }
 }
 
-/// The answer on a recording.
+/// Returns the answer to a recording.
 fn screen_of(alloc: Global, recording: &Recording, at: u32) -> Result<Reply, AllocError>
     ensures { IfOk result (λ reply. IsScreenOf recording.now at reply.text.items reply.status) }
 {
@@ -38,7 +40,7 @@ fn screen_of(alloc: Global, recording: &Recording, at: u32) -> Result<Reply, All
     }
 }
 
-/// The picture of the display that a checkpoint claims.
+/// Returns the picture of the display that a checkpoint claims.
 fn claimed_picture(alloc: Global, recording: &Recording, at: u32) -> Result<Reply, AllocError>
     requires { at < length recording.now.checkpoints }
     ensures picture { IfOk result (λ reply. IsPicture (display_of recording.now at) reply.text.items) }
@@ -51,7 +53,7 @@ fn claimed_picture(alloc: Global, recording: &Recording, at: u32) -> Result<Repl
     Ok(Reply { text, status: 0 })
 }
 
-/// The answer where there is no such checkpoint.
+/// Returns the answer if there is no such checkpoint.
 fn no_checkpoint(alloc: Global, at: u32) -> Result<Reply, AllocError>
     ensures text { IfOk result (λ reply. reply.text.items ≡ missing_line at) }
     ensures status { IfOk result (λ reply. reply.status ≡ 2) }

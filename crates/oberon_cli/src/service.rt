@@ -1,4 +1,4 @@
-//! The program as a function: from words, a reader and a writer to a status.
+//! The program as a function: from arguments, a reader and a writer to a status.
 ghost use Rattle.std.specs.Prelude.{map, IfOk, IfErr};
 ghost use Rattle.oberon_cli.specs.Answer.{limit_for};
 ghost use Rattle.oberon_cli.specs.Asked.{request_in};
@@ -18,7 +18,7 @@ use std::alloc::Global;
 use std::sync::Wait;
 use std::thread::Threads;
 
-/// Does the command of the words, and answers the status to end with.
+/// Does the command of the arguments, and returns the exit status.
 ///
 /// | words | what is written | status |
 /// |---|---|---|
@@ -29,10 +29,12 @@ use std::thread::Threads;
 /// | a request for help | `clap`'s text | 0 |
 /// | others | `words refused` | 4 |
 ///
-/// `rt` is the runtime whose threads a check uses, and the program waits for nothing but these. The words are read before the
-/// input, and of the input no more than one byte beyond the longest text that the command takes. Where a read fails, for whatever
-/// cause, only `read fault` is written, where memory is wanting only `no memory`; the status is 3. Where a write fails, or takes
-/// nothing, what went out is a front of the text, nothing else is written, and the status is 3. It is 3 nowhere else.
+/// `rt` is the runtime whose threads a check uses; the program waits for nothing else. The arguments are read before the input.
+/// Of the input no more than one byte beyond the longest file that the command takes is read.
+///
+/// If a read fails, for whatever cause, only `read fault` is written; if memory runs out, only `no memory`. In both cases the
+/// status is 3. If a write fails, or takes nothing, a prefix of the reply was written, nothing else is written, and the status is
+/// 3. It is 3 in no other case.
 pub fn serve<'a, H: Threads + Wait + Sync, R: Source, W: Sink>(
     rt: &H,
     alloc: Global,
@@ -40,11 +42,11 @@ pub fn serve<'a, H: Threads + Wait + Sync, R: Source, W: Sink>(
     input: &mut R,
     output: &mut W,
 ) -> u8
-    // Whatever the reader and the writer do, some reply to the words is written: an answer to bytes that were read up to the end or
-    // to the limit, help, or the line of a failure alone. After a failed write it is a front of the reply.
+    // Whatever the reader and the writer do, some reply to the arguments is written: an answer to bytes that were read up to the
+    // end or to the limit, help, or the line of a failure alone. After a failed write it is a prefix of the reply.
     ensures replies { Replies (map (λ word. word.now) words.entry.now) (R.known input.old) (R.known input.new)
         (W.known output.old) (W.known output.new) result }
-    // Where nothing fails it is the answer to the whole input.
+    // If nothing fails it is the answer to the whole input.
     ensures answers { AnswersAll (map (λ word. word.now) words.entry.now) (R.known input.old) (W.known output.old)
         (W.known output.new) result }
     ensures three { IsThreeForFaults (R.known input.old) (R.known input.new) (W.known output.old) (W.known output.new)
@@ -58,7 +60,7 @@ pub fn serve<'a, H: Threads + Wait + Sync, R: Source, W: Sink>(
     }
 }
 
-/// Writes the line of a failure, and answers its status, or 3 after a write fault. Takes no memory.
+/// Writes the line of a failure, and returns its status, or 3 after a write fault. Allocates nothing.
 pub fn refuse<W: Sink>(output: &mut W, failure: Failure) -> u8
     ensures { IsSentText (failure_line failure) (failure_status failure) (W.known output.old)
         (W.known output.new) result }
@@ -66,7 +68,7 @@ pub fn refuse<W: Sink>(output: &mut W, failure: Failure) -> u8
     send(output, failure.line().as_bytes(), failure.status())
 }
 
-/// Writes the text, and answers its status, or 3 after a write fault.
+/// Writes the bytes, and returns their status, or 3 after a write fault.
 fn send<W: Sink>(output: &mut W, text: &[u8], status: u8) -> u8
     ensures { IsSentText text.now status (W.known output.old) (W.known output.new) result }
 {
@@ -76,7 +78,7 @@ fn send<W: Sink>(output: &mut W, text: &[u8], status: u8) -> u8
     }
 }
 
-/// What there is to write, and its status. The input is read only where the words ask for a command.
+/// Returns what to write, and its status. The input is read only if the arguments ask for a command.
 fn reply<'a, H: Threads + Wait + Sync, R: Source>(
     rt: &H,
     alloc: Global,

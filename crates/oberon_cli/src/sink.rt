@@ -1,11 +1,11 @@
-//! Where the bytes of a text go: a writer, of which contracts say whether a write failed.
+//! Sinks: writers whose contracts say whether a write failed.
 ghost use Rattle.std.specs.Prelude.{◌<◌, ◌≤◌, IfOk, OnErr, OnOk, length, true};
 ghost use Rattle.std.specs.Io.KnownBytes.{Keeps, WriteAppends};
 ghost use Rattle.oberon_cli.specs.Transfer.{Known, Fails, Goes};
 
 use std::io::Write;
 
-/// A write or a flush failed, or a write took nothing of a rest that isn't empty.
+/// A write or a flush failed, or a write took nothing of a rest that is not empty.
 #[derive(Clone, Copy, Debug, PartialEq, Eq)]
 pub struct WriteFault;
 
@@ -14,7 +14,7 @@ pub trait Sink {
     // the bytes that it was given, and whether a write or a flush has failed
     ghost known: { Self → Known };
 
-    /// Takes bytes from the front of the rest, and answers how many: at least one.
+    /// Writes a prefix of the rest, and returns its length: at least one.
     fn put(&mut self, rest: &[u8]) -> Result<usize, WriteFault>
         requires { 0 < length rest.now }
         ensures some { IfOk result (λ n. (0 < n) × (n ≤ length rest.now)) }
@@ -22,14 +22,14 @@ pub trait Sink {
         ensures goes { OnOk result (Goes (known self.old) (known self.new)) }
         ensures fails { OnErr result (Fails (known self.new)) };
 
-    /// Hands over what it keeps back.
+    /// Flushes what it holds back.
     fn finish(&mut self) -> Result<(), WriteFault>
         ensures bytes { Keeps (known self.old).bytes (known self.new).bytes }
         ensures goes { OnOk result (Goes (known self.old) (known self.new)) }
         ensures fails { OnErr result (Fails (known self.new)) };
 }
 
-/// Of a writer of the standard library no contract says whether a write has failed, so each may have.
+/// No contract of the standard library says whether a write of a writer has failed, so each may have.
 impl<W: Write> Sink for W {
     ghost known = { λ writer. record { bytes = W.contents writer; failed = true } };
 

@@ -1,4 +1,4 @@
-//! Where the bytes of an input come from: a reader, of which contracts say whether a read failed.
+//! Sources: readers whose contracts say whether a read failed.
 ghost use Rattle.std.specs.Prelude.{OnErr, OnOk, true};
 ghost use Rattle.std.specs.Io.{ReadsAtMost};
 ghost use Rattle.std.specs.Io.KnownBytes.{ReadConsumes};
@@ -11,8 +11,8 @@ pub trait Source {
     // the bytes that are left, and whether a read has failed
     ghost known: { Self → Known };
 
-    /// Moves bytes to the front of the chunk, and answers how many: none only at the end, or where the chunk has no room. Each
-    /// `Err`, an interruption too, is a read that failed.
+    /// Reads bytes into the start of the chunk, and returns how many: none only at the end, or if the chunk is empty. Each `Err`,
+    /// an interruption too, is a read that failed.
     fn pull(&mut self, chunk: &mut [u8]) -> io::Result<usize>
         ensures bound { ReadsAtMost result chunk.new }
         ensures bytes { ReadConsumes (known self.old).bytes (known self.new).bytes result chunk.new }
@@ -20,7 +20,7 @@ pub trait Source {
         ensures fails { OnErr result (Fails (known self.new)) };
 }
 
-/// Of a reader of the standard library no contract says whether a read has failed, so each may have.
+/// No contract of the standard library says whether a read of a reader has failed, so each may have.
 impl<R: Read> Source for R {
     ghost known = { λ reader. record { bytes = R.remaining reader; failed = true } };
 

@@ -1,4 +1,4 @@
-//! What the words of the command line ask for. The command line itself is in `command`.
+//! What the arguments of the command line ask for. The command line itself is in `command`.
 ghost use Rattle.std.specs.Prelude.{◌≡◌, ◌≤◌, Some, IfSome, map, IfOk, IfErr, option_and_then};
 ghost use Rattle.clap.specs.Words.{found_of, kind_of, rows_of, subcommand_rows_of};
 ghost use Rattle.oberon_cli.specs.inner.Requests.{IsWithinLimits, RefusedBy, refusal_by};
@@ -11,23 +11,23 @@ use oberon_format::{LAST_CHECKPOINT, LONGEST_TEXT};
 use oberon_session::LONGEST_SESSION;
 use std::alloc::{AllocError, Global};
 
-/// One byte more than the longest text of a recording has. A longer input has a fault within so many bytes, and none of them is
-/// looked at further on.
+/// One byte more than the longest recording file. A longer input has a fault within these bytes, and no rule looks at a later
+/// byte.
 const RECORDING_LIMIT: usize = LONGEST_TEXT + 1;
 
-/// One byte more than the longest text of a session has. A longer input is refused for its length alone.
+/// One byte more than the longest file of a session. A longer input is refused for its length alone.
 const SESSION_LIMIT: usize = LONGEST_SESSION + 1;
 
 /// What the program is to do.
 #[derive(Clone, Copy)]
 pub enum Request {
-    /// Check the recording that is read: with 1 to 64 workers, each job of 1 to 4,096 segments in a row.
+    /// Check the recording that is read: with 1 to 64 workers, in jobs of 1 to 4,096 consecutive segments.
     Check { workers: u32, cut: u32 },
     /// Record the session that is read.
     Record,
-    /// Show the screen that checkpoint `at`, of 0 to 4,096, of the recording that is read claims.
+    /// Show the screen that a checkpoint of the recording that is read claims: checkpoint `at`, from 0 to 4,096.
     Screen { at: u32 },
-    /// Print the recording that is read as a text of the version that is written.
+    /// Write the recording that is read in the current version.
     Migrate,
 }
 
@@ -35,7 +35,7 @@ impl Request {
     ghost use Rattle.std.specs.Prelude.{◌≡◌};
     ghost use Rattle.oberon_cli.specs.Answer.{limit_of};
 
-    /// The most bytes that the command reads.
+    /// Returns the most bytes that the command reads.
     pub fn limit(self) -> usize
         ensures { result ≡ limit_of self }
     {
@@ -46,14 +46,14 @@ impl Request {
     }
 }
 
-/// Why the words ask for none of these.
+/// Why the arguments ask for none of these.
 #[derive(Drop)]
 pub enum Refusal {
-    /// They ask for help, whose text is the error's.
+    /// They ask for help; the error has the help text.
     Help(Error),
-    /// They are none that the program knows.
+    /// The program does not know them.
     Words,
-    /// There was no memory for reading them.
+    /// There was no memory to read them.
     Memory,
 }
 
@@ -67,7 +67,7 @@ impl From<AllocError> for Refusal {
     }
 }
 
-/// What the words ask for, by what `clap` reads from them. No words at all ask for a check with 2 workers and cut 1.
+/// Returns what the arguments ask for, from what `clap` reads. No arguments ask for a check with 2 workers and cut 1.
 pub fn request_in<'a>(alloc: Global, words: &'a [&'a str]) -> Result<Request, Refusal>
     ensures ok { IfOk result (λ request.
         request_in (map (λ word. word.now) words.entry.now) ≡ Some request) }
@@ -83,7 +83,7 @@ pub fn request_in<'a>(alloc: Global, words: &'a [&'a str]) -> Result<Request, Re
     }
 }
 
-/// What an error of `clap` refuses.
+/// Returns what an error of `clap` refuses.
 fn refusal_of(error: Error) -> Refusal
     ensures { result ≡ refusal_by (kind_of error) error }
 {
@@ -94,7 +94,7 @@ fn refusal_of(error: Error) -> Refusal
     }
 }
 
-/// What the command that `clap` found asks for.
+/// Returns what the command that `clap` found asks for.
 fn request_of(matches: &ArgMatches<'_>) -> Option<Request>
     ensures value { result
         ≡ option_and_then (λ found. request_of found.0 found.1) (subcommand_rows_of matches.now) }
@@ -115,7 +115,7 @@ fn request_of(matches: &ArgMatches<'_>) -> Option<Request>
     }
 }
 
-/// The number of an option, where it lies in the range.
+/// Returns the number of an option, if it is in the range.
 fn whole_number(matches: &ArgMatches<'_>, id: &str, low: u32, high: u32) -> Option<u32>
     ensures value { result ≡ number_at low high id.now (rows_of (found_of matches.now)) }
     ensures limits { IfSome result (λ number. (low ≤ number) × (number ≤ high)) }

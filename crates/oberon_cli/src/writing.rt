@@ -1,11 +1,12 @@
-//! Writing all of a text, by a loop that counts its turns. What the text means is not known here.
+//! Writing all bytes, by a loop that counts its turns. What the bytes mean is not known here.
 ghost use Rattle.std.specs.Prelude.{OnErr, OnOk};
 ghost use Rattle.oberon_cli.specs.Transfer.{GainsFront, GainsWhole};
 
 use crate::sink::{Sink, WriteFault};
 
-/// Writes all of the text, and flushes the writer, in at most one turn more than the text has bytes. The first call that fails
-/// ends it; then a front of the text went out, and nothing else.
+/// Writes all of the bytes, and flushes the writer, in at most one turn more than there are bytes.
+///
+/// The first call that fails ends it; then a prefix of the bytes was written, and nothing else.
 pub fn write_whole<W: Sink>(output: &mut W, text: &[u8]) -> Result<(), WriteFault>
     ensures whole { OnOk result (GainsWhole text.now (W.known output.old) (W.known output.new)) }
     ensures front { OnErr result (GainsFront text.now (W.known output.old) (W.known output.new)) }

@@ -1,9 +1,9 @@
--- The changes from one table of page numbers to another (this project's own choice).
+-- The changes from one table of page ids to another (this project's own choice).
 use Rattle.std.specs.Prelude.{ℕ, zero, suc, ◌==◌, if◌then◌else◌, List, [], ◌∷◌, ◌++◌, slice_index}
 use Rattle.oberon_format.specs.declared.change.Change.{Change}
 use Rattle.oberon_format.specs.declared.layout.TheConstants.{PLACES}
 
--- the places below n at which two tables differ, rising, each with its number in the second
+-- the slots below n in which two tables differ, in rising order, each with its page id in the second table
 unfoldable pub changes_below : ℕ → List ℕ → List ℕ → List Change
 changes_below zero before table = []
 changes_below (suc p) before table =
@@ -14,11 +14,11 @@ changes_below (suc p) before table =
 abbrev pub changes : List ℕ → List ℕ → List Change
 changes before table = changes_below PLACES before table
 
--- what stands where there is no change
+-- the default where there is no change
 abbrev pub no_change : Change
 no_change = record { place = 0; number = 0 }
 
--- the number at place p after the first n changes of a table, whose numbers were `before`
+-- the page id in slot p after the first n changes of a table, whose page ids were `before`
 unfoldable pub number_after : (ℕ → Change) → (ℕ → ℕ) → ℕ → ℕ → ℕ
 number_after change before zero p = before p
 number_after change before (suc n) p = if (change n).place == p then (change n).number else number_after change before n p

@@ -1,12 +1,12 @@
--- What a checkpoint is made of.
+-- The parts of a checkpoint.
 use Rattle.std.specs.Prelude.{ℕ, false, List, [], ◌-◌, ◌++◌, length, replicate}
 use Rattle.risc_devices.specs.DeviceState.{DeviceState}
 use Rattle.risc_model.specs.MachineState.{CpuState, cpu_state}
 use Rattle.oberon_format.specs.declared.checkpoint.Checkpoint.{Checkpoint}
 use Rattle.oberon_format.specs.declared.ranges.TheConstants.{MAX_KEYS}
 
--- what is claimed of the state at a count: the processor, the devices, the bytes sent since the checkpoint before, and the memory
--- as the page numbers of its 1,024 places
+-- the state claimed at a count: the processor, the devices, the bytes sent since the checkpoint before, and the memory as the
+-- page ids of its 1,024 slots
 pub record CheckpointParts : Type 0 where
   pub count : ℕ
   pub cpu : CpuState
@@ -18,7 +18,7 @@ pub record CheckpointParts : Type 0 where
 abbrev pub checkpoint_parts : Checkpoint → CheckpointParts
 checkpoint_parts c = record { count = c.count; cpu = cpu_state c.cpu; devices = c.devices; sent = c.sent.items; table = c.table }
 
--- what stands where there is no checkpoint
+-- the default where there is no checkpoint
 abbrev pub no_checkpoint : CheckpointParts
 no_checkpoint = record {
   count = 0;
@@ -28,6 +28,6 @@ no_checkpoint = record {
   table = [];
 }
 
--- the keys that wait, oldest first, and zeros after them (this project's own choice)
+-- the waiting keys, oldest first, and zeros after them (this project's own choice)
 abbrev pub key_bytes : DeviceState → List ℕ
 key_bytes d = d.keys ++ replicate (MAX_KEYS - length d.keys) 0

@@ -1,4 +1,4 @@
--- What a recording claims, and what one uninterrupted run from its first state gives.
+-- What a recording claims, and what one uninterrupted run from its initial state reaches.
 use Rattle.std.specs.Prelude.{ℕ, ◌≡◌, ◌-◌, List}
 use Rattle.risc_pages.specs.Tables.{table_words}
 use Rattle.risc_model.specs.MachineState.{State}
@@ -7,7 +7,7 @@ use Rattle.risc_model.specs.OneRun.{outcome_between, sent_between, state_from}
 use Rattle.oberon_format.specs.CheckpointParts.{CheckpointParts}
 use Rattle.oberon_format.specs.Recording.{RecordingParts, checkpoint_at, count_at}
 
--- what a checkpoint says over a pool: its memory is the content of its table, without page numbers
+-- what a checkpoint claims over a pool: its memory is the content of its table, without page ids
 abbrev pub claim_of : List (List ℕ) → CheckpointParts → Outcome
 claim_of pool c = record { state = record { cpu = c.cpu; devices = c.devices; words = table_words pool c.table }; sent = c.sent }
 
@@ -23,10 +23,10 @@ state_at r n = state_from r.inputs (claimed r 0).state n
 abbrev pub output_between : RecordingParts → ℕ → ℕ → List ℕ
 output_between r from to = sent_between r.inputs (claimed r 0).state from to
 
--- what this run gives at checkpoint k, with its output since the checkpoint before. At checkpoint 0 that is no output
+-- what this run reaches at checkpoint k, with its output since the checkpoint before. At checkpoint 0 that is no output
 abbrev pub defined : RecordingParts → ℕ → Outcome
 defined r k = outcome_between r.inputs (claimed r 0).state (count_at r (k - 1)) (count_at r k)
 
--- checkpoint k claims what the run gives
+-- checkpoint k is true: it claims what the run reaches
 abbrev pub IsTrueAt : RecordingParts → ℕ → Type 0
 IsTrueAt r k = claimed r k ≡ defined r k

@@ -1,4 +1,4 @@
--- The bytes of a recording in a version, one part after the other. That they are its text is proved.
+-- The encoding of a recording in a version: its bytes, one part after another.
 use Rattle.std.specs.Prelude.{ℕ, ◌==◌, if◌then◌else◌, List, [], ◌∷◌, ◌++◌, length}
 use Rattle.std.specs.List.{flat_map}
 use Rattle.byteorder.specs.Endian.{little_bytes}
@@ -14,11 +14,11 @@ use Rattle.oberon_format.specs.Changes.{changes}
 use Rattle.oberon_format.specs.CheckpointParts.{CheckpointParts, key_bytes}
 use Rattle.oberon_format.specs.Recording.{RecordingParts, output_of}
 
--- the four bytes of a number, the lowest first
+-- the four bytes of a number, lowest first
 unfoldable pub word_bytes : ℕ → List ℕ
 word_bytes x = little_bytes 4 x
 
--- the eight bytes of a number, the lowest first
+-- the eight bytes of a number, lowest first
 unfoldable pub long_bytes : ℕ → List ℕ
 long_bytes x = little_bytes 8 x
 
@@ -36,7 +36,7 @@ device_bytes d =
     word_bytes d.timer ++ word_bytes d.switches ++ word_bytes d.leds ++ word_bytes d.mouse ++ word_bytes (serial_number d)
     ++ word_bytes (length d.keys) ++ key_bytes d
 
--- what a checkpoint begins with in each version
+-- the fields that begin a checkpoint in either version
 unfoldable pub front_bytes : CheckpointParts → List ℕ
 front_bytes c = long_bytes c.count ++ cpu_bytes c.cpu ++ device_bytes c.devices ++ word_bytes (length c.sent)
 
@@ -46,7 +46,7 @@ change_bytes change = word_bytes change.place ++ word_bytes change.number
 unfoldable pub changes_bytes : List Change → List ℕ
 changes_bytes cs = word_bytes (length cs) ++ flat_map change_bytes cs
 
--- what follows in version 2, after a table
+-- the rest of a checkpoint of version 2, after a table
 unfoldable pub changed_bytes : List ℕ → CheckpointParts → List ℕ
 changed_bytes before c = word_bytes c.devices.rate ++ word_bytes c.devices.phase ++ changes_bytes (changes before c.table)
 
@@ -56,7 +56,7 @@ tail_bytes version before c = if version == FIRST_VERSION then words_bytes c.tab
 unfoldable pub checkpoint_bytes : ℕ → List ℕ → CheckpointParts → List ℕ
 checkpoint_bytes version before c = front_bytes c ++ tail_bytes version before c
 
--- the first of these checkpoints is after a table, each other one after the one before
+-- the checkpoints, the first after a table, each other one after the one before
 unfoldable pub checkpoints_bytes : ℕ → List ℕ → List CheckpointParts → List ℕ
 checkpoints_bytes version before [] = []
 checkpoints_bytes version before (c ∷ cs) = checkpoint_bytes version before c ++ checkpoints_bytes version c.table cs

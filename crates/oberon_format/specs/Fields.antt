@@ -1,4 +1,4 @@
--- The fields of a recording's text that rules speak of, whatever the layout in which they stand.
+-- The fields of a recording file that rules mention, independent of their layout.
 use Rattle.std.specs.Prelude.{ℕ, zero, suc, ◌+◌}
 use Rattle.oberon_format.specs.declared.change.Change.{Change}
 use Rattle.oberon_format.specs.declared.fields.CheckpointFields.{CheckpointFields}
@@ -9,8 +9,8 @@ pub record EventFields : Type 0 where
   pub kind : ℕ
   pub value : ℕ
 
--- a text: its length, the six numbers of its header, event i, where checkpoint k begins, those fields of checkpoint k that have a
--- range (the code's type `CheckpointFields`), its change i, and page number j of its table
+-- the fields of a file: its length, the six numbers of its header, event i, the offset of checkpoint k, those fields of
+-- checkpoint k that have a range (the code's type `CheckpointFields`), its change i, and entry j of its table
 pub record Fields : Type 0 where
   pub long : ℕ
   pub first : ℕ

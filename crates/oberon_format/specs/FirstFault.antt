@@ -1,7 +1,7 @@
--- The first broken rule of a list, whatever its faults are: those of a recording's text, or those of a session's.
+-- The first broken rule of a list, for any type of faults: those of a recording file, or those of a session.
 use Rattle.std.specs.Prelude.{ℕ, zero, suc, Bool, if◌then◌else◌, List, [], ◌∷◌, ◌++◌, Option, Some, None}
 
--- a rule: whether it holds, and the fault where it doesn't
+-- a rule: whether it holds, and the fault if it does not
 abbrev pub Rule : Type 0 → Type 0
 Rule Fault = Bool × Fault
 

@@ -1,4 +1,4 @@
--- What the types of parts say of them, lawful or not, and which parts have numbers that fit the fields of a text.
+-- What the types of a recording's parts guarantee, lawful or not, and which parts have numbers that fit the fields of a file.
 use Rattle.std.specs.Prelude.{ℕ, ◌≡◌, ◌<◌, ◌^◌, All, List, length, slice_index}
 use Rattle.risc_devices.specs.DeviceState.{IsDeviceState}
 use Rattle.risc_pages.specs.Pages.{ArePages}
@@ -6,7 +6,7 @@ use Rattle.risc_pages.specs.Tables.{IsTable}
 use Rattle.oberon_format.specs.CheckpointParts.{CheckpointParts}
 use Rattle.oberon_format.specs.Recording.{RecordingParts}
 
--- sixteen registers that hold words, a word in H, devices in their ranges, a table of 1,024 numbers, and bytes that were sent
+-- sixteen registers that hold words, a word in H, devices in their ranges, a table of 1,024 page ids, and bytes of output
 pub record IsFormed (c : CheckpointParts) : Type 0 where
   pub registers : length c.cpu.r ≡ 16
   pub words : (a : ℕ) → slice_index c.cpu.r a < 2 ^ 32
@@ -15,12 +15,12 @@ pub record IsFormed (c : CheckpointParts) : Type 0 where
   pub table : IsTable c.table
   pub bytes : All (λ byte. byte < 2 ^ 8) c.sent
 
--- it is so of each checkpoint
+-- each checkpoint is as its types guarantee
 abbrev pub AreFormed : List CheckpointParts → Type 0
 AreFormed checkpoints = All IsFormed checkpoints
 
--- its other numbers fit the fields of a text: the count its eight bytes, and the program counter, the stop and the number of bytes
--- that were sent four bytes each
+-- its other numbers fit the fields of a file: the count in eight bytes, and the program counter, the stop and the number of bytes
+-- sent in four bytes each
 pub record IsWritable (c : CheckpointParts) : Type 0 where
   pub formed : IsFormed c
   pub count : c.count < 2 ^ 64
@@ -28,8 +28,8 @@ pub record IsWritable (c : CheckpointParts) : Type 0 where
   pub stop : c.cpu.stop < 2 ^ 32
   pub sent : length c.sent < 2 ^ 32
 
--- all numbers of a recording's parts fit the fields of a text, whether they are lawful or not: the pages are pages, and their
--- number, that of the inputs and that of the checkpoints fit four bytes each. What an input holds always fits
+-- all numbers of a recording's parts fit the fields of a file, whether they are lawful or not: the pages are pages, and the
+-- numbers of pages, inputs and checkpoints fit in four bytes each. The numbers of an input always fit
 pub record AreWritable (r : RecordingParts) : Type 0 where
   pub pool : ArePages r.pool
   pub pages : length r.pool < 2 ^ 32

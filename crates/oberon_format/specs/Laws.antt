@@ -1,4 +1,4 @@
--- Laws of texts and recordings.
+-- Laws of recordings and their files.
 use Rattle.std.specs.Prelude.{ℕ, ◌≡◌, ◌≤◌, ◌<◌, ◌↔◌, List, length, take, None, IfSome, MatchOption}
 use Rattle.risc_model.specs.InputOrder.{AreOrdered}
 use Rattle.risc_pages.specs.Pages.{ArePages}
@@ -13,55 +13,55 @@ use Rattle.oberon_format.specs.Encoding.{encoding}
 use Rattle.oberon_format.specs.Text.{AreBytes, TextIn, Text}
 use Rattle.oberon_format.specs.TextFields.{first_fault_of}
 
--- a text is that of at most one recording
+-- a file is that of at most one recording
 abbrev pub HasOneRecording : Type 0
 HasOneRecording = (text : List ℕ) (r s : RecordingParts) → Text text r → Text text s → r ≡ s
 
--- a recording has at most one text of each version
+-- a recording has at most one file in each version
 abbrev pub HasOneTextAtMost : Type 0
 HasOneTextAtMost = (version : ℕ) (r : RecordingParts) (text other : List ℕ) → TextIn version text r → TextIn version other r → other ≡ text
 
--- and a lawful recording has one of the version that is written
+-- a lawful recording has a file in the current version
 abbrev pub HasOneText : Type 0
 HasOneText = (r : RecordingParts) → IsLawful r → (text : List ℕ) × AreBytes text × TextIn VERSION text r
 
--- what is read of the text that is written of a recording is that recording
+-- reading what is written of a recording returns that recording
 abbrev pub HasReadBack : Type 0
 HasReadBack = (r s : RecordingParts) (text : List ℕ) → TextIn VERSION text r → Text text s → s ≡ r
 
--- what is written of a recording that was read is the text of which it was read, where that is of the version that is written
+-- writing what was read returns the file that was read, if that has the current version
 abbrev pub HasWrittenBack : Type 0
 HasWrittenBack = (text other : List ℕ) (r : RecordingParts) → version text ≡ VERSION → Text text r → TextIn VERSION other r → other ≡ text
 
--- a text that was migrated is its own migration
+-- migration is idempotent: a migrated file is its own migration
 abbrev pub IsMigratedOnce : Type 0
 IsMigratedOnce = (text migrated again : List ℕ) → IsMigrated text migrated → IsMigrated migrated again → again ≡ migrated
 
--- each text has a recording exactly where it has no first fault
+-- a byte string is the file of a recording if and only if it has no first fault
 abbrev pub HasTextOrFault : Type 0
 HasTextOrFault = (text : List ℕ) → AreBytes text → MatchOption (first_fault_of text) ((r : RecordingParts) × Text text r) (λ fault. (r : RecordingParts) → ¬ (Text text r))
 
--- the first fault of a text is one of the eight, and never want of memory
+-- the first fault of a file is one of the eight, and never an allocation failure
 abbrev pub HasNamedFault : Type 0
 HasNamedFault = (text : List ℕ) → IfSome (first_fault_of text) IsNamedFault
 
--- parts whose numbers fit their fields, lawful or not, are encoded in bytes
+-- parts whose numbers fit their fields, lawful or not, have an encoding in bytes
 abbrev pub HasTextOfParts : Type 0
 HasTextOfParts = (r : RecordingParts) → AreWritable r → AreBytes (encoding VERSION r)
 
--- and their encoding has the first fault of the parts
+-- their encoding has the first fault of the parts
 abbrev pub HasFaultOfParts : Type 0
 HasFaultOfParts = (r : RecordingParts) → AreWritable r → first_fault_of (encoding VERSION r) ≡ fault_of_parts r
 
--- no text of a recording is longer than the longest
+-- no file of a recording is longer than the longest file
 abbrev pub HasLongestText : Type 0
 HasLongestText = (text : List ℕ) (r : RecordingParts) → Text text r → length text ≤ LONGEST_TEXT
 
--- a longer text has the first fault that it has where it is cut off anywhere behind so many bytes: it has one within so many, and
--- none of them is looked at further on
+-- a longer file has the same first fault as when it is cut anywhere after that many bytes: it has a fault within them, and no
+-- rule looks at a later byte
 abbrev pub HasFaultWithin : Type 0
 HasFaultWithin = (n : ℕ) (text : List ℕ) → LONGEST_TEXT < n → n ≤ length text → first_fault_of (take n text) ≡ first_fault_of text
 
--- parts are lawful exactly where they have no fault
+-- parts are lawful if and only if they have no fault
 abbrev pub IsMadeOfParts : Type 0
 IsMadeOfParts = (r : RecordingParts) → ArePages r.pool → AreOrdered r.inputs → AreFormed r.checkpoints → (fault_of_parts r ≡ None) ↔ IsLawful r

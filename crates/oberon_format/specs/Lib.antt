@@ -1,4 +1,5 @@
--- Recordings and their texts. Read it in this order: a recording, its encoding, the first fault of a text, migration, numbers, laws.
+-- Recordings and their files. Read it in this order: a recording, its encoding, the first fault of a file, migration, numbers,
+-- laws.
 pub mod Fields
 pub mod Ranges
 pub mod CheckpointParts

@@ -1,14 +1,14 @@
--- The line of a fault (this project's own choice).
+-- The output line of a fault (this project's own choice).
 use Rattle.std.specs.Prelude.{ℕ, List, [], ◌++◌, codes}
 use Rattle.std.specs.Fmt.{decimal}
 use Rattle.oberon_format.specs.declared.fault.Fault.{Fault}
 use Rattle.oberon_format.specs.declared.fault.Fault.TheVariants.{Short, Magic, Version, Limit, Event, Checkpoint, Page, Trailing, Memory}
 
--- `refused f name at byte o`, numbers in decimal, and one line feed
+-- `refused f name at byte o`, numbers in decimal, and a line feed
 abbrev pub refused_line : ℕ → List ℕ → ℕ → List ℕ
 refused_line number name byte = codes "refused " ++ (decimal number ++ (codes " " ++ (name ++ (codes " at byte " ++ (decimal byte ++ codes "\n")))))
 
--- a fault's line. Want of memory is no fault of the text, and has none
+-- the line of a fault. An allocation failure is no fault of the file, and has no line
 abbrev pub fault_line : Fault → List ℕ
 fault_line (Short byte) = refused_line 1 (codes "short") byte
 fault_line (Magic byte) = refused_line 2 (codes "magic") byte
@@ -20,7 +20,7 @@ fault_line (Page byte) = refused_line 7 (codes "page") byte
 fault_line (Trailing byte) = refused_line 8 (codes "trailing") byte
 fault_line Memory = []
 
--- a fault of a text, which is not want of memory
+-- a fault of a file, which an allocation failure is not
 abbrev pub IsNamedFault : Fault → Type 0
 IsNamedFault (Short byte) = Unit {0}
 IsNamedFault (Magic byte) = Unit {0}

@@ -1,12 +1,12 @@
--- Each length, offset and limit by its value, so that no definition moves with a number that is mistyped. All are this project's own
--- choice, but for the end of program counters. The limits of whole recordings are in `recording_limits`.
+-- Each length, offset and limit by its value, so that a mistyped number cannot change a definition unnoticed. All are this
+-- project's own choice, except the end of program counters. The limits of whole recordings are in `recording_limits`.
 use Rattle.std.specs.Prelude.{◌≡◌, ◌^◌}
 use Rattle.risc_core.specs.declared.branch.TheConstants.{COUNTER_END}
 use Rattle.risc_model.specs.declared.inputs.TheConstants.{MAX_COUNT}
 use Rattle.oberon_format.specs.declared.layout.TheConstants.{MAGIC, FIRST_VERSION, VERSION, HEADER_LEN, PAGE_LEN, EVENT_LEN, CHECKPOINT_LEN, FRONT_LEN, CHANGE_LEN, PLACES, LONGEST_TEXT, MAGIC_AT, VERSION_AT, PAGES_AT, EVENTS_AT, CHECKPOINTS_AT, LAST_AT, KIND_AT, VALUE_AT, NUMBER_AT, REGISTERS_AT, AUXILIARY_AT, COUNTER_AT, FLAGS_AT, STOP_AT, TIMER_AT, SWITCHES_AT, LEDS_AT, MOUSE_AT, SERIAL_AT, WAITING_AT, KEYS_AT, SENT_AT, TABLE_AT, RATE_AT, PHASE_AT, CHANGE_COUNT_AT, CHANGES_AT}
 use Rattle.oberon_format.specs.declared.ranges.TheConstants.{MAX_CHECKPOINTS, FLAGS_END, MAX_STOP, SWITCHES_END, LEDS_END, SERIAL_END, MAX_KEYS}
 
--- what a text begins with, the versions, and the lengths of its parts
+-- the magic, the versions, and the lengths of the parts of a file
 pub record HasLengths : Type 0 where
   pub magic : MAGIC ≡ 1381192271
   pub first_version : FIRST_VERSION ≡ 1
@@ -20,7 +20,7 @@ pub record HasLengths : Type 0 where
   pub places : PLACES ≡ 1024
   pub longest_text : LONGEST_TEXT ≡ 118310056
 
--- where the numbers of a header stand, and those of an event and of a change from their starts
+-- the offsets of the numbers of a header, and of the fields of an event and of a change from their starts
 pub record HasHeaderOffsets : Type 0 where
   pub magic_at : MAGIC_AT ≡ 0
   pub version_at : VERSION_AT ≡ 4
@@ -32,7 +32,7 @@ pub record HasHeaderOffsets : Type 0 where
   pub value_at : VALUE_AT ≡ 12
   pub number_at : NUMBER_AT ≡ 4
 
--- where the fields of a checkpoint stand, from its start
+-- the offsets of the fields of a checkpoint, from its start
 pub record HasCheckpointOffsets : Type 0 where
   pub registers_at : REGISTERS_AT ≡ 8
   pub auxiliary_at : AUXILIARY_AT ≡ 72

@@ -1,4 +1,4 @@
--- The fields of a text laid out of the parts of a recording, lawful or not, and the first fault of such a text.
+-- The fields of the file that encodes the parts of a recording, lawful or not, and the first fault of such a file.
 use Rattle.std.specs.Prelude.{ℕ, zero, suc, ◌+◌, ◌==◌, if◌then◌else◌, List, map, length, slice_index, slice_index_or, Option}
 use Rattle.risc_core.specs.Flags.{flags_number}
 use Rattle.risc_devices.specs.DeviceState.{serial_number}
@@ -44,13 +44,13 @@ checkpoint_fields version before c = record {
   changes = changes_laid version before c;
 }
 
--- where checkpoint k is laid out in a version: behind the events the checkpoints stand one behind the other
+-- the offset of checkpoint k of parts in a version: the checkpoints follow the events, one after another
 unfoldable pub start_laid : ℕ → RecordingParts → ℕ → ℕ
 start_laid version r zero = event_start (length r.pool) (length r.inputs)
 start_laid version r (suc k) =
     start_laid version r k + checkpoint_size version (changes_laid version (table_before r.checkpoints k) (checkpoint_at r k))
 
--- the fields of the text of these parts in a version. A number may be too large for its field: it then breaks that field's rule
+-- the fields of the file of these parts in a version. A number that is too large for its field breaks that field's rule
 abbrev pub fields_laid : ℕ → RecordingParts → Fields
 fields_laid version r = record {
   long = start_laid version r (length r.checkpoints) + length (output_of r.checkpoints);
@@ -67,6 +67,6 @@ fields_laid version r = record {
   page_number = λ k. slice_index (checkpoint_at r k).table;
 }
 
--- the first fault of the text that is laid out of these parts as texts are written, if it has one
+-- the first fault of the file of these parts in the current version, if it has one
 abbrev pub fault_of_parts : RecordingParts → Option Fault
 fault_of_parts r = first_broken (rules (fields_laid VERSION r))

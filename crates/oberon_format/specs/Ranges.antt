@@ -1,5 +1,5 @@
--- The ranges of a recording's fields. All limits are this project's own choice, but for the end of program counters, and their
--- names stand in the code's module `ranges`, or in a crate below that has them too.
+-- The ranges of a recording's fields. All limits are this project's own choice, except the end of program counters. Their names
+-- are in the code's module `ranges`, or in a crate below that has them too.
 use Rattle.std.specs.Prelude.{ℕ, drop, ◌+◌, Bool, true, ◌&&◌, ◌||◌, ◌==◌, nat_le, nat_lt, not, if◌then◌else◌}
 use Rattle.std.specs.List.{list_all}
 use Rattle.risc_core.specs.declared.branch.TheConstants.{COUNTER_END}
@@ -13,11 +13,11 @@ use Rattle.oberon_format.specs.declared.ranges.TheConstants.{FLAGS_END, MAX_STOP
 use Rattle.recording_limits.specs.declared.limits.TheConstants.{MAX_OUTPUT}
 use Rattle.oberon_format.specs.Fields.{EventFields}
 
--- the versions that are known
+-- the known versions
 abbrev pub is_version : ℕ → Bool
 is_version version = version == FIRST_VERSION || version == VERSION
 
--- an event's count is not below the event's before it, which is `floor`, and its kind takes its value
+-- an event's count is at least `floor`, that of the event before it, and its value is one of its kind's
 abbrev pub is_event : ℕ → EventFields → Bool
 is_event floor e = nat_le floor e.count && nat_le e.count MAX_COUNT && is_input e.kind e.value
 
@@ -25,11 +25,11 @@ is_event floor e = nat_le floor e.count && nat_le e.count MAX_COUNT && is_input 
 abbrev pub is_count : ℕ → ℕ → ℕ → Bool
 is_count k before count = if k == 0 then count == 0 else (nat_lt before count && nat_le count MAX_COUNT)
 
--- checkpoint 0 has no output, and with what was sent before it no checkpoint's output passes the limit
+-- checkpoint 0 has no output, and the output up to each checkpoint is within the limit
 abbrev pub is_output : ℕ → ℕ → ℕ → Bool
 is_output k sent own = (if k == 0 then own == 0 else true) && nat_le (sent + own) MAX_OUTPUT
 
--- few enough keys, and zeros after them
+-- at most sixteen keys, and zeros after them
 abbrev pub are_keys : CheckpointFields → Bool
 are_keys c = nat_le c.waiting MAX_KEYS && list_all (λ byte. byte == 0) (drop c.waiting c.keys)
 
@@ -50,8 +50,8 @@ in_ranges c =
 abbrev pub is_checkpoint : ℕ → ℕ → ℕ → CheckpointFields → Bool
 is_checkpoint k before sent c = is_count k before c.count && in_ranges c && are_keys c && is_output k sent c.output
 
--- a change after which places are to be `floor` or above: its place rises and is one of the table's, its number is that of a page,
--- and another one stood there
+-- a change is lawful if its slot is at least `floor` and one of the table's, and its page id is that of a page and differs from
+-- the one in the slot before
 abbrev pub is_change : ℕ → ℕ → (ℕ → ℕ) → Change → Bool
 is_change pages floor stood change =
     nat_le floor change.place && nat_lt change.place PLACES && nat_le change.number pages && not (change.number == stood change.place)

@@ -13,7 +13,7 @@ use Rattle.recording_limits.specs.declared.limits.TheConstants.{MAX_EVENTS, MAX_
 use Rattle.oberon_format.specs.CheckpointParts.{CheckpointParts, no_checkpoint, checkpoint_parts}
 use Rattle.oberon_format.specs.declared.checkpoint.Checkpoint.{Checkpoint}
 
--- a pool of pages, each the list of its words; inputs with their counts; and checkpoints 0 to K
+-- the parts of a recording: a pool of pages, each the list of its words; inputs with their counts; and checkpoints 0 to K
 pub record RecordingParts : Type 0 where
   pub pool : List (List ℕ)
   pub inputs : List Event
@@ -27,7 +27,7 @@ checkpoint_at r k = slice_index_or r.checkpoints k no_checkpoint
 abbrev pub count_at : RecordingParts → ℕ → ℕ
 count_at r k = (checkpoint_at r k).count
 
--- the table before checkpoint k: at first zeros, then that of the checkpoint before
+-- the table before checkpoint k: zeros for checkpoint 0, else that of the checkpoint before
 abbrev pub table_before : List CheckpointParts → ℕ → List ℕ
 table_before checkpoints k = if k == 0 then zero_numbers else (slice_index_or checkpoints (k - 1) no_checkpoint).table
 
@@ -39,7 +39,7 @@ last_of r = length r.checkpoints - 1
 abbrev pub output_of : List CheckpointParts → List ℕ
 output_of checkpoints = flat_map (λ c. c.sent) checkpoints
 
--- a checkpoint that is in its ranges and names pages of the pool. It may claim any stop
+-- a checkpoint whose fields are in their ranges and whose page ids are those of the pool. It may claim any stop
 pub record IsFit (pool : List (List ℕ)) (c : CheckpointParts) : Type 0 where
   pub bounded : c.count ≤ MAX_COUNT
   pub cpu : IsCpuState c.cpu
@@ -48,9 +48,9 @@ pub record IsFit (pool : List (List ℕ)) (c : CheckpointParts) : Type 0 where
   pub named : IsNamed pool c.table
   pub bytes : All (λ byte. byte < 2 ^ 8) c.sent
 
--- within all limits: few enough pages and inputs, inputs in the order of their counts, at least one checkpoint and few enough,
--- counts that begin at 0 and rise, nothing sent before checkpoint 0, and not too much in all. That each input's value is one of
--- its kind's is not asked here, since there is no other input: it is kept by `Input` itself, as `IsInput` of `risc_devices`
+-- a recording within all limits: at most so many pages and inputs, inputs in the order of their counts, at least one checkpoint
+-- and at most so many, counts that begin at 0 and rise, no output before checkpoint 0, and not too much output in all. That each
+-- input's value is in its kind's range is not asked here: `Input` itself guarantees it, as `IsInput` of `risc_devices`
 -- (`specs/InputKind.antt`)
 pub record IsLawful (r : RecordingParts) : Type 0 where
   pub pages : length r.pool ≤ MAX_PAGES

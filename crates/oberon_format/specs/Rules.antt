@@ -1,5 +1,5 @@
--- The rules of a text, in the order in which they are tested, each with the fault of a text that breaks it. In version 1 all parts
--- before the output have lengths that the header tells; in version 2 each checkpoint tells its own.
+-- The rules of a recording file, in the order in which they are tested, each with the fault of a file that breaks it. In version
+-- 1 the header determines the lengths of all parts before the output; in version 2 each checkpoint says its own length.
 use Rattle.std.specs.Prelude.{ℕ, suc, ◌+◌, ◌-◌, ◌&&◌, ◌==◌, nat_le, if◌then◌else◌, List, [], ◌∷◌, ◌++◌}
 use Rattle.oberon_format.specs.declared.change.Change.{Change}
 use Rattle.oberon_format.specs.declared.fault.Fault.{Fault}
@@ -13,19 +13,19 @@ use Rattle.oberon_format.specs.FirstFault.{Rule, each}
 use Rattle.oberon_format.specs.Layout.{event_start, page_number_offset, change_offset}
 use Rattle.oberon_format.specs.Ranges.{is_version, is_event, is_checkpoint, is_change}
 
--- where event i begins
+-- the offset of event i
 abbrev pub offset_of_event : Fields → ℕ → ℕ
 offset_of_event f i = event_start f.pages i
 
--- where the output begins
+-- the offset of the output
 abbrev pub offset_of_output : Fields → ℕ
 offset_of_output f = f.start f.checkpoints
 
--- how long the text is to be by its header: in version 1 up to the output, in version 2 up to checkpoint 0
+-- the length that the header asks for: in version 1 up to the output, in version 2 up to checkpoint 0
 abbrev pub named_len : Fields → ℕ
 named_len f = if f.version == FIRST_VERSION then offset_of_output f else f.start 0
 
--- the numbers of pages, events and checkpoints that a header names
+-- the numbers of pages, events and checkpoints in a header
 abbrev pub limit_rules : ℕ → ℕ → ℕ → List (Rule Fault)
 limit_rules pages events checkpoints =
     (nat_le pages MAX_PAGES, fault.Limit PAGES_AT)
@@ -33,7 +33,7 @@ limit_rules pages events checkpoints =
     ∷ (nat_le 1 checkpoints && nat_le checkpoints MAX_CHECKPOINTS, fault.Limit CHECKPOINTS_AT)
     ∷ []
 
--- the header: it is there, its six numbers are in their ranges, and what it names is there
+-- the header: it is complete, its six numbers are in their ranges, and the parts that it counts are there
 abbrev pub header_rules : Fields → List (Rule Fault)
 header_rules f =
     ((nat_le HEADER_LEN f.long, fault.Short f.long)
@@ -61,31 +61,31 @@ count_before f k = if k == 0 then 0 else (f.checkpoint (k - 1)).count
 abbrev pub field_rules : ℕ → ℕ → ℕ → ℕ → CheckpointFields → List (Rule Fault)
 field_rules offset k before sent c = (is_checkpoint k before sent c, fault.Checkpoint offset) ∷ []
 
--- page number j of a checkpoint that begins at an offset is at most the number of pages
+-- entry j of the table of a checkpoint at an offset is at most the number of pages
 abbrev pub page_number_rules : ℕ → ℕ → (ℕ → ℕ) → ℕ → List (Rule Fault)
 page_number_rules pages offset number j = (nat_le (number j) pages, fault.Page (page_number_offset offset j)) ∷ []
 
--- the least place that change i may have: places rise
+-- the least slot that change i may have: slots rise
 abbrev pub place_floor : (ℕ → Change) → ℕ → ℕ
 place_floor change i = if i == 0 then 0 else (change (i - 1)).place + 1
 
--- change i of a checkpoint that begins at an offset is lawful, where numbers stood before the checkpoint
+-- change i of a checkpoint at an offset is lawful, given the page ids before the checkpoint
 abbrev pub change_rules : ℕ → ℕ → (ℕ → ℕ) → (ℕ → Change) → ℕ → List (Rule Fault)
 change_rules pages offset stood change i =
     (is_change pages (place_floor change i) stood (change i), fault.Page (change_offset offset i)) ∷ []
 
--- the page number at a place before checkpoint k: at first 0
+-- the page id in a slot before checkpoint k: at first 0
 abbrev pub stood : Fields → ℕ → ℕ → ℕ
 stood f k p = if k == 0 then 0 else f.page_number (k - 1) p
 
--- checkpoint k of version 1: its fields, and then each of its page numbers
+-- checkpoint k of version 1: its fields, and then each of its page ids
 abbrev pub whole_rules : Fields → ℕ → List (Rule Fault)
 whole_rules f k =
     field_rules (f.start k) k (count_before f k) (sent_below f k) (f.checkpoint k)
     ++ each PLACES (page_number_rules f.pages (f.start k) (f.page_number k))
 
--- checkpoint k of version 2: the bytes before its changes are there, its fields, the bytes of its changes are there, and then each
--- of these
+-- checkpoint k of version 2: the bytes before its changes are there, its fields are in range, the bytes of its changes are there,
+-- and each change is lawful
 abbrev pub changed_rules : Fields → ℕ → List (Rule Fault)
 changed_rules f k =
     (nat_le (f.start k + CHANGES_AT) f.long, fault.Short f.long)
@@ -97,7 +97,7 @@ changed_rules f k =
 unfoldable pub checkpoint_rules : Fields → ℕ → List (Rule Fault)
 checkpoint_rules f k = if f.version == FIRST_VERSION then whole_rules f k else changed_rules f k
 
--- how long the text is to be
+-- the length that the file must have
 abbrev pub whole : Fields → ℕ
 whole f = offset_of_output f + sent_below f f.checkpoints
 

@@ -1,4 +1,4 @@
--- Which bytes are the file of a recording.
+-- Which bytes are a recording file.
 use Rattle.std.specs.Prelude.{ℕ, true, ◌≡◌, ◌<◌, ◌^◌, List, All}
 use Rattle.oberon_format.specs.declared.layout.TheConstants.{FIRST_VERSION}
 use Rattle.oberon_format.specs.CheckpointParts.{CheckpointParts}
@@ -6,13 +6,13 @@ use Rattle.oberon_format.specs.Encoding.{encoding}
 use Rattle.oberon_format.specs.Ranges.{is_version}
 use Rattle.oberon_format.specs.Recording.{RecordingParts, IsLawful}
 
--- the timer of a checkpoint doesn't count by itself
+-- the timer of a checkpoint has rate and phase 0
 pub record IsUnclocked (c : CheckpointParts) : Type 0 where
   pub rate : c.devices.rate ≡ 0
   pub phase : c.devices.phase ≡ 0
 
--- the bytes are the encoding of a lawful recording in a version that is known. Version 1 has no field for the rate and the phase
--- of a timer, so both are 0
+-- the bytes are the encoding of a lawful recording in a known version. Version 1 has no field for the rate and the phase of a
+-- timer, so both are 0
 pub record TextIn (version : ℕ) (text : List ℕ) (r : RecordingParts) : Type 0 where
   pub lawful : IsLawful r
   pub known : is_version version ≡ true

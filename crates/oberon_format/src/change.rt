@@ -1,6 +1,6 @@
-//! Changes of tables of page numbers: what a checkpoint of version 2 has in the place of its table.
+//! Changes of tables of page ids: a checkpoint of version 2 has them in place of its table.
 //!
-//! Nothing here takes memory.
+//! Nothing here allocates memory.
 
 ghost use Rattle.std.specs.Prelude.{◌≡◌, length};
 ghost use Rattle.oberon_format.specs.Changes.{changes};
@@ -9,12 +9,12 @@ use crate::layout::{CHANGE_LEN, NUMBER_AT, PLACES};
 use crate::number::u32_at;
 use risc_pages::Table;
 
-/// A place of a table and its new page number. Each may be out of its range.
+/// A page slot and its new page id. Each may be out of its range.
 #[derive(Clone, Copy)]
 pub(crate) struct Change {
-    /// The place, below 1,024 in a lawful change.
+    /// The slot, below 1,024 in a lawful change.
     pub(crate) place: u32,
-    /// The page number that stands there from then on.
+    /// The page id in the slot from then on.
     pub(crate) number: u32,
 }
 
@@ -23,7 +23,7 @@ impl Change {
     ghost use Rattle.oberon_format.specs.Ranges.{is_change};
     ghost use Rattle.oberon_format.specs.TextFields.{change_at};
 
-    /// The change at an offset of a text.
+    /// Returns the change at an offset of a file.
     pub(crate) fn of_text(text: &[u8], offset: usize) -> Change
         requires { offset + CHANGE_LEN ≤ length text.now }
         ensures { result ≡ change_at text.now offset }
@@ -34,7 +34,8 @@ impl Change {
         }
     }
 
-    /// Whether the change is lawful after a table, where places are to be `floor` or above and there are so many pages.
+    /// Reports whether the change is lawful after a table: its slot is at least `floor` and one of the table's, and its page id
+    /// is at most the number of pages and differs from the one before.
     pub(crate) fn is_lawful(self, pages: u32, floor: u32, before: &Table) -> bool
         ensures { result ≡ is_change pages floor (slice_index before.now) self }
     {
@@ -45,7 +46,7 @@ impl Change {
     }
 }
 
-/// The number of changes from one table to another.
+/// Returns the number of changes from one table to another.
 pub(crate) fn change_count(before: &Table, table: &Table) -> u32
     ensures { result ≡ length (changes before.now table.now) }
 {

@@ -1,4 +1,4 @@
-//! Checkpoints: what a recording claims at a count. Lists of them in order are in `recording`.
+//! Checkpoints: the state that a recording claims at a count. Ordered lists of them are in `recording`.
 
 ghost use Rattle.std.specs.Prelude.{◌≡◌, ◌≤◌, length, map};
 ghost use Rattle.risc_pages.specs.Tables.{zero_numbers};
@@ -9,11 +9,13 @@ use risc_devices::Devices;
 use risc_model::Cpu;
 use risc_pages::Table;
 
-/// What is claimed of the machine at a count, before the inputs of that count: its state, and what it sent since the checkpoint
-/// before. Which checkpoints a recording may have, `Recording::from_parts` says.
+/// The state of the machine that is claimed at a count, before the inputs of that count, and its output since the checkpoint
+/// before.
+///
+/// `Recording::from_parts` says which checkpoints a recording may have.
 #[derive(Drop)]
 pub struct Checkpoint {
-    /// How many instructions stand before it.
+    /// The number of instructions before it.
     pub count: u64,
     /// The processor.
     pub cpu: Cpu,
@@ -21,11 +23,11 @@ pub struct Checkpoint {
     pub devices: Devices,
     /// The bytes sent since the checkpoint before.
     pub sent: Vec<u8>,
-    /// The memory: the page number of each of its 1,024 places, over the recording's pool.
+    /// The memory: the page id of each of its 1,024 slots, over the recording's pool.
     pub table: Table,
 }
 
-/// The table before checkpoint k: zeros, which are given, or that of the checkpoint before.
+/// Returns the table before checkpoint k: the given zeros, or that of the checkpoint before.
 pub(crate) fn table_before<'a>(
     checkpoints: &'a [Checkpoint],
     k: usize,

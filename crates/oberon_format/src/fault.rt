@@ -1,16 +1,16 @@
-//! What is wrong with a text. What each rule is, and in which order they are tested, stands in `specs/`.
+//! The faults of a recording file. The rules, and the order in which they are tested, are in `specs/`.
 
 use thiserror::Error;
 
-/// The first broken rule of a text, with the offset of a byte; or want of memory.
+/// The first broken rule of a recording file, with the offset of a byte; or an allocation failure.
 ///
 /// The numbers 1 to 8 and the rules are this project's own choice.
 #[derive(Clone, Copy, Debug, PartialEq, Eq, Error)]
 pub enum Fault {
-    /// 1: the text ends too early. The byte is its length.
+    /// 1: the file ends too early. The byte is its length.
     #[error("the text ends too early, at byte {0}")]
     Short(u64),
-    /// 2: the text doesn't begin with `ORSR`. The byte is 0.
+    /// 2: the file does not begin with `ORSR`. The byte is 0.
     #[error("the text is not that of a recording, at byte {0}")]
     Magic(u64),
     /// 3: the version is neither 1 nor 2. The byte is 4.
@@ -25,14 +25,14 @@ pub enum Fault {
     /// 6: a field of a checkpoint is out of its range. The byte is the checkpoint's start.
     #[error("a checkpoint is out of its ranges, at byte {0}")]
     Checkpoint(u64),
-    /// 7: a page number of version 1 names a page that isn't there: the byte is its offset. Or a change of version 2 is not lawful: the
-    /// byte is its start.
+    /// 7: a page id of version 1 is not that of a page: the byte is its offset. Or a change of version 2 is not lawful: the byte
+    /// is its start.
     #[error("a page number is out of its range, at byte {0}")]
     Page(u64),
     /// 8: there are bytes after the output. The byte is the first of them.
     #[error("the text goes on after its end, at byte {0}")]
     Trailing(u64),
-    /// There was no room for the recording. No fault of the text.
+    /// An allocation failed. This is no fault of the file.
     #[error("no memory")]
     Memory,
 }

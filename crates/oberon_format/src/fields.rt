@@ -1,6 +1,6 @@
-//! The fields of a checkpoint that have a range, made of a text or of parts, and their rules, tested over either.
+//! The fields of a checkpoint that have a range, from a file or from parts, and their rules for both.
 //!
-//! Nothing here takes memory.
+//! Nothing here allocates memory.
 
 ghost use Rattle.std.specs.Prelude.{◌≡◌, ◌≤◌, ◌+◌, ◌==◌};
 ghost use Rattle.std.specs.List.{list_all};
@@ -25,10 +25,10 @@ use risc_core::COUNTER_END;
 use risc_devices::{Devices, is_mouse_word, is_phase_at};
 use risc_pages::Table;
 
-/// The fields of a checkpoint that have a range. Each may be out of it.
+/// The fields of a checkpoint that have a range. Each may be out of range.
 #[derive(Drop)]
 pub(crate) struct CheckpointFields {
-    /// How many instructions stand before the checkpoint.
+    /// The number of instructions before the checkpoint.
     pub(crate) count: u64,
     /// The program counter.
     pub(crate) pc: u32,
@@ -50,11 +50,11 @@ pub(crate) struct CheckpointFields {
     pub(crate) keys: [u8; MAX_KEYS],
     /// The length of the output, in bytes.
     pub(crate) output: u64,
-    /// The rate of the timer: 0 in a text of version 1.
+    /// The rate of the timer: 0 in a file of version 1.
     pub(crate) rate: u32,
-    /// The phase of the timer: 0 in a text of version 1.
+    /// The phase of the timer: 0 in a file of version 1.
     pub(crate) phase: u32,
-    /// The number of changes of the table: 0 in a text of version 1, which has the whole table.
+    /// The number of changes of the table: 0 in a file of version 1, which has the whole table.
     pub(crate) changes: u32,
 }
 
@@ -65,7 +65,8 @@ impl CheckpointFields {
     ghost use Rattle.oberon_format.specs.Ranges.{in_ranges, are_keys, is_checkpoint};
     ghost use Rattle.oberon_format.specs.TextFields.{checkpoint_of};
 
-    /// The fields of the checkpoint at an offset of a text. In either version there are 144 bytes, if not all of these are looked at.
+    /// Returns the fields of the checkpoint at an offset of a file. In either version 144 bytes are there, though not all of them
+    /// are read.
     pub(crate) fn of_text(text: &[u8], offset: usize) -> CheckpointFields
         requires { offset + CHANGES_AT ≤ length text.now }
         ensures { result ≡ checkpoint_of text.now offset }
@@ -90,7 +91,7 @@ impl CheckpointFields {
         }
     }
 
-    /// The fields that a checkpoint has in the version that is written, after a table.
+    /// Returns the fields that a checkpoint has in the current version, after a table.
     pub(crate) fn of_parts(before: &Table, checkpoint: &Checkpoint) -> CheckpointFields
         ensures { result ≡ checkpoint_fields VERSION before.now (checkpoint_parts checkpoint.now) }
     {
@@ -113,7 +114,7 @@ impl CheckpointFields {
         }
     }
 
-    /// Whether the fields are in the ranges that are their own.
+    /// Reports whether each field is in its own range.
     fn in_ranges(&self) -> bool
         ensures { result ≡ in_ranges self.now }
     {
@@ -128,14 +129,14 @@ impl CheckpointFields {
             && self.changes <= PLACES as u32
     }
 
-    /// Whether the keys are few enough, with zeros after them.
+    /// Reports whether the keys are at most sixteen, with zeros after them.
     fn are_keys(&self) -> bool
         ensures { result ≡ are_keys self.now }
     {
         self.waiting <= MAX_KEYS as u32 && are_zeros(&self.keys[self.waiting as usize..])
     }
 
-    /// Whether these fields may be those of checkpoint k, after a count and so many bytes of output.
+    /// Reports whether these fields may be those of checkpoint k, after the count and the number of output bytes before it.
     fn is_checkpoint(&self, k: usize, before: u64, sent: u64) -> bool
         requires { sent ≤ MAX_OUTPUT }
         ensures { result ≡ is_checkpoint k before sent self.now }
@@ -147,7 +148,7 @@ impl CheckpointFields {
     }
 }
 
-/// The sixteen key bytes of devices: their keys, oldest first, and zeros.
+/// Returns the sixteen key bytes of devices: their keys, oldest first, and zeros.
 pub(crate) fn key_bytes(devices: &Devices) -> [u8; MAX_KEYS]
     ensures { result ≡ key_bytes devices.now }
 {
@@ -157,14 +158,14 @@ pub(crate) fn key_bytes(devices: &Devices) -> [u8; MAX_KEYS]
     bytes
 }
 
-/// Whether all bytes are 0.
+/// Reports whether all bytes are 0.
 fn are_zeros(bytes: &[u8]) -> bool
     ensures { result ≡ list_all (λ b. b == 0) bytes.now }
 {
     bytes.iter().all(|byte| *byte == 0)
 }
 
-/// The first fault of the fields of checkpoint k, which begins at an offset.
+/// Returns the first fault of the fields of checkpoint k, which begins at an offset.
 pub(crate) fn fields_fault(
     offset: usize,
     k: usize,

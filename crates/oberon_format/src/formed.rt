@@ -1,4 +1,4 @@
-//! What the types of a checkpoint's parts say of them. Each function here only reads.
+//! Facts that the types of a checkpoint's parts guarantee. Each function here only reads.
 
 ghost use Rattle.std.specs.Prelude.{◌<◌, ◌^◌, All, map};
 ghost use Rattle.oberon_format.specs.CheckpointParts.{checkpoint_parts};
@@ -6,7 +6,7 @@ ghost use Rattle.oberon_format.specs.Formed.{IsFormed, AreFormed};
 
 use crate::checkpoint::Checkpoint;
 
-/// The parts of a checkpoint are as their types say.
+/// States that the parts of a checkpoint are as their types guarantee.
 pub(crate) fn formed_law(checkpoint: &Checkpoint)
     ensures { IsFormed (checkpoint_parts checkpoint.now) }
 {
@@ -16,7 +16,7 @@ pub(crate) fn formed_law(checkpoint: &Checkpoint)
     let _numbers = checkpoint.table.numbers();
 }
 
-/// The parts of all checkpoints are as their types say.
+/// States that the parts of all checkpoints are as their types guarantee.
 pub(crate) fn all_formed_law(checkpoints: &[Checkpoint])
     ensures { AreFormed (map checkpoint_parts checkpoints.now) }
 {
@@ -25,7 +25,7 @@ pub(crate) fn all_formed_law(checkpoints: &[Checkpoint])
     }
 }
 
-/// Each byte is a number below 256, as its type says.
+/// States that each byte is below 256.
 pub(crate) fn bytes_fit(bytes: &[u8])
     ensures { All (λ byte. byte < 2 ^ 8) bytes.now }
 {}

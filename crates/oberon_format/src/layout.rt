@@ -1,6 +1,6 @@
-//! Where the parts of a text begin, where their fields stand, and how many of each its header names.
+//! Offsets of the parts of a file and of their fields, and the counts in its header.
 //!
-//! Each offset and each length has its one name here, which definitions, contracts and code cite. All count bytes.
+//! Each offset and each length has its one name here, which definitions, contracts and code use. All are in bytes.
 
 ghost use Rattle.std.specs.Prelude.{◌≡◌, ◌≤◌, ◌+◌, ◌==◌, length};
 ghost use Rattle.oberon_format.specs.Layout.{page_offset, event_start, checkpoint_size, version, pages, events, checkpoints, start, later_word};
@@ -8,13 +8,13 @@ ghost use Rattle.oberon_format.specs.Layout.{page_offset, event_start, checkpoin
 use crate::number::u32_at;
 use recording_limits::{MAX_EVENTS, MAX_PAGES};
 
-/// `ORSR`, the four bytes that begin each text, as a number.
+/// `ORSR`, the four bytes that begin each file, as a number.
 pub(crate) const MAGIC: u32 = 0x5253_524F;
 
-/// The version of the first texts, whose checkpoints have their whole tables. It is read, and no longer written.
+/// The first version, whose checkpoints have their whole tables. It is read, and no longer written.
 pub(crate) const FIRST_VERSION: u32 = 1;
 
-/// The version of the texts that are written: a checkpoint has the changes of the table before it.
+/// The current version: a checkpoint has the changes from the table before it.
 pub const VERSION: u32 = 2;
 
 /// The length of a header.
@@ -26,20 +26,20 @@ pub(crate) const PAGE_LEN: usize = 1024;
 /// The length of an event.
 pub(crate) const EVENT_LEN: usize = 16;
 
-/// The length of a checkpoint of version 1: its front, and the table.
+/// The length of a checkpoint of version 1: its common fields, and the table.
 pub(crate) const CHECKPOINT_LEN: usize = 4228;
 
 /// The length of a change of version 2.
 pub(crate) const CHANGE_LEN: usize = 8;
 
-/// The length of the longest text that has no fault: that of version 2 of a recording within all limits, each table of which
-/// differs from the one before at all places.
+/// The length of the longest file without a fault: that of version 2 of a recording at all limits, in which each table differs
+/// from the one before in all slots.
 pub const LONGEST_TEXT: usize = 118_310_056;
 
-/// The number of places of a table, each of which has a page number of four bytes.
+/// The number of slots of a table, each of which has a page id of four bytes.
 pub(crate) const PLACES: usize = 1024;
 
-// Where the numbers of a header stand.
+// Offsets of the numbers of a header.
 
 /// The magic of a header.
 pub(crate) const MAGIC_AT: usize = 0;
@@ -59,7 +59,7 @@ pub(crate) const CHECKPOINTS_AT: usize = 16;
 /// The last number of a header, which is 0.
 pub(crate) const LAST_AT: usize = 20;
 
-// Where the fields of an event stand, from its start. Its count begins it.
+// Offsets of the fields of an event, from its start. Its count begins it.
 
 /// The kind of an event.
 pub(crate) const KIND_AT: usize = 8;
@@ -67,8 +67,8 @@ pub(crate) const KIND_AT: usize = 8;
 /// The value of an event.
 pub(crate) const VALUE_AT: usize = 12;
 
-// Where the fields of a checkpoint stand, from its start. Its count begins it. Up to the length of the output they are those of
-// either version, the front of the checkpoint.
+// Offsets of the fields of a checkpoint, from its start. Its count begins it. The fields up to the length of the output are
+// common to both versions.
 
 /// R0 to R15.
 pub(crate) const REGISTERS_AT: usize = 8;
@@ -97,7 +97,7 @@ pub(crate) const LEDS_AT: usize = 96;
 /// The mouse.
 pub(crate) const MOUSE_AT: usize = 100;
 
-/// The serial byte, and whether one was received.
+/// The serial byte, and whether it was received.
 pub(crate) const SERIAL_AT: usize = 104;
 
 /// The number of keys.
@@ -109,15 +109,15 @@ pub(crate) const KEYS_AT: usize = 112;
 /// The length of the output.
 pub(crate) const SENT_AT: usize = 128;
 
-/// The end of the front.
+/// The end of the common fields.
 pub(crate) const FRONT_LEN: usize = 132;
 
-// In version 1 the table stands behind the front.
+// In version 1 the table follows the common fields.
 
 /// The table.
 pub(crate) const TABLE_AT: usize = 132;
 
-// In version 2 these numbers and the changes do.
+// In version 2 these numbers and the changes follow them.
 
 /// The rate of the timer.
 pub(crate) const RATE_AT: usize = 132;
@@ -131,12 +131,12 @@ pub(crate) const CHANGE_COUNT_AT: usize = 140;
 /// The changes.
 pub(crate) const CHANGES_AT: usize = 144;
 
-// Where the fields of a change stand, from its start. Its place begins it.
+// Offsets of the fields of a change, from its start. Its slot begins it.
 
-/// The page number of a change.
+/// The page id of a change.
 pub(crate) const NUMBER_AT: usize = 4;
 
-/// Where page p begins.
+/// Returns the offset of page p.
 #[inline]
 pub(crate) fn page_start(p: usize) -> usize
     requires { p ≤ MAX_PAGES }
@@ -145,7 +145,7 @@ pub(crate) fn page_start(p: usize) -> usize
     HEADER_LEN + PAGE_LEN * p
 }
 
-/// Where event i begins, after so many pages. Checkpoint 0 begins where an event after the last would.
+/// Returns the offset of event i, after a number of pages. Checkpoint 0 begins where an event after the last would.
 #[inline]
 pub(crate) fn event_start(pages: u32, i: usize) -> usize
     requires pages { pages ≤ MAX_PAGES }
@@ -155,7 +155,7 @@ pub(crate) fn event_start(pages: u32, i: usize) -> usize
     page_start(pages as usize) + EVENT_LEN * i
 }
 
-/// The length of a checkpoint of the version that is written, with so many changes.
+/// Returns the length of a checkpoint of the current version, from its number of changes.
 #[inline]
 pub(crate) fn changed_len(changes: u32) -> usize
     requires { changes ≤ PLACES }
@@ -164,7 +164,7 @@ pub(crate) fn changed_len(changes: u32) -> usize
     CHANGES_AT + CHANGE_LEN * changes as usize
 }
 
-/// Whether a text is of the first version.
+/// Reports whether a file has version 1.
 #[inline]
 pub(crate) fn is_first_version(text: &[u8]) -> bool
     requires { HEADER_LEN ≤ length text.now }
@@ -173,7 +173,7 @@ pub(crate) fn is_first_version(text: &[u8]) -> bool
     u32_at(text, VERSION_AT) == FIRST_VERSION
 }
 
-/// The number of pages that the header of a text names.
+/// Returns the number of pages in the header of a file.
 #[inline]
 pub(crate) fn page_count(text: &[u8]) -> u32
     requires { HEADER_LEN ≤ length text.now }
@@ -182,7 +182,7 @@ pub(crate) fn page_count(text: &[u8]) -> u32
     u32_at(text, PAGES_AT)
 }
 
-/// The number of events that the header of a text names.
+/// Returns the number of events in the header of a file.
 #[inline]
 pub(crate) fn event_count(text: &[u8]) -> u32
     requires { HEADER_LEN ≤ length text.now }
@@ -191,7 +191,7 @@ pub(crate) fn event_count(text: &[u8]) -> u32
     u32_at(text, EVENTS_AT)
 }
 
-/// The number of checkpoints that the header of a text names.
+/// Returns the number of checkpoints in the header of a file.
 #[inline]
 pub(crate) fn checkpoint_count(text: &[u8]) -> u32
     requires { HEADER_LEN ≤ length text.now }
@@ -200,7 +200,7 @@ pub(crate) fn checkpoint_count(text: &[u8]) -> u32
     u32_at(text, CHECKPOINTS_AT)
 }
 
-/// Where checkpoint 0 of a text begins.
+/// Returns the offset of checkpoint 0 of a file.
 #[inline]
 pub(crate) fn first_checkpoint(text: &[u8]) -> usize
     requires header { HEADER_LEN ≤ length text.now }
@@ -211,7 +211,7 @@ pub(crate) fn first_checkpoint(text: &[u8]) -> usize
     event_start(page_count(text), event_count(text) as usize)
 }
 
-/// The length of a checkpoint of a text, with so many changes.
+/// Returns the length of a checkpoint of a file, from its number of changes.
 #[inline]
 pub(crate) fn checkpoint_len(text: &[u8], changes: u32) -> usize
     requires header { HEADER_LEN ≤ length text.now }
@@ -225,7 +225,8 @@ pub(crate) fn checkpoint_len(text: &[u8], changes: u32) -> usize
     }
 }
 
-/// The word at an offset behind the front of a checkpoint of version 2. A text of version 1 has no such word: it counts as 0.
+/// Returns a word after the common fields of a checkpoint of version 2, by its offset; 0 in a file of version 1, which has no
+/// such word.
 #[inline]
 pub(crate) fn later_word(text: &[u8], offset: usize) -> u32
     requires header { HEADER_LEN ≤ length text.now }

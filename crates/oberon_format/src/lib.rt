@@ -1,10 +1,10 @@
-//! Recordings of sessions of the RISC5 workstation, and their texts.
+//! Recordings of sessions of the RISC5 workstation, and their files.
 //!
-//! A recording is a pool of pages, a list of inputs with their counts, and checkpoints that claim what the machine is at their
-//! counts. Each recording has exactly one text of version 2, and at most one of version 1; both formats are this project's own.
-//! Here a text of either version is read or refused with its first fault, a recording is made of parts or refused with the first
-//! fault of their text, and a recording is written. Whether a checkpoint's claim is true is not known here: `Defined` in `specs/`
-//! says what that means.
+//! A recording is a pool of pages, a list of inputs with their counts, and checkpoints that claim the machine's state at their
+//! counts. Each recording has exactly one file of version 2, and at most one of version 1; both formats are this project's own.
+//! This crate reads a file of either version or reports its first fault, makes a recording from parts or reports the first fault
+//! of their file, and writes a recording. It does not check whether a checkpoint's claim is true: `Defined` in `specs/` says what
+//! that means.
 #![tactic(auto)]
 
 mod change;

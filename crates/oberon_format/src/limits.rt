@@ -1,4 +1,4 @@
-//! The limits of the numbers that a header names, tested for the header of a text and for parts alike.
+//! The limits of the counts in a header, tested for the header of a file and for parts alike.
 
 ghost use Rattle.std.specs.Prelude.{◌≡◌, ◌≤◌};
 ghost use Rattle.std.specs.Option.{IfNone};
@@ -10,7 +10,7 @@ use crate::layout::{CHECKPOINTS_AT, EVENTS_AT, PAGES_AT};
 use crate::ranges::MAX_CHECKPOINTS;
 use recording_limits::{MAX_EVENTS, MAX_PAGES};
 
-/// The first fault of the numbers of pages, events and checkpoints.
+/// Returns the first fault of the numbers of pages, events and checkpoints.
 pub(crate) fn limits_fault(pages: usize, events: usize, checkpoints: usize) -> Option<Fault>
     ensures fault { result ≡ first_broken (limit_rules pages events checkpoints) }
     ensures pages { IfNone result (pages ≤ MAX_PAGES) }

@@ -1,4 +1,4 @@
-//! The line of a fault.
+//! The output line of a fault.
 
 ghost use Rattle.std.specs.Prelude.{◌≢◌, ◌≡◌, IfOk};
 ghost use Rattle.oberon_format.specs.Line.{fault_line, refused_line};
@@ -6,8 +6,10 @@ ghost use Rattle.oberon_format.specs.Line.{fault_line, refused_line};
 use crate::fault::Fault;
 use std::alloc::{AllocError, Global};
 
-/// The line of a fault: `refused f name at byte o` and a line feed, the numbers in decimal. The names are `short`, `magic`,
-/// `version`, `limit`, `event`, `checkpoint`, `page` and `trailing`. Want of memory has no line.
+/// Returns the line of a fault: `refused f name at byte o` and a line feed, the numbers in decimal.
+///
+/// The names are `short`, `magic`, `version`, `limit`, `event`, `checkpoint`, `page` and `trailing`. An allocation failure has no
+/// line.
 pub fn refusal(alloc: Global, f: &Fault) -> Result<Vec<u8>, AllocError>
     requires { f.now ≢ Fault.Memory }
     ensures { IfOk result (λ line. line.items ≡ fault_line f.now) }
@@ -25,7 +27,7 @@ pub fn refusal(alloc: Global, f: &Fault) -> Result<Vec<u8>, AllocError>
     }
 }
 
-/// The line of a fault's number, its name and a byte.
+/// Returns the line of a fault's number, its name and a byte.
 fn named_line(alloc: Global, number: u8, name: &str, byte: u64) -> Result<Vec<u8>, AllocError>
     ensures { IfOk result (λ line. line.items ≡ refused_line number name.now byte) }
 {

@@ -1,4 +1,4 @@
-//! The text of a recording, of any version, written again in the version that is written now.
+//! Migration: the recording of a file of any version, written again in the current version.
 
 ghost use Rattle.oberon_format.specs.Migration.{IsMigrated};
 ghost use Rattle.oberon_format.specs.TextFields.{AnswersText};
@@ -8,10 +8,10 @@ use crate::reading::read;
 use crate::writing::write;
 use std::alloc::Global;
 
-/// The text of the same recording in the version that is written now, or the first fault of the text. `Memory` is answered only
-/// for a text without fault, as by `read`.
+/// Returns the file of the same recording in the current version, or the first fault of the file. Returns `Memory` only for a
+/// file without a fault, as `read` does.
 pub fn migrate(alloc: Global, bytes: &[u8]) -> Result<Vec<u8>, Fault>
-    // A text without fault gives the text of its recording, or there was no room; any other gives its first fault.
+    // A file without a fault yields the file of its recording, or an allocation failed; any other yields its first fault.
     ensures { AnswersText bytes.now (λ text. IsMigrated bytes.now text.items) result }
 {
     let recording = read(alloc, bytes)?;

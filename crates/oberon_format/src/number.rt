@@ -1,11 +1,11 @@
-//! The numbers of a text, by their offsets.
+//! The numbers of a file, by their offsets.
 
 ghost use Rattle.std.specs.Prelude.{◌≡◌, ◌≤◌, ◌+◌, length};
 ghost use Rattle.oberon_format.specs.Layout.{word_at, long_at};
 
 use byteorder::{ByteOrder, LittleEndian};
 
-/// The number of the four bytes at an offset.
+/// Returns the four-byte number at an offset.
 #[inline]
 pub(crate) fn u32_at(text: &[u8], offset: usize) -> u32
     requires { offset + 4 ≤ length text.now }
@@ -14,7 +14,7 @@ pub(crate) fn u32_at(text: &[u8], offset: usize) -> u32
     LittleEndian::read_u32(&text[offset..])
 }
 
-/// The number of the eight bytes at an offset.
+/// Returns the eight-byte number at an offset.
 #[inline]
 pub(crate) fn u64_at(text: &[u8], offset: usize) -> u64
     requires { offset + 8 ≤ length text.now }

@@ -1,7 +1,7 @@
-//! The first fault of the text that would be laid out of the parts of a recording.
+//! The first fault of the file that encodes the parts of a recording.
 //!
-//! What the types of the parts keep isn't tested again: that registers are words, that inputs are in their ranges and in their order,
-//! that devices are lawful (`AreFormed`). Nothing here takes memory.
+//! What the types of the parts guarantee (`AreFormed`) is not tested again: that registers are words, that inputs are in their
+//! ranges and in order, that devices are lawful. Nothing here allocates memory.
 
 ghost use Rattle.std.specs.Prelude.{◌≡◌, ◌≤◌, length};
 ghost use Rattle.std.specs.Option.{IfNone};
@@ -24,12 +24,12 @@ use recording_limits::{MAX_EVENTS, MAX_PAGES};
 use risc_model::Inputs;
 use risc_pages::{Pool, Table};
 
-/// The first fault of the text of these parts.
+/// Returns the first fault of the file of these parts.
 pub(crate) fn parts_fault(pool: &Pool, inputs: &Inputs, checkpoints: &[Checkpoint]) -> Option<Fault>
     ensures fault { result ≡ fault_of_parts (parts_of pool.now inputs.now checkpoints.now) }
     ensures lawful { IfNone result (IsLawful (parts_of pool.now inputs.now checkpoints.now)) }
 {
-    // What the types of the parts say of them.
+    // Facts that the types of the parts guarantee.
     all_formed_law(checkpoints);
     let _pages = pool.len();
     let _events = inputs.events();
@@ -39,7 +39,7 @@ pub(crate) fn parts_fault(pool: &Pool, inputs: &Inputs, checkpoints: &[Checkpoin
     checkpoints_fault(pool, inputs, checkpoints)
 }
 
-/// The first fault of the numbers of parts.
+/// Returns the first fault of the counts of parts.
 fn counts_fault(pool: &Pool, inputs: &Inputs, checkpoints: &[Checkpoint]) -> Option<Fault>
     ensures fault { result ≡ first_broken (header_rules (fields_laid VERSION (parts_of pool.now inputs.now checkpoints.now))) }
     ensures pages { IfNone result (length pool.now ≤ MAX_PAGES) }
@@ -53,7 +53,7 @@ fn counts_fault(pool: &Pool, inputs: &Inputs, checkpoints: &[Checkpoint]) -> Opt
     )
 }
 
-/// The first fault of the changes from one table to another, in a checkpoint that begins at an offset.
+/// Returns the first fault of the changes from one table to another, in a checkpoint at an offset.
 fn changes_fault(pages: u32, offset: usize, before: &Table, table: &Table) -> Option<Fault>
     requires { offset ≤ LONGEST_TEXT }
     ensures { result ≡ first_broken (change_rules_laid pages offset before.now table.now) }
@@ -70,7 +70,7 @@ fn changes_fault(pages: u32, offset: usize, before: &Table, table: &Table) -> Op
     None
 }
 
-/// The first fault of the checkpoints.
+/// Returns the first fault of the checkpoints.
 fn checkpoints_fault(pool: &Pool, inputs: &Inputs, checkpoints: &[Checkpoint]) -> Option<Fault>
     requires pages { length pool.now ≤ MAX_PAGES }
     requires events { length inputs.now ≤ MAX_EVENTS }

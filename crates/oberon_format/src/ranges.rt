@@ -1,8 +1,8 @@
-//! The ranges of fields, tested on numbers. Where these stand in a text is not known here.
+//! The ranges of fields, tested on numbers, whatever their offsets.
 //!
-//! Each limit has its one name, which definitions, contracts and code cite: here, or in a crate below that others have it from
-//! too, as those of whole recordings in `recording_limits`, `MAX_COUNT` of counts in `risc_model` and `COUNTER_END` of program
-//! counters in `risc_core`. All are this project's own choice, but for the end of program counters.
+//! Each limit has its one name, which definitions, contracts and code use: here, or in a crate below that other crates share. The
+//! limits of whole recordings are in `recording_limits`, `MAX_COUNT` of counts is in `risc_model`, and `COUNTER_END` of program
+//! counters in `risc_core`. All are this project's own choice, except the end of program counters.
 
 ghost use Rattle.std.specs.Prelude.{◌≡◌, ◌≤◌};
 ghost use Rattle.risc_devices.specs.InputKind.{is_input};
@@ -30,17 +30,17 @@ pub(crate) const LEDS_END: u32 = 256;
 /// The serial byte with its "received" bit is below this.
 pub(crate) const SERIAL_END: u32 = 512;
 
-/// The largest number of keys that wait.
+/// The largest number of waiting keys.
 pub(crate) const MAX_KEYS: usize = 16;
 
-/// Whether a number is that of a kind of input that may have the value.
+/// Reports whether a number is that of a kind of input that may have the value.
 pub(crate) fn is_input(kind: u32, value: u32) -> bool
     ensures { result ≡ is_input kind value }
 {
     kind < 6 && Input::new(kind as u8, value).is_ok()
 }
 
-/// Whether the count of checkpoint k is in its range, after the count of the checkpoint before.
+/// Reports whether the count of checkpoint k is in its range, after the count of the checkpoint before.
 pub(crate) fn is_count(k: usize, before: u64, count: u64) -> bool
     ensures { result ≡ is_count k before count }
 {
@@ -51,7 +51,7 @@ pub(crate) fn is_count(k: usize, before: u64, count: u64) -> bool
     }
 }
 
-/// Whether checkpoint k may send so many bytes, after so many were sent before it.
+/// Reports whether checkpoint k may send a number of bytes, after those sent before it.
 pub(crate) fn is_output(k: usize, sent: u64, own: u64) -> bool
     requires sent { sent ≤ MAX_OUTPUT }
     ensures { result ≡ is_output k sent own }

@@ -1,4 +1,4 @@
-//! The recording of a text without fault. Whether a text has one is tested before, in `rules`.
+//! Reading of a file without a fault. `rules` tests before whether it has one.
 
 ghost use Rattle.std.specs.Prelude.{◌≡◌, ◌≤◌, ◌<◌, ◌+◌, ◌*◌, ◌^◌, ℕ, All, true, length, IfOk, slice_index, slice_range, drop, map};
 ghost use Rattle.oberon_format.specs.Changes.{number_after};
@@ -33,10 +33,12 @@ use risc_model::{Cpu, Event, Flags, Inputs};
 use risc_pages::{Page, Pool, Table};
 use std::alloc::{AllocError, Global};
 
-/// The recording of a text, or its first fault. `Memory` is answered only for a text without fault: the whole text is tested
-/// before anything grows, and the test takes no memory.
+/// Returns the recording of a file, or its first fault.
+///
+/// Returns `Memory` only for a file without a fault: the whole file is tested before anything is allocated, and the test
+/// allocates nothing.
 pub fn read(alloc: Global, bytes: &[u8]) -> Result<Recording, Fault>
-    // A text without fault gives its recording, or there was no room; any other gives its first fault.
+    // A file without a fault yields its recording, or an allocation failed; any other yields its first fault.
     ensures { AnswersText bytes.now (Text bytes.now) result }
 {
     let output = test_text(bytes)?;
@@ -46,7 +48,7 @@ pub fn read(alloc: Global, bytes: &[u8]) -> Result<Recording, Fault>
     }
 }
 
-/// The recording of a text without fault, whose output begins at `output`.
+/// Returns the recording of a file without a fault, whose output begins at `output`.
 fn recording_of(alloc: Global, text: &[u8], output: usize) -> Result<Recording, AllocError>
     requires meets { Meets text.now }
     requires output { output ≡ output_offset text.now }
@@ -55,7 +57,7 @@ fn recording_of(alloc: Global, text: &[u8], output: usize) -> Result<Recording, 
     let pool = pool_of(alloc, text)?;
     let inputs = inputs_of(alloc, text)?;
     let checkpoints = checkpoints_of(alloc, text, output)?;
-    // What the types of the bytes and of the parts say of them.
+    // Facts that the types of the bytes and of the parts guarantee.
     bytes_fit(text);
     all_formed_law(&checkpoints);
     let _pages = pool.len();
@@ -63,7 +65,7 @@ fn recording_of(alloc: Global, text: &[u8], output: usize) -> Result<Recording, 
     Ok(Recording::from_lawful(pool, inputs, checkpoints))
 }
 
-/// The words from an offset on.
+/// Returns the words from an offset on.
 fn words_at<const N: usize>(text: &[u8], offset: usize) -> [u32; N]
     requires { offset + 4 * N ≤ length text.now }
     ensures { AreWords text.now offset result }
@@ -75,7 +77,7 @@ fn words_at<const N: usize>(text: &[u8], offset: usize) -> [u32; N]
     words
 }
 
-/// The pages of a text.
+/// Returns the pages of a file.
 fn pool_of(alloc: Global, text: &[u8]) -> Result<Pool, AllocError>
     requires { IsSized text.now }
     ensures { IfOk result (λ pool. (length pool ≡ pages text.now) × EachAt (IsPageAt text.now) pool) }
@@ -89,13 +91,13 @@ fn pool_of(alloc: Global, text: &[u8]) -> Result<Pool, AllocError>
     Ok(pool)
 }
 
-/// Each word is a number of four bytes, as its type says.
+/// States that each word fits in four bytes.
 fn words_fit(words: &[u32])
     ensures all { All (λ word. word < 2 ^ 32) words.now }
     ensures each { (i : ℕ) → slice_index words.now i < 2 ^ 32 }
 {}
 
-/// The event at an offset.
+/// Returns the event at an offset.
 fn event_of(text: &[u8], offset: usize) -> Event
     requires room { offset + EVENT_LEN ≤ length text.now }
     requires input { IsInput (word_at text.now (offset + KIND_AT)) (word_at text.now (offset + VALUE_AT)) }
@@ -109,7 +111,7 @@ fn event_of(text: &[u8], offset: usize) -> Event
     }
 }
 
-/// The events of a text.
+/// Returns the events of a file.
 fn events_of(alloc: Global, text: &[u8]) -> Result<Vec<Event>, AllocError>
     requires { Meets text.now }
     ensures { IfOk result (λ list. (length list.items ≡ events text.now) × EachAt (IsEventAt text.now) list.items) }
@@ -122,7 +124,7 @@ fn events_of(alloc: Global, text: &[u8]) -> Result<Vec<Event>, AllocError>
     Ok(list)
 }
 
-/// The inputs of a text.
+/// Returns the inputs of a file.
 fn inputs_of(alloc: Global, text: &[u8]) -> Result<Inputs, AllocError>
     requires { Meets text.now }
     ensures { IfOk result (λ inputs. (length inputs ≡ events text.now) × EachAt (IsEventAt text.now) inputs) }
@@ -134,7 +136,7 @@ fn inputs_of(alloc: Global, text: &[u8]) -> Result<Inputs, AllocError>
     }
 }
 
-/// The processor of the checkpoint at an offset.
+/// Returns the processor of the checkpoint at an offset.
 #[tactic(auto, using(risc_core::proofs::FlagsLemmas::number_back))]
 fn cpu_of(text: &[u8], offset: usize) -> Cpu
     requires room { offset + CHANGES_AT ≤ length text.now }
@@ -152,7 +154,7 @@ fn cpu_of(text: &[u8], offset: usize) -> Cpu
     }
 }
 
-/// The devices of the checkpoint at an offset.
+/// Returns the devices of the checkpoint at an offset.
 fn devices_of(text: &[u8], offset: usize) -> Devices
     requires room { offset + CHANGES_AT ≤ length text.now }
     requires ranges { in_ranges (checkpoint_of text.now offset) ≡ true }
@@ -175,7 +177,7 @@ fn devices_of(text: &[u8], offset: usize) -> Devices
     .unwrap()
 }
 
-/// Makes a table that of checkpoint k, which stands at an offset. In version 2 it was the table before.
+/// Changes a table into that of checkpoint k, which is at an offset. In version 2 it has to be the table before.
 fn advance_table(text: &[u8], k: usize, offset: usize, table: &mut Table)
     requires meets { Meets text.now }
     requires below { k < checkpoints text.now }
@@ -190,19 +192,19 @@ fn advance_table(text: &[u8], k: usize, offset: usize, table: &mut Table)
     }
 }
 
-/// Makes a table that of the checkpoint of version 1 at an offset.
+/// Changes a table into that of the checkpoint of version 1 at an offset.
 fn read_table(text: &[u8], offset: usize, table: &mut Table)
     requires { offset + CHECKPOINT_LEN ≤ length text.now }
     ensures { HasNumbers table.new (λ p. word_at text.now (page_number_offset offset p)) }
 {
-    // A table has its places.
+    // A table has its 1,024 slots.
     let _numbers = table.numbers();
     for p in 0..PLACES as u16 {
         table.set(p, u32_at(text, offset + TABLE_AT + 4 * p as usize));
     }
 }
 
-/// Makes the changes of the checkpoint of version 2 at an offset.
+/// Applies the changes of the checkpoint of version 2 at an offset.
 fn change_table(text: &[u8], offset: usize, table: &mut Table)
     requires header { HEADER_LEN ≤ length text.now }
     requires version { version text.now ≡ VERSION }
@@ -210,7 +212,7 @@ fn change_table(text: &[u8], offset: usize, table: &mut Table)
     requires places { (i : ℕ) → i < change_count text.now offset → (change_of text.now offset i).place < PLACES }
     ensures { HasNumbers table.new (number_after (change_of text.now offset) (slice_index table.old) (change_count text.now offset)) }
 {
-    // A table has its places.
+    // A table has its 1,024 slots.
     let _numbers = table.numbers();
     let count = u32_at(text, offset + CHANGE_COUNT_AT) as usize;
     for i in 0..count {
@@ -219,7 +221,7 @@ fn change_table(text: &[u8], offset: usize, table: &mut Table)
     }
 }
 
-/// The checkpoint at an offset with its table. Its output begins at `from`.
+/// Returns the checkpoint at an offset with its table. Its output begins at `from`.
 fn checkpoint_of(
     alloc: Global,
     text: &[u8],
@@ -248,7 +250,7 @@ fn checkpoint_of(
     })
 }
 
-/// The checkpoints of a text, whose output begins at `output`.
+/// Returns the checkpoints of a file, whose output begins at `output`.
 fn checkpoints_of(alloc: Global, text: &[u8], output: usize) -> Result<Vec<Checkpoint>, AllocError>
     requires meets { Meets text.now }
     requires output { output ≡ output_offset text.now }
@@ -263,7 +265,7 @@ fn checkpoints_of(alloc: Global, text: &[u8], output: usize) -> Result<Vec<Check
     let mut table = Table::zeros();
     for k in 0..count {
         advance_table(text, k, offset, &mut table);
-        // A table has its places.
+        // A table has its 1,024 slots.
         let _numbers = table.numbers();
         list.push(checkpoint_of(alloc, text, offset, from, &table)?)?;
         from += u32_at(text, offset + SENT_AT) as usize;

@@ -1,5 +1,5 @@
-//! Recordings: pool, inputs and checkpoints that are lawful together. How they are read and written, and what fault parts have,
-//! stands in modules of its own.
+//! Recordings: pool, inputs and checkpoints that are lawful together. Reading, writing and the faults of parts are in modules of
+//! their own.
 
 ghost use Rattle.std.specs.Prelude.{◌≡◌, ◌<◌, length, map};
 ghost use Rattle.oberon_format.specs.CheckpointParts.{checkpoint_parts};
@@ -46,21 +46,21 @@ impl Recording {
     ghost use Rattle.oberon_format.specs.PartFields.{fault_of_parts};
     ghost use Rattle.oberon_format.specs.Recording.{parts_of, IsLawful};
 
-    /// The recording of these parts.
+    /// Makes the recording of these parts.
     ///
-    /// Refused exactly where the text laid out of them has a first fault, with that fault: a number too large for its field breaks
-    /// that field's rule. The parts are then given up. Never answers `Memory`.
+    /// Refuses exactly if the file that encodes them has a first fault, and returns that fault: a number too large for its field
+    /// breaks that field's rule. The parts are then dropped. Never returns `Memory`.
     pub fn from_parts(
         pool: Pool,
         inputs: Inputs,
         checkpoints: Vec<Checkpoint>,
     ) -> Result<Recording, Fault>
-        // The recording has these parts; where their text has a fault, the first one is the answer.
+        // The recording has these parts; if their file has a fault, the first one is the answer.
         ensures parts { let parts = parts_of pool inputs checkpoints.items in
             MatchOption (fault_of_parts parts) (result ≡ Ok parts) (λ f. result ≡ Err f) }
-        // It is made exactly where they are lawful.
+        // It is made if and only if they are lawful.
         ensures lawful { IsOk result ↔ IsLawful (parts_of pool inputs checkpoints.items) }
-        // No memory is taken, and none is wanting.
+        // Nothing is allocated, so no allocation fails.
         ensures named { IfErr result IsNamedFault }
     {
         if let Some(fault) = parts_fault(&pool, &inputs, &checkpoints) {
@@ -69,7 +69,7 @@ impl Recording {
         Ok(Recording::from_lawful(pool, inputs, checkpoints))
     }
 
-    /// The recording of parts that are known to be lawful.
+    /// Makes the recording of parts that are known to be lawful.
     pub(crate) fn from_lawful(pool: Pool, inputs: Inputs, checkpoints: Vec<Checkpoint>) -> Recording
         requires { IsLawful (parts_of pool inputs checkpoints.items) }
         ensures { result ≡ parts_of pool inputs checkpoints.items }
@@ -81,7 +81,7 @@ impl Recording {
         }
     }
 
-    /// The parts of the recording. Takes no memory.
+    /// Returns the parts of the recording. Allocates nothing.
     pub fn into_parts(self) -> (Pool, Inputs, Vec<Checkpoint>)
         ensures parts { parts_of result.0 result.1 result.2.items ≡ self }
         ensures lawful { IsLawful self }
@@ -94,7 +94,7 @@ impl Recording {
         (pool, inputs, checkpoints)
     }
 
-    /// The pages that the checkpoints' tables name.
+    /// Returns the pages that the checkpoints' tables name.
     pub fn pool(&self) -> &Pool
         ensures pool { result.now ≡ self.now.pool }
         ensures lawful { IsLawful self.now }
@@ -102,7 +102,7 @@ impl Recording {
         &self.pool
     }
 
-    /// The inputs, in the order of their counts.
+    /// Returns the inputs, in the order of their counts.
     pub fn inputs(&self) -> &Inputs
         ensures inputs { result.now ≡ self.now.inputs }
         ensures lawful { IsLawful self.now }
@@ -110,7 +110,7 @@ impl Recording {
         &self.inputs
     }
 
-    /// The number of checkpoints, K + 1: from 1 to 4,097.
+    /// Returns the number of checkpoints, K + 1: from 1 to 4,097.
     pub fn count(&self) -> u32
         ensures count { result ≡ length self.now.checkpoints }
         ensures lawful { IsLawful self.now }
@@ -118,7 +118,7 @@ impl Recording {
         self.checkpoints.len() as u32
     }
 
-    /// All checkpoints, in order.
+    /// Returns all checkpoints, in order.
     pub(crate) fn checkpoints(&self) -> &[Checkpoint]
         ensures checkpoints { map checkpoint_parts result.now ≡ self.now.checkpoints }
         ensures lawful { IsLawful self.now }
@@ -126,7 +126,7 @@ impl Recording {
         &self.checkpoints
     }
 
-    /// Checkpoint k, from 0 to K.
+    /// Returns checkpoint k, from 0 to K.
     pub fn checkpoint(&self, k: u32) -> &Checkpoint
         requires { k < length self.now.checkpoints }
         ensures checkpoint { checkpoint_parts result.now ≡ checkpoint_at self.now k }

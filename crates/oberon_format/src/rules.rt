@@ -1,4 +1,5 @@
-//! The rules of a text, tested in their order. Nothing here takes memory: the tables of version 2 are one table, changed in place.
+//! The rules of a file, tested in their order. Nothing here allocates memory: the tables of version 2 are one table, changed in
+//! place.
 
 ghost use Rattle.std.specs.Prelude.{◌≡◌, ◌≤◌, ◌<◌, ◌+◌, ◌==◌, length, slice_index, Some, None};
 ghost use Rattle.std.specs.Option.{IfNone};
@@ -27,7 +28,7 @@ use recording_limits::{MAX_EVENTS, MAX_OUTPUT, MAX_PAGES};
 use risc_model::MAX_COUNT;
 use risc_pages::Table;
 
-/// How long a text is to be by its header: in version 1 up to the output, in version 2 up to checkpoint 0.
+/// Returns the length that the header asks for: in version 1 up to the output, in version 2 up to checkpoint 0.
 fn named_len(text: &[u8]) -> usize
     requires header { HEADER_LEN ≤ length text.now }
     requires pages { pages text.now ≤ MAX_PAGES }
@@ -43,7 +44,7 @@ fn named_len(text: &[u8]) -> usize
     }
 }
 
-/// The first fault of the header, and of the length that it asks for.
+/// Returns the first fault of the header, and of the length that it asks for.
 fn header_fault(text: &[u8]) -> Option<Fault>
     ensures fault { result ≡ first_broken (header_rules (fields_of text.now)) }
     ensures sized { IfNone result (IsSized text.now) }
@@ -74,7 +75,7 @@ fn header_fault(text: &[u8]) -> Option<Fault>
     None
 }
 
-/// The count of the event before event i.
+/// Returns the count of the event before event i.
 fn event_floor(text: &[u8], i: usize) -> u64
     requires pages { pages text.now ≤ MAX_PAGES }
     requires events { i ≤ MAX_EVENTS }
@@ -88,7 +89,7 @@ fn event_floor(text: &[u8], i: usize) -> u64
     }
 }
 
-/// Whether the event at an offset is in its ranges.
+/// Reports whether the event at an offset is in its ranges.
 fn is_event(text: &[u8], offset: usize, floor: u64) -> bool
     requires { offset + EVENT_LEN ≤ length text.now }
     ensures { result ≡ is_event floor (event_of text.now offset) }
@@ -102,7 +103,7 @@ fn is_event(text: &[u8], offset: usize, floor: u64) -> bool
         )
 }
 
-/// The first fault of the events.
+/// Returns the first fault of the events.
 fn events_fault(text: &[u8]) -> Option<Fault>
     requires { IsSized text.now }
     ensures { result ≡ first_broken (each (events text.now) (event_rules (fields_of text.now))) }
@@ -118,7 +119,7 @@ fn events_fault(text: &[u8]) -> Option<Fault>
     None
 }
 
-/// The first fault of the page numbers of a checkpoint of version 1.
+/// Returns the first fault of the page ids of a checkpoint of version 1.
 fn page_numbers_fault(text: &[u8], offset: usize, pages: u32) -> Option<Fault>
     requires { offset + CHECKPOINT_LEN ≤ length text.now }
     ensures { result ≡ first_broken (each PLACES (page_number_rules pages offset (λ j. word_at text.now (page_number_offset offset j)))) }
@@ -132,7 +133,7 @@ fn page_numbers_fault(text: &[u8], offset: usize, pages: u32) -> Option<Fault>
     None
 }
 
-/// The first fault of the changes of a checkpoint of version 2. Without one, the table before it becomes its own.
+/// Returns the first fault of the changes of a checkpoint of version 2. Without one, the table before it becomes its own.
 fn changes_fault(
     text: &[u8],
     offset: usize,
@@ -145,7 +146,7 @@ fn changes_fault(
     ensures fault { result ≡ first_broken (each count (change_rules pages offset (slice_index table.old) (change_of text.now offset))) }
     ensures table { IfNone result (HasNumbers table.new (number_after (change_of text.now offset) (slice_index table.old) count)) }
 {
-    // A table has its places.
+    // A table has its 1,024 slots.
     let _numbers = table.numbers();
     let mut floor = 0;
     for i in 0..count {
@@ -160,7 +161,7 @@ fn changes_fault(
     None
 }
 
-/// The fields of checkpoint k of a text of version 1, or its first fault.
+/// Returns the fields of checkpoint k of a file of version 1, or its first fault.
 fn whole_checkpoint(
     text: &[u8],
     k: usize,
@@ -186,7 +187,7 @@ fn whole_checkpoint(
     }
 }
 
-/// The fields of checkpoint k of a text of version 2, or its first fault. The table before it becomes its own.
+/// Returns the fields of checkpoint k of a file of version 2, or its first fault. The table before it becomes its own.
 fn changed_checkpoint(
     text: &[u8],
     k: usize,
@@ -222,14 +223,14 @@ fn changed_checkpoint(
     }
 }
 
-/// The end of a text's checkpoints: where it is, and how long the output behind it is to be.
+/// The end of a file's checkpoints: its offset, and the length that the output after it must have.
 #[derive(Drop)]
 struct End {
     output: usize,
     sent: u64,
 }
 
-/// The end of the checkpoints, or their first fault.
+/// Returns the end of the checkpoints, or their first fault.
 fn checkpoints_end(text: &[u8]) -> Result<End, Fault>
     requires { IsSized text.now }
     ensures { AreTested text.now result }
@@ -260,7 +261,7 @@ fn checkpoints_end(text: &[u8]) -> Result<End, Fault>
     })
 }
 
-/// The first fault of the length, where the checkpoints end so.
+/// Returns the first fault of the file's length, from the end of its checkpoints.
 fn end_fault(text: &[u8], end: &End) -> Option<Fault>
     requires output { end.now.output ≡ output_offset text.now }
     requires room { end.now.output ≤ length text.now }
@@ -278,7 +279,7 @@ fn end_fault(text: &[u8], end: &End) -> Option<Fault>
     }
 }
 
-/// Where the output of a text without fault begins, or the first fault of a text.
+/// Returns the offset of the output of a file without a fault, or the first fault of a file.
 #[tactic(auto, using(crate::proofs::RuleLemmas::in_header, crate::proofs::RuleLemmas::in_events, crate::proofs::RuleLemmas::in_checkpoints, crate::proofs::RuleLemmas::in_end))]
 pub(crate) fn test_text(text: &[u8]) -> Result<usize, Fault>
     ensures { IsTested text.now result }

@@ -1,4 +1,4 @@
-//! The text of a recording, written front to back.
+//! Writing of a recording, front to back.
 
 ghost use Rattle.std.specs.Prelude.{◌≡◌, ◌++◌, ◌+◌, ◌≤◌, length, map, IfOk, OnOk};
 ghost use Rattle.std.specs.List.{flat_map};
@@ -23,7 +23,7 @@ use risc_model::{Cpu, Event};
 use risc_pages::{Pool, Table};
 use std::alloc::{AllocError, Global};
 
-/// The one text of a recording in version 2. Its room is taken at once.
+/// Returns the one file of a recording in version 2. Its capacity is allocated at once.
 pub fn write(alloc: Global, r: &Recording) -> Result<Vec<u8>, AllocError>
     ensures { IfOk result (λ text. TextIn VERSION text.items r.now) }
 {
@@ -31,7 +31,7 @@ pub fn write(alloc: Global, r: &Recording) -> Result<Vec<u8>, AllocError>
     Ok(text)
 }
 
-/// The bytes of a recording, one part after the other.
+/// Returns the bytes of a recording, one part after another.
 #[tactic(auto, unfolding(crate::specs::Encoding::encoding))]
 fn encode(alloc: Global, r: &Recording) -> Result<Vec<u8>, AllocError>
     ensures bytes { IfOk result (λ text. text.items ≡ encoding VERSION r.now) }
@@ -46,7 +46,7 @@ fn encode(alloc: Global, r: &Recording) -> Result<Vec<u8>, AllocError>
     Ok(out)
 }
 
-/// The length of the text of a recording.
+/// Returns the length of the file of a recording.
 fn text_len(r: &Recording) -> usize
     ensures { result ≡ start_laid VERSION r.now (length r.now.checkpoints) + length (output_of r.now.checkpoints) }
 {
@@ -60,7 +60,7 @@ fn text_len(r: &Recording) -> usize
     len + output_len(r)
 }
 
-/// The length of all output.
+/// Returns the length of all output.
 fn output_len(r: &Recording) -> usize
     ensures { result ≡ length (output_of r.now.checkpoints) }
 {
@@ -71,7 +71,7 @@ fn output_len(r: &Recording) -> usize
     total
 }
 
-/// Adds the four bytes of a number.
+/// Appends the four bytes of a number.
 #[tactic(auto, unfolding(crate::specs::Encoding::word_bytes))]
 fn push_word(out: &mut Vec<u8>, number: u32) -> Result<(), AllocError>
     ensures { OnOk result (out.new.items ≡ out.old.items ++ word_bytes number) }
@@ -81,7 +81,7 @@ fn push_word(out: &mut Vec<u8>, number: u32) -> Result<(), AllocError>
     out.extend_from_slice(&bytes)
 }
 
-/// Adds the eight bytes of a number.
+/// Appends the eight bytes of a number.
 #[tactic(auto, unfolding(crate::specs::Encoding::long_bytes))]
 fn push_long(out: &mut Vec<u8>, number: u64) -> Result<(), AllocError>
     ensures { OnOk result (out.new.items ≡ out.old.items ++ long_bytes number) }
@@ -91,7 +91,7 @@ fn push_long(out: &mut Vec<u8>, number: u64) -> Result<(), AllocError>
     out.extend_from_slice(&bytes)
 }
 
-/// Adds the bytes of each number.
+/// Appends the bytes of each number.
 fn push_words(out: &mut Vec<u8>, numbers: &[u32]) -> Result<(), AllocError>
     ensures { OnOk result (out.new.items ≡ out.old.items ++ words_bytes numbers.now) }
 {
@@ -101,7 +101,7 @@ fn push_words(out: &mut Vec<u8>, numbers: &[u32]) -> Result<(), AllocError>
     Ok(())
 }
 
-/// Adds the header.
+/// Appends the header.
 #[tactic(auto, unfolding(crate::specs::Encoding::header_bytes))]
 fn push_header(out: &mut Vec<u8>, r: &Recording) -> Result<(), AllocError>
     ensures { OnOk result (out.new.items ≡ out.old.items ++ header_bytes VERSION r.now) }
@@ -114,7 +114,7 @@ fn push_header(out: &mut Vec<u8>, r: &Recording) -> Result<(), AllocError>
     push_word(out, 0)
 }
 
-/// Adds the pages.
+/// Appends the pages.
 fn push_pool(out: &mut Vec<u8>, pool: &Pool) -> Result<(), AllocError>
     ensures { OnOk result (out.new.items ≡ out.old.items ++ flat_map words_bytes pool.now) }
 {
@@ -124,7 +124,7 @@ fn push_pool(out: &mut Vec<u8>, pool: &Pool) -> Result<(), AllocError>
     Ok(())
 }
 
-/// Adds an event.
+/// Appends an event.
 #[tactic(auto, unfolding(crate::specs::Encoding::event_bytes))]
 fn push_event(out: &mut Vec<u8>, event: &Event) -> Result<(), AllocError>
     ensures { OnOk result (out.new.items ≡ out.old.items ++ event_bytes event.now) }
@@ -134,7 +134,7 @@ fn push_event(out: &mut Vec<u8>, event: &Event) -> Result<(), AllocError>
     push_word(out, event.input.value())
 }
 
-/// Adds the events.
+/// Appends the events.
 fn push_events(out: &mut Vec<u8>, events: &[Event]) -> Result<(), AllocError>
     ensures { OnOk result (out.new.items ≡ out.old.items ++ flat_map event_bytes events.now) }
 {
@@ -144,7 +144,7 @@ fn push_events(out: &mut Vec<u8>, events: &[Event]) -> Result<(), AllocError>
     Ok(())
 }
 
-/// Adds the processor of a checkpoint.
+/// Appends the processor of a checkpoint.
 #[tactic(auto, unfolding(crate::specs::Encoding::cpu_bytes))]
 fn push_cpu(out: &mut Vec<u8>, cpu: &Cpu) -> Result<(), AllocError>
     ensures { OnOk result (out.new.items ≡ out.old.items ++ cpu_bytes (cpu_state cpu.now)) }
@@ -156,7 +156,7 @@ fn push_cpu(out: &mut Vec<u8>, cpu: &Cpu) -> Result<(), AllocError>
     push_word(out, cpu.stop as u32)
 }
 
-/// Adds the devices of a checkpoint.
+/// Appends the devices of a checkpoint.
 #[tactic(auto, unfolding(crate::specs::Encoding::device_bytes))]
 fn push_devices(out: &mut Vec<u8>, devices: &Devices) -> Result<(), AllocError>
     ensures { OnOk result (out.new.items ≡ out.old.items ++ device_bytes devices.now) }
@@ -170,7 +170,7 @@ fn push_devices(out: &mut Vec<u8>, devices: &Devices) -> Result<(), AllocError>
     out.extend_from_slice(&key_bytes(devices))
 }
 
-/// Adds what a checkpoint begins with.
+/// Appends the fields that begin a checkpoint.
 #[tactic(auto, unfolding(crate::specs::Encoding::front_bytes))]
 fn push_front(out: &mut Vec<u8>, checkpoint: &Checkpoint) -> Result<(), AllocError>
     requires { length checkpoint.now.sent.items ≤ MAX_OUTPUT }
@@ -182,7 +182,7 @@ fn push_front(out: &mut Vec<u8>, checkpoint: &Checkpoint) -> Result<(), AllocErr
     push_word(out, checkpoint.sent.len() as u32)
 }
 
-/// Adds the number of changes from one table to another, and each of them.
+/// Appends the number of changes from one table to another, and each of them.
 #[tactic(auto, unfolding(crate::specs::Encoding::changes_bytes))]
 fn push_changes(out: &mut Vec<u8>, before: &Table, table: &Table) -> Result<(), AllocError>
     ensures { OnOk result (out.new.items ≡ out.old.items ++ changes_bytes (changes before.now table.now)) }
@@ -196,7 +196,7 @@ fn push_changes(out: &mut Vec<u8>, before: &Table, table: &Table) -> Result<(), 
     Ok(())
 }
 
-/// Adds a change.
+/// Appends a change.
 #[tactic(auto, unfolding(crate::specs::Encoding::change_bytes))]
 fn push_change(out: &mut Vec<u8>, place: u32, number: u32) -> Result<(), AllocError>
     ensures { OnOk result (out.new.items ≡ out.old.items ++ change_bytes (record { place = place; number = number })) }
@@ -205,7 +205,7 @@ fn push_change(out: &mut Vec<u8>, place: u32, number: u32) -> Result<(), AllocEr
     push_word(out, number)
 }
 
-/// Adds a checkpoint after a table, but for its output.
+/// Appends a checkpoint after a table, without its output.
 #[tactic(auto, unfolding(crate::specs::Encoding::checkpoint_bytes, crate::specs::Encoding::tail_bytes, crate::specs::Encoding::changed_bytes))]
 fn push_checkpoint(
     out: &mut Vec<u8>,
@@ -221,7 +221,7 @@ fn push_checkpoint(
     push_changes(out, before, &checkpoint.table)
 }
 
-/// Adds the checkpoints.
+/// Appends the checkpoints.
 fn push_checkpoints(out: &mut Vec<u8>, checkpoints: &[Checkpoint]) -> Result<(), AllocError>
     requires { length (output_of (map checkpoint_parts checkpoints.now)) ≤ MAX_OUTPUT }
     ensures { OnOk result (out.new.items ≡ out.old.items ++ checkpoints_bytes VERSION zero_numbers (map checkpoint_parts checkpoints.now)) }
@@ -233,7 +233,7 @@ fn push_checkpoints(out: &mut Vec<u8>, checkpoints: &[Checkpoint]) -> Result<(),
     Ok(())
 }
 
-/// Adds all output.
+/// Appends all output.
 fn push_output(out: &mut Vec<u8>, r: &Recording) -> Result<(), AllocError>
     ensures { OnOk result (out.new.items ≡ out.old.items ++ output_of r.now.checkpoints) }
 {

@@ -1,8 +1,7 @@
 //! The program `oberon_replay`: records sessions of a Project Oberon workstation, checks and migrates recordings, and shows their
 //! screens.
-//!
-//! It reads standard input, writes standard output and nothing on standard error, and ends with the status of `oberon_cli::run`,
-//! which is the whole program as a function over any reader and writer. Here is only what gives it the process.
+//! It reads standard input, writes standard output and nothing on standard error, and exits with the status of `oberon_cli::run`.
+//! That is the whole program as a function over any reader and writer; this file only passes the process to it.
 #![tactic(auto)]
 
 use oberon_cli::{Failure, fail, process_words, run, texts};

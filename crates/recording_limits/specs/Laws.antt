@@ -1,4 +1,5 @@
--- Each limit by its value, so that no definition above moves with a number that is mistyped. All are this project's own choice.
+-- Each limit by its value, so that a mistyped number cannot change a definition above unnoticed. All are this project's own
+-- choice.
 use Rattle.std.specs.Prelude.{◌≡◌}
 use Rattle.recording_limits.specs.declared.limits.TheConstants.{LAST_CHECKPOINT, LONGEST_SESSION, MAX_EVENTS, MAX_OUTPUT, MAX_PAGES}
 

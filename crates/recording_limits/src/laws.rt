@@ -1,8 +1,8 @@
-//! The law of the limits: what number each name stands for.
+//! The law of the limits: the value of each name.
 
 ghost use Rattle.recording_limits.specs.Laws.{HasLimits};
 
-/// Each limit by its value.
+/// States each limit by its value.
 pub fn limits_law()
     ensures { HasLimits }
 {}

@@ -1,7 +1,7 @@
-//! How much a recording and a session may hold: each limit by its one name.
+//! The sizes that a recording and a session may have: each limit by its one name.
 //!
-//! Here live the limits that more than one crate has. What a text above them is refused for, and limits of single fields, live in
-//! the crates that read them; the greatest count is `risc_machine`'s.
+//! These are the limits that more than one crate has. The faults of files above them, and limits of single fields, are in the
+//! crates that read them; the greatest count is in `risc_model`.
 #![tactic(auto)]
 
 mod laws;

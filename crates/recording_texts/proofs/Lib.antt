@@ -1,3 +1,3 @@
--- What the proofs of this crate stand on.
+-- Files that the proofs of this crate depend on.
 mod Laid
 mod Lists

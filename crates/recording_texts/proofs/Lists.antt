@@ -1,4 +1,4 @@
--- Lists as loops over them leave them.
+-- Lists after loops over them.
 use Rattle.std.proofs.Common.{◌≡◌, ◌<◌, ◌≤◌, ◌+◌, ◌++◌, ◌∷◌, [], List, ℕ, zero, suc, length, take, get_or, sym, ap, refl, ◌∙◌, append-nil, append_assoc, arith}
 use Rattle.std.specs.Prelude.{slice_index_or, slice_set}
 use Rattle.std.specs.List.{fold}
@@ -9,7 +9,7 @@ use Rattle.std.proofs.lemmas.List.Sums.{fold-append}
 use Rattle.recording_texts.specs.Bytes.{padded, word_bytes, words_bytes}
 use Rattle.recording_texts.specs.Claims.{change_at, changes_below}
 
--- a place past the end is no place
+-- an index past the end is no index
 pub past : {X : Type 0} (xs : List X) (i : ℕ) (y : X) → length xs ≤ i → xs ≡ slice_set xs i y
 past xs i y far = sym (set_past xs i y far)
 

@@ -1,4 +1,4 @@
--- The bytes of a checkpoint, as docs/formats.md has them.
+-- The bytes of a checkpoint, as docs/formats.md defines them.
 use Rattle.std.specs.Prelude.{ℕ, zero, suc, List, [], ◌∷◌, ◌++◌, ◌/◌, ◌==◌, if◌then◌else◌, length, replicate, slice_index_or}
 use Rattle.recording_texts.specs.Bytes.{length_number, long_bytes, padded, set_numbers, word_bytes, words_bytes}
 use Rattle.recording_texts.specs.declared.claim.Claim.{Claim}
@@ -11,15 +11,15 @@ unfoldable pub processor_bytes : Claim → List ℕ
 processor_bytes claim =
     words_bytes (set_numbers (replicate 16 0) claim.registers.now) ++ words_bytes (claim.h ∷ claim.pc ∷ claim.flags ∷ claim.stop ∷ [])
 
--- how many keys wait, and 16 keys, zeros after those
+-- the number of waiting keys, and 16 keys, zeros after the waiting ones
 unfoldable pub key_bytes : List ℕ → List ℕ
 key_bytes keys = word_bytes (length_number (length keys)) ++ padded keys 16
 
--- the devices but for the timer's rate and phase
+-- the devices, except the timer's rate and phase
 unfoldable pub device_bytes : Claim → List ℕ
 device_bytes claim = words_bytes (claim.timer ∷ claim.switches ∷ claim.leds ∷ claim.mouse ∷ claim.serial ∷ []) ++ key_bytes claim.keys.now
 
--- the 132 bytes that a checkpoint begins with in both versions
+-- the 132 bytes that begin a checkpoint in both versions
 unfoldable pub fields_bytes : Claim → List ℕ
 fields_bytes claim =
     long_bytes claim.count ++ processor_bytes claim ++ device_bytes claim ++ word_bytes (length_number (length claim.sent.now))
@@ -28,12 +28,12 @@ fields_bytes claim =
 unfoldable pub first_bytes : Claim → List ℕ
 first_bytes claim = fields_bytes claim ++ words_bytes (page_numbers claim)
 
--- a place with its new page number, where two tables differ there
+-- a slot with its new page id, if two tables differ there
 abbrev pub change_at : List ℕ → List ℕ → ℕ → List ℕ
 change_at before after place =
     if slice_index_or before place 0 == slice_index_or after place 0 then [] else words_bytes (place ∷ slice_index_or after place 0 ∷ [])
 
--- the changes at the first n places
+-- the changes in the first n slots
 unfoldable pub changes_below : List ℕ → List ℕ → ℕ → List ℕ
 changes_below before after zero = []
 changes_below before after (suc n) = changes_below before after n ++ change_at before after n

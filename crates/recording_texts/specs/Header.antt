@@ -1,4 +1,4 @@
--- The header of a text.
+-- The header of a file.
 use Rattle.std.specs.Prelude.{ℕ, List, [], ◌∷◌}
 use Rattle.recording_texts.specs.Bytes.{words_bytes}
 

@@ -1,4 +1,4 @@
--- The bytes of a whole text, as docs/formats.md has them, with some of its numbers turned.
+-- The bytes of a whole file, as docs/formats.md defines them, with some of its numbers replaced.
 use Rattle.std.specs.Prelude.{ℕ, suc, List, [], ◌∷◌, ◌++◌, length, replicate}
 use Rattle.std.specs.List.{flat_map}
 use Rattle.recording_texts.specs.Bytes.{length_number, long_bytes, padded, words_bytes}
@@ -10,7 +10,7 @@ use Rattle.recording_texts.specs.declared.sketch.Event.{Event}
 use Rattle.recording_texts.specs.declared.sketch.Sketch.{Sketch}
 use Rattle.recording_texts.specs.declared.spot.Spot.{Spot}
 
--- 256 words of a page, zeros after those that are given
+-- 256 words of a page, zeros after the given ones
 abbrev pub page_bytes : List ℕ → List ℕ
 page_bytes words = words_bytes (padded words 256)
 
@@ -23,22 +23,22 @@ pages_bytes version sketch =
     header_bytes version (length_number (length sketch.pages.now)) (length_number (length sketch.events.now)) (length_number (length sketch.claims.now))
     ++ flat_map (λ page. page_bytes page.now) sketch.pages.now
 
--- with the numbers of pages turned, and the events
+-- with the numbers of pages replaced, and the events
 abbrev pub front_bytes : ℕ → Sketch → List (Spot × ℕ) → List ℕ
 front_bytes version sketch turned = turned_pages turned (pages_bytes version sketch) ++ flat_map event_bytes sketch.events.now
 
--- the checkpoints from the one of number k on
+-- the checkpoints from number k on
 abbrev pub first_claims : List (Spot × ℕ) → ℕ → List Claim → List ℕ
 first_claims turned k [] = []
 first_claims turned k (claim ∷ claims) = turned_first k turned (first_bytes claim) ++ first_claims turned (suc k) claims
 
--- after one with this table
+-- the checkpoints after one with this table
 abbrev pub second_claims : List (Spot × ℕ) → ℕ → List ℕ → List Claim → List ℕ
 second_claims turned k before [] = []
 second_claims turned k before (claim ∷ claims) =
     turned_second k turned (second_bytes before claim) ++ second_claims turned (suc k) (page_numbers claim) claims
 
--- all bytes that were sent
+-- all output
 abbrev pub output_bytes : List Claim → List ℕ
 output_bytes claims = flat_map (λ (claim : Claim). claim.sent.now) claims
 

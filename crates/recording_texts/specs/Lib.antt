@@ -1,5 +1,5 @@
--- What tests lay out, byte by byte, independently of the crate that reads and writes texts. Read it in this order: numbers, the header,
--- checkpoints, where numbers are turned, whole texts.
+-- The bytes of recordings for tests, independent of the crate that reads and writes recordings. Read it in this order: numbers,
+-- the header, checkpoints, offsets of numbers to replace, whole files.
 pub mod Bytes
 pub mod Header
 pub mod Claims

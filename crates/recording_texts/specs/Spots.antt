@@ -1,20 +1,20 @@
--- Where the numbers stand that a test turns, and a text with some of them turned.
+-- Offsets of the numbers that a test replaces, and a file with some of them replaced.
 use Rattle.std.specs.Prelude.{ℕ, ◌+◌, ◌*◌, ◌==◌, List, Option, Some, None, if◌then◌else◌}
 use Rattle.std.specs.List.{fold}
 use Rattle.recording_texts.specs.Bytes.{put_word}
 use Rattle.recording_texts.specs.declared.spot.Spot.{Spot}
 use Rattle.recording_texts.specs.declared.spot.Spot.TheVariants.{Word, Register, H, Flags, Stop, Leds, Waiting, Keys, Rate, Phase, Place}
 
--- in the text, of a number of a page
+-- the offset, in the file, of a number of a page
 abbrev pub place_in_pages : Spot → Option ℕ
 place_in_pages (Word page word) = Some (24 + 1024 * page + 4 * word)
 place_in_pages _ = None
 
--- the offset, where the number is one of checkpoint k
+-- the offset, if the number is one of checkpoint k
 abbrev pub offset_if : ℕ → ℕ → ℕ → Option ℕ
 offset_if of k offset = if of == k then Some offset else None
 
--- from the start of checkpoint k, in both versions
+-- the offset from the start of checkpoint k, in both versions
 abbrev pub offset_in_both : Spot → ℕ → Option ℕ
 offset_in_both (Register of number) k = offset_if of k (8 + 4 * number)
 offset_in_both (H of) k = offset_if of k 72
@@ -38,14 +38,14 @@ abbrev pub put_if : List ℕ → Option ℕ → ℕ → List ℕ
 put_if bytes (Some place) word = put_word bytes place word
 put_if bytes None word = bytes
 
--- a text up to the end of its pages, with each number of a page at its place
+-- a file up to the end of its pages, with each number of a page at its offset
 abbrev pub turned_pages : List (Spot × ℕ) → List ℕ → List ℕ
 turned_pages turned text = fold (λ bytes n. put_if bytes (place_in_pages n.0) n.1) text turned
 
--- checkpoint k of version 1, with each of its numbers at its place
+-- checkpoint k of version 1, with each of its numbers at its offset
 abbrev pub turned_first : ℕ → List (Spot × ℕ) → List ℕ → List ℕ
 turned_first k turned bytes = fold (λ bs n. put_if bs (offset_in_first n.0 k) n.1) bytes turned
 
--- checkpoint k of version 2, with each of its numbers at its place
+-- checkpoint k of version 2, with each of its numbers at its offset
 abbrev pub turned_second : ℕ → List (Spot × ℕ) → List ℕ → List ℕ
 turned_second k turned bytes = fold (λ bs n. put_if bs (offset_in_second n.0 k) n.1) bytes turned

@@ -1,4 +1,4 @@
-//! What a checkpoint claims.
+//! The claim of a checkpoint.
 
 ghost use Rattle.std.specs.Prelude.{◌≡◌, ◌++◌, ◌+◌, ◌<◌, ◌≤◌, IfOk, OnOk, slice_index_or, vec_len};
 ghost use Rattle.recording_texts.specs.Bytes.{padded};
@@ -7,11 +7,11 @@ ghost use Rattle.recording_texts.specs.Claims.{change_at, changes_below, device_
 use crate::bytes::{number_of, push_long, push_word, push_words, set_numbers};
 use std::alloc::{AllocError, Global};
 
-/// What a checkpoint claims. A text of version 1 has no places for the timer's rate and phase, and leaves them out.
+/// The claim of a checkpoint. A file of version 1 has no fields for the timer's rate and phase, and leaves them out.
 #[derive(Clone, Copy)]
 pub struct Claim<'a> {
     pub count: u64,
-    /// The registers that aren't 0, by their numbers.
+    /// The registers that are not 0, by their numbers.
     pub registers: &'a [(u16, u32)],
     pub h: u32,
     pub pc: u32,
@@ -24,15 +24,15 @@ pub struct Claim<'a> {
     pub leds: u32,
     pub mouse: u32,
     pub serial: u32,
-    /// The keys that wait, oldest first.
+    /// The waiting keys, oldest first.
     pub keys: &'a [u8],
-    /// The page numbers that aren't 0, by their places.
+    /// The page ids that are not 0, by their slots.
     pub table: &'a [(u16, u32)],
-    /// The bytes that were sent since the checkpoint before.
+    /// The output since the checkpoint before.
     pub sent: &'a [u8],
 }
 
-/// All zeros at count 0: no page, no key, nothing sent.
+/// All zeros at count 0: no page, no key, no output.
 pub const ZEROS: Claim<'static> = Claim {
     count: 0,
     registers: &[],
@@ -52,14 +52,14 @@ pub const ZEROS: Claim<'static> = Claim {
     sent: &[],
 };
 
-/// All zeros at count 0, but for the pool's first page at place 0 of the memory, where programs begin.
+/// All zeros at count 0, except the pool's first page in slot 0 of the memory, where programs begin.
 pub const FIRST_PAGE: Claim<'static> = Claim {
     table: &[(0, 1)],
     ..ZEROS
 };
 
 impl Claim<'_> {
-    /// The checkpoint as version 1 has it, with its whole table.
+    /// Returns the checkpoint in version 1, with its whole table.
     #[tactic(auto, unfolding(crate::specs::Claims::first_bytes))]
     pub(crate) fn first(&self, alloc: Global) -> Result<Vec<u8>, AllocError>
         ensures { IfOk result (λ bytes. bytes.items ≡ first_bytes self.now) }
@@ -69,7 +69,7 @@ impl Claim<'_> {
         Ok(bytes)
     }
 
-    /// The checkpoint as version 2 has it, with the changes of the table before it.
+    /// Returns the checkpoint in version 2, with the changes from the table before it.
     #[tactic(auto, unfolding(crate::specs::Claims::second_bytes))]
     pub(crate) fn second(&self, alloc: Global, before: &[u32; 1024]) -> Result<Vec<u8>, AllocError>
         ensures { IfOk result (λ bytes. bytes.items ≡ second_bytes before.now self.now) }
@@ -84,7 +84,7 @@ impl Claim<'_> {
         Ok(bytes)
     }
 
-    /// The 132 bytes that a checkpoint begins with in both versions.
+    /// Returns the 132 bytes that begin a checkpoint in both versions.
     #[tactic(auto, unfolding(crate::specs::Claims::fields_bytes))]
     fn fields(&self, alloc: Global) -> Result<Vec<u8>, AllocError>
         ensures { IfOk result (λ bytes. bytes.items ≡ fields_bytes self.now) }
@@ -97,7 +97,7 @@ impl Claim<'_> {
         Ok(bytes)
     }
 
-    /// Adds the registers, H, the program counter, the flags and the stop.
+    /// Appends the registers, H, the program counter, the flags and the stop.
     #[tactic(auto, unfolding(crate::specs::Claims::processor_bytes))]
     fn push_processor(&self, bytes: &mut Vec<u8>) -> Result<(), AllocError>
         ensures { OnOk result (bytes.new.items ≡ bytes.old.items ++ processor_bytes self.now) }
@@ -108,7 +108,7 @@ impl Claim<'_> {
         push_words(bytes, &[self.h, self.pc, self.flags, self.stop])
     }
 
-    /// Adds the devices but for the timer's rate and phase.
+    /// Appends the devices, except the timer's rate and phase.
     #[tactic(auto, unfolding(crate::specs::Claims::device_bytes))]
     fn push_devices(&self, bytes: &mut Vec<u8>) -> Result<(), AllocError>
         ensures { OnOk result (bytes.new.items ≡ bytes.old.items ++ device_bytes self.now) }
@@ -124,7 +124,7 @@ impl Claim<'_> {
         push_keys(bytes, self.keys)
     }
 
-    /// The page numbers of all places.
+    /// Returns the page ids of all slots.
     pub(crate) fn page_numbers(&self) -> [u32; 1024]
         ensures { result ≡ page_numbers self.now }
     {
@@ -134,7 +134,7 @@ impl Claim<'_> {
     }
 }
 
-/// Adds how many keys wait, and 16 keys, zeros after those.
+/// Appends the number of waiting keys, and 16 keys, zeros after the waiting ones.
 #[tactic(auto, unfolding(crate::specs::Claims::key_bytes))]
 fn push_keys(bytes: &mut Vec<u8>, keys: &[u8]) -> Result<(), AllocError>
     ensures { OnOk result (bytes.new.items ≡ bytes.old.items ++ key_bytes keys.now) }
@@ -143,7 +143,7 @@ fn push_keys(bytes: &mut Vec<u8>, keys: &[u8]) -> Result<(), AllocError>
     push_sixteen(bytes, keys)
 }
 
-/// Adds 16 keys.
+/// Appends 16 keys.
 fn push_sixteen(bytes: &mut Vec<u8>, keys: &[u8]) -> Result<(), AllocError>
     ensures { OnOk result (bytes.new.items ≡ bytes.old.items ++ padded keys.now 16) }
 {
@@ -159,7 +159,7 @@ fn key_at(keys: &[u8], i: usize) -> u8
     if i < keys.len() { keys[i] } else { 0 }
 }
 
-/// The places at which two tables differ, each with its new page number.
+/// Returns the slots in which two tables differ, each with its new page id.
 fn changes(alloc: Global, before: &[u32; 1024], after: &[u32; 1024]) -> Result<Vec<u8>, AllocError>
     ensures changes { IfOk result (λ changes. changes.items ≡ changes_below before.now after.now 1024) }
     ensures len { IfOk result (λ changes. vec_len changes ≤ 8192) }
@@ -171,7 +171,7 @@ fn changes(alloc: Global, before: &[u32; 1024], after: &[u32; 1024]) -> Result<V
     Ok(changes)
 }
 
-/// Adds a place with its new page number, if two tables differ there.
+/// Appends a slot with its new page id, if two tables differ there.
 fn push_change(
     changes: &mut Vec<u8>,
     before: &[u32; 1024],

@@ -1,8 +1,8 @@
-//! Texts of recordings for tests, of either version, laid out of what their checkpoints claim.
+//! Recording files for tests, of either version, encoded from what their checkpoints claim.
 //!
-//! Only tests use it. It stands on no other crate, `oberon_format` least of all, and lays the bytes out by itself, as
-//! `docs/formats.md` has them: what the product reads and writes is compared with its texts. It asks of no recording
-//! whether it is lawful or true. It promises what it lays out, byte by byte.
+//! Only tests use it. It depends on no other crate, least of all `oberon_format`, and encodes the bytes on its own, as
+//! `docs/formats.md` defines them: an independent witness of what the product reads and writes. It does not test whether a
+//! recording is lawful or true. Its contracts define what it encodes, byte by byte.
 #![tactic(auto)]
 
 mod bytes;

@@ -1,4 +1,4 @@
-//! Recordings that tests of several crates take. All of them are true.
+//! Recordings that tests of several crates use. All of them are true.
 
 use crate::claim::{Claim, FIRST_PAGE, ZEROS};
 use crate::sketch::Sketch;
@@ -77,7 +77,7 @@ pub const STORED_RUN: Sketch<'static> = Sketch {
     ],
 };
 
-/// A jump to itself, on two pages of equal content: the second stands in place of the first at checkpoint 1.
+/// A jump to itself, on two pages of equal content: the second replaces the first at checkpoint 1.
 pub const EQUAL_PAGES: Sketch<'static> = Sketch {
     pages: &[&[JUMP], &[JUMP]],
     events: &[],
@@ -91,7 +91,7 @@ pub const EQUAL_PAGES: Sketch<'static> = Sketch {
     ],
 };
 
-/// Stores 41 hexadecimal into the word that sends, and then jumps to itself.
+/// Stores 41 hexadecimal into the device word that sends, and then jumps to itself.
 pub const ONE_BYTE_SENT: Sketch<'static> = Sketch {
     pages: &[&[0x5100_FFC8, 0x4000_0041, 0xA010_0000, JUMP]],
     events: &[],

@@ -1,4 +1,4 @@
-//! Recordings that are laid out as texts.
+//! Recordings to encode as files.
 
 ghost use Rattle.std.specs.Prelude.{◌≡◌, ◌++◌, ◌+◌, IfOk, OnOk, replicate, slice_index_or, take};
 ghost use Rattle.std.specs.List.{flat_map};
@@ -12,7 +12,7 @@ use crate::claim::Claim;
 use crate::spot::{Spot, turn_first, turn_pages, turn_second};
 use std::alloc::{AllocError, Global};
 
-/// An input, at its count.
+/// An input with its count.
 #[derive(Clone, Copy)]
 pub struct Event {
     pub count: u64,
@@ -20,18 +20,18 @@ pub struct Event {
     pub value: u32,
 }
 
-/// A recording to lay out.
+/// A recording to encode.
 #[derive(Clone, Copy)]
 pub struct Sketch<'a> {
     /// The words that each page begins with, at most 256; the others are 0.
     pub pages: &'a [&'a [u32]],
     pub events: &'a [Event],
-    /// What the checkpoints claim.
+    /// The claims of the checkpoints.
     pub claims: &'a [Claim<'a>],
 }
 
 impl<'a> Sketch<'a> {
-    /// The same recording up to this checkpoint.
+    /// Returns the same recording up to this checkpoint.
     pub fn up_to(self, checkpoint: usize) -> Sketch<'a>
         ensures claims { result.claims.now ≡ take (checkpoint + 1) self.entry.claims.now }
         ensures pages { result.pages ≡ self.entry.pages }
@@ -45,7 +45,7 @@ impl<'a> Sketch<'a> {
         }
     }
 
-    /// The text of version 1, where these numbers stand in place of those that are claimed.
+    /// Returns the file of version 1, in which these numbers replace the claimed ones.
     #[tactic(auto, unfolding(crate::specs::Layout::first_text))]
     pub fn first_text(&self, alloc: Global, turned: &[(Spot, u32)]) -> Result<Vec<u8>, AllocError>
         ensures { IfOk result (λ text. text.items ≡ first_text self.now turned.now) }
@@ -56,7 +56,7 @@ impl<'a> Sketch<'a> {
         Ok(text)
     }
 
-    /// The text of version 2, where these numbers stand in place of those that are claimed.
+    /// Returns the file of version 2, in which these numbers replace the claimed ones.
     #[tactic(auto, unfolding(crate::specs::Layout::second_text))]
     pub fn second_text(&self, alloc: Global, turned: &[(Spot, u32)]) -> Result<Vec<u8>, AllocError>
         ensures { IfOk result (λ text. text.items ≡ second_text self.now turned.now) }
@@ -67,7 +67,7 @@ impl<'a> Sketch<'a> {
         Ok(text)
     }
 
-    /// The header, the pages and the events.
+    /// Returns the header, the pages and the events.
     fn front(
         &self,
         alloc: Global,
@@ -82,7 +82,7 @@ impl<'a> Sketch<'a> {
         Ok(text)
     }
 
-    /// The header and the pages.
+    /// Returns the header and the pages.
     #[tactic(auto, unfolding(crate::specs::Layout::pages_bytes))]
     fn with_pages(&self, alloc: Global, version: u32) -> Result<Vec<u8>, AllocError>
         ensures { IfOk result (λ text. text.items ≡ pages_bytes version self.now) }
@@ -96,7 +96,7 @@ impl<'a> Sketch<'a> {
     }
 }
 
-/// Adds the pages.
+/// Appends the pages.
 fn push_pages(text: &mut Vec<u8>, pages: &[&[u32]]) -> Result<(), AllocError>
     ensures { OnOk result (text.new.items ≡ text.old.items ++ flat_map (λ page. page_bytes page.now) pages.now) }
 {
@@ -106,7 +106,7 @@ fn push_pages(text: &mut Vec<u8>, pages: &[&[u32]]) -> Result<(), AllocError>
     Ok(())
 }
 
-/// Adds a page, with zeros up to its end.
+/// Appends a page, with zeros up to its end.
 fn push_page(text: &mut Vec<u8>, words: &[u32]) -> Result<(), AllocError>
     ensures { OnOk result (text.new.items ≡ text.old.items ++ page_bytes words.now) }
 {
@@ -122,7 +122,7 @@ fn word_at(words: &[u32], i: usize) -> u32
     if i < words.len() { words[i] } else { 0 }
 }
 
-/// Checkpoint k as version 2 has it, after one with this table, with these numbers turned.
+/// Returns checkpoint k in version 2, after one with this table, with these numbers replaced.
 fn second_claim(
     alloc: Global,
     claim: &Claim,
@@ -137,7 +137,7 @@ fn second_claim(
     Ok(bytes)
 }
 
-/// Adds the events.
+/// Appends the events.
 fn push_events(text: &mut Vec<u8>, events: &[Event]) -> Result<(), AllocError>
     ensures { OnOk result (text.new.items ≡ text.old.items ++ flat_map event_bytes events.now) }
 {
@@ -154,7 +154,7 @@ fn push_event(text: &mut Vec<u8>, event: &Event) -> Result<(), AllocError>
     push_words(text, &[event.kind, event.value])
 }
 
-/// Adds all bytes that were sent.
+/// Appends all output.
 fn push_output(text: &mut Vec<u8>, claims: &[Claim]) -> Result<(), AllocError>
     ensures { OnOk result (text.new.items ≡ text.old.items ++ output_bytes claims.now) }
 {
@@ -164,7 +164,7 @@ fn push_output(text: &mut Vec<u8>, claims: &[Claim]) -> Result<(), AllocError>
     Ok(())
 }
 
-/// Adds the checkpoints as version 1 has them, with these numbers turned.
+/// Appends the checkpoints in version 1, with these numbers replaced.
 #[tactic(auto, using(crate::proofs::Laid::one_first_more))]
 fn push_first_claims(
     alloc: Global,
@@ -181,7 +181,7 @@ fn push_first_claims(
     Ok(())
 }
 
-/// Checkpoint k as version 1 has it, with these numbers turned.
+/// Returns checkpoint k in version 1, with these numbers replaced.
 fn first_claim(
     alloc: Global,
     claim: &Claim,
@@ -195,7 +195,7 @@ fn first_claim(
     Ok(bytes)
 }
 
-/// Adds the checkpoints as version 2 has them, with these numbers turned.
+/// Appends the checkpoints in version 2, with these numbers replaced.
 #[tactic(auto, using(crate::proofs::Laid::one_second_more, crate::proofs::Laid::table_of_one_more))]
 fn push_second_claims(
     alloc: Global,
@@ -214,7 +214,7 @@ fn push_second_claims(
     Ok(())
 }
 
-/// The header of a text: its version, and how many pages, events and checkpoints it has.
+/// Returns the header of a file: its version, and its numbers of pages, events and checkpoints.
 pub fn header(
     alloc: Global,
     version: u32,

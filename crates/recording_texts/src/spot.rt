@@ -1,11 +1,11 @@
-//! Places of a text at which a single number is turned.
+//! Numbers of a file that tests replace.
 
 ghost use Rattle.std.specs.Prelude.{◌≡◌, ◌<◌, ◌^◌, IfSome};
 ghost use Rattle.recording_texts.specs.Spots.{offset_if, offset_in_both, offset_in_first, offset_in_second, place_in_pages, put_if, turned_first, turned_pages, turned_second};
 
 use crate::bytes::put_word;
 
-/// Where a number of four bytes stands.
+/// A number of four bytes in a file.
 #[derive(Clone, Copy)]
 pub enum Spot {
     /// This word of this page of the pool.
@@ -16,22 +16,22 @@ pub enum Spot {
     Flags(u16),
     Stop(u16),
     Leds(u16),
-    /// How many keys wait.
+    /// The number of keys.
     Waiting(u16),
     /// The first four keys.
     Keys(u16),
-    /// The timer's rate, for which only version 2 has a place.
+    /// The timer's rate, for which only version 2 has a field.
     Rate(u16),
-    /// The timer's phase, for which only version 2 has a place.
+    /// The timer's phase, for which only version 2 has a field.
     Phase(u16),
-    /// The page number of this checkpoint at this place, which only version 1 has for each place.
+    /// The page id in this slot at this checkpoint, which only version 1 has for each slot.
     Place(u16, u16),
 }
 
 use Spot::{Flags, H, Keys, Leds, Phase, Place, Rate, Register, Stop, Waiting, Word};
 
 impl Spot {
-    /// Where the number stands in the text, if it is one of a page.
+    /// Returns the offset of the number in the file, if it is one of a page.
     pub(crate) fn place_in_pages(self) -> Option<usize>
         ensures place { result ≡ place_in_pages self }
         ensures bound { IfSome result (λ place. place < 2 ^ 32) }
@@ -42,7 +42,7 @@ impl Spot {
         }
     }
 
-    /// Where the number stands in checkpoint k of a text of version 1, from the checkpoint's first byte.
+    /// Returns the offset of the number in checkpoint k of a file of version 1, from the checkpoint's first byte.
     pub(crate) fn offset_in_first(self, k: usize) -> Option<usize>
         ensures offset { result ≡ offset_in_first self k }
         ensures bound { IfSome result (λ offset. offset < 2 ^ 32) }
@@ -53,7 +53,7 @@ impl Spot {
         offset_if(of, k, 132 + 4 * usize::from(place))
     }
 
-    /// Where the number stands in checkpoint k of a text of version 2, from the checkpoint's first byte.
+    /// Returns the offset of the number in checkpoint k of a file of version 2, from the checkpoint's first byte.
     pub(crate) fn offset_in_second(self, k: usize) -> Option<usize>
         ensures offset { result ≡ offset_in_second self k }
         ensures bound { IfSome result (λ offset. offset < 2 ^ 32) }
@@ -65,7 +65,7 @@ impl Spot {
         }
     }
 
-    /// Where the number stands among the 132 bytes that checkpoint k begins with in both versions.
+    /// Returns the offset of the number in the 132 bytes that begin checkpoint k in both versions.
     fn offset_in_both(self, k: usize) -> Option<usize>
         ensures offset { result ≡ offset_in_both self k }
         ensures bound { IfSome result (λ offset. offset < 2 ^ 32) }
@@ -84,7 +84,7 @@ impl Spot {
     }
 }
 
-/// The offset, if the number is one of checkpoint k.
+/// Returns the offset, if the number is one of checkpoint k.
 fn offset_if(of: u16, k: usize, offset: usize) -> Option<usize>
     ensures { result ≡ offset_if of k offset }
 {
@@ -95,7 +95,7 @@ fn offset_if(of: u16, k: usize, offset: usize) -> Option<usize>
     }
 }
 
-/// Turns the numbers that stand in pages, in a text that goes up to their end.
+/// Replaces the numbers of pages, in a file that goes up to their end.
 #[tactic(auto, using(crate::proofs::Lists::one_more))]
 pub(crate) fn turn_pages(text: &mut [u8], turned: &[(Spot, u32)])
     ensures { text.new ≡ turned_pages turned.now text.old }
@@ -105,7 +105,7 @@ pub(crate) fn turn_pages(text: &mut [u8], turned: &[(Spot, u32)])
     }
 }
 
-/// Turns the numbers that stand in checkpoint k of a text of version 1.
+/// Replaces the numbers of checkpoint k of a file of version 1.
 #[tactic(auto, using(crate::proofs::Lists::one_more))]
 pub(crate) fn turn_first(bytes: &mut [u8], k: usize, turned: &[(Spot, u32)])
     ensures { bytes.new ≡ turned_first k turned.now bytes.old }
@@ -115,7 +115,7 @@ pub(crate) fn turn_first(bytes: &mut [u8], k: usize, turned: &[(Spot, u32)])
     }
 }
 
-/// Turns the numbers that stand in checkpoint k of a text of version 2.
+/// Replaces the numbers of checkpoint k of a file of version 2.
 #[tactic(auto, using(crate::proofs::Lists::one_more))]
 pub(crate) fn turn_second(bytes: &mut [u8], k: usize, turned: &[(Spot, u32)])
     ensures { bytes.new ≡ turned_second k turned.now bytes.old }
@@ -125,7 +125,7 @@ pub(crate) fn turn_second(bytes: &mut [u8], k: usize, turned: &[(Spot, u32)])
     }
 }
 
-/// Puts a number at a place, if there is one.
+/// Writes a number at an offset, if there is one.
 fn put_if(bytes: &mut [u8], place: Option<usize>, number: u32)
     requires { IfSome place (λ p. p < 2 ^ 32) }
     ensures { bytes.new ≡ put_if bytes.old place number }

@@ -1,4 +1,4 @@
-//! A recording that is checked and a session that is recorded, by the calls of the libraries, whatever memory there is.
+//! A recording that is checked and a session that is recorded, by the calls of the libraries, however much memory there is.
 
 use crate::texts::stepping_text;
 use oberon_check::{CheckFault, FreeGate, Verdict, check_recording};
@@ -15,7 +15,7 @@ const SESSION: &str = concat!(
     "\"pages\":[{\"at\":0,\"hex\":\"05000040\"}],\"inputs\":[],\"checkpoints\":[1]}"
 );
 
-/// Checks a recording and records a session, and prints what came of each.
+/// Checks a recording and records a session, and prints the result of each.
 pub(crate) fn checks<H: AllocGlobal + Print + Threads + Wait + Sync>(rt: &H) -> io::Result<()> {
     match read(rt.alloc(), &stepping_text()) {
         Ok(recording) => show_check(rt, &recording)?,
@@ -41,7 +41,7 @@ fn show_check<H: AllocGlobal + Print + Threads + Wait + Sync>(
     }
 }
 
-/// Prints how many checkpoints the recording of a session has, or why there is none.
+/// Prints the number of checkpoints of the recording of a session, or why there is none.
 fn show_record<H: AllocGlobal + Print>(rt: &H, session: &Session) -> io::Result<()> {
     match make_recording(rt.alloc(), session) {
         Ok(recording) => println!(rt; "record: {} checkpoints", recording.count()),

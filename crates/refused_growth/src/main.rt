@@ -1,8 +1,8 @@
-//! The program `refused_growth`: what stands after a growth was refused.
+//! The program `refused_growth`: the state after an allocation was refused.
 //!
-//! It runs two small machines, reads texts with faults, checks a recording and records a session, and prints what it met. With ample memory nothing is refused, and
-//! what it then prints stands in the file `stdout`. `tests/refused-growth` runs it with each request for memory refused in turn.
-//! Where the library answers, nothing is taught by this crate: it is a test.
+//! It runs two small machines, reads files with faults, checks a recording and records a session, and prints what it found. With
+//! ample memory nothing is refused, and it then prints what is in the file `stdout`. `tests/refused-growth` runs it with each
+//! allocation refused in turn. This crate is a test: it specifies nothing beyond what the libraries answer.
 #![tactic(auto)]
 
 mod checks;
@@ -23,7 +23,7 @@ const SENDER: Trial = Trial {
     program: [0x5100_FFC8, 0x4000_0041, 0xA010_0000, JUMP],
 };
 
-/// Stores 5 in word 256, which lies in another page: the growth that can be refused is that page's copy.
+/// Stores 5 in word 256, which is in another page: the growth that can be refused is that page's copy.
 const WRITER: Trial = Trial {
     name: "writer",
     program: [0x4000_0005, 0xA010_0400, JUMP, 0],

@@ -1,15 +1,15 @@
-//! A text without fault, and texts with a fault, which have that fault whatever memory there is.
+//! Files without a fault, and files with a fault, which have that fault however much memory there is.
 
 use oberon_format::read;
 use std::io;
 
-/// The length of a text of version 1 with one page, one event and one checkpoint.
+/// The length of a file of version 1 with one page, one event and one checkpoint.
 const LENGTH: usize = 5_292;
 
-/// The length of such a text of version 2, whose checkpoint has one change.
+/// The length of such a file of version 2, whose checkpoint has one change.
 const CHANGED_LENGTH: usize = 1_216;
 
-/// A text of version 1 with a page of zeros, a timer's event at count 0 and a checkpoint that is all zeros, and one byte more.
+/// A file of version 1 with a page of zeros, a timer's event at count 0 and a checkpoint that is all zeros, and one byte more.
 fn sound_text() -> [u8; LENGTH + 1] {
     let mut text = [0; LENGTH + 1];
     text[0] = b'O';
@@ -24,7 +24,7 @@ fn sound_text() -> [u8; LENGTH + 1] {
     text
 }
 
-/// A text of version 2 with that page, which its checkpoint has at place 0, and that event.
+/// A file of version 2 with that page, which its checkpoint has in slot 0, and that event.
 fn changed_text() -> [u8; CHANGED_LENGTH] {
     let mut text = [0; CHANGED_LENGTH];
     text[0] = b'O';
@@ -41,10 +41,10 @@ fn changed_text() -> [u8; CHANGED_LENGTH] {
     text
 }
 
-/// The length of a text of version 2 with one checkpoint more, which has no change.
+/// The length of a file of version 2 with one checkpoint more, which has no change.
 const STEPPING_LENGTH: usize = CHANGED_LENGTH + 144;
 
-/// That text with a checkpoint at count 1: its first instruction is a zero, which moves R0 to itself and sets Z.
+/// That file with a checkpoint at count 1: its first instruction is a zero, which moves R0 to itself and sets Z.
 pub(crate) fn stepping_text() -> [u8; STEPPING_LENGTH] {
     let mut text = [0; STEPPING_LENGTH];
     for (there, byte) in text.iter_mut().zip(changed_text()) {
@@ -58,11 +58,11 @@ pub(crate) fn stepping_text() -> [u8; STEPPING_LENGTH] {
     text
 }
 
-/// A text that is cut off at a length and has another byte at a place: the length, the place, the byte. (`b'O'` at place 0
-/// leaves the byte as it is.)
+/// A file that is cut at a length and has another byte at an offset: the length, the offset, the byte. (`b'O'` at offset 0 leaves
+/// the byte as it is.)
 type Broken = (usize, usize, u8);
 
-/// Texts of version 1 with a fault.
+/// Files of version 1 with a fault.
 const FIRST: [Broken; 14] = [
     (0, 0, b'O'),
     (24, 0, b'O'),
@@ -74,7 +74,7 @@ const FIRST: [Broken; 14] = [
     (LENGTH, 15, 1),
     (LENGTH, 16, 0),
     (LENGTH, 20, 1),
-    // the kind of the event, the count of the checkpoint, and its first and its last page number
+    // the kind of the event, the count of the checkpoint, and its first and its last page id
     (LENGTH, 1_056, 6),
     (LENGTH, 1_064, 1),
     (LENGTH, 1_196, 2),
@@ -83,26 +83,26 @@ const FIRST: [Broken; 14] = [
     (LENGTH + 1, 0, b'O'),
 ];
 
-/// Texts of version 2 with a fault.
+/// Files of version 2 with a fault.
 const SECOND: [Broken; 7] = [
-    // a text that ends inside its checkpoint and inside its change
+    // a file that ends inside its checkpoint and inside its change
     (1_207, 0, b'O'),
     (CHANGED_LENGTH - 1, 0, b'O'),
     // the phase, which is 0 at rate 0, and the number of changes
     (CHANGED_LENGTH, 1_200, 1),
     (CHANGED_LENGTH, 1_205, 5),
-    // a change past the last place, to a page that is not in the pool, and to the page that stood there
+    // a change past the last slot, to a page that is not in the pool, and to the page that was there
     (CHANGED_LENGTH, 1_209, 4),
     (CHANGED_LENGTH, 1_212, 2),
     (CHANGED_LENGTH, 1_212, 0),
 ];
 
-/// So many bytes from the front of a text, or all that it has.
+/// Returns the first bytes of a file, or all that it has.
 fn front(text: &[u8], length: usize) -> &[u8] {
     &text[..length.min(text.len())]
 }
 
-/// Reads a text without fault of each version, and texts with each of the eight faults, and prints what comes of each.
+/// Reads a file without a fault of each version, and files with each of the eight faults, and prints the result of each.
 pub(crate) fn texts<H: AllocGlobal + Print>(rt: &H) -> io::Result<()> {
     show(rt, "sound", front(&sound_text(), LENGTH))?;
     show(rt, "changed", &changed_text())?;
@@ -115,7 +115,7 @@ pub(crate) fn texts<H: AllocGlobal + Print>(rt: &H) -> io::Result<()> {
     Ok(())
 }
 
-/// Prints what comes of a text once it is broken.
+/// Prints the result of a file with one of these faults.
 fn show_broken<H: AllocGlobal + Print>(
     rt: &H,
     text: &mut [u8],
@@ -127,7 +127,7 @@ fn show_broken<H: AllocGlobal + Print>(
     show(rt, "text", front(text, length))
 }
 
-/// Prints the fault of a text under a name.
+/// Prints the fault of a file under a name.
 fn show<H: AllocGlobal + Print>(rt: &H, name: &str, text: &[u8]) -> io::Result<()> {
     match read(rt.alloc(), text) {
         Ok(_) => println!(rt; "{name}: read"),

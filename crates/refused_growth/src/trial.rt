@@ -1,4 +1,4 @@
-//! A machine of four instructions that runs for four, and goes on after a refusal.
+//! A machine that runs a program for four instructions, and continues after a refusal.
 
 ghost use Rattle.std.specs.Prelude.{◌≡◌, ◌≤◌, ◌<◌, All, IfOk, length};
 
@@ -9,10 +9,10 @@ use risc_pages::{Page, Pool, Table};
 use std::alloc::{AllocError, Global};
 use std::io;
 
-/// How many instructions a trial runs.
+/// The number of instructions that a trial runs.
 const STEPS: u64 = 4;
 
-/// How many instructions a millisecond of the timer has: a refused instruction is counted once, when it is done.
+/// The instructions in a millisecond of the timer: a refused instruction is counted once, when it is done.
 const RATE: u32 = 3;
 
 /// A program from word 0 on, in a memory that is zero elsewhere.
@@ -23,7 +23,7 @@ pub(crate) struct Trial {
 }
 
 impl Trial {
-    /// Runs the program, prints what was refused and what then stood, goes on from there, and prints where it came to.
+    /// Runs the program, prints what was refused and the state then, continues from there, and prints the state that it reaches.
     pub(crate) fn run<H: AllocGlobal + Print>(&self, rt: &H) -> io::Result<()> {
         let alloc = rt.alloc();
         let mut output = Vec::new(alloc);
@@ -50,7 +50,7 @@ impl Trial {
         self.show(rt, &machine, &output)
     }
 
-    /// The pool with the one page of the program.
+    /// Returns the pool with the one page of the program.
     fn pool(&self, alloc: Global) -> Result<Pool, AllocError>
         ensures { IfOk result (λ pool. length pool ≡ 1) }
     {
@@ -64,7 +64,7 @@ impl Trial {
         Ok(pool)
     }
 
-    /// Prints the parts of the machine that its program changes, and what it sent.
+    /// Prints the parts of the machine that its program changes, and its output.
     fn show<H: Print>(&self, rt: &H, machine: &Machine, output: &[u8]) -> io::Result<()> {
         let cpu = machine.cpu();
         let devices = machine.devices();
@@ -90,7 +90,7 @@ fn write(page: &mut Page, place: usize, word: u32)
     page.words[place] = word;
 }
 
-/// The table with the pool's first page at place 0 and zeros elsewhere.
+/// Returns the table with the pool's first page in slot 0 and zeros elsewhere.
 fn first_place() -> Table
     ensures { All (λ n. n ≤ 1) result }
 {
@@ -99,7 +99,7 @@ fn first_place() -> Table
     table
 }
 
-/// The machine with all zeros but for the page of the program at place 0 and the timer's rate.
+/// Returns the machine with all zeros, except the page of the program in slot 0 and the timer's rate.
 fn start(alloc: Global, pool: &Pool) -> Result<Machine<'_>, AllocError>
     requires { length pool.now ≡ 1 }
 {
@@ -122,7 +122,7 @@ fn start(alloc: Global, pool: &Pool) -> Result<Machine<'_>, AllocError>
     Machine::start(alloc, pool, &first_place(), cpu, devices)
 }
 
-/// Goes on after a refusal: does the instruction that was refused, whose inputs were taken, and runs on from the next.
+/// Continues after a refusal: does the instruction that was refused, whose inputs were taken, and runs on from the next.
 fn go_on(
     machine: &mut Machine,
     inputs: &Inputs,

@@ -1,4 +1,4 @@
--- What one instruction is, before there is a machine. Read it in this order:
+-- One instruction, independent of any machine. Read it in this order:
 pub mod Word
 pub mod Stop
 pub mod Flags

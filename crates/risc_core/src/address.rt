@@ -1,7 +1,7 @@
-//! What an address names. How it is found is in `locate`.
+//! What an address names. `locate` computes it.
 
-/// What an address names: a word of RAM, a device word, or nothing (Project Oberon 2013, hardware chapters; that the
-/// addresses between RAM and the device words name nothing is this project's own choice).
+/// What an address names: a word of RAM, a device word, or nothing (Project Oberon 2013, hardware chapters). That addresses
+/// between RAM and the device words name nothing is this project's own choice.
 #[derive(Clone, Copy, Debug, PartialEq, Eq)]
 pub enum Place {
     /// The word of RAM with that number, below 262,144.

@@ -1,5 +1,5 @@
-//! The operations of formats F0 and F1 ("The RISC Architecture", N. Wirth): moves, shifts, logic, products and quotients.
-//! Sums and differences are in `sums`, and which registers an operation reads and writes is with the machine.
+//! The operations of formats F0 and F1 ("The RISC Architecture", N. Wirth): moves, shifts, logic, products and quotients. Sums
+//! and differences are in `sums`. Which registers an operation reads and writes is defined with the machine.
 ghost use Rattle.std.specs.Prelude.{◌≡◌, ◌<◌, ◌≤◌, Ok, ◌-◌, ◌^◌, pos, ◌<ℤ◌, ◌↔◌, ◌≢◌};
 ghost use Rattle.risc_core.specs.Word.{signed, floor_div, floor_mod};
 ghost use Rattle.risc_core.specs.Arithmetic.{outcome_of, output_of, sum_output, moved_value, shifted_right, rotated, product, product_of, dividend, quotient_of, flags_word};
@@ -9,13 +9,13 @@ use crate::operations::{ADD, AND, ANN, ASR, DIV, IOR, LSL, MUL, ROR, SUB, XOR};
 use crate::stop::Stop;
 use crate::sums::{Sum, add, signed, subtract};
 
-/// The low 32 bits of a number of 64.
+/// Masks the low 32 bits of a 64-bit number.
 const WORD_MASK: u64 = 0xFFFF_FFFF;
 
-/// What stands in bits 7 to 0 of the word that a move of the flags gives (this project's own choice).
+/// Bits 7 to 0 of the word that a move of the flags produces (this project's own choice).
 const FLAGS_MARK: u32 = 0x53;
 
-/// What an operation leaves.
+/// The result of an operation.
 #[derive(Clone, Copy, Debug, PartialEq, Eq)]
 pub struct AluOut {
     /// The value for the register R.a.
@@ -26,12 +26,13 @@ pub struct AluOut {
     pub flags: Flags,
 }
 
-/// The outcome of operation `op` on the word `b` and the operand `c`, with H and the flags as they are before it.
+/// Computes operation `op` on the word `b` and the operand `c`, from the values of H and the flags before it.
 ///
-/// `u` and `v` are bits 29 and 28 of the instruction, and `imm` tells an immediate operand. The operations are MOV, LSL,
-/// ASR, ROR, AND, ANN, IOR, XOR, ADD, SUB, MUL and DIV ("The RISC Architecture", N. Wirth); the rules for C and V, DIV
-/// with `u`, and MOV of the flags are this project's own choice, as are the stops: `Float` comes exactly for operations 12
-/// to 15, and `Divisor` exactly for DIV by an operand whose signed value is below 1.
+/// The operations are MOV, LSL, ASR, ROR, AND, ANN, IOR, XOR, ADD, SUB, MUL and DIV ("The RISC Architecture", N. Wirth). `u` and
+/// `v` are bits 29 and 28 of the instruction, and `imm` says whether the operand is immediate.
+///
+/// Returns the stop `Float` exactly for operations 12 to 15, and `Divisor` exactly for DIV by an operand whose signed value is
+/// below 1. The stops, the rules for C and V, DIV with `u`, and MOV of the flags are this project's own choice.
 #[inline(always)]
 #[tactic(auto, unfolding(crate::specs::Arithmetic::outcome_of, crate::specs::Arithmetic::sum_of, crate::specs::Arithmetic::difference_of))]
 pub const fn alu(
@@ -56,7 +57,7 @@ pub const fn alu(
     }
 }
 
-/// The outcome of an operation other than ADD and SUB, as `alu` has it.
+/// Computes an operation other than ADD and SUB, as `alu` defines it.
 #[inline(always)]
 #[tactic(auto, using(crate::proofs::BitLemmas::bitwise), unfolding(crate::specs::Arithmetic::outcome_of))]
 pub const fn alu_beside_sums(
@@ -89,7 +90,7 @@ pub const fn alu_beside_sums(
     }
 }
 
-/// What MOV, a shift or a logical operation gives, operations 0 to 7, which leave H, C and V.
+/// Computes MOV, a shift or a logical operation: operations 0 to 7, which keep H, C and V.
 #[inline(always)]
 #[tactic(auto, using(crate::proofs::BitLemmas::bitwise), unfolding(crate::specs::Arithmetic::outcome_of))]
 pub const fn simple_value(
@@ -117,7 +118,7 @@ pub const fn simple_value(
     }
 }
 
-/// What an operation leaves that gave `value`.
+/// Returns the result of an operation with the value `value`.
 #[inline(always)]
 const fn output(value: u32, h: u32, flags: Flags) -> AluOut
     ensures { result ≡ output_of value h flags }
@@ -129,7 +130,7 @@ const fn output(value: u32, h: u32, flags: Flags) -> AluOut
     }
 }
 
-/// What ADD or SUB leaves.
+/// Returns the result of ADD or SUB.
 #[inline(always)]
 const fn sum_output(sum: Sum, h: u32, flags: Flags) -> AluOut
     ensures { result ≡ sum_output sum h flags }
@@ -143,7 +144,7 @@ const fn sum_output(sum: Sum, h: u32, flags: Flags) -> AluOut
     output(sum.value, h, after)
 }
 
-/// What MOV moves. An immediate comes with its upper half filled in, so with u set its lower half is the field im.
+/// Returns the operand of MOV. An immediate is already extended to a word, so if u is set its lower half is the field im.
 #[inline(always)]
 const fn moved_value(u: bool, imm: bool, v: bool, c: u32, h: u32, flags: Flags) -> u32
     ensures { result ≡ moved_value u imm v c h flags }
@@ -159,7 +160,7 @@ const fn moved_value(u: bool, imm: bool, v: bool, c: u32, h: u32, flags: Flags) 
     }
 }
 
-/// The flags as a word.
+/// Returns the flags as a word.
 #[inline]
 #[tactic(auto, using(crate::proofs::WordLemmas::packed_is))]
 const fn flags_word(flags: Flags) -> u32
@@ -172,7 +173,7 @@ const fn flags_word(flags: Flags) -> u32
         | FLAGS_MARK
 }
 
-/// `b` shifted right by the low five bits of `c`; the sign is repeated.
+/// Shifts `b` right by the low five bits of `c`, and repeats the sign.
 #[inline(always)]
 const fn shift_right(b: u32, c: u32) -> u32
     ensures { result ≡ shifted_right b c }
@@ -180,7 +181,7 @@ const fn shift_right(b: u32, c: u32) -> u32
     (b.cast_signed() >> (c & 31)).cast_unsigned()
 }
 
-/// `b` rotated right by the low five bits of `c`.
+/// Rotates `b` right by the low five bits of `c`.
 #[inline(always)]
 #[tactic(auto, using(crate::proofs::WordLemmas::rotated_is))]
 const fn rotate(b: u32, c: u32) -> u32
@@ -189,7 +190,7 @@ const fn rotate(b: u32, c: u32) -> u32
     b.rotate_right(c & 31)
 }
 
-/// The 64 bits of the product.
+/// Returns the 64-bit product.
 #[inline(always)]
 const fn full_product(u: bool, b: u32, c: u32) -> u64
     ensures { result ≡ floor_mod (product u b c) (2 ^ 64) }
@@ -201,7 +202,7 @@ const fn full_product(u: bool, b: u32, c: u32) -> u64
     }
 }
 
-/// MUL.
+/// Computes MUL.
 #[inline]
 #[tactic(auto, using(crate::proofs::WordLemmas::product_is))]
 const fn multiply(u: bool, b: u32, c: u32, flags: Flags) -> AluOut
@@ -211,7 +212,7 @@ const fn multiply(u: bool, b: u32, c: u32, flags: Flags) -> AluOut
     output((product & WORD_MASK) as u32, (product >> 32) as u32, flags)
 }
 
-/// The floor quotient by a positive divisor, and the remainder.
+/// Returns the floor quotient by a positive divisor, and the remainder.
 #[inline(always)]
 const fn divide_down(u: bool, b: u32, c: u32) -> (u32, u32)
     requires positive { 0 < c }
@@ -230,7 +231,7 @@ const fn divide_down(u: bool, b: u32, c: u32) -> (u32, u32)
     )
 }
 
-/// DIV, which is seldom and slow: it stays out of the code of the others.
+/// Computes DIV, which is rare and slow, so it is kept out of the code of the others.
 #[cold]
 #[inline(never)]
 const fn divide(u: bool, b: u32, c: u32, flags: Flags) -> Result<AluOut, Stop>

@@ -1,5 +1,5 @@
-//! The numbers of conditions, in bits 27 to 24 of format F3: bit 3 inverts the condition of the other three. When they hold
-//! is in `branch`.
+//! The numbers of conditions, in bits 27 to 24 of format F3. Bit 3 inverts the condition of the other three bits. `branch`
+//! evaluates them.
 
 /// Negative: N.
 pub const MI: u8 = 0;

@@ -1,4 +1,4 @@
-//! From a word to its instruction ("The RISC Architecture", N. Wirth; formats F0 to F3).
+//! Decoding of a word into its instruction ("The RISC Architecture", N. Wirth; formats F0 to F3).
 ghost use Rattle.std.specs.Prelude.{◌≡◌, ◌%◌, ◌^◌};
 ghost use Rattle.risc_core.specs.Word.{field};
 ghost use Rattle.risc_core.specs.Instruction.{extended, register_instruction, immediate_instruction, memory_instruction, branch_instruction, instruction_of, HasFields};
@@ -6,7 +6,7 @@ ghost use Rattle.risc_core.specs.Instruction.{extended, register_instruction, im
 use crate::instruction::Instr;
 use crate::word::{is_set, nibble, signed_20, signed_22};
 
-/// The one instruction of a word. Every word has one; bits that its format does not name have no effect.
+/// Decodes a word. Every word is one instruction; bits that its format does not name have no effect.
 ///
 /// Bits 31 and 30 choose the format.
 #[inline(always)]
@@ -27,7 +27,7 @@ pub const fn decode(w: u32) -> Instr
     }
 }
 
-/// The instruction of a word of format F0.
+/// Decodes a word of format F0.
 #[inline(always)]
 const fn register_instruction(w: u32) -> Instr
     ensures value { result ≡ register_instruction w }
@@ -43,7 +43,7 @@ const fn register_instruction(w: u32) -> Instr
     }
 }
 
-/// The instruction of a word of format F1.
+/// Decodes a word of format F1.
 #[inline(always)]
 const fn immediate_instruction(w: u32) -> Instr
     ensures value { result ≡ immediate_instruction w }
@@ -60,7 +60,7 @@ const fn immediate_instruction(w: u32) -> Instr
     }
 }
 
-/// The instruction of a word of format F2, in which bit 29 chooses between a load and a store.
+/// Decodes a word of format F2, in which bit 29 chooses between a load and a store.
 #[inline(always)]
 const fn memory_instruction(w: u32) -> Instr
     ensures value { result ≡ memory_instruction w }
@@ -77,7 +77,7 @@ const fn memory_instruction(w: u32) -> Instr
     }
 }
 
-/// The instruction of a word of format F3, in which bit 29 chooses between a branch by an offset and one to a register.
+/// Decodes a word of format F3, in which bit 29 chooses between a branch by an offset and one to a register.
 #[inline(always)]
 const fn branch_instruction(w: u32) -> Instr
     ensures value { result ≡ branch_instruction w }
@@ -94,7 +94,7 @@ const fn branch_instruction(w: u32) -> Instr
     }
 }
 
-/// The low half of a word, extended upward by `v`.
+/// Extends the low half of a word upward by `v`.
 #[inline(always)]
 const fn immediate(w: u32, v: bool) -> u32
     ensures value { result ≡ extended (field w 0 16) v }

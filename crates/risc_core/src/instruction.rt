@@ -1,9 +1,9 @@
-//! Instructions with their fields. How a word is decoded into one is in `decoding`.
+//! Instructions with their fields. `decoding` decodes a word into one.
 
 /// An instruction with its fields ("The RISC Architecture", N. Wirth; formats F0 to F3).
 ///
-/// Registers `a`, `b` and `c`, operations `op` and conditions `cond` are below 16; `u` and `v` are bits 29 and 28 of the
-/// word. `byte` tells a byte from a word, and `link` whether a branch that is taken writes its link to R15.
+/// Registers `a`, `b` and `c`, operations `op` and conditions `cond` are below 16; `u` and `v` are bits 29 and 28 of the word.
+/// `byte` says whether a byte is accessed instead of a word. `link` says whether a taken branch writes its link to R15.
 #[derive(Clone, Copy, Debug, PartialEq, Eq)]
 pub enum Instr {
     /// F0: operation `op` on R.b and R.c, the result to R.a.

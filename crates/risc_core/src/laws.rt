@@ -1,27 +1,27 @@
-//! The laws of this crate's definitions, each the contract of a function that does nothing.
+//! The laws of this crate's definitions. Each is the contract of a function that does nothing.
 ghost use Rattle.risc_core.specs.Laws.{DivisionLaw, BitsLaw, WidthLaw, FlagsLaw, InstructionLaw};
 
-/// Quotient and remainder are the one pair of their definition.
+/// States that the quotient and the remainder are the only pair of their definition.
 pub const fn division_law()
     ensures { DivisionLaw }
 {}
 
-/// A number given bit by bit has those bits.
+/// States that a number given bit by bit has those bits.
 pub const fn bits_law()
     ensures { BitsLaw }
 {}
 
-/// A number given bit by bit is below 2 to the power of its width.
+/// States that a number given bit by bit is below 2 to the power of its width.
 pub const fn width_law()
     ensures { WidthLaw }
 {}
 
-/// Flags and the numbers below 16 belong together one to one.
+/// States that values of the flags and numbers below 16 correspond one to one.
 pub const fn flags_law()
     ensures { FlagsLaw }
 {}
 
-/// Each word is a word of one instruction, its fields' sum, and of no other.
+/// States that each word is the sum of the fields of one instruction, and of no other.
 pub const fn instruction_law()
     ensures { InstructionLaw }
 {}

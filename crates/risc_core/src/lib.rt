@@ -1,10 +1,9 @@
-//! The instructions of the RISC5 processor of Project Oberon, as functions on words: how a word is decoded, what an
-//! operation computes, when a branch is taken and where it goes, and what an address names.
+//! The instructions of the RISC5 processor of Project Oberon, as functions on words: how a word is decoded, what an operation
+//! computes, when a branch is taken and where it goes, and what an address names.
 //!
-//! The rules are those of "The RISC Architecture" (N. Wirth) and of the hardware chapters of Project Oberon 2013; where
-//! they leave something open, this project's own choice is marked as such. Each function equals a definition in whole
-//! numbers, in `specs/`. Nothing here takes memory. The state of a machine, its memory and its devices live in the crates
-//! above.
+//! The rules are those of "The RISC Architecture" (N. Wirth) and of the hardware chapters of Project Oberon 2013. If they leave
+//! something open, this project's own choice is marked as such. Each function equals a definition in whole numbers, in `specs/`.
+//! Nothing here allocates memory. The state of a machine, its memory and its devices are in the crates above.
 #![tactic(auto)]
 
 mod address;

@@ -1,20 +1,19 @@
-//! From a base and an offset to the place that they name (Project Oberon 2013, hardware chapters).
+//! The address of a base and an offset, and what it names (Project Oberon 2013, hardware chapters).
 ghost use Rattle.std.specs.Prelude.{◌≡◌, ◌<◌};
 ghost use Rattle.risc_core.specs.Place.{address_of, place_of, lane_of, IsInside};
 
 use crate::address::Place;
 
-/// Addresses have 24 bits.
+/// Masks an address, which has 24 bits.
 const ADDRESS_MASK: u32 = 0xFF_FFFF;
 
-/// RAM lies below this address: 1 MB.
+/// The end of RAM: 1 MB. RAM is below this address.
 const RAM_END: u32 = 0x10_0000;
 
-/// The device words lie from this address on.
+/// The address of the first device word.
 const DEVICES: u32 = 0xFF_FFC0;
 
-/// The place that the address `(base + off) mod 2^24` names, and the address's lane in its word, from 0 (bits 7 to 0)
-/// to 3.
+/// Returns what the address `(base + off) mod 2^24` names, and the address's lane in its word, from 0 (bits 7 to 0) to 3.
 ///
 /// Words of RAM are numbered from 0 to 262,143, and device words from 0 to 15 (Project Oberon 2013, hardware chapters).
 #[inline(always)]

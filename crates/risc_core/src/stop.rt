@@ -1,13 +1,13 @@
-//! The reasons for which a machine stops. Which instruction stops for which of them is with that instruction.
+//! The reasons why a machine stops. When an instruction stops the machine is said at that instruction.
 
-/// Why a machine stopped. That a machine stops, for which of these reasons, and their numbers are this project's own choice.
+/// Why a machine stopped. That a machine stops, its reasons and their numbers are this project's own choice.
 #[derive(Clone, Copy, Debug, PartialEq, Eq)]
 pub enum Stop {
     /// An operation on floating-point numbers, 12 to 15.
     Float,
     /// A division by a divisor whose signed value is below 1.
     Divisor,
-    /// A program counter at or above 262,144, where no word of RAM is.
+    /// A program counter of 262,144 or more, beyond the words of RAM.
     Fetch,
     /// A load or a store whose address is neither RAM nor a device word.
     Address,
@@ -17,8 +17,8 @@ impl Stop {
     ghost use Rattle.std.specs.Prelude.{◌≡◌};
     ghost use Rattle.risc_core.specs.Stop.{stop_number};
 
-    /// The number of the stop, 1 to 4 in the order of the variants; 0 is kept for a machine that runs (this project's own
-    /// choice).
+    /// Returns the number of the stop, 1 to 4 in the order of the variants; 0 is reserved for a machine that runs (this project's
+    /// own choice).
     #[inline]
     pub const fn number(self) -> u8
         ensures { result ≡ stop_number self }

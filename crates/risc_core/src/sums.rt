@@ -5,13 +5,13 @@ ghost use Rattle.risc_core.specs.Arithmetic.{overflows, sum_with, difference_wit
 
 use crate::word::is_set;
 
-/// How many words there are.
+/// The number of words, 2^32.
 const WORDS: u64 = 1 << 32;
 
-/// Half as many: the signed values of words lie from minus this number to one below it.
+/// Half the number of words: signed values are from minus this number to one below it.
 const HALF: i64 = 1 << 31;
 
-/// What a sum or a difference leaves.
+/// The result of a sum or a difference.
 #[derive(Clone, Copy, Debug, PartialEq, Eq)]
 pub struct Sum {
     /// The value for the register R.a.
@@ -22,7 +22,7 @@ pub struct Sum {
     pub overflow: bool,
 }
 
-/// The signed value of a word, with room for sums and products.
+/// Returns the signed value of a word, in a type with room for sums and products.
 #[inline(always)]
 pub(crate) const fn signed(word: u32) -> i64
     ensures value { result ≡ signed word }
@@ -32,7 +32,7 @@ pub(crate) const fn signed(word: u32) -> i64
     word.cast_signed() as i64
 }
 
-/// Whether a number from -2^33 to 2^33 - 1 is not the signed value of any word.
+/// Reports whether a number from -2^33 to 2^33 - 1 is not the signed value of any word.
 #[inline(always)]
 #[tactic(auto, unfolding(crate::specs::Arithmetic::overflows))]
 const fn overflows(number: i64) -> bool
@@ -43,7 +43,7 @@ const fn overflows(number: i64) -> bool
     (number + HALF).cast_unsigned() >= WORDS
 }
 
-/// The sum of two words.
+/// Returns the sum of two words.
 #[inline(always)]
 const fn plain_sum(b: u32, c: u32) -> Sum
     ensures { result ≡ sum_with 0 b c }
@@ -56,8 +56,7 @@ const fn plain_sum(b: u32, c: u32) -> Sum
     }
 }
 
-/// Whether a sum of two words with this value is not the signed value of any word: the two have one sign, and the value has
-/// not.
+/// Reports whether a sum of two words overflows, if this is its value: the two have one sign, and the value has the other.
 #[inline(always)]
 const fn sum_overflows(b: u32, c: u32, value: u32) -> bool
     ensures { result ≡ (not (differ (bit b 31) (bit c 31)) && differ (bit b 31) (bit value 31)) }
@@ -66,7 +65,7 @@ const fn sum_overflows(b: u32, c: u32, value: u32) -> bool
     negative == is_set(c, 31) && negative != is_set(value, 31)
 }
 
-/// The sum of two words and a carry.
+/// Returns the sum of two words and a carry.
 #[inline(always)]
 const fn carried_sum(b: u32, c: u32, carry: bool) -> Sum
     ensures { result ≡ sum_with (one_if carry) b c }
@@ -79,7 +78,7 @@ const fn carried_sum(b: u32, c: u32, carry: bool) -> Sum
     }
 }
 
-/// What ADD leaves, operation 8: the sum of two words, and of the carry where `u` is set.
+/// Computes ADD, operation 8: the sum of two words, and of the carry if `u` is set.
 #[inline(always)]
 pub const fn add(u: bool, b: u32, c: u32, carry: bool) -> Sum
     ensures { result ≡ sum_with (one_if (u && carry)) b c }
@@ -91,8 +90,8 @@ pub const fn add(u: bool, b: u32, c: u32, carry: bool) -> Sum
     }
 }
 
-/// Whether a difference of two words with this value is not the signed value of any word: the signs of the two differ, and
-/// the value has not that of the first.
+/// Reports whether a difference of two words overflows, if this is its value: the signs of the two differ, and the value's sign
+/// is not that of the first.
 #[inline(always)]
 const fn difference_overflows(b: u32, c: u32, value: u32) -> bool
     ensures { result ≡ (differ (bit b 31) (bit c 31) && differ (bit b 31) (bit value 31)) }
@@ -101,8 +100,8 @@ const fn difference_overflows(b: u32, c: u32, value: u32) -> bool
     negative != is_set(c, 31) && negative != is_set(value, 31)
 }
 
-/// Whether the difference of two words, of which this is the value, is not the signed value of any word: the value is below 0,
-/// and the first word not below the other, or the reverse. One machine instruction less than by the signs.
+/// Reports whether a difference of two words overflows, if this is its value: exactly one of "the value is below 0" and "the
+/// first word is below the other" holds. This takes one machine instruction less than a test of the signs.
 #[inline(always)]
 const fn plain_difference_overflows(b: u32, c: u32, value: u32) -> bool
     requires { value ≡ (b + (2 ^ 32 - c)) % 2 ^ 32 }
@@ -111,7 +110,7 @@ const fn plain_difference_overflows(b: u32, c: u32, value: u32) -> bool
     (b.cast_signed() < c.cast_signed()) != (value.cast_signed() < 0)
 }
 
-/// The difference of two words.
+/// Returns the difference of two words.
 #[inline(always)]
 const fn plain_difference(b: u32, c: u32) -> Sum
     ensures { result ≡ difference_with 0 b c }
@@ -124,7 +123,7 @@ const fn plain_difference(b: u32, c: u32) -> Sum
     }
 }
 
-/// The difference of two words, less a borrow.
+/// Returns the difference of two words, less a borrow.
 #[inline(always)]
 const fn borrowed_difference(b: u32, c: u32, borrow: bool) -> Sum
     ensures { result ≡ difference_with (one_if borrow) b c }
@@ -137,7 +136,7 @@ const fn borrowed_difference(b: u32, c: u32, borrow: bool) -> Sum
     }
 }
 
-/// What SUB leaves, operation 9: the difference of two words, less the carry where `u` is set.
+/// Computes SUB, operation 9: the difference of two words, less the carry if `u` is set.
 #[inline(always)]
 pub const fn subtract(u: bool, b: u32, c: u32, carry: bool) -> Sum
     ensures { result ≡ difference_with (one_if (u && carry)) b c }

@@ -2,7 +2,7 @@
 ghost use Rattle.std.specs.Prelude.{◌≡◌, ◌<◌};
 ghost use Rattle.risc_core.specs.Word.{field, bit, signed_field, IsSignedBelow};
 
-/// The four bits of `word` from bit `low` on.
+/// Returns the four bits of `word` from bit `low` on.
 #[inline(always)]
 pub(crate) const fn nibble(word: u32, low: u32) -> u8
     requires { low < 32 }
@@ -11,7 +11,7 @@ pub(crate) const fn nibble(word: u32, low: u32) -> u8
     (word >> low & 0xF) as u8
 }
 
-/// Whether bit `place` of `word` is set.
+/// Reports whether bit `place` of `word` is set.
 #[inline(always)]
 pub(crate) const fn is_set(word: u32, place: u32) -> bool
     requires { place < 32 }
@@ -20,7 +20,7 @@ pub(crate) const fn is_set(word: u32, place: u32) -> bool
     word >> place & 1 == 1
 }
 
-/// The low 20 bits of `word` as a signed number.
+/// Returns the low 20 bits of `word` as a signed number.
 #[inline(always)]
 pub(crate) const fn signed_20(word: u32) -> i32
     ensures value { result ≡ signed_field word 20 }
@@ -29,7 +29,7 @@ pub(crate) const fn signed_20(word: u32) -> i32
     (word << 12).cast_signed() >> 12
 }
 
-/// The low 22 bits of `word` as a signed number.
+/// Returns the low 22 bits of `word` as a signed number.
 #[inline(always)]
 pub(crate) const fn signed_22(word: u32) -> i32
     ensures value { result ≡ signed_field word 22 }

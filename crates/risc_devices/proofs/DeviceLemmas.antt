@@ -1,4 +1,4 @@
--- The ranges of the devices, and that their parts are all that they are.
+-- The ranges of the devices, and that the parts determine the devices.
 use Rattle.std.proofs.Common.{◌≡◌, ℕ, ◌+◌, ◌%◌, ◌^◌, ◌<◌, ◌≤◌, Bool, true, false, List, [], ◌∷◌, length, drop, refl, arith}
 use Rattle.std.specs.Prelude.{All, ◌==◌, if◌then◌else◌}
 use Rattle.std.proofs.lemmas.List.Elements.{All-drop}
@@ -13,7 +13,7 @@ use Rattle.risc_devices.specs.declared.kind.Kind.{Kind}
 use Rattle.risc_devices.specs.declared.kind.Kind.TheVariants.{Timer, Switches, Mouse, Key, Serial}
 use Rattle.risc_devices.proofs.InputLemmas.{timer_fits, switches_fit, mouse_fits, key_fits, serial_fits, mouse_word_fits}
 
--- a queue stays one of at most sixteen bytes
+-- a queue keeps at most sixteen bytes
 joined-length : (code : ℕ) (keys : List ℕ) → length keys ≤ 16 → length (joined code keys) ≤ 16
 unfolding joined
 joined-length code keys few = grind (arith, common_steps)
@@ -76,14 +76,14 @@ read_value-fits d word fits =
     let serial : d.serial < 2 ^ 8 = fits.serial in
     grind arith
 
--- the serial line's number tells its byte and "received"
+-- the serial line's number determines its byte and "received"
 serial_parts : (x y : ℕ) (r s : Bool) → x < 2 ^ 8 → y < 2 ^ 8 → x + (if r then 2 ^ 8 else 0) ≡ y + (if s then 2 ^ 8 else 0) → (x ≡ y) × (r ≡ s)
 serial_parts x y true true x_fits y_fits e = (omega arith, refl)
 serial_parts x y false false x_fits y_fits e = (omega arith, refl)
 serial_parts x y true false x_fits y_fits e = absurd (omega arith)
 serial_parts x y false true x_fits y_fits e = absurd (omega arith)
 
--- devices in their ranges are the same where their parts are, the serial line's as one number
+-- devices in their ranges are equal if their parts are, the serial line's as one number
 pub same_devices : (a b : DeviceState) → IsDeviceState a → IsDeviceState b → a.timer ≡ b.timer → a.rate ≡ b.rate → a.phase ≡ b.phase → a.switches ≡ b.switches → a.leds ≡ b.leds → a.mouse ≡ b.mouse → serial_number a ≡ serial_number b → a.keys ≡ b.keys → a ≡ b
 same_devices a b fits_a fits_b timer rate phase switches leds mouse serial keys =
     let line : (a.serial ≡ b.serial) × (a.received ≡ b.received) = serial_parts a.serial b.serial a.received b.received fits_a.serial fits_b.serial serial in

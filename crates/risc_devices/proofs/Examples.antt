@@ -1,4 +1,4 @@
--- Worked examples of the definitions: they compute.
+-- Worked examples of the definitions, computed.
 use Rattle.std.proofs.Common.{◌≡◌, true, false, [], ◌∷◌, Some, None, refl}
 use Rattle.risc_devices.specs.DeviceState.{DeviceState, state_of_parts, is_phase}
 use Rattle.risc_devices.specs.DeviceWords.{read_value, after_read, after_write, sent_byte}
@@ -28,7 +28,7 @@ bits_27_and_31 : ((is_mouse 0x08000000) ∷ (is_mouse 0x80000000) ∷ []) ≡ (f
 unfolding is_mouse
 bits_27_and_31 = refl
 
--- what no input has
+-- parts that no input changes
 no_inputs : ((is_input 6 0) ∷ (is_input 0 0) ∷ (is_input 2 4096) ∷ (is_input 4 256) ∷ (is_input 5 256) ∷ []) ≡ (false ∷ false ∷ false ∷ false ∷ false ∷ [])
 unfolding is_input
 no_inputs = refl
@@ -80,7 +80,7 @@ corner = refl
 head : picture_head ≡ 80 ∷ 52 ∷ 10 ∷ 49 ∷ 48 ∷ 50 ∷ 52 ∷ 32 ∷ 55 ∷ 54 ∷ 56 ∷ 10 ∷ []
 head = refl
 
--- a timer of ten instructions a millisecond, after 25 of them; one of rate 1; one at its last phase; one that does not count
+-- a timer of ten instructions a millisecond, after 25 of them; one of rate 1; one in its last phase; one of rate 0
 counting : ticked_times 25 (state_of_parts 0 10 0 0 0 0 0 []) ≡ state_of_parts 2 10 5 0 0 0 0 []
 unfolding ticked_times ticked
 counting = refl
@@ -97,7 +97,7 @@ still : ticked (state_of_parts 7 0 0 0 0 0 0 []) ≡ state_of_parts 7 0 0 0 0 0 
 unfolding ticked
 still = refl
 
--- which phases there are
+-- the phases of a rate
 phases : ((is_phase 0 0) ∷ (is_phase 0 1) ∷ (is_phase 1 0) ∷ (is_phase 1 1) ∷ (is_phase 10 9) ∷ (is_phase 10 10) ∷ []) ≡ (true ∷ false ∷ true ∷ false ∷ true ∷ false ∷ [])
 unfolding is_phase
 phases = refl

@@ -63,7 +63,7 @@ kind_number-kind_at : (kind value : ℕ) → IsInput kind value → kind_number 
 unfolding is_input
 kind_number-kind_at kind value lawful = grind arith
 
--- the input of a kind's number and a lawful value
+-- the input of a kind's number and a value in its range
 pub input_of : (kind value : ℕ) → IsInput kind value → Input
 input_of kind value lawful = record {
   kind = kind_at kind;
@@ -79,7 +79,7 @@ pub value_of-input_of : (kind value : ℕ) (lawful : IsInput kind value) → val
 unfolding input_of
 value_of-input_of kind value lawful = refl
 
--- inputs of one kind's number and one value are the same
+-- inputs with the same kind number and value are equal
 same_facts : (kind kind' : Kind) (value value' : ℕ) (lawful : IsInput (kind_number kind) value) (lawful' : IsInput (kind_number kind') value') → kind ≡ kind' → value ≡ value' → Path Input (record { kind = kind; value = value; lawful = lawful }) (record { kind = kind'; value = value'; lawful = lawful' })
 same_facts kind kind' value value' lawful lawful' kinds values =
     let P : Kind → Type 0 = λ k. (l : IsInput (kind_number k) value') → Path Input (record { kind = kind; value = value; lawful = lawful }) (record { kind = k; value = value'; lawful = l }) in

@@ -23,7 +23,7 @@ inside-parts k high low high_mask low_mask fits mask_fits upper lower i set =
       | inr above ↦ bit_at_cat_high high_mask k low_mask i mask_fits above ∙ upper (i - k) (sym (bit_at_cat_high high k low i fits above) ∙ set)
     ]
 
--- the mask is made of three masks, of 3, 10 and 10 bits
+-- the mask consists of three masks, of 3, 10 and 10 bits
 mouse-inside : (x y keys : ℕ) → x < 2 ^ 10 → y < 2 ^ 10 → keys < 2 ^ 3 → IsInside 0x073FF3FF ((keys * 2 ^ 12 + y) * 2 ^ 12 + x)
 mouse-inside x y keys hx hy hk =
     inside-parts 12 (keys * 2 ^ 12 + y) x (7 * 2 ^ 12 + 1023) 1023 (omega arith) (omega arith)
@@ -39,7 +39,7 @@ fields-inside word mouse =
     let whole : (word / 2 ^ 24 * 2 ^ 12 + word / 2 ^ 12 % 2 ^ 12) * 2 ^ 12 + word % 2 ^ 12 ≡ word = omega arith in
     (omega arith, subst (IsInside 0x073FF3FF) whole (mouse-inside (word % 2 ^ 12) (word / 2 ^ 12 % 2 ^ 12) (word / 2 ^ 24) x y keys))
 
--- a bit that the mask has not
+-- a bit that is not in the mask
 clear : (word i : ℕ) → IsInside 0x073FF3FF word → 0x073FF3FF / 2 ^ i % 2 ≡ 0 → word / 2 ^ i % 2 ≡ 0
 clear word i inside none =
     elim (cases_lt (word / 2 ^ i % 2) 1) [

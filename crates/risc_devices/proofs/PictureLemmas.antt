@@ -7,7 +7,7 @@ use Rattle.std.proofs.lemmas.List.{get_or-take, ext_get_or}
 use Rattle.std.proofs.lemmas.Bool.{cases_lt}
 use Rattle.risc_devices.specs.Picture.{HasDots, IsPicture}
 
--- a byte turned round
+-- a byte with its bits reversed
 reversed_bit : (n j : ℕ) → j < 8 → reverse_bits w8 n / 2 ^ (7 - j) % 2 ≡ n / 2 ^ j % 2
 unfolding reverse_bits_onto
 reversed_bit n zero below = omega arith
@@ -39,14 +39,14 @@ byte_bit word s j below =
     ∙ (low_bit (word / 2 ^ s) j below
     ∙ ap (λ d. d % 2) (div-div-eq-div-mul word (2 ^ s) (2 ^ j) ∙ ap (λ m. word / m) (sym (pow-add 2 s j))))
 
--- the byte that is cut out of a word and turned round has the dots of its place
+-- the byte that is cut out of a word and reversed has the dots of its position
 pub byte-HasDots : (words : List ℕ) (row col : ℕ) → HasDots words row col (reverse_bits w8 (slice_index words (32 * (767 - row) + col / 4) / 2 ^ (8 * (col % 4)) % 256))
 byte-HasDots words row col j below =
     let at : (8 * col + j) / 32 ≡ col / 4 = omega arith in
     let bit : (8 * col + j) % 32 ≡ 8 * (col % 4) + j = omega arith in
     rw (at, bit) (byte_bit _ (8 * (col % 4)) j below)
 
--- numbers of one half and one lowest bit are the same
+-- numbers with the same half and the same lowest bit are equal
 same_double : (a b : ℕ) → a / 2 ≡ b / 2 → a % 2 ≡ b % 2 → a ≡ b
 same_double a b half bit = omega arith
 
@@ -54,7 +54,7 @@ next_bit : (a b m : ℕ) → a / (m * 2) ≡ b / (m * 2) → a / m % 2 ≡ b / m
 next_bit a b m high bit =
     same_double (a / m) (b / m) (div-div-eq-div-mul a m 2 ∙ (high ∙ sym (div-div-eq-div-mul b m 2))) bit
 
--- a byte is told by its bits
+-- a byte is determined by its bits
 same_byte : (a b : ℕ) → a < 256 → b < 256 → ((j : ℕ) → j < 8 → a / 2 ^ (7 - j) % 2 ≡ b / 2 ^ (7 - j) % 2) → a ≡ b
 same_byte a b fits_a fits_b bits =
     let s0 : a / 256 ≡ b / 256 = omega arith in
@@ -68,7 +68,7 @@ same_byte a b fits_a fits_b bits =
     let lowest : a / 1 % 2 ≡ b / 1 % 2 = bits 7 (omega arith) in
     omega arith
 
--- lists of one length are the same where their fronts and the items behind these are
+-- lists of one length are equal if their prefixes and the items after these are
 same_behind : (n : ℕ) (xs ys : List ℕ) → length xs ≡ length ys → take n xs ≡ take n ys → ((k : ℕ) → n + k < length xs → slice_index xs (n + k) ≡ slice_index ys (n + k)) → xs ≡ ys
 same_behind n xs ys lengths fronts rests =
     ext_get_or 0 xs ys lengths (λ i below. elim (cases_lt i n) as (λ _. get_or xs i 0 ≡ get_or ys i 0) [

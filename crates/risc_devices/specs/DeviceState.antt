@@ -1,13 +1,13 @@
--- The state of the devices ("Project Oberon" 2013, the hardware chapters: a timer, buttons and switches, LEDs, a mouse, a
--- serial line and a keyboard). What each of them holds is this project's own choice where this is said.
+-- The state of the devices ("Project Oberon" 2013, the hardware chapters: a timer, buttons and switches, LEDs, a mouse, a serial
+-- line and a keyboard). What is this project's own choice is marked as such.
 use Rattle.std.specs.Prelude.{ℕ, ◌+◌, ◌/◌, ◌%◌, ◌^◌, ◌<◌, ◌≤◌, Bool, ◌==◌, nat_lt, if◌then◌else◌, IsTrue, List, length, All}
 use Rattle.risc_devices.specs.InputKind.{is_mouse}
 
--- what the devices hold. The timer counts milliseconds: `rate` is how many instructions a millisecond has, 0 for a timer that
--- does not count by itself, and `phase` how many of them are done (both are this project's own choice). The buttons are bits
--- 11 to 8 of `switches`, and the switches bits 7 to 0. `serial` is the byte that the serial line holds, and `received` whether
--- it came since the last read: that the line holds one byte, and keeps it once it was read, is this project's own choice.
--- `keys` are the key codes that wait, oldest first
+-- the state of the devices. The timer counts milliseconds: `rate` is the number of instructions in a millisecond, 0 for a timer
+-- that inputs alone set, and `phase` is how many of them are done (both are this project's own choice). The buttons are bits 11
+-- to 8 of `switches`, and the switches bits 7 to 0. `serial` is the byte that the serial line holds, and `received` says whether
+-- it came since the last read. That the line holds one byte, and keeps it after it is read, is this project's own choice. `keys`
+-- are the waiting key codes, oldest first
 pub record DeviceState : Type 0 where
   pub timer : ℕ
   pub rate : ℕ
@@ -19,7 +19,7 @@ pub record DeviceState : Type 0 where
   pub received : Bool
   pub keys : List ℕ
 
--- a phase is below its rate, or 0 where the rate is 0 (this project's own choice)
+-- a phase is below its rate, or 0 if the rate is 0 (this project's own choice)
 unfoldable pub is_phase : ℕ → ℕ → Bool
 is_phase rate phase = if rate == 0 then phase == 0 else nat_lt phase rate
 
@@ -38,7 +38,7 @@ pub record IsDeviceState (d : DeviceState) : Type 0 where
   pub keys : length d.keys ≤ 16
   pub codes : All (λ code. code < 2 ^ 8) d.keys
 
--- the byte held and "received" as one number, whose bit 8 is "received" (this project's own choice)
+-- the byte on the serial line and "received" as one number, whose bit 8 is "received" (this project's own choice)
 abbrev pub serial_number : DeviceState → ℕ
 serial_number d = d.serial + (if d.received then 2 ^ 8 else 0)
 
@@ -56,8 +56,7 @@ state_of_parts timer rate phase switches leds mouse serial keys = record {
   keys = keys;
 }
 
--- the parts whose numbers can be out of their range in the words that bring them: these are in it (this project's own
--- choice)
+-- the parts that could be out of range in the words that encode them are in range (this project's own choice)
 pub record AreParts (rate phase switches mouse serial : ℕ) (keys : List ℕ) : Type 0 where
   pub phase_fits : IsPhase rate phase
   pub switches_fit : switches < 2 ^ 12

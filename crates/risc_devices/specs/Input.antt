@@ -1,4 +1,5 @@
--- Inputs, and what they do to the devices. Inputs are this project's own choice: what comes from outside as a number of a kind.
+-- Inputs, and what they do to the devices. An input is a change from outside, of a kind and with a value (this project's own
+-- choice).
 use Rattle.std.specs.Prelude.{ℕ, true}
 use Rattle.risc_devices.specs.declared.input.Input.{Input}
 use Rattle.risc_devices.specs.declared.kind.Kind.{Kind}
@@ -17,8 +18,8 @@ kind_of i = kind_number i.kind
 abbrev pub value_of : Input → ℕ
 value_of i = i.value
 
--- an input of a kind sets its part of the devices: the timer, the buttons and switches, the mouse word, or the serial line's
--- byte, which is then "received". A key code joins the queue
+-- an input sets the part of the devices that belongs to its kind: the timer, the buttons and switches, the mouse word, or the
+-- serial line's byte, which is then "received". A key code joins the queue
 unfoldable pub taken_value : Kind → ℕ → DeviceState → DeviceState
 taken_value Timer value d = record d { timer = value }
 taken_value Switches value d = record d { switches = value }
@@ -26,6 +27,6 @@ taken_value Mouse value d = record d { mouse = value }
 taken_value Key value d = record d { keys = joined value d.keys }
 taken_value Serial value d = record d { serial = value; received = true }
 
--- the devices once an input was taken
+-- the devices after an input is taken
 unfoldable pub taken_input : Input → DeviceState → DeviceState
 taken_input i d = taken_value i.kind i.value d

@@ -11,13 +11,13 @@ kind_number Mouse = 3
 kind_number Key = 4
 kind_number Serial = 5
 
--- a mouse word has x in bits 0 to 9, y in bits 12 to 21, three keys in bits 24 to 26, and no other bit: it lies inside the
+-- a mouse word has x in bits 0 to 9, y in bits 12 to 21, three keys in bits 24 to 26, and no other bit: all its bits are in the
 -- mask 073FF3FF
 unfoldable pub is_mouse : ℕ → Bool
 is_mouse word = nat_lt (word % 2 ^ 12) (2 ^ 10) && nat_lt (word / 2 ^ 12 % 2 ^ 12) (2 ^ 10) && nat_lt (word / 2 ^ 24) (2 ^ 3)
 
--- the inputs, by the number of their kind and their value: a timer has any word, the buttons and switches are below 4,096,
--- a mouse word lies inside its mask, a key code and a byte of the serial line are below 256
+-- the inputs, by the number of their kind and their value: a timer has any word, the buttons and switches are below 4,096, a
+-- mouse word is within its mask, a key code and a byte of the serial line are below 256
 unfoldable pub is_input : ℕ → ℕ → Bool
 is_input kind value =
     (kind == 1 && nat_lt value (2 ^ 32))

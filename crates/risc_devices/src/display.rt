@@ -1,4 +1,4 @@
-//! The picture of a display, as a binary PBM. Where the display's words lie in memory is not said here.
+//! The picture of a display, as a binary PBM. The address of the display's words is not known here.
 
 ghost use Rattle.std.specs.Prelude.{◌≡◌, ℕ, ◌+◌, ◌*◌, ◌/◌, ◌%◌, ◌<◌, length, slice_index, IfOk};
 ghost use Rattle.risc_devices.specs.Picture.{HasDots, IsPicture};
@@ -8,15 +8,15 @@ use std::alloc::{AllocError, Global};
 /// The first bytes of every picture.
 const HEAD: [u8; 12] = *b"P4\n1024 768\n";
 
-/// The bytes of a picture's dots: 768 rows of 128.
+/// The number of bytes of a picture's dots: 768 rows of 128.
 const DOTS: usize = 98_304;
 
-/// The picture of a display of 1,024 by 768 dots, of which `words` are the words: 32 a line, line 0 lowest, and bit 0 of a
-/// word its leftmost dot ("Project Oberon" 2013, the hardware chapters).
+/// Returns the picture of a display of 1,024 by 768 dots. `words` are the words of the display: 32 a line, line 0 lowest, and bit
+/// 0 of a word its leftmost dot ("Project Oberon" 2013, the hardware chapters).
 ///
-/// The 98,316 bytes are a binary PBM (this project's own choice): the twelve bytes `P4`, line feed, `1024 768`, line feed,
-/// and then 768 rows from the top down, 128 bytes each, eight dots a byte, the leftmost in the highest bit; a set bit of the
-/// display is a set bit of the picture. It fails only for want of memory.
+/// The 98,316 bytes are a binary PBM (this project's own choice): the twelve bytes `P4`, line feed, `1024 768`, line feed, and
+/// then 768 rows from the top down, 128 bytes each, eight dots a byte, the leftmost in the highest bit; a set bit of the display
+/// is a set bit of the picture. Fails only if memory runs out.
 pub fn picture(alloc: Global, words: &[u32]) -> Result<Vec<u8>, AllocError>
     requires { length words.now ≡ 24576 }
     ensures { IfOk result (λ bytes. IsPicture words.now bytes.items) }
@@ -26,7 +26,7 @@ pub fn picture(alloc: Global, words: &[u32]) -> Result<Vec<u8>, AllocError>
     Ok(bytes)
 }
 
-/// As many bytes, to be written over.
+/// Returns as many bytes, to be overwritten.
 fn blank(alloc: Global, len: usize) -> Result<Vec<u8>, AllocError>
     ensures { IfOk result (λ bytes. length bytes.items ≡ len) }
 {
@@ -56,7 +56,7 @@ fn draw_dots(dots: &mut [u8], words: &[u32])
     }
 }
 
-/// The byte of a picture's dots at a place, counted from the first.
+/// Returns the byte at a position of a picture's dots, counted from the first.
 #[inline]
 fn dots_at(words: &[u32], at: usize) -> u8
     requires display { length words.now ≡ 24576 }

@@ -1,7 +1,7 @@
-//! The one refusal of this crate. What is refused, and when, stands with the calls that refuse.
+//! The one refusal of this crate. What is refused, and when, is said at the calls that refuse.
 use thiserror::Error;
 
-/// A number that came from outside lies out of its range.
+/// A number from outside is out of its range.
 #[derive(Clone, Copy, Debug, PartialEq, Eq, Error)]
 #[error("a number is out of its range")]
 pub struct RangeFault;
@@ -9,7 +9,7 @@ pub struct RangeFault;
 impl RangeFault {
     ghost use Rattle.std.specs.Prelude.{◌≡◌};
 
-    /// The refusal's number, which is 1.
+    /// Returns the refusal's number, which is 1.
     pub fn number(self) -> u8
         ensures { result ≡ 1 }
     {

@@ -1,11 +1,11 @@
-//! Inputs from outside. What they do to the devices stands in `devices`.
+//! Inputs from outside. What they do to the devices is in `devices`.
 
 ghost use Rattle.risc_devices.specs.InputKind.{IsInput, kind_number};
 
 use crate::fault::RangeFault;
 use crate::kind::Kind;
 
-/// An input: what comes from outside, of a kind and with a value in that kind's range.
+/// An input: a change from outside, of a kind and with a value in that kind's range.
 ///
 /// | number | kind | value | what it does |
 /// |---|---|---|---|
@@ -28,8 +28,8 @@ impl Input {
     ghost use Rattle.std.specs.Prelude.{◌≡◌, ◌↔◌, IsOk, IfOk};
     ghost use Rattle.risc_devices.specs.Input.{kind_of, value_of};
 
-    /// The input of a kind's number and a value. It is refused exactly where there is no such kind, or where the value is
-    /// out of the kind's range.
+    /// Makes the input of a kind's number and a value. Refuses exactly if there is no such kind, or if the value is out of the
+    /// kind's range.
     pub fn new(kind: u8, value: u32) -> Result<Input, RangeFault>
         ensures lawful { IsOk result ↔ IsInput kind value }
         ensures kind { IfOk result (λ i. kind_of i ≡ kind) }
@@ -41,7 +41,7 @@ impl Input {
         }
     }
 
-    /// The number of the input's kind, from 1 to 5.
+    /// Returns the number of the input's kind, from 1 to 5.
     #[inline]
     pub fn kind(self) -> u8
         ensures { result ≡ kind_of self }
@@ -49,7 +49,7 @@ impl Input {
         self.kind.number()
     }
 
-    /// The input's value, in the range of its kind.
+    /// Returns the input's value, in the range of its kind.
     #[inline]
     pub fn value(self) -> u32
         ensures value { result ≡ value_of self }

@@ -1,4 +1,4 @@
-//! The queue of key codes that wait to be read. Which device word reads it stands in `devices`.
+//! The queue of key codes that wait to be read. The device word that reads it is in `devices`.
 
 ghost use Rattle.std.specs.Prelude.{◌≡◌, ◌≤◌, ◌<◌, ◌^◌, ◌↔◌, [], length, drop, All, IsOk, IfOk, IsTrue};
 ghost use Rattle.risc_devices.specs.KeyCodes.{joined, oldest};
@@ -24,7 +24,7 @@ impl Model for KeyQueue {
 }
 
 impl KeyQueue {
-    /// The queue of these codes, oldest first, or a refusal where they are more than sixteen.
+    /// Makes the queue of these codes, oldest first. Refuses more than sixteen.
     pub(crate) fn new(codes: &[u8]) -> Result<KeyQueue, RangeFault>
         ensures few { IsOk result ↔ (length codes.now ≤ 16) }
         ensures codes { IfOk result (λ q. q ≡ codes.now) }
@@ -35,7 +35,7 @@ impl KeyQueue {
         }
     }
 
-    /// The codes that wait, oldest first.
+    /// Returns the waiting codes, oldest first.
     #[inline]
     pub(crate) fn codes(&self) -> &[u8]
         ensures codes { result.now ≡ self.now }
@@ -52,7 +52,7 @@ impl KeyQueue {
         self.waiting.is_empty()
     }
 
-    /// Adds a code at the end, or drops it where sixteen wait.
+    /// Adds a code at the end, or drops it if sixteen wait.
     #[tactic(auto, unfolding(crate::specs::KeyCodes::joined))]
     #[cold]
     pub(crate) fn join(&mut self, code: u8)
@@ -63,7 +63,7 @@ impl KeyQueue {
         }
     }
 
-    /// Takes the oldest code out of the queue: 0 where none waits.
+    /// Takes the oldest code out of the queue and returns it, or 0 if none waits.
     #[cold]
     pub(crate) fn leave(&mut self) -> u8
         ensures value { result ≡ oldest self.old }
@@ -75,7 +75,7 @@ impl KeyQueue {
         self.waiting.remove(0)
     }
 
-    /// The same queue once more.
+    /// Returns a copy of the queue.
     #[cold]
     pub(crate) fn copy(&self) -> KeyQueue
         ensures { result ≡ self.now }

@@ -1,4 +1,4 @@
-//! The kinds of inputs, and the values that each takes. What an input does stands in `devices`.
+//! The kinds of inputs, and the values that each takes. What an input does is in `devices`.
 
 ghost use Rattle.std.specs.Prelude.{◌≡◌, ℕ, false, MatchOption};
 ghost use Rattle.risc_devices.specs.InputKind.{kind_number, is_input, is_mouse};
@@ -14,7 +14,7 @@ pub(crate) enum Kind {
 }
 
 impl Kind {
-    /// The kind of a number from 1 to 5.
+    /// Returns the kind with a number from 1 to 5.
     #[tactic(auto, unfolding(crate::specs::InputKind::is_input))]
     pub(crate) fn from_number(number: u8) -> Option<Kind>
         ensures { MatchOption result ((value : ℕ) → is_input number value ≡ false) (λ kind. kind_number kind ≡ number) }
@@ -42,7 +42,7 @@ impl Kind {
         }
     }
 
-    /// Whether an input of this kind may have the value.
+    /// Reports whether an input of this kind may have the value.
     #[tactic(auto, unfolding(crate::specs::InputKind::is_input))]
     pub(crate) fn takes(self, value: u32) -> bool
         ensures { result ≡ is_input (kind_number self) value }
@@ -56,8 +56,8 @@ impl Kind {
     }
 }
 
-/// Whether a word is a mouse word: x in bits 0 to 9, y in bits 12 to 21, the three keys in bits 24 to 26, and no other bit
-/// (this project's own choice).
+/// Reports whether a word is a mouse word: x in bits 0 to 9, y in bits 12 to 21, the three keys in bits 24 to 26, and no other
+/// bit (this project's own choice).
 #[tactic(auto, unfolding(crate::specs::InputKind::is_mouse))]
 #[inline]
 pub fn is_mouse_word(word: u32) -> bool

@@ -1,9 +1,10 @@
-//! The phase of a timer that counts instructions. How it rises stands in `devices`.
+//! The phase of a timer that counts instructions. How it rises is in `devices`.
 
 ghost use Rattle.std.specs.Prelude.{◌≡◌};
 ghost use Rattle.risc_devices.specs.DeviceState.{is_phase};
 
-/// Whether a timer of this rate can have this phase: it is below the rate, or 0 where the rate is 0 (this project's own choice).
+/// Reports whether a timer with this rate can have this phase: it is below the rate, or 0 if the rate is 0 (this project's own
+/// choice).
 ///
 /// The rate is in instructions a millisecond, and the phase in instructions.
 #[inline]

@@ -1,25 +1,25 @@
--- When a list of inputs is in order (this project's own choice): counts don't fall, and none is above `MAX_COUNT`.
+-- Order of a list of inputs (this project's own choice): counts do not fall, and none is above `MAX_COUNT`.
 use Rattle.std.specs.Prelude.{ℕ, ◌≤◌, ◌<◌, ◌-◌, ◌==◌, if◌then◌else◌, List, map, length, slice_index}
 use Rattle.risc_model.specs.declared.event.Event.{Event}
 use Rattle.risc_model.specs.declared.inputs.TheConstants.{MAX_COUNT}
 
--- the count of the input at a place
+-- the count of the input at an index
 abbrev pub count_at : List Event → ℕ → ℕ
 count_at es place = slice_index (map (λ e. e.count) es) place
 
--- the count before a place, 0 before the first
+-- the count before an index, 0 before the first
 abbrev pub count_before : List Event → ℕ → ℕ
 count_before es place = if place == 0 then 0 else count_at es (place - 1)
 
--- the count at a place is not below the one before it, and at most `MAX_COUNT`
+-- the count at an index is not below the one before it, and at most `MAX_COUNT`
 abbrev pub IsRightPlace : List Event → ℕ → Type 0
 IsRightPlace es place = (count_before es place ≤ count_at es place) × (count_at es place ≤ MAX_COUNT)
 
--- each place is right
+-- each index is right
 abbrev pub AreOrdered : List Event → Type 0
 AreOrdered es = (place : ℕ) → place < length es → IsRightPlace es place
 
--- the first place that is wrong
+-- the first index that is wrong
 pub record IsFirstWrong (es : List Event) (at : ℕ) : Type 0 where
   pub inside : at < length es
   pub before : (place : ℕ) → place < at → IsRightPlace es place

@@ -1,4 +1,4 @@
-//! The processor's registers, as callers hand them over. What an instruction does to them is `Exec` in `specs/`.
+//! The processor's registers, as callers pass them. What an instruction does to them is `Exec` in `specs/`.
 ghost use Rattle.std.specs.Prelude.{◌≡◌, ◌<◌, ◌^◌, length, ℕ, slice_index};
 
 use risc_core::Flags;
@@ -10,13 +10,13 @@ use risc_core::Flags;
 pub struct Cpu {
     /// Registers R0 to R15.
     pub r: [u32; 16],
-    /// The auxiliary register H, which holds the high half of a product or the remainder of a quotient.
+    /// The auxiliary register H, which holds the high half of a product or the remainder of a division.
     pub h: u32,
-    /// The number of the next instruction's word.
+    /// The word number of the next instruction.
     pub pc: u32,
     /// The condition flags.
     pub flags: Flags,
-    /// Why the machine stopped, as `Stop::number` has it; 0 where it runs (this project's own choice).
+    /// Why the machine stopped, as `Stop::number` returns it; 0 while it runs (this project's own choice).
     pub stop: u8,
     pub ghost count: { length r ≡ 16 },
     pub ghost registers: { (a : ℕ) → slice_index r a < 2 ^ 32 },

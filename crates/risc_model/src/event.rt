@@ -1,15 +1,14 @@
-//! An input with its time. Lists of them in order are in `inputs`.
+//! An input with its count. Ordered lists of them are in `inputs`.
 ghost use Rattle.std.specs.Prelude.{◌<◌, ◌^◌};
 
 use risc_devices::Input;
 
-/// An input and the count at which it comes: a machine that runs takes it before the instruction of that number, counted
-/// from 0.
+/// An input and its count: a running machine takes it before the instruction with that number, counted from 0.
 #[derive(Clone, Copy, Debug, PartialEq, Eq)]
 pub struct Event {
-    /// How many instructions stand before it.
+    /// The number of instructions before it.
     pub count: u64,
-    /// What the devices take.
+    /// The input.
     pub input: Input,
     pub ghost range: { count < 2 ^ 64 },
 }

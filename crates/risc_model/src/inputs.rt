@@ -1,4 +1,4 @@
-//! Lists of inputs in order. One input with its count is in `event`; what an input does is in `risc_devices`.
+//! Ordered lists of inputs. One input with its count is in `event`; what an input does is in `risc_devices`.
 ghost use Rattle.std.specs.Prelude.{◌≡◌, IfOk, IfErr, IfNone, IfSome};
 ghost use Rattle.risc_model.specs.InputOrder.{AreOrdered, IsFirstWrong};
 
@@ -8,7 +8,7 @@ use std::marker::Model;
 /// The greatest count that an input or a checkpoint may have: 2^40 (this project's own choice).
 pub const MAX_COUNT: u64 = 1 << 40;
 
-/// Inputs whose counts don't fall and are at most `MAX_COUNT` (this project's own choice). Contracts see the list of events.
+/// Inputs whose counts do not fall and are at most `MAX_COUNT` (this project's own choice). Contracts see the list of events.
 #[derive(Drop)]
 pub struct Inputs {
     list: Vec<Event>,
@@ -26,19 +26,19 @@ impl Model for Inputs {
     ghost invariant = { λ i. AreOrdered i.list.items };
 }
 
-/// Events that are not in order, with the first wrong place: there the count falls, or is above `MAX_COUNT`.
+/// Events that are not in order, with the first wrong index: there the count falls, or is above `MAX_COUNT`.
 #[derive(Drop)]
 pub struct Unordered {
-    /// The events, as they were handed in.
+    /// The events, as they were passed.
     pub list: Vec<Event>,
-    /// The place of the first event that is wrong.
+    /// The index of the first event that is wrong.
     pub at: usize,
 }
 
 impl Unordered {
     ghost use Rattle.std.specs.Prelude.{◌≡◌};
 
-    /// The refusal's number, which is 1.
+    /// Returns the refusal's number, which is 1.
     pub fn number(&self) -> u8
         ensures { result ≡ 1 }
     {
@@ -47,9 +47,9 @@ impl Unordered {
 }
 
 impl Inputs {
-    /// The inputs of a list, whose counts don't fall and are at most `MAX_COUNT`.
+    /// Makes the inputs of a list, if its counts do not fall and are at most `MAX_COUNT`.
     ///
-    /// Another list is handed back, with the first place at which it is wrong. This takes no memory.
+    /// Returns any other list, with the first index at which it is wrong. Allocates nothing.
     pub fn new(list: Vec<Event>) -> Result<Inputs, Unordered>
         ensures list { IfOk result (λ inputs. inputs ≡ list.items) }
         ensures ordered { IfOk result (λ _. AreOrdered list.items) }
@@ -62,7 +62,7 @@ impl Inputs {
         }
     }
 
-    /// The events, in order.
+    /// Returns the events, in order.
     #[inline]
     pub fn events(&self) -> &[Event]
         ensures events { result.now ≡ self.now }
@@ -72,7 +72,7 @@ impl Inputs {
     }
 }
 
-/// The first place at which the order is broken.
+/// Returns the first index at which the order is broken.
 fn first_wrong(list: &[Event]) -> Option<usize>
     ensures none { IfNone result (AreOrdered list.now) }
     ensures some { IfSome result (λ at. IsFirstWrong list.now at) }

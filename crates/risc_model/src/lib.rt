@@ -1,9 +1,9 @@
-//! The model of the RISC5 workstation: what a machine is, what one instruction does to it, and what a run gives that takes
-//! inputs at their counts.
+//! The model of the RISC5 workstation: what a machine is, what one instruction does to it, and what a run that takes inputs at
+//! their counts reaches and sends.
 //!
-//! The definitions in `specs/` describe one machine of whole numbers over a flat map of words. The contracts of every crate
-//! above cite them. This crate runs nothing: the interpreter is in `risc_machine`, and what it needs of instructions,
-//! addresses and devices is in the crates below.
+//! The definitions in `specs/` describe one machine of whole numbers over a flat map of words. The contracts of all crates above
+//! use them. This crate runs nothing: the interpreter is in `risc_machine`. Instructions, addresses and devices are in the crates
+//! below.
 #![tactic(auto)]
 
 mod cpu;

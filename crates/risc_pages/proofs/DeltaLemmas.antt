@@ -1,4 +1,4 @@
--- The changes of a memory.
+-- The delta of a memory.
 use Rattle.std.proofs.Common.{◌≡◌, ◌≢◌, ℕ, zero, suc, ◌+◌, ◌<◌, List, [], ◌∷◌, ◌++◌, inl, inr, Bool, true, false, not, cond, get_or, length, map, nat_eq, refl, ap, sym, subst, ◌∙◌, arith}
 use Rattle.std.proofs.lemmas.Bool.{cases_lt, false≢true}
 use Rattle.std.proofs.lemmas.List.{append-nil, map-append, map-id}
@@ -29,30 +29,30 @@ pub differs_at-other : (base words : List ℕ) (p : ℕ) → (page_at words p �
 unfolding differs_at
 differs_at-other base words p other = other_by (pointwise nat_eq (page_at words p) (page_at base p)) (page_at words p ≡ page_at base p) (told_text (page_at words p) (page_at base p) _ refl) other
 
--- no place is below 0
+-- no slot is below 0
 pub changed_below-zero : (base words : List ℕ) → changed_below 0 base words ≡ []
 unfolding changed_below
 changed_below-zero base words = refl
 
--- one place more
+-- one slot more
 changed_below-more : (n : ℕ) (base words : List ℕ) → changed_below (n + 1) base words ≡ changed_below n base words ++ cond (differs_at base words n) (n ∷ []) []
 unfolding changed_below
 changed_below-more n base words =
     simp map-id at (filter_of_map_range_with_len_more (differs_at base words) (λ x. x) 0 n n (omega arith))
 
--- a place that differs, with its page
+-- a slot whose page differs, with the page
 pub places_more : (n : ℕ) (base words : List ℕ) (cs : List (ℕ × Page)) (page : Page) → map (λ (c : ℕ × Page). c.0) cs ≡ changed_below n base words → (page_at words n ≡ page_at base n → ⊥) → map (λ (c : ℕ × Page). c.0) (cs ++ (n, page) ∷ []) ≡ changed_below (n + 1) base words
 places_more n base words cs page h other =
     map-append (λ (c : ℕ × Page). c.0) cs ((n, page) ∷ [])
     ∙ ap (λ (z : List ℕ). z ++ n ∷ []) h
     ∙ sym (changed_below-more n base words ∙ ap (λ (b : Bool). changed_below n base words ++ cond b (n ∷ []) []) (differs_at-other base words n other))
 
--- a place that doesn't differ
+-- a slot whose page does not differ
 pub places_same : (n : ℕ) (base words : List ℕ) (cs : List (ℕ × Page)) → map (λ (c : ℕ × Page). c.0) cs ≡ changed_below n base words → page_at words n ≡ page_at base n → map (λ (c : ℕ × Page). c.0) cs ≡ changed_below (n + 1) base words
 places_same n base words cs h same =
     h ∙ sym (changed_below-more n base words ∙ ap (λ (b : Bool). changed_below n base words ++ cond b (n ∷ []) []) (differs_at-same base words n same) ∙ append-nil (changed_below n base words))
 
--- the test is true only where the pages differ
+-- the test is true only if the pages differ
 differs_at-tells : (base words : List ℕ) (p : ℕ) → differs_at base words p ≡ true → page_at words p ≡ page_at base p → ⊥
 differs_at-tells base words p told same = false≢true (sym (differs_at-same base words p same) ∙ told)
 
@@ -97,7 +97,7 @@ changed_below-all (suc n) base words p h other =
           subst R here (subst B (sym (differs_at-other base words p other)) (subst S here (Contains-push (changed_below n base words) p)))
     ]))
 
--- the changes are all differences, and all differences are changes
+-- the delta lists differences only, and all of them
 pub AreDifferences-changed_below : (base words places : List ℕ) → places ≡ changed_below 1024 base words → AreDifferences base words places
 AreDifferences-changed_below base words places is =
     let P : List ℕ → Type 0 = λ ps. AreDifferences base words ps in

@@ -23,7 +23,7 @@ get_or-pages {X} f n (x ∷ xs) (suc i) j k e all h b at =
     let inside : i < length xs = omega arith in
     get_or-append_right (f x) (flat_map f xs) n k 0 (All-head P x xs all) past ∙ get_or-pages f n xs i j (k - n) e (All-tail P x xs all) inside b rest
 
--- a page with another word at j, in the place of the i-th, is the word at k changed
+-- replacing the i-th page by one with another word at j changes the word at k alone
 pub flat_map-set : {X : Type 0} (f : X → List ℕ) (n : ℕ) (xs : List X) (i j k : ℕ) (e y : X) (v : ℕ) → All (λ x. length (f x) ≡ n) xs → i < length xs → j < n → k ≡ i * n + j → f y ≡ set (f (get_or xs i e)) j v → flat_map f (set xs i y) ≡ set (flat_map f xs) k v
 flat_map-set f n [] i j k e y v all h b at same = absurd (omega arith)
 flat_map-set {X} f n (x ∷ xs) zero j k e y v all h b at same =
@@ -42,7 +42,7 @@ flat_map-set {X} f n (x ∷ xs) (suc i) j k e y v all h b at same =
     ap (λ w. f x ++ w) (flat_map-set f n xs i j (k - n) e y v (All-tail P x xs all) inside b rest same)
     ∙ sym (set-append_right (f x) (flat_map f xs) n k v (All-head P x xs all) past)
 
--- the i-th page stands where the pages before it end
+-- the i-th page begins after the pages before it
 pub take-drop-pages : {X : Type 0} (f : X → List ℕ) (n : ℕ) (xs : List X) (i k : ℕ) (e : X) → All (λ x. length (f x) ≡ n) xs → i < length xs → k ≡ n * i → take n (drop k (flat_map f xs)) ≡ f (get_or xs i e)
 take-drop-pages f n [] i k e all h at = absurd (omega arith)
 take-drop-pages {X} f n (x ∷ xs) zero k e all h at =
@@ -69,7 +69,7 @@ flat_map-same f g (x ∷ xs) (y ∷ ys) long same =
     let rest : flat_map f xs ≡ flat_map g ys = flat_map-same f g xs ys (omega arith) (λ k d e h. same (suc k) d e (omega arith)) in
     ap (λ (l : List ℕ). l ++ flat_map f xs) first ∙ ap (λ (l : List ℕ). g y ++ l) rest
 
--- another element with the same page in the place of the i-th
+-- another element with the same page in place of the i-th
 pub flat_map-set_same : {X : Type 0} (f : X → List ℕ) (xs : List X) (i : ℕ) (e y : X) → i < length xs → f y ≡ f (get_or xs i e) → flat_map f (set xs i y) ≡ flat_map f xs
 flat_map-set_same f [] i e y h same = absurd (omega arith)
 flat_map-set_same f (x ∷ xs) zero e y h same = ap (λ (w : List ℕ). w ++ flat_map f xs) same
@@ -86,7 +86,7 @@ length-pages f n (x ∷ xs) each =
     let both : length (f x ++ flat_map f xs) ≡ length (f x) + length (flat_map f xs) = length-append (f x) (flat_map f xs) in
     omega arith
 
--- what holds of each word of each page holds of each word
+-- what holds for each word of each page holds for each word
 pub All-pages : {X : Type 0} (P : ℕ → Type 0) (f : X → List ℕ) (xs : List X) → ((x : X) → All P (f x)) → All P (flat_map f xs)
 All-pages P f [] each = All-nil P
 All-pages P f (x ∷ xs) each = All-append P (f x) (flat_map f xs) (each x) (All-pages P f xs each)

@@ -1,4 +1,4 @@
--- The places of a memory, and what they hold.
+-- The page slots of a memory, and what they hold.
 use Rattle.std.proofs.Common.{◌≡◌, ℕ, ◌*◌, ◌/◌, ◌%◌, ◌<◌, ◌^◌, List, [], ◌∷◌, Bool, true, false, length, get_or, set, map, refl, ap, sym, subst, ◌∙◌, arith, take, drop}
 use Rattle.std.specs.List.{All, flat_map}
 use Rattle.std.proofs.lemmas.List.{length-map, map-set, set-set}
@@ -25,13 +25,13 @@ fit-content (Blank blank) = blank.now.page.fit
 fit-content (Shared page) = page.now.fit
 fit-content (Owned own) = own.value.page.fit
 
--- a place that is not owned has the page that stood there first
+-- a slot that is not owned has the page that it began with
 pub base_of-shared : (p : Place) → is_owned p ≡ false → base_of p ≡ content p
 base_of-shared (Blank blank) shared = refl
 base_of-shared (Shared page) shared = refl
 base_of-shared (Owned own) shared = cc
 
--- 1,024 places are a memory
+-- 1,024 slots are a memory
 pub IsMemory-contents_of : (places : List Place) (m : Contents) → length places ≡ 1024 → contents_of places ≡ m → IsMemory m
 IsMemory-contents_of places m count view = subst IsMemory view (record {
   words = let e : length (flat_map content places) ≡ length places * 256 = length-pages content 256 places length-content in omega arith;
@@ -40,7 +40,7 @@ IsMemory-contents_of places m count view = subst IsMemory view (record {
   base = let e : length (flat_map base_of places) ≡ length places * 256 = length-pages base_of 256 places length-base_of in omega arith;
 })
 
--- a word is that of its page
+-- a word of a memory is a word of its page
 pub word_at : (places : List Place) (w : ℕ) (p : Place) (ws : List ℕ) → length places ≡ 1024 → w < 262144 → p ≡ get_or places (w / 256) p → flat_map content places ≡ ws → get_or (content p) (w % 256) 0 ≡ get_or ws w 0
 word_at places w p ws count h is view =
     let e : get_or ws w 0 ≡ get_or (content (get_or places (w / 256) p)) (w % 256) 0 =
@@ -48,26 +48,26 @@ word_at places w p ws count h is view =
     ∙ get_or-pages content 256 places (w / 256) (w % 256) w p (λ k d l. length-content (get_or places k d)) (omega arith) (omega arith) (omega arith) in
     ap (λ (q : Place). get_or (content q) (w % 256) 0) is ∙ sym e
 
--- another page in the place of the one with this word, in which that word alone is changed
+-- replacing the page of a word by one in which that word alone is changed
 pub words_set : (places : List Place) (w v : ℕ) (p q : Place) (ws : List ℕ) → length places ≡ 1024 → w < 262144 → p ≡ get_or places (w / 256) p → flat_map content places ≡ ws → content q ≡ set (content p) (w % 256) v → flat_map content (set places (w / 256) q) ≡ set ws w v
 words_set places w v p q ws count h is view change =
     let e : content q ≡ set (content (get_or places (w / 256) p)) (w % 256) v = change ∙ ap (λ (z : Place). set (content z) (w % 256) v) is in
     flat_map-set content 256 places (w / 256) (w % 256) w p q v (λ k d l. length-content (get_or places k d)) (omega arith) (omega arith) (omega arith) e
     ∙ ap (λ (z : List ℕ). set z w v) view
 
--- the base stays where the page that stood at a place first stays
+-- the base stays if the page that a slot began with stays
 pub base_set : (places : List Place) (i : ℕ) (p q : Place) (b : List ℕ) → i < length places → p ≡ get_or places i p → flat_map base_of places ≡ b → base_of q ≡ base_of p → flat_map base_of (set places i q) ≡ b
 base_set places i p q b h is view same =
     flat_map-set_same base_of places i p q h (same ∙ ap (λ (z : Place). base_of z) is) ∙ view
 
--- page p of a memory is the page that stands at place p
+-- page p of a memory is the page in slot p
 pub page_at-content : (places : List Place) (ws : List ℕ) (p : ℕ) (d : Place) → flat_map content places ≡ ws → p < length places → page_at ws p ≡ content (get_or places p d)
 unfolding page_at
 page_at-content places ws p d view h =
     ap (λ (z : List ℕ). take 256 (drop (256 * p) z)) (sym view)
     ∙ take-drop-pages content 256 places p (256 * p) d (λ k e l. length-content (get_or places k e)) h refl
 
--- page p of the base is the page that stood at place p first
+-- page p of the base is the page that slot p began with
 pub page_at-base_of : (places : List Place) (ws : List ℕ) (p : ℕ) (d : Place) → flat_map base_of places ≡ ws → p < length places → page_at ws p ≡ base_of (get_or places p d)
 unfolding page_at
 page_at-base_of places ws p d view h =
@@ -82,12 +82,12 @@ IsContent-places_by places d pool numbers count same = record {
       ∙ ap (λ (page : List ℕ). get_or page (w % 256) 0) (same (w / 256) d 0 (omega arith));
 }
 
--- the places that a table names hold its content
+-- the slots of a table hold its content
 pub IsContent-places : (places : List Place) (pool : List (List ℕ)) (numbers : List ℕ) → length places ≡ 1024 → ((k : ℕ) (d : Place) (e : ℕ) → k < length places → content (get_or places k d) ≡ page_of pool (get_or numbers k e)) → IsContent (flat_map content places) pool numbers
 IsContent-places [] pool numbers count same = absurd (omega arith)
 IsContent-places (p ∷ places) pool numbers count same = IsContent-places_by (p ∷ places) p pool numbers count same
 
--- a place takes a page of its own for the page that stands there
+-- a slot gets a private page in place of the page in it
 taken_items : (places new : List Place) (i : ℕ) (p : Place) (base words : List ℕ) (taken : TakesCopy (set places i p) new i base words) → new ≡ set places i taken.own
 taken_items places new i p base words taken = taken.items ∙ set-set places i p taken.own
 
@@ -96,7 +96,7 @@ pub words_taken : (places new : List Place) (w v : ℕ) (p : Place) (ws : List �
 words_taken places new w v p ws count h is view taken =
     ap (λ (z : List Place). flat_map content z) (taken_items _ _ _ _ _ _ taken) ∙ words_set places w v p taken.own ws count h is view taken.content_is
 
--- the place is owned from then on
+-- the slot is owned from then on
 pub owned_taken : (places new : List Place) (w : ℕ) (p : Place) (base words : List ℕ) (owned : List Bool) → map is_owned places ≡ owned → TakesCopy (set places (w / 256) p) new (w / 256) base words → map is_owned new ≡ set owned (w / 256) true
 owned_taken places new w p base words owned view taken =
     ap (λ (z : List Place). map is_owned z) (taken_items _ _ _ _ _ _ taken)

@@ -26,12 +26,12 @@ not_equal_by : (a b : ℕ) → (a ≡ b → ⊥) → ((nat_eq a b ≡ true) × (
 not_equal_by a b ne (inl h) = absurd (ne h.1)
 not_equal_by a b ne (inr h) = h.0
 
--- page number 0 is the page of zeros
+-- page id 0 is the page of zeros
 pub page_of-zero : (pool : List (List ℕ)) (n : ℕ) → n ≡ 0 → page_of pool n ≡ zero_page
 unfolding page_of
 page_of-zero pool n e = rw (eq-eqb n 0 e) refl
 
--- another page number is that of the page before it in the pool
+-- another page id is that of the page before it in the pool
 pub page_of-shared : (pool : List (List ℕ)) (n : ℕ) → (n ≡ 0 → ⊥) → page_of pool n ≡ get_or pool (n - 1) zero_page
 unfolding page_of
 page_of-shared pool n ne = rw (not_equal_by n 0 ne (eqb_tells n 0)) refl
@@ -42,22 +42,22 @@ IsPage-page_of_by pool n all h (inr s) =
     let ne : n ≡ 0 → ⊥ = s.1 in
     subst IsPage (sym (page_of-shared pool n s.1)) (all (n - 1) zero_page (omega arith))
 
--- each page number that is named is that of a page
+-- each page id that a table names is that of a page
 pub IsPage-page_of : (pool : List (List ℕ)) (n : ℕ) → ArePages pool → n ≤ length pool → IsPage (page_of pool n)
 IsPage-page_of pool n all h = IsPage-page_of_by pool n all h (eqb_tells n 0)
 
--- a list of one value has it at each place, and past its end where it is what stands there
+-- a list of one value repeated has it at each index, and beyond its end if that value is the default
 pub replicate_anywhere : {X : Type 0} (n : ℕ) (x : X) (i : ℕ) → get_or (replicate n x) i x ≡ x
 replicate_anywhere zero x i = refl
 replicate_anywhere (suc n) x zero = refl
 replicate_anywhere (suc n) x (suc i) = replicate_anywhere n x i
 
--- the first table has number 0 everywhere
+-- the first table has page id 0 in each slot
 pub zero_number : (p : ℕ) → slice_index zero_numbers p ≡ 0
 unfolding zero_numbers
 zero_number p = replicate_anywhere 1024 0 p
 
--- page p of the content is the page that the table names at place p
+-- page p of the content is the page that the table names in slot p
 pub page_at-table_words : (pool : List (List ℕ)) (numbers : List ℕ) (p e : ℕ) → ArePages pool → IsNamed pool numbers → p < length numbers → page_at (table_words pool numbers) p ≡ page_of pool (get_or numbers p e)
 unfolding page_at
 page_at-table_words pool numbers p e all named h =

@@ -1,4 +1,4 @@
--- The changes of a memory since it was made. They are this project's own choice.
+-- The changes of a memory since it was made, its delta. They are this project's own choice.
 use Rattle.std.specs.Prelude.{ℕ, ◌≡◌, ◌≢◌, ◌<◌, Bool, List, All, Contains, filter, map, nat_eq, not}
 use Rattle.std.specs.Cmp.Lexicographic.{pointwise}
 use Rattle.std.specs.List.{range_with_len}
@@ -10,20 +10,20 @@ use Rattle.risc_pages.specs.Pages.{page_at}
 unfoldable pub differs_at : List ℕ → List ℕ → ℕ → Bool
 differs_at base words p = not (pointwise nat_eq (page_at words p) (page_at base p))
 
--- the places below n at which the two memories differ, by rising place
+-- the page slots below n in which the two memories differ, in rising order
 unfoldable pub changed_below : ℕ → List ℕ → List ℕ → List ℕ
 changed_below n base words = filter (differs_at base words) (range_with_len 0 n)
 
--- the places that are listed
+-- the page slots of a delta
 abbrev pub places_of : List (ℕ × Page) → List ℕ
 places_of changed = map (λ (c : ℕ × Page). c.0) changed
 
--- the changes are the places that differ, each with the page that now stands there
+-- a delta lists the slots that differ, each with the page that is now in it
 pub record IsDelta (base words : List ℕ) (changed : List (ℕ × Page)) : Type 0 where
   pub places : places_of changed ≡ changed_below 1024 base words
   pub pages : All (λ (c : ℕ × Page). c.1.words ≡ page_at words c.0) changed
 
--- the law of these places: they rise, each one differs, and each place that differs is one of them
+-- the law of these slots: they rise, each one differs, and each slot that differs is one of them
 pub record AreDifferences (base words places : List ℕ) : Type 0 where
   pub rising : IsStrictlyIncreasing places
   pub each : All (λ p. (p < 1024) × (page_at words p ≢ page_at base p)) places

@@ -1,4 +1,4 @@
--- Memories, and the pages and tables that they are kept in. Read it in this order:
+-- Memories, and the pages and tables that make them. Read it in this order:
 pub mod Pages
 pub mod Tables
 pub mod Contents

@@ -1,11 +1,11 @@
--- Pages: 256 words each, numbered in a pool from 1 on. They are this project's own choice.
+-- Pages of 256 words each, with ids in a pool from 1 on. They are this project's own choice.
 use Rattle.std.specs.Prelude.{ℕ, ◌≡◌, ◌-◌, ◌*◌, ◌^◌, ◌<◌, ◌==◌, List, All, drop, take, replicate, slice_index_or, if◌then◌else◌, length}
 
 -- the words of the page of zeros
 unfoldable pub zero_page : List ℕ
 zero_page = replicate 256 0
 
--- the words of the page of this number: page number 0 is the page of zeros, n + 1 is the pool's page n
+-- the words of the page with this id: id 0 is the page of zeros, id n + 1 is the pool's page n
 unfoldable pub page_of : List (List ℕ) → ℕ → List ℕ
 page_of pool n = if n == 0 then zero_page else slice_index_or pool (n - 1) zero_page
 

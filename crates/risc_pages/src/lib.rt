@@ -1,11 +1,10 @@
-//! Memory in pages that are shared until they are written.
+//! Copy-on-write memory in pages.
 //!
-//! A memory has 262,144 words in 1,024 pages of 256 words. Its pages come from a [`Pool`], by the page
-//! numbers of a [`Table`]; a [`Memory`] borrows them, and copies a page the first time that it is written. What a
-//! memory holds is a plain map from word number to word: page numbers are no part of it. The numbers of words,
-//! places and pages are this project's own choice.
+//! A memory has 262,144 words in 1,024 pages of 256 words. Its pages come from a [`Pool`], by the page ids of a [`Table`]. A
+//! [`Memory`] borrows them, and copies a page at the first write to it. The content of a memory is a plain map from word number
+//! to word: page ids are no part of it. The numbering of words, page slots and pages is this project's own choice.
 //!
-//! Here live pages, pools, tables, memories, and the changes of a memory. Addresses, bytes and devices don't.
+//! This crate has pages, pools, tables, memories, and the changes of a memory. Addresses, bytes and devices are elsewhere.
 #![tactic(auto)]
 
 mod memory;

@@ -1,4 +1,4 @@
-//! Memory: a map from word number to word, in pages that are shared with a pool until they are written; and its changes.
+//! Memory: a map from word number to word, in copy-on-write pages of a pool; and its changes.
 ghost use Rattle.std.specs.Prelude.{◌≡◌, ◌+◌, ◌/◌, ◌<◌, ◌≤◌, ℕ, All, OnOk, OnErr, IfOk, IfNone, IfSome, IsOk, Some, true, false, slice_get, slice_index, slice_range, slice_set};
 ghost use Rattle.risc_pages.specs.Tables.{table_words, IsContent, IsNamed};
 ghost use Rattle.risc_pages.specs.Contents.{IsMemory};
@@ -11,8 +11,8 @@ use crate::table::Table;
 use std::alloc::{AllocError, Global};
 use std::marker::Model;
 
-/// The places whose content differs from the table that a memory was made from, by rising place, each with
-/// the page that the memory has there.
+/// The page slots whose content differs from the table that a memory was made from, in rising order, each with the page that the
+/// memory has there.
 #[derive(Drop)]
 pub struct Delta {
     pub changed: Vec<(u16, Page)>,
@@ -20,8 +20,8 @@ pub struct Delta {
 
 /// A memory of 262,144 words.
 ///
-/// In contracts a memory is its `words`, in order; which of its places are `owned`; and its `base`, the words
-/// that it was made with. It borrows its pool, which it never changes.
+/// In contracts a memory is its `words`, in order; which of its page slots are `owned`; and its `base`, the words that it was
+/// made with. It borrows its pool, which it never changes.
 #[derive(Drop)]
 pub struct Memory<'a> {
     places: Vec<Place<'a>>,
@@ -42,7 +42,7 @@ impl<'a> Model for Memory<'a> {
 }
 
 impl<'a> Memory<'a> {
-    /// The memory of a table, which shares all its pages with the pool. No page is copied.
+    /// Makes the memory of a table. It shares all its pages with the pool; no page is copied.
     pub fn from_table(alloc: Global, pool: &'a Pool, table: &Table) -> Result<Self, AllocError>
         requires { IsNamed pool.now table.now }
         ensures content { IfOk result (λ memory. IsContent memory.words pool.now table.now) }
@@ -59,7 +59,7 @@ impl<'a> Memory<'a> {
         Ok(Memory { places, alloc })
     }
 
-    /// The word of this number.
+    /// Returns the word with this number.
     #[inline(always)]
     pub fn read(&self, word_no: u32) -> u32
         requires { word_no < 262144 }
@@ -71,9 +71,10 @@ impl<'a> Memory<'a> {
         self.places[place].page().words[index]
     }
 
-    /// Changes one word. The first write to a page that isn't owned makes a copy of it, which is owned from
-    /// then on, and fails where there is no room for the copy; the memory is then unchanged. A write to an
-    /// owned page takes no memory.
+    /// Changes one word.
+    ///
+    /// The first write to a page that is not owned makes a copy of it, which is owned from then on. If there is no memory for the
+    /// copy, the write fails and the memory is unchanged. A write to an owned page allocates nothing.
     #[inline(always)]
     pub fn write(&mut self, word_no: u32, value: u32) -> Result<(), AllocError>
         requires { word_no < 262144 }
@@ -104,7 +105,7 @@ impl<'a> Memory<'a> {
         }
     }
 
-    /// Whether a place has a page of its own.
+    /// Reports whether a page slot has a private page.
     pub fn owned(&self, place: u16) -> bool
         requires { place < 1024 }
         ensures owned { slice_get self.now.owned place ≡ Some result }
@@ -116,7 +117,7 @@ impl<'a> Memory<'a> {
         }
     }
 
-    /// The `n` words from word number `from` on.
+    /// Returns the `n` words from word number `from` on.
     pub fn words(&self, alloc: Global, from: u32, n: u32) -> Result<Vec<u32>, AllocError>
         requires { from + n ≤ 262144 }
         ensures { IfOk result (λ words. words.items ≡ slice_range self.now.words from (from + n)) }
@@ -128,8 +129,9 @@ impl<'a> Memory<'a> {
         Ok(words)
     }
 
-    /// The least place whose content isn't that of the table over the pool, which need not be the pool that
-    /// this memory borrows. Page numbers aren't compared. Takes no memory.
+    /// Returns the least page slot whose content differs from that of the table over the pool.
+    ///
+    /// The pool need not be the one that this memory borrows. Contents are compared, not page ids. Allocates nothing.
     pub fn first_difference(&self, pool: &Pool, table: &Table) -> Option<u16>
         requires { IsNamed pool.now table.now }
         ensures none { IfNone result (self.now.words ≡ table_words pool.now table.now) }
@@ -139,9 +141,9 @@ impl<'a> Memory<'a> {
         if place < 1024 { Some(place) } else { None }
     }
 
-    /// The least place whose content isn't that of the table over the pool, and 1024 where there is none.
+    /// Returns the least page slot whose content differs from that of the table over the pool, or 1024 if there is none.
     ///
-    /// The loop is alone in a function of its own, so that each turn is a few machine instructions.
+    /// The loop is in a function of its own, so that each iteration is a few machine instructions.
     #[inline(never)]
     fn least_other(&self, pool: &Pool, table: &Table) -> u16
         requires { IsNamed pool.now table.now }
@@ -159,7 +161,7 @@ impl<'a> Memory<'a> {
         place
     }
 
-    /// The places whose content differs from the table that the memory was made from, with their pages.
+    /// Returns the page slots whose content differs from the table that the memory was made from, with their pages.
     fn changes(&self) -> Result<Vec<(u16, Page)>, AllocError>
         ensures delta { IfOk result (λ changed. IsDelta self.now.base self.now.words changed.items) }
         ensures differences { IfOk result (λ changed. AreDifferences self.now.base self.now.words (places_of changed.items)) }
@@ -173,8 +175,8 @@ impl<'a> Memory<'a> {
         Ok(changed)
     }
 
-    /// The places whose content differs from the table that the memory was made from, with their pages. The
-    /// memory is given up, also where there is no room for the answer.
+    /// Returns the page slots whose content differs from the table that the memory was made from, with their pages. Consumes the
+    /// memory, also if there is no memory for the answer.
     pub fn close(self) -> Result<Delta, AllocError>
         ensures delta { IfOk result (λ delta. IsDelta self.entry.base self.entry.words delta.changed.items) }
         ensures differences { IfOk result (λ delta. AreDifferences self.entry.base self.entry.words (places_of delta.changed.items)) }

@@ -1,4 +1,4 @@
-//! A page, and the page of zeros. Pools and memories of pages live in modules of their own.
+//! A page, and the page of zeros. Pools and memories are in modules of their own.
 
 ghost use Rattle.std.specs.Prelude.{◌≡◌, ◌<◌, ◌^◌, ℕ, All, length};
 ghost use Rattle.risc_pages.specs.Pages.{zero_page};
@@ -11,7 +11,8 @@ pub struct Page {
     pub ghost fit: { All (λ word. word < 2 ^ 32) words },
 }
 
-/// The page of zeros, which each pool has under the number 0. A place that shares it is known to be all zeros by its kind alone.
+/// The page of zeros, which each pool has with the id 0. A page slot that shares it is known to be all zeros by its variant
+/// alone.
 #[derive(Clone, Copy)]
 pub(crate) struct Blank {
     pub(crate) page: Page,

@@ -1,5 +1,4 @@
-//! A place of a memory: a page of the pool that is shared, or a page of the place's own. No contract that
-//! callers of this crate see speaks of these.
+//! A page slot of a memory: a shared page of the pool, or a private page. No contract that callers of this crate see mentions it.
 
 ghost use Rattle.std.specs.Prelude.{◌≡◌, ◌≢◌, ◌↔◌, ◌<◌, ◌≤◌, ℕ, length, slice_set, IsTrue, IfNone, IfSome, OnOk, OnErr, true, false};
 ghost use Rattle.risc_pages.specs.Pages.{page_of, ArePages};
@@ -9,18 +8,18 @@ use crate::page::{Blank, Page};
 use crate::pool::Pool;
 use std::alloc::{AllocError, Global};
 
-/// The page at a place of a memory.
+/// The page in a slot of a memory.
 #[derive(Drop)]
 pub(crate) enum Place<'a> {
     /// The pool's page of zeros, not yet written here.
     Blank(&'a Blank),
     /// Another page of the pool, not yet written here.
     Shared(&'a Page),
-    /// A page that this place alone has.
+    /// A private page of this slot.
     Owned(Box<Copied<'a>>),
 }
 
-/// A page of a place's own, and the page that it was copied from.
+/// A private page, and the page that it was copied from.
 #[derive(Drop)]
 pub(crate) struct Copied<'a> {
     pub(crate) page: Page,
@@ -28,7 +27,7 @@ pub(crate) struct Copied<'a> {
 }
 
 impl<'a> Place<'a> {
-    /// The page that stands here.
+    /// Returns the page in this slot.
     #[inline(always)]
     pub(crate) fn page(&self) -> &Page
         ensures { result.now.words ≡ content self.now }
@@ -40,7 +39,7 @@ impl<'a> Place<'a> {
         }
     }
 
-    /// Whether the page that stands here has the words of the pool's page of this number.
+    /// Reports whether the page in this slot has the words of the pool's page with this id.
     pub(crate) fn is_same(&self, pool: &Pool, page_no: u32) -> bool
         requires { page_no ≤ length pool.now }
         ensures same { IsTrue result ↔ (content self.now ≡ page_of pool.now page_no) }
@@ -53,7 +52,7 @@ impl<'a> Place<'a> {
         }
     }
 
-    /// Whether the page that stands here has the words of another.
+    /// Reports whether the page in this slot has the words of another.
     #[cold]
     #[inline(never)]
     fn has_words_of(&self, page: &Page) -> bool
@@ -62,7 +61,7 @@ impl<'a> Place<'a> {
         self.page().words == page.words
     }
 
-    /// The page that stands here, where it hasn't the words of the page that stood here first.
+    /// Returns the page in this slot, if its words differ from those of the page that the slot began with.
     pub(crate) fn change(&self) -> Option<&Page>
         ensures none { IfNone result (content self.now ≡ base_of self.now) }
         ensures some { IfSome result (λ page. (page.now.words ≡ content self.now) × (content self.now ≢ base_of self.now)) }
@@ -74,7 +73,7 @@ impl<'a> Place<'a> {
     }
 }
 
-/// Gives a place a copy of this page, with one word changed. Nothing is changed where there is no room.
+/// Gives a slot a copy of this page, with one word changed. If there is no memory for the copy, nothing changes.
 #[cold]
 #[inline(never)]
 pub(crate) fn copy_on_write<'a>(
@@ -97,7 +96,7 @@ pub(crate) fn copy_on_write<'a>(
     Ok(())
 }
 
-/// Puts a page of its own at a place.
+/// Puts a private page into a slot.
 fn put<'a>(places: &mut Vec<Place<'a>>, place: usize, own: Box<Copied<'a>>)
     requires { place < length places.old.items }
     ensures { places.new.items ≡ slice_set places.old.items place (Place.Owned own.entry) }

@@ -1,4 +1,4 @@
-//! The pool: the pages that memories share. Which page stands at which place, a table says.
+//! The pool: the pages that memories share. A table says which page is in which slot.
 
 ghost use Rattle.std.specs.Prelude.{◌≡◌, ◌++◌, ◌∷◌, [], ◌<◌, ◌≤◌, ◌^◌, ◌↔◌, ℕ, false, IsTrue, length, slice_index, OnOk, OnErr, IfOk};
 ghost use Rattle.risc_pages.specs.Pages.{page_of, ArePages};
@@ -9,7 +9,7 @@ use crate::place::Place;
 use std::alloc::{AllocError, Global};
 use std::marker::Model;
 
-/// The pages that memories share. Page number 0 is the page of zeros, and page number i + 1 is the pool's page i.
+/// The pages that memories share. Page id 0 is the page of zeros, and page id i + 1 is the pool's page i.
 ///
 /// In contracts a pool is the list of its pages, each the list of its words.
 #[derive(Drop)]
@@ -32,7 +32,7 @@ impl Model for Pool {
 }
 
 impl Pool {
-    /// The pool with no pages. Takes no memory.
+    /// Returns the pool with no pages. Allocates nothing.
     pub fn new(alloc: Global) -> Self
         ensures { result ≡ [] }
     {
@@ -42,7 +42,7 @@ impl Pool {
         }
     }
 
-    /// The pool with no pages that has taken room for `pages` pages. It fails where there is no such room.
+    /// Returns a pool with no pages and capacity for `pages` pages. Fails if there is no memory for them.
     pub fn with_capacity(alloc: Global, pages: u32) -> Result<Self, AllocError>
         ensures { IfOk result (λ pool. pool ≡ []) }
     {
@@ -52,7 +52,7 @@ impl Pool {
         })
     }
 
-    /// The number of pages, which is also the largest page number.
+    /// Returns the number of pages, which is also the largest page id.
     #[inline]
     pub fn len(&self) -> u32
         ensures count { result ≡ length self.now }
@@ -62,7 +62,7 @@ impl Pool {
         self.pages.len() as u32
     }
 
-    /// Whether there is no page but that of zeros.
+    /// Reports whether there is no page but that of zeros.
     #[inline]
     pub fn is_empty(&self) -> bool
         ensures { IsTrue result ↔ (length self.now ≡ 0) }
@@ -70,7 +70,7 @@ impl Pool {
         self.pages.is_empty()
     }
 
-    /// Puts a page at the end. The pool is unchanged where there is no room.
+    /// Appends a page. If there is no memory for it, the pool is unchanged.
     pub fn push(&mut self, page: Page) -> Result<(), AllocError>
         requires { length self.old < 2 ^ 31 }
         ensures ok { OnOk result (self.new ≡ self.old ++ page.words ∷ []) }
@@ -80,7 +80,7 @@ impl Pool {
         Ok(())
     }
 
-    /// Word `i` of the page of this number.
+    /// Returns word `i` of the page with this id.
     #[inline]
     pub fn word(&self, page_no: u32, i: u32) -> u32
         requires named { page_no ≤ length self.now }
@@ -90,7 +90,7 @@ impl Pool {
         self.page(page_no).words[i as usize]
     }
 
-    /// The page of this number.
+    /// Returns the page with this id.
     #[inline]
     pub fn page(&self, page_no: u32) -> &Page
         requires { page_no ≤ length self.now }
@@ -104,7 +104,7 @@ impl Pool {
         }
     }
 
-    /// A place that shares the page of this number.
+    /// Returns a slot that shares the page with this id.
     #[inline]
     pub(crate) fn place(&self, page_no: u32) -> Place<'_>
         requires { page_no ≤ length self.now }

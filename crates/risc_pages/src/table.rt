@@ -1,13 +1,13 @@
-//! The table of a memory: which page stands at each place. The pages stand in a pool.
+//! The table of a memory: the page id of each slot. The pages are in a pool.
 
 ghost use Rattle.std.specs.Prelude.{◌≡◌, ◌<◌, ◌^◌, ℕ, slice_index, slice_set};
 ghost use Rattle.risc_pages.specs.Tables.{zero_numbers, IsTable};
 
 use std::marker::Model;
 
-/// The page numbers of the 1,024 places of a memory.
+/// The page ids of the 1,024 slots of a memory.
 ///
-/// In contracts a table is the list of its numbers.
+/// In contracts a table is the list of its page ids.
 #[derive(Drop)]
 pub struct Table {
     numbers: [u32; 1024],
@@ -26,14 +26,14 @@ impl Model for Table {
 }
 
 impl Table {
-    /// The table that names the page of zeros at each place.
+    /// Returns the table that names the page of zeros in each slot.
     pub fn zeros() -> Self
         ensures { result ≡ zero_numbers }
     {
         Table { numbers: [0; 1024] }
     }
 
-    /// A table of the same numbers.
+    /// Returns a table with the same page ids.
     pub fn copy(&self) -> Self
         ensures { result ≡ self.now }
     {
@@ -42,7 +42,7 @@ impl Table {
         }
     }
 
-    /// The page number at a place.
+    /// Returns the page id in a slot.
     #[inline]
     pub fn entry(&self, place: u16) -> u32
         requires { place < 1024 }
@@ -52,7 +52,7 @@ impl Table {
         self.numbers()[place as usize]
     }
 
-    /// Puts a page number at a place.
+    /// Sets the page id of a slot.
     #[inline]
     pub fn set(&mut self, place: u16, page_no: u32)
         requires { place < 1024 }
@@ -61,7 +61,7 @@ impl Table {
         self.numbers[place as usize] = page_no;
     }
 
-    /// The page numbers of all places, in order.
+    /// Returns the page ids of all slots, in order.
     #[inline]
     pub fn numbers(&self) -> &[u32]
         ensures numbers { result.now ≡ self.now }

@@ -1,4 +1,4 @@
-//! Recordings that are checked: each with the line that it gives.
+//! Recordings that are checked, each with its verdict line.
 
 use super::served::{gives, served};
 use recording_texts::Spot::{Flags, Keys, Leds, Place, Register, Stop, Waiting};
@@ -11,7 +11,7 @@ use std::sync::Wait;
 use std::test::Fail;
 use std::thread::Threads;
 
-/// A recording, numbers of it that are turned, the line of its check, and the status.
+/// A recording, numbers of it that are replaced, the line of its check, and the status.
 type Example = (Sketch<'static>, &'static [(Spot, u32)], &'static str, u8);
 
 /// The flags in their field.
@@ -57,7 +57,7 @@ const ADD_WITH_CARRY: Sketch<'static> = Sketch {
     ],
 };
 
-/// Jumps from word 2 to word 16, and keeps in R15 where it came from.
+/// Jumps from word 2 to word 16, and keeps the link in R15.
 const LINK_AND_JUMP: Sketch<'static> = Sketch {
     pages: &[&[0, 0, 0xD700_000F]],
     events: &[],
@@ -93,14 +93,14 @@ const BORROW: Sketch<'static> = Sketch {
     ],
 };
 
-/// What is turned where 1 is subtracted from 80000000 hexadecimal.
+/// What is replaced to subtract 1 from 80000000 hexadecimal.
 const BORROW_FROM_THE_LEAST: [(Spot, u32); 3] = [
     (Register(0, 0), 0x8000_0000),
     (Register(1, 0), 0x7FFF_FFFF),
     (Flags(1), OVERFLOW),
 ];
 
-/// Jumps to the first word behind the memory, and stops there.
+/// Jumps to the first word after the memory, and stops there.
 const JUMP_OFF_THE_END: Sketch<'static> = Sketch {
     pages: &[&[0xC700_0001]],
     events: &[],
@@ -197,7 +197,7 @@ const FALSE_CLAIM_THAT_REJOINS: Sketch<'static> = Sketch {
     ],
 };
 
-/// The recording of one byte sent, but for the claim that it was.
+/// The recording of one byte sent, without the claim that it was.
 const NO_BYTE_SENT: Sketch<'static> = Sketch {
     claims: &[
         FIRST_PAGE,
@@ -217,7 +217,7 @@ const NO_BYTE_SENT: Sketch<'static> = Sketch {
     ..ONE_BYTE_SENT
 };
 
-/// Stores 5 over the first word of page 1 of the memory, which begins as page 0 does.
+/// Stores 5 into the first word of page 1 of the memory, which begins as page 0 does.
 const PAGE_WRITTEN: Sketch<'static> = Sketch {
     pages: &[&[0x4000_0005, 0xA010_0400, JUMP], &[5, 0xA010_0400, JUMP]],
     events: &[],
@@ -236,8 +236,8 @@ const PAGE_WRITTEN: Sketch<'static> = Sketch {
     ],
 };
 
-/// Adds 1 to R2, makes an addition of 16 of that and goes back to it. One checkpoint stands before the new instruction is run,
-/// and one after it.
+/// Adds 1 to R2, changes that instruction into an addition of 16 and goes back to it. One checkpoint is before the new
+/// instruction runs, and one after it.
 const CODE_WRITTEN: Sketch<'static> = Sketch {
     pages: &[
         &[0x4228_0001, 0xA010_0000, 0xE7FF_FFFD],
@@ -419,7 +419,7 @@ fn checks_jumps(rt: HostRuntime) -> Result<(), Fail> {
     check_each(&rt, JUMPS_ALONE)
 }
 
-/// Checks that each recording has its line, in both versions, whatever the workers and the cut.
+/// Checks that each recording has its line, in both versions, whatever the number of workers and the cut.
 fn check_each(
     rt: &(impl Abort + AllocGlobal + Threads + Wait + Sync),
     examples: &[Example],
@@ -433,7 +433,7 @@ fn check_each(
     Ok(())
 }
 
-/// Checks the migrated text, which migrated again is itself.
+/// Checks the migrated file, and that its migration is itself.
 fn check_migrated(
     rt: &(impl Abort + AllocGlobal + Threads + Wait + Sync),
     text: &[u8],
@@ -446,7 +446,7 @@ fn check_migrated(
     assert_eq!(rt; ended, 0);
 }
 
-/// Checks the text with few workers and many, and with jobs of one segment and of more.
+/// Checks the file with few workers and many, and with jobs of one segment and of more.
 pub(super) fn check_with_each(
     rt: &(impl Abort + AllocGlobal + Threads + Wait + Sync),
     text: &[u8],

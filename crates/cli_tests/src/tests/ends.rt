@@ -14,7 +14,7 @@ use std::thread::Threads;
 /// The line of the stored run.
 const LINE: &[u8] = b"accepted 1 checkpoints 100 steps\n";
 
-/// Gives what it has, at most a thousand bytes a call. The call after so many fails, and no other.
+/// Returns its bytes, at most a thousand a call. The call after a number of calls fails, and no other.
 #[derive(Drop)]
 struct Failing<'a> {
     rest: &'a [u8],
@@ -34,7 +34,7 @@ impl Read for Failing<'_> {
     }
 }
 
-/// Gives what it has, one byte a call.
+/// Returns its bytes, one a call.
 #[derive(Drop)]
 struct Dripping<'a> {
     rest: &'a [u8],
@@ -47,7 +47,7 @@ impl Read for Dripping<'_> {
     }
 }
 
-/// Gives zeros without end, and counts them.
+/// Returns zeros without end, and counts them.
 #[derive(Drop)]
 struct Endless {
     given: u64,
@@ -74,7 +74,7 @@ fn help_and_refused_words_read_nothing(rt: HostRuntime) {
     }
 }
 
-/// What a call does that takes no bytes.
+/// What a call that takes no bytes returns.
 #[derive(Clone, Copy)]
 enum Refusal {
     TakesNone,
@@ -90,7 +90,7 @@ impl Refusal {
     }
 }
 
-/// Takes one byte a call. The call after so many is refused, and no other, and so is each flush, if it is to be.
+/// Takes one byte a call. The call after a number of calls is refused, and no other; each flush is refused if it is to be.
 #[derive(Drop)]
 struct Narrow {
     taken: Vec<u8>,
@@ -121,12 +121,12 @@ impl Write for Narrow {
     }
 }
 
-/// A reader of this text whose call after so many fails.
+/// Returns a reader of this file whose call after a number of calls fails.
 fn failing_reader<'a>(rest: &'a [u8], calls: u32, why: ErrorKind) -> Watched<Failing<'a>> {
     Watched::new(Failing { rest, calls, why })
 }
 
-/// Checks that the words end with a fault of the reader, and that nothing else is written.
+/// Checks that the program ends with a fault of the reader, and that nothing else is written.
 fn ends_with_read_fault<'a, H: Abort + AllocGlobal + Threads + Wait + Sync>(
     rt: &H,
     words: &'a [&'a str],
@@ -140,7 +140,7 @@ fn ends_with_read_fault<'a, H: Abort + AllocGlobal + Threads + Wait + Sync>(
     assert!(rt; has_failed == (true, false));
 }
 
-/// Words that read a text.
+/// Arguments of commands that read a file.
 const READING: [&[&str]; 4] = [
     &["check", "--cut=1"],
     &["record"],
@@ -153,7 +153,7 @@ fn a_read_that_fails_leaves_its_line_alone(rt: HostRuntime) -> Result<(), Fail> 
     let text = STORED_RUN.first_text(rt.alloc(), &[])?;
     for words in READING {
         for why in [ErrorKind::Other, ErrorKind::Interrupted] {
-            // The text takes ten calls, and its end is seen at the eleventh.
+            // The file takes ten calls, and its end is seen at the eleventh.
             for calls in 0..11 {
                 ends_with_read_fault(&rt, words, failing_reader(&text, calls, why));
             }
@@ -162,7 +162,7 @@ fn a_read_that_fails_leaves_its_line_alone(rt: HostRuntime) -> Result<(), Fail> 
     Ok(())
 }
 
-/// Checks that a text is checked to the line of the stored run.
+/// Checks that a file is checked to the line of the stored run.
 fn is_accepted<H: Abort + AllocGlobal + Threads + Wait + Sync>(
     rt: &H,
     words: &[&str],
@@ -192,7 +192,7 @@ fn a_reader_of_one_byte_a_call_is_read_to_its_end(rt: HostRuntime) -> Result<(),
     Ok(())
 }
 
-/// Words, the line that they give where the input is zeros without end, and how many of these are read.
+/// Arguments, the line that they get if the input is zeros without end, and how many of these are read.
 const ENDLESS: [(&[&str], &str, u64); 4] = [
     (&["check"], "refused 2 magic at byte 0\n", 118_310_057),
     (&["migrate"], "refused 2 magic at byte 0\n", 118_310_057),
@@ -215,8 +215,8 @@ fn a_reader_without_end_is_read_up_to_the_limit(rt: HostRuntime) {
     }
 }
 
-/// Checks the status of these words over a writer that takes one byte a call, and what it has taken. A status of 3 says that it
-/// failed.
+/// Checks the status of these arguments over a writer that takes one byte a call, and what it has taken. A status of 3 means that
+/// it failed.
 fn ends_narrow<'a, H: Abort + AllocGlobal + Threads + Wait + Sync>(
     rt: &H,
     words: &'a [&'a str],
@@ -233,7 +233,7 @@ fn ends_narrow<'a, H: Abort + AllocGlobal + Threads + Wait + Sync>(
     assert_eq!(rt; has_failed, status == 3);
 }
 
-/// A writer whose call after so many is refused, and whose flush succeeds.
+/// Returns a writer whose call after a number of calls is refused, and whose flush succeeds.
 fn refusing(alloc: Global, calls: usize, refusal: Refusal) -> Narrow {
     Narrow {
         taken: Vec::new(alloc),
@@ -243,7 +243,7 @@ fn refusing(alloc: Global, calls: usize, refusal: Refusal) -> Narrow {
     }
 }
 
-/// What a call does that takes no bytes, in each way that there is.
+/// Each result of a call that takes no bytes.
 const REFUSALS: [Refusal; 3] = [
     Refusal::TakesNone,
     Refusal::Fails(ErrorKind::Other),

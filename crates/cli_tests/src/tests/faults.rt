@@ -1,4 +1,4 @@
-//! Texts that are refused: each with the line of its first fault.
+//! Files that are refused, each with the line of its first fault.
 
 use super::checks::check_with_each;
 use super::served::gives;
@@ -8,11 +8,11 @@ use std::sync::Wait;
 use std::test::Fail;
 use std::thread::Threads;
 
-/// One byte of the text of the stored run that is changed, and the line that this gives.
+/// One byte of the file of the stored run that is changed, and the line that this gives.
 const CHANGED_BYTES: [(usize, u8, &str); 9] = [
     (0, 0x00, "refused 2 magic at byte 0\n"),
     (4, 0x09, "refused 3 version at byte 4\n"),
-    // read as version 2, in which the second checkpoint is right behind the first
+    // read as version 2, in which the second checkpoint is directly after the first
     (4, 0x02, "refused 6 checkpoint at byte 1192\n"),
     (20, 0x01, "refused 4 limit at byte 20\n"),
     (16, 0x00, "refused 4 limit at byte 16\n"),
@@ -55,7 +55,7 @@ fn refuse(rt: &(impl Abort + AllocGlobal + Threads + Wait + Sync), text: &[u8], 
     }
 }
 
-/// The same of its text of version 2.
+/// The same for its file of version 2.
 const CHANGED_BYTES_2: [(usize, u8, &str); 7] = [
     (0, 0x00, "refused 2 magic at byte 0\n"),
     (4, 0x03, "refused 3 version at byte 4\n"),

@@ -1,11 +1,11 @@
-//! Words that ask for help, and words that ask for nothing.
+//! Arguments that ask for help, and arguments that ask for nothing.
 
 use super::served::{gives, served};
 use std::process::Abort;
 use std::sync::Wait;
 use std::thread::Threads;
 
-/// Words that ask for nothing.
+/// Arguments that ask for nothing.
 const REFUSED: [&[&str]; 13] = [
     &["screen"],
     &["screen", "--at", "4097"],
@@ -22,10 +22,10 @@ const REFUSED: [&[&str]; 13] = [
     &["upgrade"],
 ];
 
-/// Help that words ask for.
+/// Help that arguments ask for.
 struct Help {
     words: &'static [&'static str],
-    /// How the command is used, as its help says it.
+    /// The usage line of the command in its help.
     usage: &'static [u8],
     /// The example at the end of its help.
     example: &'static [u8],
@@ -59,7 +59,7 @@ const HELP: [Help; 5] = [
     },
 ];
 
-/// The commands, each of which the text of help lists.
+/// The commands, each of which the help lists.
 const COMMANDS: [&[u8]; 4] = [b"check", b"migrate", b"record", b"screen"];
 
 #[test]
@@ -89,7 +89,7 @@ fn help_each(rt: &(impl Abort + AllocGlobal + Threads + Wait + Sync), all: &[Hel
     }
 }
 
-/// Checks how a text begins to help, and its example.
+/// Checks how a help text begins, and its example.
 fn helps_with(rt: &impl Abort, text: &[u8], help: &Help) {
     assert!(rt; has(text, help.usage));
     assert!(rt; text.ends_with(help.example));
@@ -101,14 +101,14 @@ fn lists_the_commands(rt: HostRuntime) {
     has_commands(&rt, &written);
 }
 
-/// Checks that a text has each command.
+/// Checks that a help text has each command.
 fn has_commands(rt: &impl Abort, text: &[u8]) {
     for command in COMMANDS {
         assert!(rt; has(text, command));
     }
 }
 
-/// Whether these bytes stand somewhere in a text.
+/// Reports whether these bytes are somewhere in a text.
 fn has(text: &[u8], bytes: &[u8]) -> bool {
     if bytes.is_empty() {
         return true;

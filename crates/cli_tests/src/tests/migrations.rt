@@ -1,4 +1,4 @@
-//! Recordings that are written in the version that is written now.
+//! Recordings that are migrated to the current version.
 
 use super::served::{gives, served};
 use recording_texts::STORED_RUN;
@@ -7,7 +7,7 @@ use std::sync::Wait;
 use std::test::Fail;
 use std::thread::Threads;
 
-/// Checks that the words give the same for two texts.
+/// Checks that the arguments give the same output for two files.
 fn agrees<'a, H: Abort + AllocGlobal + Threads + Wait + Sync>(
     rt: &H,
     words: &'a [&'a str],
@@ -23,7 +23,7 @@ fn migrates_a_recording(rt: HostRuntime) -> Result<(), Fail> {
     let text = STORED_RUN.first_text(rt.alloc(), &[])?;
     let migrated = STORED_RUN.second_text(rt.alloc(), &[])?;
     gives(&rt, &["migrate"], &text, &migrated, 0);
-    // Its check and its screens are those of the text, and migrated again it stays.
+    // Its check and its screens are those of the original file, and its migration is itself.
     for text in [&text, &migrated] {
         let line = b"accepted 1 checkpoints 100 steps\n";
         gives(&rt, &["check", "--cut=1"], text, line, 0);

@@ -1,4 +1,4 @@
-//! Sessions that are recorded: each with its recording, or with the line of its fault.
+//! Sessions that are recorded, each with its recording, or with the line of its fault.
 
 use super::served::{gives, served};
 use recording_texts::{Claim, FIRST_PAGE, JUMP, STORED_RUN, Sketch, ZEROS};
@@ -8,7 +8,7 @@ use std::sync::Wait;
 use std::test::Fail;
 use std::thread::Threads;
 
-/// The text of a session, up to the digits of the one page that it begins with.
+/// The JSON of a session, up to the digits of the one page that it begins with.
 const BEFORE_DIGITS: &str = concat!(
     "{\"format\":\"oberon-session\",\"version\":1,",
     "\"start\":{\"R\":[0,0,0,0,0,0,0,0,0,0,0,0,0,0,0,0],\"H\":0,\"PC\":0,\"flags\":0},",
@@ -25,7 +25,7 @@ fn session(alloc: Global, digits: &str, counts: &str) -> Result<String, AllocErr
     format!(in alloc; "{BEFORE_DIGITS}{digits}{BEFORE_COUNTS}{counts}{END}")
 }
 
-/// Checks that the recording of the session is this text, and that its check gives this line.
+/// Checks that the recording of the session is this file, and that its check gives this line.
 fn records(
     rt: &(impl Abort + AllocGlobal + Threads + Wait + Sync),
     session: &str,
@@ -36,7 +36,7 @@ fn records(
     gives(rt, &[], recording, line.as_bytes(), 0);
 }
 
-/// The session is refused with this line.
+/// Checks that the session is refused with this line.
 fn refuses(rt: &(impl Abort + AllocGlobal + Threads + Wait + Sync), session: &str, line: &str) {
     gives(rt, &["record"], session.as_bytes(), line.as_bytes(), 2);
 }
@@ -50,8 +50,7 @@ fn records_the_stored_run(rt: HostRuntime) -> Result<(), Fail> {
     Ok(())
 }
 
-/// Parts of the text of the stored run's session that are written otherwise, and the lines that this gives. The last one breaks
-/// two rules.
+/// Parts of the stored run's session that are replaced, and the lines that this gives. The last one breaks two rules.
 const CHANGES: [(&str, &str, &str); 6] = [
     (
         "\"version\":1",
@@ -88,7 +87,8 @@ fn refuse_each(
     Ok(())
 }
 
-/// Members of a first state that its version doesn't have, or whose numbers are out of their range, and the lines that they give.
+/// Members of an initial state that its version does not have, or whose numbers are out of their range, and the lines that they
+/// give.
 const STARTS: [(&str, &str, &str); 3] = [
     ("1", ",\"rate\":10", "session refused 2 shape\n"),
     ("2", ",\"rate\":10", "session refused 2 shape\n"),

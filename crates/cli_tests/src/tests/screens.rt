@@ -9,7 +9,7 @@ use std::sync::Wait;
 use std::test::Fail;
 use std::thread::Threads;
 
-/// The text of a recording with one word that isn't 0: this one of the page at this place.
+/// Returns the file of a recording with one word that is not 0: this one of the page in this slot.
 fn one_word(alloc: Global, place: u16, word: u16, bits: u32) -> Result<Vec<u8>, AllocError> {
     let claim = Claim {
         table: &[(place, 1)],
@@ -34,7 +34,7 @@ fn shows_one_dot(rt: HostRuntime) -> Result<(), Fail> {
     Ok(())
 }
 
-/// The picture of checkpoint 0 has one byte after its head that isn't 0.
+/// Checks that the picture of checkpoint 0 has one byte after its header that is not 0.
 fn show(rt: &(impl Abort + AllocGlobal + Threads + Wait + Sync), text: &[u8], at: usize, byte: u8) {
     let (written, ended) = served(rt, &["screen", "--at", "0"], text);
     assert_eq!(rt; ended, 0);
@@ -43,7 +43,7 @@ fn show(rt: &(impl Abort + AllocGlobal + Threads + Wait + Sync), text: &[u8], at
     gives(rt, &["screen", "--at", "0"], &migrated, &written, 0);
 }
 
-/// Checks a picture that has one byte after its head that isn't 0.
+/// Checks a picture that has one byte after its header that is not 0.
 fn has_dot(rt: &impl Abort, written: &[u8], at: usize, byte: u8) {
     assert_eq!(rt; written.len(), 98_316);
     assert!(rt; written.starts_with(b"P4\n1024 768\n"));
@@ -56,7 +56,7 @@ fn has_dot(rt: &impl Abort, written: &[u8], at: usize, byte: u8) {
 fn shows_no_screen(rt: HostRuntime) -> Result<(), Fail> {
     let text = STORED_RUN.first_text(rt.alloc(), &[])?;
     refuse(&rt, &text, b"no checkpoint 2\n");
-    // A fault of the text comes before a checkpoint that isn't there.
+    // A fault of the file is reported before a missing checkpoint.
     refuse(&rt, &[], b"refused 1 short at byte 0\n");
     Ok(())
 }

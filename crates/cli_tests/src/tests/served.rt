@@ -1,11 +1,11 @@
-//! `serve` over a text in memory.
+//! `serve` over an input in memory.
 
 use oberon_cli::serve;
 use std::process::Abort;
 use std::sync::Wait;
 use std::thread::Threads;
 
-/// What was written for the words and the text, and the status.
+/// What was written for the arguments and the input, and the status.
 pub(super) fn served<'a, H: AllocGlobal + Threads + Wait + Sync>(
     rt: &H,
     words: &'a [&'a str],
@@ -17,7 +17,7 @@ pub(super) fn served<'a, H: AllocGlobal + Threads + Wait + Sync>(
     (written, status)
 }
 
-/// Checks what is written for the words and the text, and the status.
+/// Checks what is written for the arguments and the input, and the status.
 pub(super) fn gives<'a, H: Abort + AllocGlobal + Threads + Wait + Sync>(
     rt: &H,
     words: &'a [&'a str],

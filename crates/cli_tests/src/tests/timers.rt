@@ -1,4 +1,4 @@
-//! Recordings of version 2 whose timer counts by itself.
+//! Recordings of version 2 whose timer counts instructions.
 
 use super::served::gives;
 use recording_texts::Spot::{Phase, Rate};
@@ -8,7 +8,7 @@ use std::sync::Wait;
 use std::test::Fail;
 use std::thread::Threads;
 
-/// A jump to itself, with a timer that counts each ten instructions and is set to 100 at count 25, right behind checkpoint 1.
+/// A jump to itself, with a timer that counts each ten instructions and is set to 100 at count 25, directly after checkpoint 1.
 const TIMER_COUNTS: Sketch<'static> = Sketch {
     pages: &[&[JUMP]],
     events: &[Event {
@@ -37,7 +37,7 @@ const TIMER_COUNTS: Sketch<'static> = Sketch {
     ],
 };
 
-/// Reads the timer into R1 as its tenth instruction, at rate 10: the timer is still 0 then, and is 1 right behind it.
+/// Reads the timer into R1 as its tenth instruction, at rate 10: the timer is still 0 then, and is 1 directly after it.
 const READS_BEFORE_ITS_COUNT: Sketch<'static> = Sketch {
     // MOV R12, -64, zeros, and a load of device word 0
     pages: &[&[0x5C00_FFC0, 0, 0, 0, 0, 0, 0, 0, 0, 0x81C0_0000]],
@@ -59,7 +59,7 @@ const READS_BEFORE_ITS_COUNT: Sketch<'static> = Sketch {
     ],
 };
 
-/// The check of this recording with these numbers turned gives this line, with one worker, two and 64.
+/// Checks that the check of this recording with these numbers replaced gives this line, with one worker, two and 64.
 fn checks(
     rt: &(impl Abort + AllocGlobal + Threads + Wait + Sync),
     recording: &Sketch<'_>,

@@ -1,4 +1,4 @@
-//! Readers and writers that note whether a call of them failed.
+//! Readers and writers that record whether a call of them failed.
 ghost use Rattle.std.specs.Prelude.{◌≡◌, false};
 
 use oberon_cli::{Sink, Source, WriteFault};
@@ -12,7 +12,7 @@ pub(super) struct Watched<T> {
 }
 
 impl<T> Watched<T> {
-    /// This reader or writer, of which no call has failed yet.
+    /// Returns this reader or writer, of which no call has failed yet.
     pub(super) fn new(inner: T) -> Watched<T>
         ensures { result.failed ≡ false }
     {
@@ -22,14 +22,14 @@ impl<T> Watched<T> {
         }
     }
 
-    /// Whether a call of it failed.
+    /// Reports whether a call of it failed.
     pub(super) fn has_failed(&self) -> bool
         ensures { result ≡ self.now.failed }
     {
         self.failed
     }
 
-    /// The reader or the writer itself.
+    /// Returns the reader or the writer itself.
     pub(super) fn into_inner(self) -> T {
         self.inner
     }

@@ -1,4 +1,4 @@
-//! Texts of version 1: each rule broken once, and what they are written as.
+//! Files of version 1: each rule broken once, and the files that are written of them.
 
 use crate::tests::texts::{
     Turned, check_parts, check_rows, cut_text, is_fault_of, is_line, is_refused,
@@ -57,28 +57,28 @@ const FULL: Sketch<'static> = Sketch {
     }],
 };
 
-/// Recordings that have a text of version 1.
+/// Recordings that have a file of version 1.
 const SKETCHES: [Sketch<'static>; 5] = [STORED_RUN, EMPTY, EQUAL_PAGES, ONE_BYTE_SENT, FULL];
 
-/// The recording of a sketch, by its text of version 1.
+/// Returns the recording of a sketch, from its file of version 1.
 fn first_recording(alloc: Global, sketch: &Sketch<'_>) -> Option<Recording> {
     let text = sketch.first_text(alloc, &[]).ok()?;
     read(alloc, &text).ok()
 }
 
-/// What this recording is written as.
+/// Returns the file that is written of this recording.
 fn written_text(alloc: Global, sketch: &Sketch<'_>) -> Option<Vec<u8>> {
     let recording = first_recording(alloc, sketch)?;
     write(alloc, &recording).ok()
 }
 
-/// The recording of what it is written as.
+/// Returns the recording of the file that is written of this one.
 fn second_recording(alloc: Global, sketch: &Sketch<'_>) -> Option<Recording> {
     let text = written_text(alloc, sketch)?;
     read(alloc, &text).ok()
 }
 
-/// How long the text of version 1 is.
+/// Returns the length of the file of version 1.
 fn first_length(alloc: Global, sketch: &Sketch<'_>) -> Option<usize> {
     match sketch.first_text(alloc, &[]) {
         Ok(text) => Some(text.len()),
@@ -86,7 +86,7 @@ fn first_length(alloc: Global, sketch: &Sketch<'_>) -> Option<usize> {
     }
 }
 
-/// Whether two devices agree in all that they remember.
+/// Reports whether two devices agree in all their state.
 fn are_same_devices(other: &Devices, one: &Devices) -> bool {
     other.timer() == one.timer()
         && (other.rate(), other.phase()) == (one.rate(), one.phase())
@@ -97,7 +97,7 @@ fn are_same_devices(other: &Devices, one: &Devices) -> bool {
         && other.keys() == one.keys()
 }
 
-/// Whether two checkpoints agree, and the first has a timer that doesn't count by itself.
+/// Reports whether two checkpoints agree, and the first has a timer of rate 0.
 fn is_same_checkpoint(other: &Checkpoint, one: &Checkpoint) -> bool {
     other.count == one.count
         && other.cpu == one.cpu
@@ -107,7 +107,7 @@ fn is_same_checkpoint(other: &Checkpoint, one: &Checkpoint) -> bool {
         && other.table.numbers() == one.table.numbers()
 }
 
-/// Whether two recordings agree in each checkpoint.
+/// Reports whether two recordings agree in each checkpoint.
 fn has_same_checkpoints(again: &Recording, recording: &Recording) -> bool {
     if again.count() != recording.count() {
         return false;
@@ -120,7 +120,7 @@ fn has_same_checkpoints(again: &Recording, recording: &Recording) -> bool {
     true
 }
 
-/// The part in which two recordings differ, if they do.
+/// Returns the part in which two recordings differ, if they do.
 fn different_part(again: &Recording, recording: &Recording) -> Option<&'static str> {
     if again.pool().len() != recording.pool().len() {
         return Some("number of pages");
@@ -134,7 +134,7 @@ fn different_part(again: &Recording, recording: &Recording) -> Option<&'static s
     None
 }
 
-/// The part in which the recording of a sketch differs from that of what it is written as, if it does.
+/// Returns the part in which the recording of a sketch changes when it is written and read again, if it does.
 fn part_that_changes(alloc: Global, sketch: &Sketch<'_>) -> Option<&'static str> {
     let Some(recording) = first_recording(alloc, sketch) else {
         return Some("answer in version 1");
@@ -145,7 +145,7 @@ fn part_that_changes(alloc: Global, sketch: &Sketch<'_>) -> Option<&'static str>
     different_part(&again, &recording)
 }
 
-/// The first row whose recording changes where it is written, if there is one, and the part that changes.
+/// Returns the first row whose recording changes when it is written, if there is one, and the part that changes.
 fn row_that_changes(alloc: Global) -> Option<(usize, &'static str)> {
     for (row, sketch) in SKETCHES.iter().enumerate() {
         if let Some(part) = part_that_changes(alloc, sketch) {
@@ -162,12 +162,12 @@ fn gives_the_same_recording_in_the_second_version(rt: HostRuntime) {
     }
 }
 
-/// The version of a text.
+/// Returns the version of a file.
 fn version_of(text: &[u8]) -> u8 {
     if text.len() > 4 { text[4] } else { 0 }
 }
 
-/// Whether a recording is written in version 2, and shorter than in version 1.
+/// Reports whether a recording is written in version 2, and shorter than in version 1.
 fn is_written_shorter(alloc: Global, sketch: &Sketch<'_>) -> bool {
     let Some(length) = first_length(alloc, sketch) else {
         return false;
@@ -178,7 +178,7 @@ fn is_written_shorter(alloc: Global, sketch: &Sketch<'_>) -> bool {
     }
 }
 
-/// The first row that is not written so, if there is one.
+/// Returns the first row that is not written so, if there is one.
 fn row_of_another_version(alloc: Global) -> Option<usize> {
     for (row, sketch) in SKETCHES.iter().enumerate() {
         if !is_written_shorter(alloc, sketch) {
@@ -193,12 +193,12 @@ fn writes_a_shorter_text_of_the_second_version(rt: HostRuntime) {
     check_rows(&rt, row_of_another_version(rt.alloc()));
 }
 
-/// Whether the pool is that of the stored run.
+/// Reports whether the pool is that of the stored run.
 fn is_stored_pool(pool: &Pool) -> bool {
     pool.len() == 1 && pool.page(1).words[0] == 0x4000_0005
 }
 
-/// Whether this is what the stored run claims at its end.
+/// Reports whether this is the claim of the stored run at its end.
 fn is_stored_end(last: &Checkpoint) -> bool {
     last.count == 100
         && last.cpu.r[0] == 5
@@ -208,7 +208,7 @@ fn is_stored_end(last: &Checkpoint) -> bool {
         && last.table.entry(0) == 1
 }
 
-/// The part of this recording that is not the stored run's, if there is one.
+/// Returns the part of this recording that is not the stored run's, if there is one.
 fn part_unlike_stored(recording: &Recording) -> Option<&'static str> {
     if !is_stored_pool(recording.pool()) {
         return Some("pool");
@@ -225,7 +225,7 @@ fn part_unlike_stored(recording: &Recording) -> Option<&'static str> {
     None
 }
 
-/// The same of the recording of the stored run's text.
+/// Returns the same for the recording of the stored run's file.
 fn part_read_wrong(alloc: Global) -> Option<&'static str> {
     match first_recording(alloc, &STORED_RUN) {
         Some(recording) => part_unlike_stored(&recording),
@@ -238,11 +238,11 @@ fn reads_the_parts_of_a_text(rt: HostRuntime) {
     check_parts(&rt, part_read_wrong(rt.alloc()));
 }
 
-/// A word of the text of the stored run that breaks a rule, and the line of the fault.
+/// A word of the file of the stored run that breaks a rule, and the line of the fault.
 const BROKEN: [(u16, u32, Fault, &str); 28] = [
     (0, 0, Fault::Magic(0), "refused 2 magic at byte 0\n"),
     (4, 9, Fault::Version(4), "refused 3 version at byte 4\n"),
-    // version 2 has the second checkpoint right behind the 144 bytes of the first
+    // version 2 has the second checkpoint directly after the 144 bytes of the first
     (
         4,
         2,
@@ -356,7 +356,7 @@ const BROKEN: [(u16, u32, Fault, &str); 28] = [
     (5408, 2, Fault::Page(5408), "refused 7 page at byte 5408\n"),
 ];
 
-/// The first place that gives another fault, or whose fault has another line, if there is one.
+/// Returns the first row with another fault, or whose fault has another line, if there is one.
 fn place_of_another_fault(alloc: Global) -> Option<u16> {
     for (place, word, fault, line) in &BROKEN {
         if !is_refused(alloc, 1, &STORED_RUN, &[(*place, *word)], *fault)
@@ -375,7 +375,7 @@ fn refuses_each_broken_rule(rt: HostRuntime) {
     }
 }
 
-/// Words of the text of two events that put an event out of its ranges.
+/// Words of the file of two events that put an event out of its ranges.
 const EVENTS_OUT_OF_RANGE: [Turned; 9] = [
     // kind 6
     (&[(1056, 6), (1072, 1)], Fault::Event(1048)),
@@ -407,7 +407,7 @@ fn refuses_a_text_with_a_byte_after_it(rt: HostRuntime) {
     assert!(rt; is_line(rt.alloc(), fault, "refused 8 trailing at byte 9504\n"));
 }
 
-/// Whether the text of the stored run is short where only so many bytes of it are there.
+/// Reports whether the file of the stored run is refused as short when cut at this length.
 fn is_short_at(alloc: Global, len: usize) -> bool {
     match cut_text(alloc, 1, len) {
         Ok(text) => is_fault_of(alloc, &text, Fault::Short(len as u64)),
@@ -415,7 +415,7 @@ fn is_short_at(alloc: Global, len: usize) -> bool {
     }
 }
 
-/// The first of these lengths at which it is not short, if there is one.
+/// Returns the first of these lengths at which it is not short, if there is one.
 fn length_that_is_not_short(alloc: Global) -> Option<usize> {
     for len in [9503, 23, 0] {
         if !is_short_at(alloc, len) {
@@ -446,19 +446,19 @@ fn refuses_an_event_of_no_kind(rt: HostRuntime) {
     assert!(rt; is_refused(rt.alloc(), 1, &NO_KIND, &[], Fault::Event(1048)));
 }
 
-/// Words of the text of the stored run that break two rules, and the first fault.
+/// Words of the file of the stored run that break two rules, and the first fault.
 const TWO_FAULTS: [Turned; 8] = [
-    // a page number of checkpoint 0, and a field of checkpoint 1
+    // a page id of checkpoint 0, and a field of checkpoint 1
     (&[(1180, 2), (5276, 0)], Fault::Page(1180)),
-    // a field of checkpoint 0, and a page number of checkpoint 1
+    // a field of checkpoint 0, and a page id of checkpoint 1
     (&[(1048, 1), (5408, 2)], Fault::Checkpoint(1048)),
-    // a page number and a field of one checkpoint
+    // a page id and a field of one checkpoint
     (&[(5408, 2), (5356, 16)], Fault::Checkpoint(5276)),
-    // two page numbers
+    // two page ids
     (&[(5272, 2), (1184, 2)], Fault::Page(1184)),
-    // a field of the last checkpoint, and output that isn't there
+    // a field of the last checkpoint, and output that is missing
     (&[(5404, 1), (5360, 5)], Fault::Checkpoint(5276)),
-    // the header's last number, and too many pages; and events that aren't there
+    // the header's last number, and too many pages; and events that are missing
     (&[(20, 1), (8, 65_537)], Fault::Limit(8)),
     (&[(20, 1), (12, 1_000)], Fault::Limit(20)),
     // the version, and the first four bytes
@@ -476,7 +476,7 @@ fn gives_the_first_of_two_faults(rt: HostRuntime) {
     assert!(rt; is_refused(alloc, 1, &TWO_EVENTS, &words, Fault::Event(1048)));
 }
 
-/// A text of as many pages and events as there can be.
+/// A file with as many pages and events as there can be.
 fn most_text(alloc: Global) -> Result<Vec<u8>, AllocError> {
     let mut text = vec![in alloc; 0; 83_113_116]?;
     let header = header(alloc, 1, 65_536, 1_000_000, 1)?;
@@ -484,7 +484,7 @@ fn most_text(alloc: Global) -> Result<Vec<u8>, AllocError> {
         put_byte(&mut text, place, *byte);
     }
     put_word(&mut text, 24, JUMP);
-    // The last word of the last page, the kind and the value of each event, and the last number of the table.
+    // The last word of the last page, the kind and the value of each event, and the last page id of the table.
     put_byte(&mut text, 67_108_884, 7);
     for i in 0..1_000_000usize {
         put_byte(&mut text, 67_108_896 + 16 * i, 1);
@@ -494,24 +494,24 @@ fn most_text(alloc: Global) -> Result<Vec<u8>, AllocError> {
     Ok(text)
 }
 
-/// The recording of this text.
+/// Returns the recording of this file.
 fn most_recording(alloc: Global) -> Option<Recording> {
     let text = most_text(alloc).ok()?;
     read(alloc, &text).ok()
 }
 
-/// Whether the pool is that of this text.
+/// Reports whether the pool is that of this file.
 fn is_most_pool(pool: &Pool) -> bool {
     pool.len() == 65_536 && pool.page(1).words[0] == JUMP && pool.page(65_536).words[255] == 7
 }
 
-/// Whether these are the events of this text.
+/// Reports whether these are the events of this file.
 fn are_most_events(inputs: &Inputs) -> bool {
     let events = inputs.events();
     events.len() == 1_000_000 && events[999_999].input.value() == 9
 }
 
-/// The part of this recording that is not that of this text, if there is one.
+/// Returns the part of this recording that is not that of this file, if there is one.
 fn part_unlike_most(recording: &Recording) -> Option<&'static str> {
     if !is_most_pool(recording.pool()) {
         return Some("pool");
@@ -528,7 +528,7 @@ fn part_unlike_most(recording: &Recording) -> Option<&'static str> {
     None
 }
 
-/// Whether the text of a recording has this length in the version that is written.
+/// Reports whether the file of a recording has this length in the current version.
 fn is_written_in(alloc: Global, recording: &Recording, length: usize) -> bool {
     match write(alloc, recording) {
         Ok(text) => text.len() == length,
@@ -536,7 +536,7 @@ fn is_written_in(alloc: Global, recording: &Recording, length: usize) -> bool {
     }
 }
 
-/// The part that is wrong once this text is read and written, if there is one.
+/// Returns the part that is wrong after this file is read and written, if there is one.
 fn wrong_part_of_most(alloc: Global) -> Option<&'static str> {
     let Some(recording) = most_recording(alloc) else {
         return Some("answer");

@@ -1,17 +1,17 @@
-//! Texts that are written again in the version that is written now.
+//! Files that are migrated to the current version.
 
 use crate::tests::texts::{check_rows, cut_text, text_of};
 use oberon_format::{Fault, migrate};
 use recording_texts::STORED_RUN;
 use std::alloc::Global;
 
-/// What the text of the stored run in this version is migrated to.
+/// Returns the migration of the file of the stored run in this version.
 fn migrated_text(alloc: Global, version: u32) -> Option<Vec<u8>> {
     let text = text_of(alloc, version, &STORED_RUN).ok()?;
     migrate(alloc, &text).ok()
 }
 
-/// Whether that is the text of its recording in the version that is written.
+/// Reports whether that is the file of its recording in the current version.
 fn is_migrated(alloc: Global, version: u32) -> bool {
     let Some(migrated) = migrated_text(alloc, version) else {
         return false;
@@ -25,11 +25,11 @@ fn is_migrated(alloc: Global, version: u32) -> bool {
 #[test]
 fn migrates_a_text_to_the_text_of_its_recording(rt: HostRuntime) {
     assert!(rt; is_migrated(rt.alloc(), 1));
-    // A text in the version that is written is its own migration.
+    // A file in the current version is its own migration.
     assert!(rt; is_migrated(rt.alloc(), 2));
 }
 
-/// Whether the text of the stored run, of which only so many bytes are there, is not migrated because it is short.
+/// Reports whether migrating the file of the stored run, cut at this length, is refused because the file is short.
 fn is_short(alloc: Global, version: u32, len: usize) -> bool {
     match cut_text(alloc, version, len) {
         Ok(text) => migrate(alloc, &text).err() == Some(Fault::Short(len as u64)),
@@ -37,10 +37,10 @@ fn is_short(alloc: Global, version: u32, len: usize) -> bool {
     }
 }
 
-/// Versions, and lengths at which the text of the stored run is cut.
+/// Versions, and lengths at which the file of the stored run is cut.
 const CUTS: [(u32, usize); 3] = [(1, 9503), (2, 1199), (2, 0)];
 
-/// The first cut at which the text is not refused so, if there is one.
+/// Returns the first cut at which the file is not refused so, if there is one.
 fn row_that_is_migrated(alloc: Global) -> Option<usize> {
     for (row, (version, len)) in CUTS.iter().enumerate() {
         if !is_short(alloc, *version, *len) {

@@ -7,14 +7,14 @@ use risc_model::{Cpu, Event, Flags, Inputs};
 use risc_pages::{Page, Pool, Table};
 use std::alloc::{AllocError, Global};
 
-/// Count, program counter, stop, bytes sent, a place and its page number, of a checkpoint that is otherwise zeros.
+/// Count, program counter, stop, bytes of output, a slot and its page id, of a checkpoint that is otherwise zeros.
 type Row = (u64, u32, u8, usize, u16, u32);
 
 const ZERO: Row = (0, 0, 0, 0, 0, 0);
 
 const TEN: Row = (10, 0, 0, 0, 0, 0);
 
-/// The checkpoint of a row, if its place is one.
+/// Returns the checkpoint of a row, if its slot is one.
 fn checkpoint(alloc: Global, row: Row) -> Option<Checkpoint> {
     let (count, pc, stop, sent, place, page_no) = row;
     if place >= 1024 {
@@ -44,7 +44,7 @@ fn checkpoint(alloc: Global, row: Row) -> Option<Checkpoint> {
     })
 }
 
-/// The checkpoints of these rows.
+/// Returns the checkpoints of these rows.
 fn checkpoints_of(alloc: Global, rows: &[Row]) -> Option<Vec<Checkpoint>> {
     let mut checkpoints = Vec::new(alloc);
     for row in rows {
@@ -56,7 +56,7 @@ fn checkpoints_of(alloc: Global, rows: &[Row]) -> Option<Vec<Checkpoint>> {
     Some(checkpoints)
 }
 
-/// What is wrong with these parts and no inputs.
+/// Returns the fault of these parts with no inputs.
 fn fault_of_parts(alloc: Global, pool: Pool, checkpoints: Vec<Checkpoint>) -> Option<Fault> {
     match Inputs::new(Vec::new(alloc)) {
         Ok(inputs) => Recording::from_parts(pool, inputs, checkpoints).err(),
@@ -64,7 +64,7 @@ fn fault_of_parts(alloc: Global, pool: Pool, checkpoints: Vec<Checkpoint>) -> Op
     }
 }
 
-/// Whether this is what is wrong with the checkpoints of these rows over no pages.
+/// Reports whether this is the fault of the checkpoints of these rows over no pages.
 fn is_fault_of(alloc: Global, rows: &[Row], fault: Option<Fault>) -> bool {
     match checkpoints_of(alloc, rows) {
         Some(checkpoints) => fault_of_parts(alloc, Pool::new(alloc), checkpoints) == fault,
@@ -72,7 +72,7 @@ fn is_fault_of(alloc: Global, rows: &[Row], fault: Option<Fault>) -> bool {
     }
 }
 
-/// Two checkpoints, the last with a timer of this rate and phase, if they are in their range.
+/// Returns two checkpoints, the last with a timer of this rate and phase, if they are in their range.
 fn with_timer(alloc: Global, rate: u32, phase: u32) -> Option<Vec<Checkpoint>> {
     let devices = Devices::new(7, rate, phase, 0, 0, 0, 0, &[]).ok()?;
     let mut checkpoints = checkpoints_of(alloc, &[ZERO, TEN])?;
@@ -83,7 +83,7 @@ fn with_timer(alloc: Global, rate: u32, phase: u32) -> Option<Vec<Checkpoint>> {
     Some(checkpoints)
 }
 
-/// Whether nothing is wrong with them.
+/// Reports whether they have no fault.
 fn is_taken(alloc: Global, rate: u32, phase: u32) -> bool {
     match with_timer(alloc, rate, phase) {
         Some(checkpoints) => fault_of_parts(alloc, Pool::new(alloc), checkpoints).is_none(),
@@ -99,7 +99,7 @@ const TIMERS: [(u32, u32); 4] = [
     (4_294_967_295, 4_294_967_294),
 ];
 
-/// The first row that is not taken, if there is one.
+/// Returns the first row that is refused, if there is one.
 fn timer_not_taken(alloc: Global) -> Option<usize> {
     for (row, (rate, phase)) in TIMERS.iter().enumerate() {
         if !is_taken(alloc, *rate, *phase) {
@@ -114,7 +114,7 @@ fn takes_parts_whose_timer_counts_by_itself(rt: HostRuntime) {
     check_rows(&rt, timer_not_taken(rt.alloc()));
 }
 
-/// Two checkpoints, and what is wrong with them. Checkpoint 1 begins at byte 168, or at 176 behind a change.
+/// Two checkpoints, and their fault. Checkpoint 1 begins at byte 168, or at 176 after a change.
 const FAULTS: [(Row, Row, Option<Fault>); 16] = [
     (ZERO, TEN, None),
     (ZERO, (10, 4_194_303, 4, 1_048_576, 0, 0), None),
@@ -141,7 +141,7 @@ const FAULTS: [(Row, Row, Option<Fault>); 16] = [
         Some(Fault::Checkpoint(168)),
     ),
     (ZERO, (10, 0, 0, 0, 1023, 1), Some(Fault::Page(312))),
-    // two faults: a page number first, a field first, and both in one checkpoint
+    // two faults: a page id first, a field first, and both in one checkpoint
     ((0, 0, 0, 0, 0, 1), ZERO, Some(Fault::Page(168))),
     (
         (0, 0, 5, 0, 0, 0),
@@ -151,7 +151,7 @@ const FAULTS: [(Row, Row, Option<Fault>); 16] = [
     (ZERO, (10, 0, 5, 0, 0, 1), Some(Fault::Checkpoint(168))),
 ];
 
-/// The first row with which something else is wrong, if there is one.
+/// Returns the first row with another fault, if there is one.
 fn row_of_another_fault(alloc: Global) -> Option<usize> {
     for (row, (first, last, fault)) in FAULTS.iter().enumerate() {
         if !is_fault_of(alloc, &[*first, *last], *fault) {
@@ -166,7 +166,7 @@ fn refuses_parts_by_the_first_fault_of_their_text(rt: HostRuntime) {
     check_rows(&rt, row_of_another_fault(rt.alloc()));
 }
 
-/// Two checkpoints that have page number 1 at the places 3 and 900, so that only the numbers of the places 4 and 5 are changes.
+/// Two checkpoints that have page id 1 in slots 3 and 900, so that only the page ids in slots 4 and 5 are changes.
 fn two_and_two_changes(alloc: Global) -> Option<Vec<Checkpoint>> {
     let mut checkpoints = checkpoints_of(alloc, &[(0, 0, 0, 0, 3, 1), (10, 0, 0, 0, 3, 1)])?;
     for checkpoint in &mut checkpoints {
@@ -179,7 +179,7 @@ fn two_and_two_changes(alloc: Global) -> Option<Vec<Checkpoint>> {
     Some(checkpoints)
 }
 
-/// What is wrong with them over one page.
+/// Returns their fault over one page.
 fn fault_over_a_page(alloc: Global) -> Option<Fault> {
     let checkpoints = two_and_two_changes(alloc)?;
     match pool_of(alloc, 1) {
@@ -195,7 +195,7 @@ fn counts_the_changes_before_a_fault(rt: HostRuntime) {
     assert!(rt; fault == Some(Fault::Page(1048 + 160 + 144 + 8)));
 }
 
-/// A pool of so many pages of zeros.
+/// Returns a pool of this many pages of zeros.
 fn pool_of(alloc: Global, pages: u32) -> Result<Pool, AllocError> {
     let mut pool = Pool::new(alloc);
     for _ in 0..pages {
@@ -207,7 +207,7 @@ fn pool_of(alloc: Global, pages: u32) -> Result<Pool, AllocError> {
     Ok(pool)
 }
 
-/// So many events, one before each count.
+/// Returns this many events, one before each count.
 fn events_of(alloc: Global, input: Input, events: u64) -> Result<Vec<Event>, AllocError> {
     let mut list = Vec::new(alloc);
     for count in 0..events {
@@ -216,7 +216,7 @@ fn events_of(alloc: Global, input: Input, events: u64) -> Result<Vec<Event>, All
     Ok(list)
 }
 
-/// What is wrong with these events and no pages and checkpoints.
+/// Returns the fault of these events with no pages and no checkpoints.
 fn fault_of_events(alloc: Global, events: Vec<Event>) -> Option<Fault> {
     match Inputs::new(events) {
         Ok(inputs) => Recording::from_parts(Pool::new(alloc), inputs, Vec::new(alloc)).err(),
@@ -229,7 +229,7 @@ fn refuses_no_checkpoint(rt: HostRuntime) {
     assert!(rt; is_fault_of(rt.alloc(), &[], Some(Fault::Limit(16))));
 }
 
-/// Whether a pool of one page more than there can be is refused by its length.
+/// Reports whether a pool of one page more than there can be is refused by its length.
 fn is_a_page_too_many(alloc: Global) -> bool {
     match pool_of(alloc, 65_537) {
         Ok(pool) => {
@@ -245,7 +245,7 @@ fn refuses_a_page_too_many(rt: HostRuntime) {
     assert!(rt; is_a_page_too_many(rt.alloc()));
 }
 
-/// Whether one event more than there can be is refused by the number of events.
+/// Reports whether one event more than there can be is refused by the number of events.
 fn is_an_event_too_many(alloc: Global) -> bool {
     let Ok(input) = Input::new(1, 0) else {
         return false;
@@ -261,7 +261,7 @@ fn refuses_an_event_too_many(rt: HostRuntime) {
     assert!(rt; is_an_event_too_many(rt.alloc()));
 }
 
-/// So many rows, at the counts from 0 on.
+/// Returns this many rows, at the counts from 0 on.
 fn rows_of(alloc: Global, rows: u64) -> Result<Vec<Row>, AllocError> {
     let mut list = Vec::new(alloc);
     for count in 0..rows {
@@ -270,7 +270,7 @@ fn rows_of(alloc: Global, rows: u64) -> Result<Vec<Row>, AllocError> {
     Ok(list)
 }
 
-/// Whether one checkpoint more than there can be is refused by the number of checkpoints.
+/// Reports whether one checkpoint more than there can be is refused by the number of checkpoints.
 fn is_a_checkpoint_too_many(alloc: Global) -> bool {
     match rows_of(alloc, 4098) {
         Ok(rows) => is_fault_of(alloc, &rows, Some(Fault::Limit(16))),

@@ -1,4 +1,4 @@
-//! Texts of version 2: what is read is written, and each rule is broken once.
+//! Files of version 2: what is read is written again, and each rule is broken once.
 
 use crate::tests::texts::{
     Turned, check_parts, check_rows, is_fault_of, is_line, is_refused, is_refused_with_a_byte_more,
@@ -8,8 +8,8 @@ use oberon_format::{Checkpoint, Fault, Recording, read, write};
 use recording_texts::{Claim, EMPTY, JUMP, STORED_RUN, Sketch, ZEROS};
 use std::alloc::{AllocError, Global};
 
-/// Two pages; checkpoint 0, from byte 2072 on, with changes of the places 0, 7 and 1023 from byte 2216 on; checkpoint 1, from byte
-/// 2240 on, with changes of the places 7 and 8 from byte 2384 on, a timer, and two bytes sent.
+/// Two pages; checkpoint 0, from byte 2072 on, with changes of slots 0, 7 and 1023 from byte 2216 on; checkpoint 1, from byte
+/// 2240 on, with changes of slots 7 and 8 from byte 2384 on, a timer, and two bytes of output.
 const FIVE_CHANGES: Sketch<'static> = Sketch {
     pages: &[&[JUMP], &[]],
     events: &[],
@@ -32,24 +32,24 @@ const FIVE_CHANGES: Sketch<'static> = Sketch {
     ],
 };
 
-/// The same by a call, since each place that names the constant is proved with all of its parts.
+/// Returns the same from a call, since each use of the constant is proved with all of its parts.
 fn five_changes() -> Sketch<'static> {
     FIVE_CHANGES
 }
 
-/// The recording of the text of a sketch.
+/// Returns the recording of the file of a sketch.
 fn second_recording(alloc: Global, sketch: &Sketch<'_>) -> Option<Recording> {
     let text = sketch.second_text(alloc, &[]).ok()?;
     read(alloc, &text).ok()
 }
 
-/// What the recording of the text of a sketch is written as.
+/// Returns the file that is written of the recording of the file of a sketch.
 fn text_again(alloc: Global, sketch: &Sketch<'_>) -> Option<Vec<u8>> {
     let recording = second_recording(alloc, sketch)?;
     write(alloc, &recording).ok()
 }
 
-/// Whether the text of a sketch is what its recording is written as.
+/// Reports whether the file of a sketch is the file that is written of its recording.
 fn is_written_again(alloc: Global, sketch: &Sketch<'_>) -> bool {
     let Some(again) = text_again(alloc, sketch) else {
         return false;
@@ -60,10 +60,10 @@ fn is_written_again(alloc: Global, sketch: &Sketch<'_>) -> bool {
     }
 }
 
-/// Recordings that have a text of version 2.
+/// Recordings that have a file of version 2.
 const SKETCHES: [Sketch<'static>; 3] = [STORED_RUN, FIVE_CHANGES, EMPTY];
 
-/// The first row whose text is not written again, if there is one.
+/// Returns the first row whose file is not written again, if there is one.
 fn row_of_another_text(alloc: Global) -> Option<usize> {
     for (row, sketch) in SKETCHES.iter().enumerate() {
         if !is_written_again(alloc, sketch) {
@@ -78,10 +78,10 @@ fn writes_what_it_reads(rt: HostRuntime) {
     check_rows(&rt, row_of_another_text(rt.alloc()));
 }
 
-/// Places, with the numbers that they have in the two tables of the five changes.
+/// Slots, with their page ids in the two tables of the five changes.
 const NUMBERS: [(u16, u32, u32); 5] = [(0, 1, 1), (7, 2, 0), (8, 0, 2), (1023, 1, 1), (9, 0, 0)];
 
-/// Whether the tables of the five changes have their numbers.
+/// Reports whether the tables of the five changes have their page ids.
 fn has_numbers(first: &Checkpoint, last: &Checkpoint) -> bool {
     for (place, before, after) in NUMBERS {
         if place >= 1024 || first.table.entry(place) != before || last.table.entry(place) != after {
@@ -91,7 +91,7 @@ fn has_numbers(first: &Checkpoint, last: &Checkpoint) -> bool {
     true
 }
 
-/// Whether the timers of the five changes, and what was sent, are what the text says.
+/// Reports whether the timers of the five changes, and the output, are what the file says.
 fn has_timers(first: &Checkpoint, last: &Checkpoint) -> bool {
     first.devices.rate() == 25_000
         && first.devices.phase() == 24_999
@@ -100,7 +100,7 @@ fn has_timers(first: &Checkpoint, last: &Checkpoint) -> bool {
         && last.sent.as_slice() == [0x41, 0x42].as_slice()
 }
 
-/// The part of this recording that is not that of the five changes, if there is one.
+/// Returns the part of this recording that is not that of the five changes, if there is one.
 fn part_unlike_five(recording: &Recording) -> Option<&'static str> {
     if recording.count() != 2 {
         return Some("number of checkpoints");
@@ -115,7 +115,7 @@ fn part_unlike_five(recording: &Recording) -> Option<&'static str> {
     None
 }
 
-/// The same of the recording of the five changes' text.
+/// Returns the same for the recording of the five changes' file.
 fn part_read_wrong(alloc: Global) -> Option<&'static str> {
     match second_recording(alloc, &five_changes()) {
         Some(recording) => part_unlike_five(&recording),
@@ -128,7 +128,7 @@ fn reads_tables_by_their_changes(rt: HostRuntime) {
     check_parts(&rt, part_read_wrong(rt.alloc()));
 }
 
-/// A word of the text of the five changes that breaks a rule, and the fault.
+/// A word of the file of the five changes that breaks a rule, and the fault.
 const BROKEN: [(u16, u32, Fault); 33] = [
     (0, 0, Fault::Magic(0)),
     (4, 3, Fault::Version(4)),
@@ -143,21 +143,21 @@ const BROKEN: [(u16, u32, Fault); 33] = [
     (20, 1, Fault::Limit(20)),
     (2072, 1, Fault::Checkpoint(2072)),
     (2200, 1, Fault::Checkpoint(2072)),
-    // the phase at the rate, and a phase of a timer that doesn't count by itself
+    // the phase at the rate, and a phase of a timer with rate 0
     (2208, 25_000, Fault::Checkpoint(2072)),
     (2372, 0, Fault::Checkpoint(2240)),
-    // more changes than places, and more than there are bytes for
+    // more changes than slots, and more than there are bytes for
     (2212, 1025, Fault::Checkpoint(2072)),
     (2212, 1024, Fault::Short(2402)),
     (2380, 3, Fault::Short(2402)),
-    // a page number above the pages
+    // a page id above the pages
     (2220, 3, Fault::Page(2216)),
     (2396, 3, Fault::Page(2392)),
-    // the number that stood there: zero in checkpoint 0, and in checkpoint 1 what checkpoint 0 left
+    // the page id that was there: zero in checkpoint 0, and in checkpoint 1 what checkpoint 0 left
     (2220, 0, Fault::Page(2216)),
     (2388, 2, Fault::Page(2384)),
     (2396, 0, Fault::Page(2392)),
-    // places that stay or fall, and a place that isn't in the table
+    // slots that stay or fall, and a slot that is not in the table
     (2224, 0, Fault::Page(2224)),
     (2392, 7, Fault::Page(2392)),
     (2392, 6, Fault::Page(2392)),
@@ -166,12 +166,12 @@ const BROKEN: [(u16, u32, Fault); 33] = [
     (2240, 0, Fault::Checkpoint(2240)),
     (2316, 4_194_304, Fault::Checkpoint(2240)),
     (2368, 1_048_577, Fault::Checkpoint(2240)),
-    // output that isn't there, and bytes behind it
+    // output that is missing, and bytes after it
     (2368, 3, Fault::Short(2402)),
     (2368, 1, Fault::Trailing(2401)),
 ];
 
-/// The first place that gives another fault, if there is one.
+/// Returns the first row with another fault, if there is one.
 fn place_of_another_fault(alloc: Global) -> Option<u16> {
     let sketch = five_changes();
     for (place, word, fault) in &BROKEN {
@@ -196,23 +196,23 @@ fn refuses_a_change_that_changes_nothing(rt: HostRuntime) {
     assert!(rt; is_line(rt.alloc(), fault, "refused 7 page at byte 1192\n"));
 }
 
-/// Words of the text of the five changes that break two rules, and the first fault.
+/// Words of the file of the five changes that break two rules, and the first fault.
 const TWO_FAULTS: [Turned; 8] = [
     // a change of checkpoint 0, and a field of checkpoint 1
     (&[(2220, 3), (2240, 0)], Fault::Page(2216)),
     // a field of checkpoint 0, and its change
     (&[(2156, 5), (2220, 3)], Fault::Checkpoint(2072)),
-    // the phase, and changes that aren't there
+    // the phase, and changes that are missing
     (&[(2208, 25_000), (2212, 1024)], Fault::Checkpoint(2072)),
-    // changes that aren't there, and the first of them
+    // changes that are missing, and the first of them
     (&[(2212, 1024), (2220, 3)], Fault::Short(2402)),
     // two changes
     (&[(2236, 3), (2228, 3)], Fault::Page(2224)),
-    // a change of the last checkpoint, and output that isn't there
+    // a change of the last checkpoint, and output that is missing
     (&[(2368, 3), (2396, 3)], Fault::Page(2392)),
-    // the header's last number, and events that aren't there
+    // the header's last number, and events that are missing
     (&[(20, 1), (12, 1_000)], Fault::Limit(20)),
-    // an event that is there in bytes of the pages, and checkpoints that aren't
+    // an event that is there in bytes of the pages, and checkpoints that are missing
     (&[(8, 1), (12, 65)], Fault::Event(1048)),
 ];
 
@@ -224,8 +224,8 @@ fn gives_the_first_of_two_faults(rt: HostRuntime) {
     );
 }
 
-/// The greatest length at which the cut text has another fault than it was to have, if there is one: short below the length at which
-/// a fault is there, and then that fault.
+/// Returns the greatest length at which the cut file has another fault than expected, if there is one: short below the length at
+/// which a fault is there, and then that fault.
 fn length_of_another_fault(
     alloc: Global,
     mut text: Vec<u8>,
@@ -247,23 +247,23 @@ fn length_of_another_fault(
     None
 }
 
-/// The text of the five changes with these words.
+/// Returns the file of the five changes with these words.
 fn five_changes_with(alloc: Global, words: &[(u16, u32)]) -> Result<Vec<u8>, AllocError> {
     let mut text = five_changes().second_text(alloc, &[])?;
     put_words(&mut text, words);
     Ok(text)
 }
 
-/// Words that break a rule in the text of the five changes, the length of the text that shows it, and the fault.
+/// Words that break a rule in the file of the five changes, the length of the file that shows it, and the fault.
 const BROKEN_AND_CUT: [(&[(u16, u32)], usize, Fault); 3] = [
     (&[], 2402, Fault::Trailing(0)),
-    // stop 5, behind the 144 bytes of checkpoint 0
+    // stop 5, after the 144 bytes of checkpoint 0
     (&[(2156, 5)], 2216, Fault::Checkpoint(2072)),
     // a number too large in the second change of three
     (&[(2228, 3)], 2240, Fault::Page(2224)),
 ];
 
-/// Where a cut text has another fault, if it has: the length that shows the fault, and the length of the cut text.
+/// Returns where a cut file has another fault, if it has: the length that shows the fault, and the length of the cut file.
 fn cut_of_another_fault(alloc: Global) -> Option<(usize, usize)> {
     for (words, there, fault) in BROKEN_AND_CUT {
         match five_changes_with(alloc, words) {

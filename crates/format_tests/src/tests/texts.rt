@@ -1,14 +1,14 @@
-//! Bytes and words of a text that are turned, and the faults of texts.
+//! Bytes and words of a file that are replaced, and the faults of files.
 
 use oberon_format::{Fault, read, refusal};
 use recording_texts::{STORED_RUN, Sketch};
 use std::alloc::{AllocError, Global};
 use std::process::Abort;
 
-/// Words that are turned, each at its place, and the first fault of the text that they are turned in.
+/// Words to replace, each at its offset, and the first fault of the file after that.
 pub(crate) type Turned = (&'static [(u16, u32)], Fault);
 
-/// Sets one byte of a text, where it is there.
+/// Sets one byte of a file, if it is there.
 pub(crate) fn put_byte(text: &mut Vec<u8>, place: usize, byte: u8) {
     if place < text.len() {
         text[place] = byte;
@@ -24,14 +24,14 @@ pub(crate) fn put_word(text: &mut Vec<u8>, place: u16, word: u32) {
     put_byte(text, place + 3, (word >> 24 & 0xFF) as u8);
 }
 
-/// Sets words of a text, each at its place.
+/// Sets words of a file, each at its offset.
 pub(crate) fn put_words(text: &mut Vec<u8>, words: &[(u16, u32)]) {
     for (place, word) in words {
         put_word(text, *place, *word);
     }
 }
 
-/// The text of a sketch in version 1 or 2.
+/// Returns the file of a sketch in version 1 or 2.
 pub(crate) fn text_of(
     alloc: Global,
     version: u32,
@@ -44,7 +44,7 @@ pub(crate) fn text_of(
     }
 }
 
-/// Whether this is the first fault of a text.
+/// Reports whether this is the first fault of a file.
 pub(crate) fn is_fault_of(alloc: Global, text: &[u8], fault: Fault) -> bool {
     match read(alloc, text) {
         Ok(_) => false,
@@ -52,7 +52,7 @@ pub(crate) fn is_fault_of(alloc: Global, text: &[u8], fault: Fault) -> bool {
     }
 }
 
-/// Whether this is the first fault of the text of a sketch with these words at their places.
+/// Reports whether this is the first fault of the file of a sketch with these words at their offsets.
 pub(crate) fn is_refused(
     alloc: Global,
     version: u32,
@@ -69,7 +69,7 @@ pub(crate) fn is_refused(
     }
 }
 
-/// The first row whose words give the text of a sketch another first fault, if there is one.
+/// Returns the first row whose words give the file of a sketch another first fault, if there is one.
 pub(crate) fn row_of_another_fault(
     alloc: Global,
     version: u32,
@@ -84,7 +84,7 @@ pub(crate) fn row_of_another_fault(
     None
 }
 
-/// Whether this is the first fault of the text of the stored run with a byte behind it.
+/// Reports whether this is the first fault of the file of the stored run with a byte after it.
 pub(crate) fn is_refused_with_a_byte_more(alloc: Global, version: u32, fault: Fault) -> bool {
     match text_of(alloc, version, &STORED_RUN) {
         Ok(mut text) => text.push(0).is_ok() && is_fault_of(alloc, &text, fault),
@@ -92,14 +92,14 @@ pub(crate) fn is_refused_with_a_byte_more(alloc: Global, version: u32, fault: Fa
     }
 }
 
-/// The text of the stored run, of which only so many bytes are there.
+/// Returns the first bytes of the file of the stored run.
 pub(crate) fn cut_text(alloc: Global, version: u32, len: usize) -> Result<Vec<u8>, AllocError> {
     let mut text = text_of(alloc, version, &STORED_RUN)?;
     text.truncate(len);
     Ok(text)
 }
 
-/// Whether this is the line of a fault.
+/// Reports whether this is the line of a fault.
 pub(crate) fn is_line(alloc: Global, fault: Fault, line: &str) -> bool {
     if let Fault::Memory = fault {
         return false;
@@ -110,14 +110,14 @@ pub(crate) fn is_line(alloc: Global, fault: Fault, line: &str) -> bool {
     }
 }
 
-/// Checks that there is no row that is wrong.
+/// Asserts that no row is wrong.
 pub(crate) fn check_rows(rt: &impl Abort, wrong: Option<usize>) {
     if let Some(row) = wrong {
         panic!(rt; "row {row}");
     }
 }
 
-/// Checks that there is no part that is wrong.
+/// Asserts that no part is wrong.
 pub(crate) fn check_parts(rt: &impl Abort, wrong: Option<&'static str>) {
     if let Some(part) = wrong {
         panic!(rt; "another {part}");

@@ -1,4 +1,4 @@
--- Which failure stands for what failed, and what a turn of reading gains.
+-- Which failure a fault means, and what a turn of reading gains.
 use Rattle.std.specs.Prelude.{ℕ, ◌≡◌, ◌<◌, ◌≤◌, ◌++◌, List, Bool, false, length}
 use Rattle.std.specs.Io.KnownBytes.{Consumes}
 use Rattle.oberon_cli.specs.Transfer.{Known, Fails, Goes}
@@ -7,17 +7,17 @@ use Rattle.oberon_cli.specs.declared.failure.Failure.TheVariants.{Read, Memory}
 use Rattle.oberon_cli.specs.declared.reading.ReadFault.{ReadFault}
 use Rattle.oberon_cli.specs.declared.reading.ReadFault.TheVariants as fault
 
--- a read failed where the fault says so, and nowhere else
+-- a read failed if and only if the fault says so
 abbrev pub IsReadFault : Known → Known → ReadFault → Type 0
 IsReadFault old new fault.Failed = Fails new
 IsReadFault old new fault.Memory = Goes old new
 
--- the failure that a fault of a reading loop stands for
+-- the failure that a fault of a reading loop means
 abbrev pub failure_by : ReadFault → Failure
 failure_by fault.Failed = Read
 failure_by fault.Memory = Memory
 
--- a turn adds what it got to the bytes: at most so many, and at least one where the input has not ended
+-- a turn appends what it got to the bytes: at most so many, and at least one if the input has not ended
 abbrev pub GainsInTurn : Known → Known → List ℕ → List ℕ → ℕ → Bool → Type 0
 GainsInTurn old new bytes bytes' most ended =
     (got : List ℕ) × (bytes' ≡ bytes ++ got) × (length got ≤ most) × (ended ≡ false → 0 < length got) × Consumes old.bytes new.bytes got

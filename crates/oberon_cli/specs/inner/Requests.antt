@@ -1,4 +1,4 @@
--- The numbers of a request, what its words are refused for, and the reply to them.
+-- The numbers of a request, why its arguments are refused, and the reply to them.
 use Rattle.std.specs.Prelude.{◌≡◌, ◌≤◌, List, ⊤}
 use Rattle.clap.specs.Walk.{Text}
 use Rattle.clap.specs.declared.error.Error.{Error}
@@ -21,19 +21,19 @@ IsWithinLimits Record = ⊤
 IsWithinLimits (Screen at) = at ≤ LAST_CHECKPOINT
 IsWithinLimits Migrate = ⊤
 
--- the refusal that an error of `clap` stands for
+-- the refusal that an error of `clap` means
 abbrev pub refusal_by : ErrorKind → Error → Refusal
 refusal_by DisplayHelp error = Help error
 refusal_by OutOfMemory error = Memory
 refusal_by _ error = Words
 
--- such a refusal may come for these words
+-- such a refusal may come for these arguments
 abbrev pub RefusedBy : List Text → Refusal → Type 0
 RefusedBy words (Help error) = IsHelp words
 RefusedBy words Words = IsRefused words
 RefusedBy words Memory = ⊤
 
--- the text and the status of a reply to the words, for the bytes that were taken from the reader
+-- the bytes and the status of a reply to the arguments, for the bytes taken from the reader
 abbrev pub IsReply : List Text → Known → Known → Reply → Type 0
 IsReply words old new reply =
     (outcome : Outcome) × IsReplyTo words old new outcome × (reply.text.items ≡ outcome_text outcome)

@@ -1,4 +1,4 @@
--- What is known of a text of which some rules were tested.
+-- What is known of a file after some of its rules were tested.
 use Rattle.std.specs.Prelude.{ℕ, suc, true, ◌≡◌, ◌≤◌, ◌<◌, ◌+◌, List, length, slice_index, slice_index_or, None, Some, Result, MatchResult}
 use Rattle.oberon_format.specs.declared.fault.Fault.{Fault}
 use Rattle.oberon_format.specs.declared.fields.CheckpointFields.{CheckpointFields}
@@ -18,8 +18,8 @@ use Rattle.oberon_format.specs.Rules.{change_rules, event_rules, checkpoint_rule
 use Rattle.oberon_format.specs.inner.Offsets.{EachAt, IsCheckpoint}
 use Rattle.oberon_format.specs.TextFields.{fields_of, first_fault_of, checkpoint_of, number_before}
 
--- the header is there, its version is known, it names few enough pages, events and checkpoints,
--- and what it names is there
+-- the header is there, its version is known, its numbers of pages, events and checkpoints are within their limits, and the parts
+-- that it counts are there
 pub record IsSized (text : List ℕ) : Type 0 where
   pub header : HEADER_LEN ≤ length text
   pub known : is_version (version text) ≡ true
@@ -29,7 +29,7 @@ pub record IsSized (text : List ℕ) : Type 0 where
   pub few : checkpoints text ≤ MAX_CHECKPOINTS
   pub long : named_len (fields_of text) ≤ length text
 
--- the text breaks no rule
+-- the file breaks no rule
 pub record Meets (text : List ℕ) : Type 0 where
   pub faultless : first_fault_of text ≡ None
   pub magic_is : word_at text MAGIC_AT ≡ MAGIC
@@ -39,15 +39,15 @@ pub record Meets (text : List ℕ) : Type 0 where
   pub checkpoints_meet : first_broken (each (checkpoints text) (checkpoint_rules (fields_of text))) ≡ None
   pub whole_is : length text ≡ whole (fields_of text)
 
--- a table has these numbers
+-- a table has these page ids
 abbrev pub HasNumbers : List ℕ → (ℕ → ℕ) → Type 0
 HasNumbers table number = (p : ℕ) → p < PLACES → slice_index table p ≡ number p
 
--- these checkpoints stand in a text, each at its offset and after the table of the one before
+-- these checkpoints are in a file, each at its offset and after the table of the one before
 abbrev pub StandIn : List ℕ → List CheckpointParts → Type 0
 StandIn text cs = EachAt (λ k c. IsCheckpoint (version text) text (start text k) (table_before cs k) c) cs
 
--- what is told of checkpoint k of version 1, at an offset: its fields, where it meets its rules, and else its first fault
+-- the result for checkpoint k of version 1, at an offset: its fields if it meets its rules, and else its first fault
 abbrev pub IsWholeTested : List ℕ → ℕ → ℕ → ℕ → Result CheckpointFields Fault → Type 0
 IsWholeTested text k offset sent told = MatchResult told
     (λ fields. (fields ≡ checkpoint_of text offset)
@@ -55,7 +55,7 @@ IsWholeTested text k offset sent told = MatchResult told
     × (first_broken (checkpoint_rules (fields_of text) k) ≡ None))
     (λ f. first_broken (checkpoint_rules (fields_of text) k) ≡ Some f)
 
--- what is told of checkpoint k of version 2, at an offset, where a table becomes its own
+-- the result for checkpoint k of version 2, at an offset, which changes a table into its own
 abbrev pub IsChangedTested : List ℕ → ℕ → ℕ → ℕ → List ℕ → Result CheckpointFields Fault → Type 0
 IsChangedTested text k offset sent table told = MatchResult told
     (λ fields. (fields ≡ checkpoint_of text offset)
@@ -66,7 +66,7 @@ IsChangedTested text k offset sent table told = MatchResult told
     × (first_broken (checkpoint_rules (fields_of text) k) ≡ None))
     (λ f. first_broken (checkpoint_rules (fields_of text) k) ≡ Some f)
 
--- what is told of all checkpoints: where they end and how much they sent, where they meet their rules, and else their first fault
+-- the result for all checkpoints: where they end and how much they sent if they meet their rules, and else their first fault
 abbrev pub AreTested : List ℕ → Result End Fault → Type 0
 AreTested text told = MatchResult told
     (λ end. (end.output ≡ output_offset text)
@@ -76,18 +76,18 @@ AreTested text told = MatchResult told
     × (first_broken (each (checkpoints text) (checkpoint_rules (fields_of text))) ≡ None))
     (λ f. first_broken (each (checkpoints text) (checkpoint_rules (fields_of text))) ≡ Some f)
 
--- what is told of a text: where its output begins, where it breaks no rule, and else its first fault
+-- the result for a file: the offset of its output if it breaks no rule, and else its first fault
 abbrev pub IsTested : List ℕ → Result ℕ Fault → Type 0
 IsTested text told = MatchResult told
     (λ output. (first_fault_of text ≡ None) × (output ≡ output_offset text))
     (λ f. first_fault_of text ≡ Some f)
 
--- the rules of the changes from one table to another, laid out in a checkpoint at an offset
+-- the rules of the changes from one table to another, encoded in a checkpoint at an offset
 abbrev pub change_rules_laid : ℕ → ℕ → List ℕ → List ℕ → List (Rule Fault)
 change_rules_laid pages offset before table =
     each (length (changes before table))
     (change_rules pages offset (slice_index before) (λ i. slice_index_or (changes before table) i no_change))
 
--- the rules of the first so many checkpoints of parts, laid out
+-- the rules of the first n checkpoints of parts, as encoded
 abbrev pub checkpoint_rules_laid : ℕ → RecordingParts → List (Rule Fault)
 checkpoint_rules_laid count r = each count (checkpoint_rules (fields_laid VERSION r))

@@ -1,4 +1,4 @@
--- The places of a memory (this project's own choice).
+-- The page slots of a memory (this project's own choice).
 use Rattle.std.specs.Prelude.{ℕ, ◌≡◌, List, Bool, true, false, map, slice_set}
 use Rattle.std.specs.List.{flat_map}
 use Rattle.risc_pages.specs.declared.place.Place.{Place}
@@ -6,29 +6,29 @@ use Rattle.risc_pages.specs.declared.place.Place.TheVariants.{Blank, Shared, Own
 use Rattle.risc_pages.specs.Contents.{Contents}
 use Rattle.risc_pages.specs.declared.page.Page.{Page}
 
--- the words of the page that stands at a place
+-- the words of the page in a slot
 abbrev pub content : Place → List ℕ
 content (Blank blank) = blank.now.page.words
 content (Shared page) = page.now.words
 content (Owned own) = own.value.page.words
 
--- the words of the page that stood there first
+-- the words of the page that the slot began with
 abbrev pub base_of : Place → List ℕ
 base_of (Blank blank) = blank.now.page.words
 base_of (Shared page) = page.now.words
 base_of (Owned own) = own.value.base.now.words
 
--- whether a place has a page of its own
+-- whether a slot has a private page
 abbrev pub is_owned : Place → Bool
 is_owned (Blank blank) = false
 is_owned (Shared page) = false
 is_owned (Owned own) = true
 
--- what these places hold
+-- the content of these slots
 abbrev pub contents_of : List Place → Contents
 contents_of places = record { words = flat_map content places; owned = map is_owned places; base = flat_map base_of places }
 
--- one place has a page of its own with these words, over the page that stood there first
+-- one slot has a private page with these words, over the page that it began with
 pub record TakesCopy (old new : List Place) (place : ℕ) (base words : List ℕ) : Type 0 where
   pub own : Place
   pub items : new ≡ slice_set old place own

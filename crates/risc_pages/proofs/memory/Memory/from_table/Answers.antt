@@ -18,7 +18,7 @@ count c =
     let p : length c.loop-number.places.items ≡ c.loop-number.number-index = c.loop-number.invariant.count in
     omega arith
 
--- each place has the page that the table names there
+-- each slot has the page that the table names there
 same : (c : goal.After-loop-number) (k : ℕ) (d : Place) (e : ℕ) → k < length c.loop-number.places.items → content (get_or c.loop-number.places.items k d) ≡ page_of c.args.pool.now (get_or c.args.table.now k e)
 same c k d e h = c.loop-number.invariant.same k d e h ∙ ap (λ (x : List ℕ). page_of c.args.pool.now (get_or x k e)) c.numbers-numbers.ensures.numbers
 
