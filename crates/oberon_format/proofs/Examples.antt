@@ -1,5 +1,5 @@
 -- Worked examples of the definitions: each computes to the value that the format gives.
-use Rattle.std.proofs.Common.{◌≡◌, ℕ, zero, suc, true, false, List, [], ◌∷◌, ◌+◌, ◌*◌, ◌++◌, replicate, None, Some, refl}
+use Rattle.std.proofs.Common.{◌≡◌, ℕ, zero, suc, true, false, List, [], ◌∷◌, ◌+◌, ◌*◌, ◌++◌, length, take, replicate, None, Some, refl}
 use Rattle.std.specs.Prelude.{slice_index}
 use Rattle.risc_devices.specs.DeviceState.{is_phase}
 use Rattle.risc_devices.specs.Input as input
@@ -7,16 +7,16 @@ use Rattle.risc_pages.specs.Tables.{zero_numbers}
 use Rattle.oberon_format.specs.declared.fault.Fault.TheVariants as fault
 use Rattle.oberon_format.specs.declared.change.Change.{Change}
 use Rattle.oberon_format.specs.declared.fields.CheckpointFields.{CheckpointFields}
-use Rattle.oberon_format.specs.declared.layout.TheConstants.{MAGIC, LONGEST_TEXT}
+use Rattle.oberon_format.specs.declared.layout.TheConstants.{MAGIC, VERSION, FRONT_LEN, COUNTER_AT, LONGEST_TEXT}
 use Rattle.oberon_format.specs.Changes.{changes_below, no_change, number_after}
-use Rattle.oberon_format.specs.CheckpointParts.{no_checkpoint}
+use Rattle.oberon_format.specs.CheckpointParts.{CheckpointParts, no_checkpoint}
 use Rattle.oberon_format.specs.Fields.{Fields, total}
 use Rattle.oberon_format.specs.FirstFault.{first_broken, each}
 use Rattle.oberon_format.specs.Layout.{word_at, long_at, event_start, page_number_offset, change_offset, checkpoint_size, start}
 use Rattle.oberon_format.specs.PartFields.{checkpoint_fields, no_event, start_laid, fault_of_parts}
 use Rattle.oberon_format.specs.Ranges.{is_count, is_output, is_event, are_keys}
 use Rattle.oberon_format.specs.Rules.{rules, checkpoint_rules, page_number_rules, change_rules, end_rules}
-use Rattle.oberon_format.specs.Encoding.{word_bytes, long_bytes}
+use Rattle.oberon_format.specs.Encoding.{word_bytes, long_bytes, cpu_bytes, device_bytes, front_bytes, change_bytes, header_bytes}
 use Rattle.oberon_format.specs.TextFields.{first_fault_of, number_before}
 
 -- the text of a header: its magic is right, its numbers are given by their bytes
@@ -301,3 +301,33 @@ word-of-bytes = refl
 bytes-of-a-count : long_bytes 100 ≡ 100 ∷ 0 ∷ 0 ∷ 0 ∷ 0 ∷ 0 ∷ 0 ∷ 0 ∷ []
 unfolding long_bytes
 bytes-of-a-count = refl
+
+-- the header of a file of version 2 with no page, no event and one checkpoint: it begins with the letters ORSR
+bytes-of-a-header : header_bytes VERSION (record { pool = []; inputs = []; checkpoints = no_checkpoint ∷ [] })
+    ≡ 0x4F ∷ 0x52 ∷ 0x53 ∷ 0x52 ∷ 2 ∷ 0 ∷ 0 ∷ 0 ∷ 0 ∷ 0 ∷ 0 ∷ 0 ∷ 0 ∷ 0 ∷ 0 ∷ 0 ∷ 1 ∷ 0 ∷ 0 ∷ 0 ∷ 0 ∷ 0 ∷ 0 ∷ 0 ∷ []
+unfolding header_bytes word_bytes
+bytes-of-a-header = refl
+
+-- a change gives slot 0 page id 1
+bytes-of-a-change : change_bytes (record { place = 0; number = 1 }) ≡ 0 ∷ 0 ∷ 0 ∷ 0 ∷ 1 ∷ 0 ∷ 0 ∷ 0 ∷ []
+unfolding change_bytes word_bytes
+bytes-of-a-change = refl
+
+-- a checkpoint at 100 with R0 = 5 and PC = 100: its common fields are 132 bytes, which begin with the count and R0, and PC is at 76
+abbrev claim : CheckpointParts
+claim = record no_checkpoint {
+  count = 100;
+  cpu = record no_checkpoint.cpu { r = 5 ∷ 0 ∷ 0 ∷ 0 ∷ 0 ∷ 0 ∷ 0 ∷ 0 ∷ 0 ∷ 0 ∷ 0 ∷ 0 ∷ 0 ∷ 0 ∷ 0 ∷ 0 ∷ []; pc = 100 };
+}
+
+front-has-its-length : length (front_bytes claim) ≡ FRONT_LEN
+unfolding front_bytes cpu_bytes device_bytes word_bytes long_bytes
+front-has-its-length = refl
+
+front-begins : take 12 (front_bytes claim) ≡ 100 ∷ 0 ∷ 0 ∷ 0 ∷ 0 ∷ 0 ∷ 0 ∷ 0 ∷ 5 ∷ 0 ∷ 0 ∷ 0 ∷ []
+unfolding front_bytes cpu_bytes device_bytes word_bytes long_bytes
+front-begins = refl
+
+front-has-its-counter : word_at (front_bytes claim) COUNTER_AT ≡ 100
+unfolding front_bytes cpu_bytes device_bytes word_bytes long_bytes word_at
+front-has-its-counter = refl
