@@ -31,4 +31,5 @@ function answerTo([ask, given]) {
 tell({ id: 0, ask: "start", module: module_ });
 const lines = readline.createInterface({ input: process.stdin });
 lines.on("line", (line) => console.log(JSON.stringify(answerTo(JSON.parse(line)))));
-lines.on("close", () => process.exit(0));
+// The worker's channel would keep node from ending; and an end before all is written would cut it off.
+lines.on("close", () => process.stdout.write("", () => process.exit(0)));
