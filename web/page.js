@@ -194,7 +194,7 @@ async function clerkDoes(ask, given) {
 
 /** What the clerk says on the way: how far it is; or what the stretches came to, and how long the whole will about take. */
 function clerkSaid(work, news) {
-  if (!news.steps) return notice(news.refused ?? news.broken);
+  if (!("steps" in news)) return notice(news.refused ?? news.broken);
   Object.assign(work, news);
   if (!news.stretches) return;
   work.begun = performance.now();

@@ -83,6 +83,7 @@ class Checker {
       stretches++;
       if (found) {
         const number = first + found.number;
+        tell(claims[number].count);
         return { line: `false checkpoint ${number} at ${claims[number].count} part ${found.part}`, status: 1, stretches };
       }
       first = end;
