@@ -49,12 +49,24 @@ class Inputs {
 
   /** The first position, from one on, whose input does not come before a count. */
   from(count, at = 0) {
-    while (at < this.length && this.count(at) < count) at++;
+    for (let end = this.length; at < end;) {
+      const middle = (at + end) >> 1;
+      if (this.count(middle) < count) at = middle + 1;
+      else end = middle;
+    }
     return at;
+  }
+
+  /** The bytes of the inputs from one count on and before another, counted from the first. */
+  between(begin, end) {
+    const [first, last] = [this.from(begin), this.from(end)], bytes = this.bytes.slice(INPUT_BYTES * first, INPUT_BYTES * last);
+    const view = new DataView(bytes.buffer);
+    for (let at = first; at < last; at++) view.setBigUint64(INPUT_BYTES * (at - first), BigInt(this.count(at) - begin), true);
+    return bytes;
   }
 }
 
-/** What a lawful recording holds: its inputs, and of each checkpoint its count and the bytes sent since the one before. */
+/** What a lawful recording holds: its inputs, and of each checkpoint where it is, its count and the bytes sent since the one before. */
 function readRecording(text) {
   const view = new DataView(text.buffer, text.byteOffset, text.length);
   const [version, pages, events, checkpoints] = [4, 8, 12, 16].map((at) => view.getUint32(at, true));
@@ -62,7 +74,7 @@ function readRecording(text) {
   let at = eventsAt + INPUT_BYTES * events;
   const claims = [];
   for (let k = 0; k < checkpoints; k++) {
-    claims.push({ count: Number(view.getBigUint64(at, true)), sent: view.getUint32(at + 128, true) });
+    claims.push({ at, count: Number(view.getBigUint64(at, true)), sent: view.getUint32(at + 128, true) });
     at += version === 1 ? 4228 : 144 + 8 * view.getUint32(at + 140, true);
   }
   for (const claim of claims) claim.sent = text.subarray(at, (at += claim.sent));
@@ -302,7 +314,7 @@ function whole(text, most, what) {
 /** A session as JSON of version 2, a page or a few inputs in each line. */
 function writeSession({ state, words, inputs, checkpoints }) {
   const unsaid = ["stop", "timer", "switches", "LEDs", "mouse", "serial", "keys"].filter((name) => field(state, AT[name]));
-  if (unsaid.length) throw new Refused(`the first state has ${unsaid.join(", ")} other than 0, which a session cannot say`);
+  if (unsaid.length) throw new Refused(`the first state has ${unsaid.join(", ")} other than 0, which a session cannot say: save the recording`);
   const start = { R: REGISTERS.map((_, at) => field(state, AT.R + 4 * at)) };
   for (const name of ["H", "PC", "flags", "rate", "phase"]) start[name] = field(state, AT[name]);
   return [

@@ -1,12 +1,15 @@
 /* The proved library, as a module of WebAssembly: its exports over the module's own memory (include/galluspa.h says what each does).
- * Pointers, lengths and counts cross as BigInt, since they have 64 bits. states.js, this file, formats.js, machine.js and worker.js
- * make up the worker script. */
+ * Pointers, lengths and counts cross as BigInt, since they have 64 bits. states.js, this file, formats.js, stretches.js,
+ * recorder.js, machine.js and worker.js make up the worker script. */
 "use strict";
 
 const LONGEST_RECORDING = 118310056, MOST_COUNT = 2 ** 40;
 const DONE = 0, NO_ROOM = 2, NO_CHECKPOINT = 5;
 const ADVANCE_REFUSALS = ["", "a number is out of its range", "more is sent than there is room for", "no memory"];
-const RECORD_ROOM = 1 << 24, LINE_ROOM = 256;
+const RECORD_REFUSALS = ["", "a number is out of its range", "", "no memory", "the bytes are no recording", "", "the recording has all inputs that it may have",
+                         "the recording has all checkpoints that it may have", "the recording has all sent bytes that it may have",
+                         "the recording has all pages that it may have"];
+const RECORD_ROOM = 1 << 18, LINE_ROOM = 256;
 
 /** Bad input, or a request that cannot be met: its message is one line for the user. */
 class Refused extends Error {}
@@ -49,31 +52,48 @@ class Library {
 
   /** The verdict line of a recording, and its status: 0 accepted, 1 false, 2 refused. */
   check(recording) {
-    const { bytes, status } = this.answer("galluspa_check", recording, LINE_ROOM);
-    return { line: lineOf(bytes), status };
+    const [text, line, status] = [this.hold(recording), this.take(LINE_ROOM), this.take(8)];
+    try {
+      const length = Number(this.exports.galluspa_check(...[text, recording.length, line, LINE_ROOM, status].map(BigInt)));
+      if (!length) throw new Refused("no memory");
+      return { line: lineOf(this.bytes(line, length)), status: this.bytes(status, 1)[0] };
+    } finally {
+      for (const place of [text, line, status]) this.leave(place);
+    }
   }
 
-  /** The recording of a session in JSON, with status 0; or the line of the refusal, with status 2. */
-  record(session) {
-    return this.answer("galluspa_record", session, RECORD_ROOM);
+  /** The recording that begins with the state and the words at a place. */
+  begin(place) {
+    return this.written("galluspa_begin", [place, place + STATE_BYTES, WORDS], RECORD_ROOM);
   }
 
-  /** Calls a function that writes bytes and a status; a second time if it wants more room. */
-  answer(name, given, room) {
-    const from = this.hold(given), status = this.take(8);
+  /** A recording, extended by inputs and by a checkpoint that claims the state and the words at a place, and the bytes sent. */
+  extend(recording, inputs, place, sent) {
+    const held = [recording, inputs, sent].map((content) => this.hold(content));
+    const [text, list, bytes] = held;
+    const given = [text, recording.length, list, inputs.length / INPUT_BYTES, place, place + STATE_BYTES, WORDS, bytes, sent.length];
+    try {
+      return this.written("galluspa_extend", given, recording.length + inputs.length + sent.length + RECORD_ROOM);
+    } finally {
+      for (const it of held) this.leave(it);
+    }
+  }
+
+  /** What a function writes that says how much room it needs: it is called a second time where there was too little. */
+  written(name, given, room) {
+    const count = this.take(8);
     try {
       for (;;) {
         const to = this.take(room);
-        const length = Number(this.exports[name](BigInt(from), BigInt(given.length), BigInt(to), BigInt(room), BigInt(status)));
-        const written = length && length <= room ? this.bytes(to, length).slice() : null;
+        const code = this.exports[name](...[...given, to, room, count].map(BigInt)) & 255;
+        const length = Number(this.view.getBigUint64(count, true)), content = code === DONE ? this.bytes(to, length).slice() : null;
         this.leave(to);
-        if (written) return { bytes: written, status: this.bytes(status, 1)[0] };
-        if (!length) throw new Refused("no memory");
+        if (content) return content;
+        if (code !== NO_ROOM) throw new Refused(RECORD_REFUSALS[code]);
         room = length;
       }
     } finally {
-      this.leave(from);
-      this.leave(status);
+      this.leave(count);
     }
   }
 

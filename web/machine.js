@@ -1,4 +1,4 @@
-/* The live machine: a state and 262,144 words that the library advances, the session that is being made, and the recording that is
+/* The live machine: a state and 262,144 words that the library advances, the recording that is being made, and the recording that is
  * played back, if any. Each input is stamped with the count of instructions before which it comes. */
 "use strict";
 
@@ -18,6 +18,7 @@ class Machine {
     this.sentPlace = library.take(SENT_ROOM);
     this.sentCount = library.take(8);
     this.text = 0;
+    this.recorder = new Recorder(library);
   }
 
   get state() {
@@ -42,21 +43,20 @@ class Machine {
 
   /** Begins a session. `planned` are the counts of its checkpoints, which a recording's claims are compared at. */
   begin({ state, words, inputs, checkpoints }) {
-    this.first = { state: state.slice(), words: words.slice() };
     this.state.set(state);
     this.words.set(words);
+    this.recorder.begin(this.place);
     this.inputs = inputs;
     this.given = inputs.length;
     this.next = 0;
     this.planned = checkpoints;
-    this.marks = [];
     this.isTrue = true;
     this.sentSince = [];
     this.waiting = { keys: [], serial: [] };
     this.forgetRecording();
   }
 
-  /** Begins with what a checkpoint of a recording claims; the inputs up to there are kept for the session. */
+  /** Begins with what a checkpoint of a recording claims; the inputs and the claims up to there begin the recording that is made. */
   beginRecording(recording, checkpoint) {
     this.forgetRecording();
     const text = this.library.hold(recording.text);
@@ -68,17 +68,29 @@ class Machine {
     if (!checkpoint) return;
     this.library.claim(text, recording.text.length, checkpoint, this.place, this.place + STATE_BYTES);
     this.next = this.inputs.from(this.count);
-    this.marks = this.planned.slice(0, checkpoint);
+    this.recorder.resume(stretch(recording, firstTable(recording), 0, checkpoint), new Uint8Array());
   }
 
-  /** Takes a kept session up again, at the state that it had. */
-  resume({ first, live, inputs, marks }) {
-    this.begin({ ...first, inputs: new Inputs(inputs), checkpoints: [] });
+  /** Takes a kept recording up again, at the state that the machine had; or a kept session, whose inputs are played back from its first state. */
+  resume({ recording, sentSince, live, inputs, first, marks, count }) {
+    if (first) return this.begin({ ...first, inputs: new Inputs(inputs), checkpoints: [...new Set([...marks, count])] });
+    this.begin({ ...this.firstOf(recording), inputs: new Inputs(inputs), checkpoints: [] });
+    this.recorder.resume(recording, sentSince);
     this.state.set(live.state);
     this.words.set(live.words);
     this.next = this.inputs.length;
     this.given = 0;
-    this.marks = marks;
+  }
+
+  /** The first state of a recording, with its words. */
+  firstOf(recording) {
+    const text = this.library.hold(recording);
+    try {
+      this.library.claim(text, recording.length, 0, this.other, this.other + STATE_BYTES);
+      return copied(this.at(this.other));
+    } finally {
+      this.library.leave(text);
+    }
   }
 
   forgetRecording() {
@@ -94,8 +106,7 @@ class Machine {
 
   /** Ends the replay: from here on the inputs are the user's, and the file's later ones and its later claims are left out. */
   takeOver() {
-    const bytes = this.inputs.bytes.subarray(0, INPUT_BYTES * this.next);
-    this.inputs = new Inputs(bytes);
+    this.inputs = new Inputs(this.takenInputs);
     this.given = this.next;
     this.planned = this.planned.filter((count) => count <= this.count);
   }
@@ -129,6 +140,7 @@ class Machine {
     this.next = end;
     const length = Number(this.library.view.getBigUint64(this.sentCount, true));
     const sent = this.library.bytes(this.sentPlace, length).slice();
+    this.recorder.note(sent);
     if (this.recording && length) this.sentSince.push(sent);
     return sent;
   }
@@ -149,11 +161,18 @@ class Machine {
     return Math.min(planned, step && !this.isReplay ? (Math.floor(this.count / step) + 1) * step : Infinity);
   }
 
-  /** Notes a checkpoint at the count that has been reached; one place is left for the end of the session. */
+  get marks() {
+    return this.recorder.marks;
+  }
+
+  /** The bytes of the inputs that the machine has taken. */
+  get takenInputs() {
+    return this.inputs.bytes.subarray(0, INPUT_BYTES * this.next);
+  }
+
+  /** Extends the recording by a checkpoint at this count, if there is a place for one; whether it is new. */
   mark(most = CHECKPOINT_LIMIT) {
-    const isNew = this.count > (this.marks.at(-1) ?? 0) && this.marks.length < most;
-    if (isNew) this.marks.push(this.count);
-    return isNew;
+    return this.marks.length < most && this.recorder.extend(this.place, this.count, this.takenInputs);
   }
 
   /** Compares a recording's claim at this count with the machine: its number, and the name of the first part that differs, or null. */
@@ -187,18 +206,22 @@ class Machine {
     return { ...shown, before: before.state.slice(), steps: count - claims[number - 1].count, pages: differingPages(now.words, before.words) };
   }
 
-  /** The session up to here, with a last checkpoint at this count, and the state to compare its recording with. */
-  session() {
-    if (this.count > 0 && this.marks.at(-1) !== this.count) this.marks = [...this.marks.slice(0, CHECKPOINT_LIMIT - 1), this.count];
-    const before = this.inputs.from(this.count);
-    const inputs = new Inputs(this.inputs.bytes.subarray(0, INPUT_BYTES * before));
-    return { session: { ...this.first, inputs, checkpoints: this.marks }, live: copied(this.at(this.place)) };
+  /** The recording up to here, with a last checkpoint at this count; or, where there is no place for one, up to its last checkpoint. */
+  recorded() {
+    this.mark();
+    return { text: this.recorder.text, count: this.marks.at(-1) ?? 0, full: this.recorder.full };
   }
 
-  /** What the browser keeps of the session, so that it survives a reload. */
+  /** The session up to here, with the checkpoints of the recording and a last one at this count. */
+  session() {
+    const { text, count } = this.recorded(), end = count < this.count ? [this.count] : [];
+    const checkpoints = [...this.marks.slice(0, CHECKPOINT_LIMIT - end.length), ...end];
+    return { ...this.firstOf(text), inputs: new Inputs(this.takenInputs), checkpoints };
+  }
+
+  /** What the browser keeps, so that the recording in the making survives a reload. */
   kept() {
-    const inputs = this.inputs.bytes.slice(0, INPUT_BYTES * this.next);
-    return { first: this.first, live: copied(this.at(this.place)), inputs, marks: this.marks.filter((count) => count <= this.count) };
+    return { ...this.recorder.kept, live: copied(this.at(this.place)), inputs: this.takenInputs.slice() };
   }
 
   /** The words around PC. */
@@ -211,10 +234,4 @@ class Machine {
 
 function copied({ state, words }) {
   return { state: state.slice(), words: words.slice() };
-}
-
-function joined(parts) {
-  const whole = new Uint8Array(parts.reduce((length, part) => length + part.length, 0));
-  parts.reduce((at, part) => (whole.set(part, at), at + part.length), 0);
-  return whole;
 }

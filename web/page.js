@@ -60,10 +60,12 @@ function notice(text) {
   el("notice").textContent = text ?? "";
 }
 
-function verdictLine(line, status) {
+/** Shows a verdict line, and how it came about; or none. */
+function verdictLine(line, status, how = "") {
   app.verdict = line === undefined ? null : { line, status };
   el("line").textContent = line ?? "";
   el("line").className = STATUSES[status] ?? "note";
+  el("how").textContent = how;
 }
 
 /** A button that runs a task; a task that fails says so on the page. */
@@ -94,7 +96,7 @@ async function openBytes(name, bytes) {
   el("address").focus();
 }
 
-/** Makes the page empty. The session that was on it is kept first. */
+/** Makes the page empty. The recording in the making is kept first. */
 async function forget() {
   await keep();
   if (app.latest?.on) await app.live.ask("setRun", { on: false });
@@ -125,12 +127,26 @@ async function quietly(ask, given) {
 }
 
 async function checkRecording(text) {
-  const answer = await clerkDoes("check", { text }, "checking");
+  const answer = await checked(text);
   if (!answer) return;
-  verdictLine(answer.line, answer.status);
   const number = /^false checkpoint (\d+) /.exec(answer.line)?.[1];
   if (number) await showClaim(Number(number));
   else if (app.claims && answer.status === 0) await showClaim(app.claims.length - 1);
+}
+
+/** Has the clerk check a recording, and shows its line: that of one call over the whole. For a long one the line of its stretches comes first. */
+async function checked(text) {
+  verdictLine();
+  const answer = await clerkDoes("check", { text });
+  if (!answer) return null;
+  const other = app.verdict?.line;
+  verdictLine(answer.line, answer.status, "This line is that of one call of the proved check, over the whole recording.");
+  if (other && other !== answer.line) notice(`The stretches came to another line, which this page's script or the browser got wrong: ${other}`);
+  return answer;
+}
+
+function showStretches({ line, status, stretches }) {
+  verdictLine(line, status, `The proved check of ${grouped(stretches)} stretches gave this line, put together by this page's script.`);
 }
 
 async function openSession(text) {
@@ -165,24 +181,34 @@ async function showOpened({ kind, claims, version, inputs, checkpoints }) {
 let progressTimer = 0;
 
 /** Has the clerk do something long, with progress and a way to stop it. Stopped, or refused, it comes to undefined. */
-async function clerkDoes(ask, given, what) {
+async function clerkDoes(ask, given) {
   stopClerk();
-  const begun = performance.now();
-  const work = { estimate: 0 };
-  app.clerk = new Helper(app.module, (news) => ("estimate" in news ? Object.assign(work, news) : notice(news.refused ?? news.broken)));
+  const work = { begun: performance.now(), done: 0 };
+  app.clerk = new Helper(app.module, (news) => clerkSaid(work, news));
   const { clerk } = app;
-  progressTimer = setInterval(() => showProgress(what, work, performance.now() - begun), 100);
+  progressTimer = setInterval(() => showProgress(work, performance.now() - work.begun), 100);
   const answer = await clerk.ask(ask, given);
   if (app.clerk === clerk) stopClerk();
   return answer;
 }
 
-function showProgress(what, { estimate, steps }, ms) {
+/** What the clerk says on the way: how far it is; or what the stretches came to, and how long the whole will about take. */
+function clerkSaid(work, news) {
+  if (!("steps" in news)) return notice(news.refused ?? news.broken);
+  Object.assign(work, news);
+  if (!news.stretches) return;
+  work.begun = performance.now();
+  showStretches(news.stretches);
+}
+
+function showProgress({ done, steps, stretches, estimate }, ms) {
   el("progress").hidden = ms < 300;
-  if (estimate) el("bar").value = Math.min(0.97, ms / estimate);
+  const share = stretches ? Math.min(0.97, ms / estimate) : done / steps;
+  if (share >= 0) el("bar").value = share;
   else el("bar").removeAttribute("value");
-  const left = estimate ? `, about ${Math.max(1, Math.ceil((estimate - ms) / 1000))} s left` : "";
-  el("left").textContent = `${what}${steps ? ` ${grouped(steps)} steps` : ""}${left}`;
+  const left = share ? `, about ${Math.max(1, Math.ceil((ms / share - ms) / 1000))} s left` : "";
+  const what = stretches ? `now the whole in one call, ${grouped(steps)} steps` : steps ? `${grouped(done)} of ${grouped(steps)} steps` : "";
+  el("left").textContent = what + left;
 }
 
 function stopClerk() {
@@ -194,7 +220,8 @@ function stopClerk() {
 
 function stopByHand() {
   stopClerk();
-  verdictLine("stopped: no verdict");
+  if (app.verdict) el("how").textContent += " The check of the whole was stopped.";
+  else verdictLine("stopped: no verdict");
 }
 
 // Showing the machine
@@ -356,6 +383,8 @@ function claimParts({ number, count, steps, state, before, dots, sent, sentLengt
   const output = document.createElement("pre");
   output.textContent = sent;
   output.tabIndex = 0;
+  output.setAttribute("role", "region");
+  output.setAttribute("aria-label", `Bytes sent at checkpoint ${number}`);
   return [...made, paragraph(`Sent since the checkpoint before, ${grouped(sentLength)} bytes:`, "hint"), output];
 }
 
@@ -380,33 +409,28 @@ function download(name, content, type) {
   setTimeout(() => URL.revokeObjectURL(url), 10000);
 }
 
-async function pausedSession() {
+/** What is made of the machine once it is paused: its session or its recording. */
+async function paused(ask) {
   await app.live.ask("setRun", { on: false });
-  return app.live.ask("session");
+  return app.live.ask(ask);
 }
 
 async function saveSession() {
   notice();
-  const made = await pausedSession();
-  if (made) download(`${app.name}-live.json`, made.text, "application/json");
+  const text = await paused("session");
+  if (text) download(`${app.name}-live.json`, text, "application/json");
 }
 
-/** Records the session anew, saves the recording, and shows its line and whether the recorder's last state is the live machine's. */
+/** Saves the recording, and has it checked for its line. */
 async function saveRecording() {
   notice();
-  const made = await pausedSession();
+  const made = await paused("recording");
   if (!made) return;
-  const answer = await clerkDoes("record", { session: made.text, live: made.live, steps: made.steps }, "recording and checking");
-  if (!answer) return;
-  verdictLine(answer.line, answer.status);
-  app.recorded = answer;
-  if (!answer.recording) return;
-  download(`${app.name}-live.orsr`, answer.recording, "application/octet-stream");
-  const [recorded, checked] = answer.ms.map((ms) => (ms / 1000).toFixed(1));
-  const same = answer.difference === null;
-  el("say").textContent = `${grouped(answer.recording.length)} bytes, recorded in ${recorded} s and checked in ${checked} s; ` +
-    (same ? "the recorder's last state is the live machine's" : `the recorder's last state differs from the live machine's in ${answer.difference}`);
-  if (!same) notice(`The recorder's last state is not the live machine's: they differ first in ${answer.difference}. The recording is that of the session.`);
+  download(`${app.name}-live.orsr`, made.text, "application/octet-stream");
+  if (!made.isWhole) notice(`The recording ends with its checkpoint at ${grouped(made.count)}: ${made.full ?? "it has all checkpoints that it may have"}.`);
+  const begun = performance.now();
+  if (!(await checked(made.text))) return;
+  el("say").textContent = `${grouped(made.text.length)} bytes, checked in ${((performance.now() - begun) / 1000).toFixed(1)} s`;
 }
 
 // What the browser keeps
@@ -420,32 +444,34 @@ function database() {
   });
 }
 
-/** Does something with the kept sessions. */
+/** Does something with what is kept: recordings in the making, and sessions that earlier pages kept, which have their first state. */
 async function withKept(mode, task) {
   const opened = await database();
   try {
-    const asked = task(opened.transaction("sessions", mode).objectStore("sessions"));
+    const transaction = opened.transaction("sessions", mode), asked = task(transaction.objectStore("sessions"));
     return await new Promise((yes, no) => {
-      asked.onsuccess = () => yes(asked.result);
-      asked.onerror = () => no(asked.error);
+      transaction.oncomplete = () => yes(asked.result);
+      transaction.onabort = () => no(transaction.error);
     });
   } finally {
     opened.close();
   }
 }
 
-/** Keeps the session in this browser, once it has begun. */
+/** Keeps the recording in the making in this browser, once it has begun. */
 async function keep() {
   const count = app.latest ? countOf(app.latest.state) : 0;
   if (!count || app.latest.isReplay || app.keptCount === count) return;
   const kept = await app.live.ask("kept");
   if (!kept) return;
   app.keptId ??= Date.now();
-  app.keptCount = count;
-  await withKept("readwrite", (store) => store.put({ id: app.keptId, name: app.name, sent: el("out").textContent, ...kept })).catch(() => {
+  try {
+    await withKept("readwrite", (store) => store.put({ id: app.keptId, name: app.name, sent: el("out").textContent, ...kept }));
+    app.keptCount = kept.count;
+  } catch {
     app.keptId = null;
     el("say").textContent += "; this browser keeps nothing, so save to a file";
-  });
+  }
 }
 
 async function showKept() {
@@ -472,7 +498,8 @@ async function resume(kept) {
   const answer = await app.live.ask("resume", { kept });
   if (!answer) return;
   app.keptId = kept.id;
-  el("out").textContent = kept.sent;
+  el("out").textContent = kept.first ? "" : kept.sent;
+  if (kept.first) notice("An earlier page kept this session without its recording: Run brings it to where it was, and records it.");
   el("kept").hidden = true;
   await showOpened(answer);
 }
@@ -491,6 +518,11 @@ async function setRun(isOn) {
   notice();
   await app.live.ask("setRun", { on: isOn, fast: isFast(), seconds: seconds() });
   if (isOn) el("screen").focus({ preventScroll: true });
+}
+
+async function takeOver() {
+  await app.live.ask("takeOver");
+  el("screen").focus({ preventScroll: true });
 }
 
 function rerun() {
@@ -516,9 +548,8 @@ const held = new Set();
 function codesOf({ type, code, key, ctrlKey, metaKey }) {
   if (el("keys").value === "ps2") {
     const number = PS2[code];
-    if (!number) return [];
-    if (type === "keyup") held.delete(code);
-    else held.add(code);
+    if (!number || (type === "keyup" && !held.delete(code))) return [];
+    if (type === "keydown") held.add(code);
     return [...(number > 255 ? [number >> 8] : []), ...(type === "keyup" ? [0xf0] : []), number & 255];
   }
   if (type === "keyup" || ctrlKey || metaKey) return [];
@@ -528,10 +559,17 @@ function codesOf({ type, code, key, ctrlKey, metaKey }) {
 
 function pressed(event) {
   if (!app.latest?.on || (event.key === "Tab" && event.shiftKey)) return;
+  if (event.key === "Enter" && event.ctrlKey) return leaveScreen(event);
   const codes = codesOf(event);
   if (!codes.length) return;
   event.preventDefault();
   app.live.ask("type", { codes });
+}
+
+/** Goes from the screen to the next control, since Tab goes to the machine. */
+function leaveScreen(event) {
+  event.preventDefault();
+  if (event.type === "keydown") el("mark").focus();
 }
 
 /** Lets go of all PS/2 keys, when the screen loses the focus. */
@@ -607,7 +645,7 @@ function listen() {
   on("run", "click", () => setRun(!app.latest?.on));
   on("step", "click", () => app.live.ask("step"));
   on("next", "click", () => app.live.ask("toCheckpoint", { fast: isFast(), seconds: seconds() }));
-  on("take", "click", () => app.live.ask("takeOver"));
+  on("take", "click", takeOver);
   on("speed", "change", rerun);
   on("each", "change", rerun);
   on("mark", "click", () => app.live.ask("mark"));

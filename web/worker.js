@@ -1,10 +1,11 @@
-/* The worker script's last part: it answers the page's requests. Two workers run it: one has the live machine, and one, the clerk, checks
- * and records, so that a long check can be stopped without touching the machine. A request is `{id, ask, ..}`, and its answer
+/* The worker script's last part: it answers the page's requests. Two workers run it: one has the live machine and records it, and one, the
+ * clerk, checks, so that a long check can be stopped without touching the machine. A request is `{id, ask, ..}`, and its answer
  * `{id, answer}`, `{id, refused}`, a line for the user, or `{id, broken}`, a fault of this script. What comes unasked has no id. */
 "use strict";
 
 const FRAME_MS = 1000 / 60, BUDGET_MS = 12, FIRST_CHUNK = 200000, LAG_MS = 100;
-const WARM_STEPS = 50000000, WARM_MS = 700;
+// Recordings of up to a second of the machine's time are checked by one call alone.
+const WHOLE_STEPS = 25000000;
 
 let library = null, machine = null;
 let run = { on: false };
@@ -101,12 +102,19 @@ function turnTo(to, deadline) {
   return joined(sent);
 }
 
-/** Notes and judges a checkpoint if the machine has just come to one. */
+/** Records and judges a checkpoint if the machine has just come to one. */
 function reached() {
   const { count } = machine, isPlanned = machine.planned.includes(count), step = (run.seconds ?? 0) * PER_SECOND;
-  if (isPlanned || (step && count % step === 0)) machine.mark(isPlanned ? CHECKPOINT_LIMIT : CHECKPOINT_LIMIT - 1);
+  if (isPlanned || (step && count % step === 0)) mark(isPlanned ? CHECKPOINT_LIMIT : CHECKPOINT_LIMIT - 1);
   const passed = machine.judge();
   if (passed) postMessage({ passed });
+}
+
+/** Records a checkpoint; one place is left for the end of the recording. That it became full is told at once. */
+function mark(most = CHECKPOINT_LIMIT - 1) {
+  const { full } = machine.recorder, isNew = machine.mark(most);
+  if (machine.recorder.full !== full) postMessage({ refused: `${machine.recorder.full}: it ends with its last checkpoint` });
+  return isNew;
 }
 
 /** Opens what a file holds; what it is says its answer. */
@@ -160,7 +168,7 @@ const LIVE = {
     if (!machine.isReplay) for (const byte of bytes) machine.waiting.serial.push(byte);
   },
   mark() {
-    const isNew = machine.mark();
+    const isNew = mark();
     show([]);
     return isNew;
   },
@@ -168,30 +176,21 @@ const LIVE = {
     return machine.claimed(number);
   },
   session() {
-    const { session, live } = machine.session();
+    const text = writeSession(machine.session());
     show([]);
-    return { text: writeSession(session), live, count: machine.count, steps: session.checkpoints.at(-1) ?? 0 };
+    return text;
+  },
+  recording() {
+    const { text, count, full } = machine.recorded();
+    show([]);
+    return { text, count, full, isWhole: count === machine.count };
   },
   kept() {
-    return machine?.first ? { ...machine.kept(), count: machine.count } : null;
+    return { ...machine.kept(), count: machine.count };
   },
 };
 
 // The clerk
-
-let perMs = 50000;
-
-/** Runs the first frames of what is to be checked or recorded. A browser runs a long first call with code that its quick compiler made, and
- * the calls after it with better code; and the speed of the frames says about how long the whole will take. */
-function warmUp(parts, steps, times) {
-  const begun = performance.now(), most = Math.min(steps, WARM_STEPS);
-  machine.begin(parts);
-  for (let chunk = FIRST_CHUNK; machine.count < most && performance.now() - begun < WARM_MS; chunk *= 2) {
-    machine.advance(Math.min(most, machine.count + Math.min(chunk, 1 << 22)));
-  }
-  if (machine.count > FIRST_CHUNK) perMs = machine.count / (performance.now() - begun);
-  postMessage({ estimate: (times * steps) / perMs, steps });
-}
 
 /** A task that may be refused; what it is refused for says the proved function that comes after it. */
 function unlessRefused(task) {
@@ -204,23 +203,24 @@ function unlessRefused(task) {
 }
 
 const CLERK = {
-  check({ text }) {
+  /** The line of one call over the whole. For a long recording the line of its stretches is posted before, with how far it is on the way. */
+  check({ text, whole = WHOLE_STEPS, size }) {
     const recording = text.length <= LONGEST_RECORDING ? unlessRefused(() => lawful(text)) : null;
-    const { state, words } = machine;
-    if (recording) warmUp({ state, words, inputs: recording.inputs, checkpoints: [] }, recording.claims.at(-1).count, 1);
+    if (recording?.claims.at(-1).count > whole) unlessRefused(() => checkStretches(recording, size));
     return library.check(text);
-  },
-  record({ session, live, steps }) {
-    const text = new TextEncoder().encode(session), parts = unlessRefused(() => readSession(text));
-    if (parts) warmUp(parts, steps, 2);
-    const begun = performance.now(), { bytes, status } = library.record(text);
-    if (status) return { line: lineOf(bytes), status };
-    const recorded = performance.now(), verdict = library.check(bytes), checked = performance.now();
-    return { ...verdict, recording: bytes, difference: lastDifference(bytes, live), ms: [recorded - begun, checked - recorded] };
   },
 };
 
-/** The recording of a text, with its first state on the machine; refused if it is not lawful. */
+function checkStretches(recording, size) {
+  const steps = recording.claims.at(-1).count, begun = performance.now();
+  let done = 0;
+  const tell = (now) => postMessage({ done: (done = now), steps });
+  tell(0);
+  const stretches = new Checker(machine, size).line(recording, tell);
+  postMessage({ stretches, estimate: performance.now() - begun, steps: done });
+}
+
+/** The recording of a text; refused if it is not lawful. */
 function lawful(text) {
   const place = library.hold(text);
   try {
@@ -229,14 +229,6 @@ function lawful(text) {
   } finally {
     library.leave(place);
   }
-}
-
-/** The first part in which the recorder's last state and the live machine's differ, or null. */
-function lastDifference(text, live) {
-  const recording = readRecording(text), place = library.hold(text);
-  library.claim(place, text.length, recording.claims.length - 1, machine.other, machine.other + STATE_BYTES);
-  library.leave(place);
-  return firstDifference({ ...machine.at(machine.other), sent: [] }, { ...live, sent: [] });
 }
 
 // Both

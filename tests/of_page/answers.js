@@ -5,7 +5,6 @@
 const { readFileSync } = require("fs");
 const { gunzipSync } = require("zlib");
 const readline = require("readline");
-const { createHash } = require("crypto");
 
 const html = readFileSync(process.argv[2], "utf8");
 const part = (name) => new RegExp(`<script[^>]* id="g-${name}">([^]*?)</script>`).exec(html)[1];
@@ -14,21 +13,37 @@ const module_ = new WebAssembly.Module(gunzipSync(Buffer.from(part("module"), "b
 let said = null;
 globalThis.onmessage = null;
 globalThis.postMessage = (news) => { if (news.id !== undefined) said = news; };
-(0, eval)(`${part("worker")}\n;globalThis.tell = (data) => onmessage({ data });`);
+(0, eval)(`${part("worker")}\n;globalThis.tell = (data) => onmessage({ data });
+globalThis.runToLast = () => turnTo(machine.planned.at(-1) ?? 0, Infinity);
+globalThis.cut = cutAll;
+globalThis.joinStretches = (text, size) => unlessRefused(() => new Checker(machine, size).line(lawful(text), () => {}));
+function cutAll(text, ends) {
+  const recording = lawful(text), table = firstTable(recording);
+  return ends.slice(1).map((end, at) => stretch(recording, table, ends[at], end));
+}`);
 // The page's own script is only asked for its functions of one value.
 (0, eval)(`(() => { ${part("script")}\n; globalThis.ofPage = { instruction, codesOf }; })()`);
 
-/** The answer of the worker to a request; bytes are given by their digest. */
+const encoded = (_, value) => (value instanceof Uint8Array ? Buffer.from(value).toString("base64") : value);
+
+/** The answer of the worker to a request; bytes are given in base64. `record` opens a session, runs it to its last checkpoint, and has the
+ * recording. `cut` has the stretches of a recording, and `join` the line that those of about so many steps make. */
 function answerTo([ask, given]) {
   if (ask === "instruction") return { answer: ofPage.instruction(...given) };
   const { base64, ...rest } = given;
-  if (ask === "record") rest.live = { state: new Uint8Array(136), words: new Uint8Array(1 << 20) };
-  tell({ id: 1, ask, ...rest, ...(base64 === undefined ? {} : { text: new Uint8Array(Buffer.from(base64, "base64")) }) });
-  const digest = (bytes) => createHash("sha256").update(bytes).digest("hex");
-  return JSON.parse(JSON.stringify({ ...said, id: undefined }, (_, value) => (value instanceof Uint8Array ? digest(value) : value)));
+  const text = base64 === undefined ? {} : { text: new Uint8Array(Buffer.from(base64, "base64")) };
+  if (ask === "cut") return JSON.parse(JSON.stringify({ answer: cut(text.text, rest.ends) }, encoded));
+  if (ask === "join") return { answer: joinStretches(text.text, rest.size) };
+  tell({ id: 1, ask: ask === "record" ? "openSession" : ask, ...rest, ...text });
+  if (ask === "record" && "answer" in said) {
+    runToLast();
+    tell({ id: 1, ask: "recording" });
+  }
+  return JSON.parse(JSON.stringify({ ...said, id: undefined }, encoded));
 }
 
 tell({ id: 0, ask: "start", module: module_ });
 const lines = readline.createInterface({ input: process.stdin });
 lines.on("line", (line) => console.log(JSON.stringify(answerTo(JSON.parse(line)))));
-lines.on("close", () => process.exit(0));
+// The worker's channel would keep node from ending; and an end before all is written would cut it off.
+lines.on("close", () => process.stdout.write("", () => process.exit(0)));

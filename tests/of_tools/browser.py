@@ -12,11 +12,18 @@ from collections.abc import Iterator
 from contextlib import contextmanager
 from dataclasses import dataclass
 from pathlib import Path
+from typing import IO
 
 FLAGS = ("--headless=new", "--no-sandbox", "--disable-gpu", "--hide-scrollbars", "--no-first-run", "--disable-extensions",
          "--disable-background-networking", "--host-resolver-rules=MAP * ~NOTFOUND", "--force-device-scale-factor=1")
 
 WIDTHS = (420, 800, 1100, 1280, 1920)
+
+# The numbers of keys that do something in a page.
+NUMBERS = {"Tab": 9, "Enter": 13, " ": 32, "ArrowUp": 38, "ArrowDown": 40}
+
+# Seconds that a wait takes at most. They are many, since a wait ends when what it waits for is there.
+PATIENCE = 120
 
 # What is wrong with how the blocks of a page lie: a page or a block too wide, and two blocks that overlap.
 FAULTS = """
@@ -45,16 +52,22 @@ FAULTS = """
 class Pipe:
     """The pipe to a browser: what it is asked, and what it tells."""
 
-    def __init__(self, to_browser: int, from_browser: int) -> None:
+    def __init__(self, to_browser: int, from_browser: int, errors: IO[bytes]) -> None:
         self._to = to_browser
         self._from = from_browser
+        self._errors = errors
         self._rest = b""
         self._asked = 0
 
     def send(self, message: dict) -> int:
         """Asks something, and gives the number by which the answer will be known."""
         self._asked += 1
-        os.write(self._to, json.dumps({"id": self._asked, **message}).encode() + b"\0")
+        rest = json.dumps({"id": self._asked, **message}).encode() + b"\0"
+        try:
+            while rest:
+                rest = rest[os.write(self._to, rest) :]
+        except BrokenPipeError as error:
+            raise RuntimeError(f"the browser ended; it said: {self._said()}") from error
         return self._asked
 
     def receive(self) -> dict:
@@ -62,10 +75,14 @@ class Pipe:
         while b"\0" not in self._rest:
             more = os.read(self._from, 1 << 20)
             if not more:
-                raise RuntimeError("the browser ended")
+                raise RuntimeError(f"the browser ended; it said: {self._said()}")
             self._rest += more
         message, _, self._rest = self._rest.partition(b"\0")
         return json.loads(message)
+
+    def _said(self) -> str:
+        self._errors.seek(0)
+        return self._errors.read()[-2000:].decode(errors="replace")
 
 
 class Page:
@@ -74,11 +91,12 @@ class Page:
     def __init__(self, pipe: Pipe, path: Path) -> None:
         self._pipe = pipe
         self._session = ""
+        self._chooser = 0
         self.errors: list[str] = []
         self.requests: list[str] = []
         self._target = self._ask("Target.createTarget", url="about:blank")["targetId"]
         self._session = self._ask("Target.attachToTarget", targetId=self._target, flatten=True)["sessionId"]
-        for domain in ("Page", "Runtime", "Log", "Network"):
+        for domain in ("Page", "Runtime", "Log", "Network", "Inspector"):
             self._ask(f"{domain}.enable")
         self._ask("Page.navigate", url=path.resolve().as_uri())
         while self._read().get("method") != "Page.loadEventFired":
@@ -109,12 +127,15 @@ class Page:
         """The page as a printer would get it, as PDF."""
         return base64.b64decode(self._ask("Page.printToPDF", printBackground=False)["data"])
 
-    def wait(self, expression: str, seconds: float = 30) -> None:
-        """Waits until an expression is true."""
-        end = time.monotonic() + seconds
+    def wait(self, expression: str, moving: str = "0") -> None:
+        """Waits until an expression is true. The patience is for a machine that does much else: it ends where for two minutes neither the
+        expression became true nor the value of `moving` another."""
+        seen, end = None, time.monotonic() + PATIENCE
         while not self.answer(f"Boolean({expression})"):
+            if (now := self.answer(moving)) != seen:
+                seen, end = now, time.monotonic() + PATIENCE
             if time.monotonic() > end:
-                raise RuntimeError(f"after {seconds} seconds it is not so that {expression}")
+                raise RuntimeError(f"after {PATIENCE} seconds it is not so that {expression}")
             time.sleep(0.03)
 
     def choose(self, selector: str, path: Path) -> None:
@@ -130,10 +151,26 @@ class Page:
 
     def press(self, key: str, code: str = "", modifiers: int = 0, number: int = 0) -> None:
         """Presses and releases a key; one character is its text."""
-        text = {"text": key} if len(key) == 1 else {}
-        common = {"key": key, "code": code, "modifiers": modifiers, "windowsVirtualKeyCode": number}
+        text = {"text": "\r" if key == "Enter" else key} if len(key) == 1 or key == "Enter" else {}
+        common = {"key": key, "code": code or key, "modifiers": modifiers, "windowsVirtualKeyCode": number or NUMBERS.get(key, 0)}
         self._ask("Input.dispatchKeyEvent", type="keyDown" if text else "rawKeyDown", **common, **text)
         self._ask("Input.dispatchKeyEvent", type="keyUp", **common)
+
+    def focused(self) -> tuple[str, str]:
+        """What has the focus: its role and its name, as the browser tells them to a screen reader."""
+        held = self._ask("Runtime.evaluate", expression="document.activeElement")["result"]["objectId"]
+        node = self._ask("Accessibility.getPartialAXTree", objectId=held, fetchRelatives=False)["nodes"][0]
+        return node["role"]["value"], node.get("name", {}).get("value", "")
+
+    def choose_by_key(self, path: Path) -> None:
+        """Presses Enter on a file input, and chooses a file in the window that it opens."""
+        self._ask("Page.setInterceptFileChooserDialog", enabled=True)
+        self._chooser = 0
+        self.press("Enter")
+        while not self._chooser:
+            self._read()
+        self._ask("DOM.setFileInputFiles", backendNodeId=self._chooser, files=[str(path.resolve())])
+        self._ask("Page.setInterceptFileChooserDialog", enabled=False)
 
     def save_into(self, folder: Path) -> None:
         """Has files that the page saves go to a folder."""
@@ -175,6 +212,10 @@ class Page:
             self.errors.append(str(told["args"]))
         elif method == "Log.entryAdded":
             self.errors.append(told["entry"]["text"])
+        elif method == "Page.fileChooserOpened":
+            self._chooser = told["backendNodeId"]
+        elif method == "Inspector.targetCrashed":
+            raise RuntimeError("the page crashed")
         elif method == "Network.requestWillBeSent":
             self.requests.append(told["request"]["url"])
 
@@ -204,14 +245,14 @@ def browser() -> Iterator[Browser]:
         os.dup2(read, 3)
         os.dup2(write, 4)
 
-    with tempfile.TemporaryDirectory(ignore_cleanup_errors=True) as folder:
+    with tempfile.TemporaryDirectory(ignore_cleanup_errors=True) as folder, tempfile.TemporaryFile() as errors:
         command = [shutil.which("chromium"), *FLAGS, f"--user-data-dir={folder}", "--remote-debugging-pipe"]
         running = subprocess.Popen(command, preexec_fn=place_pipes, close_fds=False, stdin=subprocess.DEVNULL,
-                                   stdout=subprocess.DEVNULL, stderr=subprocess.DEVNULL)
+                                   stdout=subprocess.DEVNULL, stderr=errors)
         os.close(from_us)
         os.close(to_us)
         try:
-            yield Browser(Pipe(to_browser, from_browser))
+            yield Browser(Pipe(to_browser, from_browser, errors))
         finally:
             os.close(to_browser)
             os.close(from_browser)

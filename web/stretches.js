@@ -1,0 +1,131 @@
+/* The stretches of a recording between two of its checkpoints, as recordings of their own, and the line that theirs make. The page checks a
+ * long recording by them, so that it can say how far it is. tools/galluspa/stretches.py cuts the same bytes, and docs/suites.md says why their
+ * lines make the line of the whole. */
+"use strict";
+
+const HEADER_BYTES = 24, CLAIM_BYTES = 144;
+const STRETCH_STEPS = 10000000, FIRST_STEPS = 1000000;
+
+/** The places that a checkpoint changes in the table before it, each with its new page number. */
+function changesOf({ text, version }, { at }, table) {
+  const view = new DataView(text.buffer, text.byteOffset, text.length), number = (from) => view.getUint32(from, true);
+  if (version === 1) return Array.from(table, (_, place) => [place, number(at + 132 + 4 * place)]).filter(([place, page]) => page !== table[place]);
+  return Array.from({ length: number(at + 140) }, (_, k) => [number(at + CLAIM_BYTES + 8 * k), number(at + CLAIM_BYTES + 4 + 8 * k)]);
+}
+
+/** The table of the page numbers of checkpoint 0. */
+function firstTable(recording) {
+  const table = new Uint32Array(PAGES);
+  for (const [place, page] of changesOf(recording, recording.claims[0], table)) table[place] = page;
+  return table;
+}
+
+/** The recording between two checkpoints, in version 2: what the first claims is its first state, its counts and inputs begin at 0 again, and
+ * its pool has the pages that it names, in the order in which it names them. `table` is the table of the first, and becomes that of the last. */
+function stretch(recording, table, first, last) {
+  const claims = recording.claims.slice(first, last + 1), numbers = new Map([[0, 0]]);
+  const named = ([place, page]) => [place, numbers.get(page) ?? (numbers.set(page, numbers.size), numbers.size - 1)];
+  const written = claims.map((claim, k) => {
+    const changes = k ? changesOf(recording, claim, table) : Array.from(table, (page, place) => [place, page]).filter(([, page]) => page);
+    for (const [place, page] of changes) table[place] = page;
+    return claimBytes(recording, claim, claims[0].count, changes.map(named));
+  });
+  const pages = [...numbers.keys()].slice(1).map((number) => recording.text.subarray(HEADER_BYTES + PAGE_BYTES * (number - 1)).subarray(0, PAGE_BYTES));
+  const inputs = recording.inputs.between(claims[0].count, claims.at(-1).count);
+  const header = new Uint8Array(HEADER_BYTES), view = new DataView(header.buffer);
+  header.set(new TextEncoder().encode("ORSR"));
+  [2, pages.length, inputs.length / INPUT_BYTES, claims.length].forEach((number, k) => view.setUint32(4 + 4 * k, number, true));
+  return joined([header, ...pages, inputs, ...written, ...claims.slice(1).map((claim) => claim.sent)]);
+}
+
+/** A checkpoint as a stretch has it that begins at a count. */
+function claimBytes({ text, version }, { at, count }, begin, changes) {
+  const bytes = new Uint8Array(CLAIM_BYTES + 8 * changes.length), view = new DataView(bytes.buffer);
+  bytes.set(text.subarray(at, at + (version === 1 ? 132 : 140)));
+  view.setBigUint64(0, BigInt(count - begin), true);
+  if (count === begin) view.setUint32(128, 0, true);
+  view.setUint32(140, changes.length, true);
+  changes.flat().forEach((number, k) => view.setUint32(CLAIM_BYTES + 4 * k, number, true));
+  return bytes;
+}
+
+function joined(parts) {
+  const whole = new Uint8Array(parts.reduce((length, part) => length + part.length, 0));
+  parts.reduce((at, part) => (whole.set(part, at), at + part.length), 0);
+  return whole;
+}
+
+/** What a line says of a recording of so many checkpoints and steps: null if all are true; else the first false one, with its first false part. */
+function foundBy(line, claims) {
+  const [, number, count, part] = /^false checkpoint (\d+) at (\d+) part (.+)$/.exec(line) ?? [];
+  if (number && claims[number]?.count === Number(count)) return { number: Number(number), part };
+  if (line !== acceptedLine(claims)) throw new Refused(`a stretch has the line ${line}`);
+  return null;
+}
+
+function acceptedLine(claims) {
+  return `accepted ${claims.length - 1} checkpoints ${claims.at(-1).count} steps`;
+}
+
+/** Checks recordings by their stretches, on a machine that nothing else uses. */
+class Checker {
+  constructor(machine, size = STRETCH_STEPS) {
+    Object.assign(this, { machine, size, library: machine.library });
+  }
+
+  /** The line that the stretches of a recording make, its status, and their number. After each piece `tell` is given the steps that are done. */
+  line(recording, tell) {
+    const { claims } = recording, last = claims.length - 1, table = firstTable(recording);
+    let first = 0, stretches = 0;
+    for (let size = Math.min(FIRST_STEPS, this.size); first < last; size = Math.min(this.size, 2 * size)) {
+      const end = this.end(claims, first, size), begin = claims[first].count;
+      const found = this.found(stretch(recording, table, first, end), size, (steps) => tell(begin + steps));
+      stretches++;
+      if (found) {
+        const number = first + found.number;
+        tell(claims[number].count);
+        return { line: `false checkpoint ${number} at ${claims[number].count} part ${found.part}`, status: 1, stretches };
+      }
+      first = end;
+      tell(claims[end].count);
+    }
+    return { line: acceptedLine(claims), status: 0, stretches };
+  }
+
+  /** The last checkpoint of a stretch of about so many steps. */
+  end(claims, first, size) {
+    let end = first + 1;
+    while (end + 1 < claims.length && claims[end + 1].count - claims[first].count <= size) end++;
+    return end;
+  }
+
+  /** What the line of a stretch says. A long one is run in frames, and its last frame is checked as a recording of its own. */
+  found(text, size, tell) {
+    const recording = readRecording(text), { claims } = recording;
+    const isRun = claims.length === 2 && claims[1].count > 2 * size && this.run(recording, size, tell);
+    if (!isRun) return foundBy(this.library.check(text).line, claims);
+    const { last, steps } = this.lastFrame(recording);
+    return foundBy(this.library.check(last).line, [{ count: 0 }, { count: steps }]);
+  }
+
+  /** Runs a stretch of two checkpoints up to its last frame; whether it has sent what is claimed, as far as it was run. */
+  run(recording, size, tell) {
+    const { machine } = this, [, { count, sent }] = recording.claims;
+    machine.beginRecording(recording, 0);
+    for (this.sent = 0; count - machine.count > size; tell(machine.count)) {
+      const now = machine.advance(machine.count + size);
+      if (!equal(now, sent.subarray(this.sent, this.sent + now.length))) return false;
+      this.sent += now.length;
+    }
+    return true;
+  }
+
+  /** The recording that begins with the machine's state, and claims at its end what the stretch does; and how many steps it has. */
+  lastFrame(recording) {
+    const { machine, library } = this, begin = machine.count, [, { count, sent }] = recording.claims, steps = count - begin;
+    library.claim(machine.text, recording.text.length, 1, machine.other, machine.other + STATE_BYTES);
+    for (const [place, own] of [[machine.place, 0], [machine.other, steps]]) library.view.setBigUint64(place, BigInt(own), true);
+    const last = library.extend(library.begin(machine.place), machine.inputs.between(begin, count), machine.other, sent.subarray(this.sent));
+    return { last, steps };
+  }
+}
