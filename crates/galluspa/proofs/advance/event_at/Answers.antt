@@ -10,3 +10,6 @@ returns-then-kind-gt5-clause-range c = λ lawful.
 
 pub returns-in-Ok-clause-event : goal.returns-in-Ok-clause-event
 returns-in-Ok-clause-event c = search rules
+
+pub returns-in-Err-clause-range : goal.returns-in-Err-clause-range
+returns-in-Err-clause-range c = search rules
