@@ -1,4 +1,4 @@
-use Rattle.std.proofs.Common.{arith}
+use Rattle.std.proofs.Common.{arith, rules}
 use Rattle.risc_devices.proofs.InputLemmas.{kind_fits}
 use Rattle.galluspa.proofs.advance.event_at.Goals as goal
 
@@ -7,3 +7,9 @@ returns-then-kind-gt5-clause-range c = λ lawful.
     let small = kind_fits c.args.kind c.args.value lawful in
     let large = c.if-kind-gt5.true in
     omega arith
+
+pub returns-in-Ok-clause-event : goal.returns-in-Ok-clause-event
+returns-in-Ok-clause-event c = search rules
+
+pub returns-in-Err-clause-range : goal.returns-in-Err-clause-range
+returns-in-Err-clause-range c = search rules
