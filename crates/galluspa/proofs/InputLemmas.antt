@@ -16,7 +16,7 @@ lawful_at [] i d lt = absurd (omega arith)
 lawful_at (e ∷ es) zero d lt = e.input.lawful
 lawful_at (e ∷ es) (suc i) d lt = lawful_at es i d (omega arith)
 
--- inputs are no events where one of them is out of its range
+-- inputs are no events if one of them is out of its range
 pub unlawful : (inputs : List RawInput) (i : ℕ) (d : RawInput) → i < length inputs → (IsInput (get_or inputs i d).kind (get_or inputs i d).value → ⊥)
     → AreNoEvents inputs
 unlawful inputs i d lt bad events are =
@@ -32,7 +32,7 @@ counts_of (e ∷ es) = ap (λ (ns : List ℕ). e.count ∷ ns) (counts_of es)
 same_counts : (a b : List Event) → map raw_input a ≡ map raw_input b → map (λ (e : Event). e.count) a ≡ map (λ (e : Event). e.count) b
 same_counts a b same = sym (counts_of a) ∙ ap (map (λ (r : RawInput). r.count)) same ∙ counts_of b
 
--- inputs are no events in order where events that are written so are out of order
+-- inputs are no events in order if events that are written so are out of order
 pub unordered : (inputs : List RawInput) (list : List Event) (at : ℕ) → map raw_input list ≡ inputs → IsFirstWrong list at
     → AreNoEvents inputs
 unordered inputs list at same wrong events are =

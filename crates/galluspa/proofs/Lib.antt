@@ -1,4 +1,4 @@
--- What the proofs of this crate stand on.
+-- The lemmas of this crate.
 mod WordLemmas
 mod RawLemmas
 mod Pushing

@@ -7,7 +7,7 @@ use Rattle.galluspa.specs.declared.raw.RawInput.{RawInput}
 use Rattle.galluspa.specs.declared.words.TheConstants.{WORDS}
 use Rattle.galluspa.specs.Raw.{AreDevices, AreEvents, IsCpu, state_of}
 
--- all that a run is given is in its range: as many words as a memory has, a count that is not behind, a state, and inputs in order
+-- all that a run is given is in its range: as many words as a memory has, a count that is not below the state's, a state, and inputs in order
 pub record IsInRange (inputs : List RawInput) (to : ℕ) (state : RawState) (words : List ℕ) : Type 0 where
   pub whole : length words ≡ WORDS
   pub forward : state.count ≤ to

@@ -28,7 +28,7 @@ FrameLaw =
     → ((i : ℕ) → i < length before → count_at before i < from) → ((i : ℕ) → i < length after → from + n ≤ count_at after i)
     → sent_of due from n s ≡ sent_of (before ++ (due ++ after)) from n s)
 
--- two runs, the second from where the first ends, are one run with the inputs of both, and send what both send; if the inputs of
+-- two runs, the second from the end of the first, are one run with the inputs of both, and send what both send; if the inputs of
 -- the first come before its end, and those of the second at it or later
 abbrev pub JoinLaw : Type 0
 JoinLaw =

@@ -77,7 +77,7 @@ fn cpu_of_parts(r: [u32; 16], h: u32, pc: u32, flags: u32, stop: u8) -> Cpu
     }
 }
 
-/// The processor of a state, where its numbers are in their ranges.
+/// The processor of a state, if its numbers are in their ranges.
 pub fn cpu_of(state: &RawState) -> Option<Cpu>
     ensures cpu { IfSome result (λ cpu. cpu_state cpu ≡ cpu_of state.now) }
     ensures counter { IfSome result (λ cpu. cpu.pc < COUNTER_END) }
@@ -90,7 +90,7 @@ pub fn cpu_of(state: &RawState) -> Option<Cpu>
     Some(cpu_of_parts(state.r, state.h, state.pc, state.flags, state.stop as u8))
 }
 
-/// The devices of a state, where their numbers are in their ranges.
+/// The devices of a state, if their numbers are in their ranges.
 pub fn devices_of(state: &RawState) -> Option<Devices>
     ensures devices { IfSome result (λ devices. devices ≡ devices_of state.now) }
     ensures range { IsSome result ↔ AreDevices state.now }

@@ -7,7 +7,7 @@ use oberon_format::write;
 use oberon_session::{Session, make_recording, read_session};
 use std::alloc::{AllocError, Global};
 
-/// The text of the recording of the session that a text says, or the line of its refusal.
+/// The recording of the session that the bytes say, or the line of the refusal.
 pub fn answer_to(alloc: Global, text: &[u8]) -> Result<Answer, AllocError>
     ensures { IfOk result (λ answer. IsRecord text.now answer.bytes.items answer.status) }
 {
@@ -31,7 +31,7 @@ fn answer_of(alloc: Global, session: &Session) -> Result<Answer, AllocError>
     }
 }
 
-/// The answer where there is a fault of this number and this name. One without a number is out of memory.
+/// The answer on a fault of this number and this name. One without a number means that memory ran out.
 fn refused(alloc: Global, what: &str, number: Option<u8>, name: &str) -> Result<Answer, AllocError>
     ensures { IfOk result (λ answer. IsRefusal what.now number name.now answer.bytes.items answer.status) }
 {

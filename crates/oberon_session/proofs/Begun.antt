@@ -13,12 +13,12 @@ use Rattle.risc_pages.specs.Pages.{ArePages, IsPage}
 use Rattle.oberon_format.specs.CheckpointParts.{CheckpointParts, no_checkpoint}
 use Rattle.oberon_format.specs.Recording.{IsFit, IsLawful, output_of}
 use Rattle.oberon_session.proofs.Next.{Recorded, so-recorded}
-use Rattle.oberon_session.proofs.Steps.{between-none, count_of-zero, first_fault-zero, laid_of-zero, output_up_to-zero, state_at-zero}
+use Rattle.oberon_session.proofs.Steps.{between-none, count_of-zero, first_fault-zero, stored_of-zero, output_up_to-zero, state_at-zero}
 use Rattle.oberon_session.specs.Digits.{PlacedWords}
-use Rattle.oberon_session.specs.Laid.{Laid}
+use Rattle.oberon_session.specs.Stored.{Stored}
 use Rattle.oberon_session.specs.Laws.{IsTableOf}
 use Rattle.oberon_session.specs.Ranges.{timer_fits}
-use Rattle.oberon_session.specs.Recorded.{checkpoint_of, count_of, first_devices, first_laid, first_state, laid_of, numbered, output_between, output_up_to, state_at, state_of}
+use Rattle.oberon_session.specs.Recorded.{checkpoint_of, count_of, first_devices, first_stored, first_state, stored_of, numbered, output_between, output_up_to, state_at, state_of}
 use Rattle.oberon_session.specs.SessionParts.{SessionParts, places_in, IsLawful as IsLawfulSession}
 use Rattle.oberon_session.specs.inner.Progress.{IsContentOf, IsRecorded, checkpoints_to}
 
@@ -36,19 +36,19 @@ numbered-names pages (suc n) =
     All-set (λ number. number ≤ suc n) (numbered pages n) (slice_index (places_in pages) n) (suc n) (omega arith)
     (λ k d lt. omega (arith, numbered-names pages n k d lt))
 
-pub first-table : (pages : List PlacedWords) → IsTableOf (first_laid pages)
-unfolding first_laid
+pub first-table : (pages : List PlacedWords) → IsTableOf (first_stored pages)
+unfolding first_stored
 first-table pages = record {
   count = length-numbered pages (length pages);
   named = λ k d lt. omega (arith, numbered-names pages (length pages) k d lt, length-map pages (λ (page : PlacedWords). page.words));
 }
 
-first-pages : (pages : List PlacedWords) → All (λ (page : PlacedWords). IsPage page.words) pages → ArePages (first_laid pages).pool
-unfolding first_laid
+first-pages : (pages : List PlacedWords) → All (λ (page : PlacedWords). IsPage page.words) pages → ArePages (first_stored pages).pool
+unfolding first_stored
 first-pages pages contents = All-map IsPage (λ (page : PlacedWords). page.words) pages contents
 
-first-few : (pages : List PlacedWords) → length (first_laid pages).pool ≡ length pages
-unfolding first_laid
+first-few : (pages : List PlacedWords) → length (first_stored pages).pool ≡ length pages
+unfolding first_stored
 first-few pages = length-map pages (λ (page : PlacedWords). page.words)
 
 -- ---- checkpoint 0
@@ -78,7 +78,7 @@ fitting-devices rate phase fits = record {
 module _ (s : SessionParts) where
   -- what the checkpoint says
   abbrev pub first-checkpoint : CheckpointParts
-  first-checkpoint = record { count = 0; cpu = s.cpu; devices = first_devices s.rate s.phase; sent = []; table = (first_laid s.pages).table }
+  first-checkpoint = record { count = 0; cpu = s.cpu; devices = first_devices s.rate s.phase; sent = []; table = (first_stored s.pages).table }
 
   pub state-first : state_of s 0 ≡ first_state s
   state-first = ap (λ (n : ℕ). state_at s n) (count_of-zero s) ∙ state_at-zero s
@@ -91,7 +91,7 @@ module _ (s : SessionParts) where
   unfolding first_state
   first-devices = refl
 
-  first-words : (first_state s).words ≡ table_words (first_laid s.pages).pool (first_laid s.pages).table
+  first-words : (first_state s).words ≡ table_words (first_stored s.pages).pool (first_stored s.pages).table
   unfolding first_state
   first-words = refl
 
@@ -102,14 +102,14 @@ module _ (s : SessionParts) where
       let cpu = ap (λ (t : State). t.cpu) state-first ∙ first-cpu in
       let devices = ap (λ (t : State). t.devices) state-first ∙ first-devices in
       let sent = nil_from_length (output_between s (count_of s 0) (count_of s 0)) (between-none s (count_of s 0)) in
-      let table = ap (λ (l : Laid). l.table) (laid_of-zero s) in
+      let table = ap (λ (l : Stored). l.table) (stored_of-zero s) in
       λ i. record { count = count i; cpu = cpu i; devices = devices i; sent = sent i; table = table i }
 
   checkpoints-first : checkpoints_to s 0 ≡ first-checkpoint ∷ []
   checkpoints-first = ap (λ (c : CheckpointParts). c ∷ []) checkpoint-first
 
   module _ (lawful : IsLawfulSession s) where
-    lawful-first : IsLawful (record { pool = (first_laid s.pages).pool; inputs = s.inputs; checkpoints = first-checkpoint ∷ [] })
+    lawful-first : IsLawful (record { pool = (first_stored s.pages).pool; inputs = s.inputs; checkpoints = first-checkpoint ∷ [] })
     lawful-first =
         let table = first-table s.pages in
         let few = first-few s.pages in
@@ -126,7 +126,7 @@ module _ (s : SessionParts) where
           output = omega arith;
           fit = λ k lt.
               let this : 0 ≡ k = omega arith in
-              subst (λ (j : ℕ). IsFit (first_laid s.pages).pool (get_or (first-checkpoint ∷ []) j no_checkpoint)) this (record {
+              subst (λ (j : ℕ). IsFit (first_stored s.pages).pool (get_or (first-checkpoint ∷ []) j no_checkpoint)) this (record {
                 bounded = omega arith;
                 cpu = lawful.cpu;
                 devices = fitting-devices s.rate s.phase lawful.timer;
@@ -140,26 +140,26 @@ module _ (s : SessionParts) where
     recorded-first =
         let none = nil_from_length (output_up_to s (count_of s 0)) (ap (λ (n : ℕ). length (output_up_to s n)) (count_of-zero s) ∙ output_up_to-zero s) in
         record {
-          laid_so = refl;
+          stored_so = refl;
           recorded = refl;
           output = ap output_of checkpoints-first ∙ sym none;
           long = refl;
           lawful =
-              subst (λ (l : Laid). IsLawful (record { pool = l.pool; inputs = s.inputs; checkpoints = checkpoints_to s 0 })) (sym (laid_of-zero s))
-              (subst (λ (cs : List CheckpointParts). IsLawful (record { pool = (first_laid s.pages).pool; inputs = s.inputs; checkpoints = cs })) (sym checkpoints-first) lawful-first);
+              subst (λ (l : Stored). IsLawful (record { pool = l.pool; inputs = s.inputs; checkpoints = checkpoints_to s 0 })) (sym (stored_of-zero s))
+              (subst (λ (cs : List CheckpointParts). IsLawful (record { pool = (first_stored s.pages).pool; inputs = s.inputs; checkpoints = cs })) (sym checkpoints-first) lawful-first);
           content = λ j low.
               let this : 0 ≡ j = omega arith in
-              subst (λ (n : ℕ). IsContentOf s (laid_of s 0).pool n) this
-              (ap (λ (l : Laid). table_words l.pool l.table) (laid_of-zero s) ∙ sym first-words ∙ sym (ap (λ (t : State). t.words) state-first));
+              subst (λ (n : ℕ). IsContentOf s (stored_of s 0).pool n) this
+              (ap (λ (l : Stored). table_words l.pool l.table) (stored_of-zero s) ∙ sym first-words ∙ sym (ap (λ (t : State). t.words) state-first));
           faultless = first_fault-zero s;
         }
 
-    pub so-first : (laid : Laid) → laid ≡ first_laid s.pages → (cs : List CheckpointParts) → cs ≡ first-checkpoint ∷ [] → IsRecorded s 0 laid cs 0
-    so-first laid laid-so cs cs-so =
-        so-recorded s laid cs 0 0 (laid-so ∙ sym (laid_of-zero s)) (cs-so ∙ sym checkpoints-first)
+    pub so-first : (stored : Stored) → stored ≡ first_stored s.pages → (cs : List CheckpointParts) → cs ≡ first-checkpoint ∷ [] → IsRecorded s 0 stored cs 0
+    so-first stored stored-so cs cs-so =
+        so-recorded s stored cs 0 0 (stored-so ∙ sym (stored_of-zero s)) (cs-so ∙ sym checkpoints-first)
         (sym (ap (λ (n : ℕ). length (output_up_to s n)) (count_of-zero s) ∙ output_up_to-zero s)) recorded-first
 
   pub one-checkpoint : (cpu : CpuState) (devices : DeviceState) (sent table : List ℕ) → cpu ≡ s.cpu → devices ≡ first_devices s.rate s.phase → sent ≡ []
-      → table ≡ (first_laid s.pages).table → record { count = 0; cpu = cpu; devices = devices; sent = sent; table = table } ∷ [] ≡ first-checkpoint ∷ []
+      → table ≡ (first_stored s.pages).table → record { count = 0; cpu = cpu; devices = devices; sent = sent; table = table } ∷ [] ≡ first-checkpoint ∷ []
   one-checkpoint cpu devices sent table cpus states sents tables =
       λ i. record { count = 0; cpu = cpus i; devices = states i; sent = sents i; table = tables i } ∷ []

@@ -1,4 +1,4 @@
--- What is laid is the memory: the content of the new table over the new pool.
+-- What is stored is the memory: the content of the new table over the new pool.
 use Rattle.std.proofs.Common.{◌≡◌, ℕ, zero, suc, ◌+◌, ◌-◌, ◌*◌, ◌<◌, ◌≤◌, inl, inr, Bool, true, false, List, [], ◌∷◌, ◌++◌, ap, append_assoc, arith, drop, drop-drop, get_or, get_or-set_other, length, length-append, length-drop, length-set, length-take-le, map, refl, replicate, subst, sym, take, take-add, take_all, ◌∙◌}
 use Rattle.std.proofs.lemmas.Bool.{and_parts, eqb-true}
 use Rattle.std.proofs.lemmas.Bool.Decides.{eqb_tells}
@@ -16,8 +16,8 @@ use Rattle.risc_pages.proofs.PoolLemmas.{page_at-table_words, page_of-shared, pa
 use Rattle.risc_pages.specs.Tables.{IsNamed, table_words}
 use Rattle.risc_pages.specs.Delta.{changed_below}
 use Rattle.risc_pages.specs.Pages.{ArePages, page_at, page_of, zero_page}
-use Rattle.oberon_session.proofs.LaidPages.{with-page}
-use Rattle.oberon_session.specs.Laid.{Laid, changed_pages, is_blank, lay, lay_page, lay_pages}
+use Rattle.oberon_session.proofs.StoredPages.{with-page}
+use Rattle.oberon_session.specs.Stored.{Stored, changed_pages, is_blank, store, store_page, store_pages}
 use Rattle.oberon_session.specs.Laws.{IsTableOf}
 
 -- ---- pools that grow
@@ -97,33 +97,33 @@ content-of pool table words n count whole shown =
     flat_map-same (page_of pool) (page_at words) table (range_with_len 0 n) many each
     ∙ pages-from words 0 n ∙ take_all (256 * n) words (omega arith)
 
--- ---- laying pages
+-- ---- storing pages
 
 -- the table names at a place the page that the memory has there
-abbrev IsShown : List ℕ → Laid → ℕ → Type 0
-IsShown words laid p = page_of laid.pool (slice_index laid.table p) ≡ page_at words p
+abbrev IsShown : List ℕ → Stored → ℕ → Type 0
+IsShown words stored p = page_of stored.pool (slice_index stored.table p) ≡ page_at words p
 
 -- the pool has grown, the table is still one, and what it showed of the memory it still shows
-pub record Leads (words : List ℕ) (old new : Laid) : Type 0 where
+pub record Leads (words : List ℕ) (old new : Stored) : Type 0 where
   pub extra : List (List ℕ)
   pub grown : new.pool ≡ old.pool ++ extra
   pub table : IsTableOf new
   pub kept : (p : ℕ) → p < 1024 → IsShown words old p → IsShown words new p
 
-module _ (words : List ℕ) (old : Laid) (place : ℕ) where
-  pub blank-is : is_blank (page_at words place) ≡ true → lay_page old (place, page_at words place) ≡ record old { table = slice_set old.table place 0 }
-  unfolding lay_page
+module _ (words : List ℕ) (old : Stored) (place : ℕ) where
+  pub blank-is : is_blank (page_at words place) ≡ true → store_page old (place, page_at words place) ≡ record old { table = slice_set old.table place 0 }
+  unfolding store_page
   blank-is blank = rw blank refl
 
   pub other-is : is_blank (page_at words place) ≡ false
-      → lay_page old (place, page_at words place) ≡ record { pool = old.pool ++ page_at words place ∷ []; table = slice_set old.table place (length old.pool + 1) }
-  unfolding lay_page
+      → store_page old (place, page_at words place) ≡ record { pool = old.pool ++ page_at words place ∷ []; table = slice_set old.table place (length old.pool + 1) }
+  unfolding store_page
   other-is other = rw other refl
 
-module _ (words : List ℕ) (old : Laid) (good : IsTableOf old) (place : ℕ) (inside : place < 1024) where
+module _ (words : List ℕ) (old : Stored) (good : IsTableOf old) (place : ℕ) (inside : place < 1024) where
   -- a place shows its page once the number of that page is set there, over a pool that has only grown
   module _ (extra : List (List ℕ)) (number : ℕ) (fits : number ≤ length (old.pool ++ extra)) (names : page_of (old.pool ++ extra) number ≡ page_at words place) where
-    abbrev after : Laid
+    abbrev after : Stored
     after = record { pool = old.pool ++ extra; table = slice_set old.table place number }
 
     here : IsShown words after place
@@ -150,43 +150,43 @@ module _ (words : List ℕ) (old : Laid) (good : IsTableOf old) (place : ℕ) (i
       kept = kept;
     }
 
-  -- a page was laid
-  abbrev IsLaid : Laid → Type 0
-  IsLaid new = Leads words old new × IsShown words new place
+  -- a page was stored
+  abbrev IsStored : Stored → Type 0
+  IsStored new = Leads words old new × IsShown words new place
 
-  page-laid : (b : Bool) → is_blank (page_at words place) ≡ b → length words ≡ 262144 → IsLaid (lay_page old (place, page_at words place))
-  page-laid true blank whole =
+  page-stored : (b : Bool) → is_blank (page_at words place) ≡ b → length words ≡ 262144 → IsStored (store_page old (place, page_at words place))
+  page-stored true blank whole =
       let same : old.pool ++ [] ≡ old.pool = append-nil old.pool in
-      let after-is : lay_page old (place, page_at words place) ≡ record { pool = old.pool ++ []; table = slice_set old.table place 0 } =
+      let after-is : store_page old (place, page_at words place) ≡ record { pool = old.pool ++ []; table = slice_set old.table place 0 } =
       blank-is words old place blank ∙ ap (λ (pool : List (List ℕ)). record { pool = pool; table = slice_set old.table place 0 }) (sym same) in
       let zeros-there : page_of (old.pool ++ []) 0 ≡ page_at words place =
       page_of-zero (old.pool ++ []) 0 refl ∙ sym (blank-page (page_at words place) (length-page_at words place whole inside) blank) in
-      subst IsLaid (sym after-is) (set-leads [] 0 (omega arith) zeros-there, here [] 0 (omega arith) zeros-there)
-  page-laid false other whole =
+      subst IsStored (sym after-is) (set-leads [] 0 (omega arith) zeros-there, here [] 0 (omega arith) zeros-there)
+  page-stored false other whole =
       let page : List ℕ = page_at words place in
       let fits : length old.pool + 1 ≤ length (old.pool ++ page ∷ []) = omega (arith, length_push old.pool page) in
       let last = page_of-last old.pool page in
-      subst IsLaid (sym (other-is words old place other)) (set-leads (page ∷ []) (length old.pool + 1) fits last, here (page ∷ []) (length old.pool + 1) fits last)
+      subst IsStored (sym (other-is words old place other)) (set-leads (page ∷ []) (length old.pool + 1) fits last, here (page ∷ []) (length old.pool + 1) fits last)
 
 module _ (words : List ℕ) (whole : length words ≡ 262144) where
   abbrev pages-of : List ℕ → List (ℕ × List ℕ)
   pages-of places = map (with-page words) places
 
-  -- pages were laid at these places
-  abbrev AreLaid : Laid → List ℕ → Type 0
-  AreLaid old places =
-      Leads words old (lay_pages old (pages-of places)) × ((p : ℕ) → Contains places p → IsShown words (lay_pages old (pages-of places)) p)
+  -- pages were stored at these places
+  abbrev AreStored : Stored → List ℕ → Type 0
+  AreStored old places =
+      Leads words old (store_pages old (pages-of places)) × ((p : ℕ) → Contains places p → IsShown words (store_pages old (pages-of places)) p)
 
-  pages-laid : (places : List ℕ) → All (λ p. p < 1024) places → (old : Laid) → IsTableOf old → AreLaid old places
-  pages-laid [] low old good = (
+  pages-stored : (places : List ℕ) → All (λ p. p < 1024) places → (old : Stored) → IsTableOf old → AreStored old places
+  pages-stored [] low old good = (
     record { extra = []; grown = sym (append-nil old.pool); table = good; kept = λ p lt shown. shown },
     λ p within. absurd (omega (arith, within.1)),
   )
-  pages-laid (place ∷ places) low old good =
+  pages-stored (place ∷ places) low old good =
       let inside : place < 1024 = low 0 place (omega arith) in
-      let first = page-laid words old good place inside (is_blank (page_at words place)) refl whole in
-      let mid : Laid = lay_page old (place, page_at words place) in
-      let rest = pages-laid places (λ k d lt. low (suc k) d (omega arith)) mid first.0.table in (
+      let first = page-stored words old good place inside (is_blank (page_at words place)) refl whole in
+      let mid : Stored = store_page old (place, page_at words place) in
+      let rest = pages-stored places (λ k d lt. low (suc k) d (omega arith)) mid first.0.table in (
         record {
           extra = first.0.extra ++ rest.0.extra;
           grown = rest.0.grown ∙ ap (λ (pool : List (List ℕ)). pool ++ rest.0.extra) first.0.grown ∙ append_assoc old.pool first.0.extra rest.0.extra;
@@ -196,36 +196,36 @@ module _ (words : List ℕ) (whole : length words ≡ 262144) where
         shown-in first.1 rest.0.kept rest.1,
       )
     where
-      shown-in : IsShown words (lay_page old (place, page_at words place)) place
-          → ((p : ℕ) → p < 1024 → IsShown words (lay_page old (place, page_at words place)) p → IsShown words (lay_pages old (pages-of (place ∷ places))) p)
-          → ((p : ℕ) → Contains places p → IsShown words (lay_pages old (pages-of (place ∷ places))) p)
-          → (p : ℕ) → Contains (place ∷ places) p → IsShown words (lay_pages old (pages-of (place ∷ places))) p
+      shown-in : IsShown words (store_page old (place, page_at words place)) place
+          → ((p : ℕ) → p < 1024 → IsShown words (store_page old (place, page_at words place)) p → IsShown words (store_pages old (pages-of (place ∷ places))) p)
+          → ((p : ℕ) → Contains places p → IsShown words (store_pages old (pages-of (place ∷ places))) p)
+          → (p : ℕ) → Contains (place ∷ places) p → IsShown words (store_pages old (pages-of (place ∷ places))) p
       shown-in first kept rest p (zero, lt, is) =
           let low-place : place < 1024 = low 0 place (omega arith) in
-          subst (λ (q : ℕ). IsShown words (lay_pages old (pages-of (place ∷ places))) q) is (kept place low-place first)
+          subst (λ (q : ℕ). IsShown words (store_pages old (pages-of (place ∷ places))) q) is (kept place low-place first)
       shown-in first kept rest p (suc k, lt, is) = rest p (k, omega arith, is)
 
--- a memory that is laid where another was laid last is the content of the new table over the new pool
-pub memory-laid : (base words : List ℕ) (old : Laid) → IsTableOf old → ArePages old.pool → table_words old.pool old.table ≡ base
-    → length words ≡ 262144 → Leads words old (lay base words old) × (table_words (lay base words old).pool (lay base words old).table ≡ words)
-unfolding lay
-memory-laid base words old good pages content whole =
+-- a memory that is stored after another is the content of the new table over the new pool
+pub memory-stored : (base words : List ℕ) (old : Stored) → IsTableOf old → ArePages old.pool → table_words old.pool old.table ≡ base
+    → length words ≡ 262144 → Leads words old (store base words old) × (table_words (store base words old).pool (store base words old).table ≡ words)
+unfolding store
+memory-stored base words old good pages content whole =
     let differences = AreDifferences-changed_below base words (changed_below 1024 base words) refl in
-    let laid = pages-laid words whole (changed_below 1024 base words) (λ k d lt. (differences.each k d lt).0) old good in
+    let stored = pages-stored words whole (changed_below 1024 base words) (λ k d lt. (differences.each k d lt).0) old good in
     let before : (p : ℕ) → p < 1024 → page_at words p ≡ page_at base p → IsShown words old p =
     λ p lt same.
     let inside : p < length old.table = omega (arith, good.count) in
     sym (page_at-table_words old.pool old.table p 0 pages good.named inside) ∙ ap (λ (l : List ℕ). page_at l p) content ∙ sym same in
-    let shown : (p : ℕ) → p < 1024 → IsShown words (lay_pages old (changed_pages base words)) p =
+    let shown : (p : ℕ) → p < 1024 → IsShown words (store_pages old (changed_pages base words)) p =
     λ p lt. either p lt (pointwise nat_eq (page_at words p) (page_at base p))
     (told_text (page_at words p) (page_at base p) _ refl)
-    (λ same. laid.0.kept p lt (before p lt same))
-    (λ other. laid.1 p (differences.all p lt other)) in
-    (laid.0, content-of (lay_pages old (changed_pages base words)).pool (lay_pages old (changed_pages base words)).table words 1024 laid.0.table.count whole shown)
+    (λ same. stored.0.kept p lt (before p lt same))
+    (λ other. stored.1 p (differences.all p lt other)) in
+    (stored.0, content-of (store_pages old (changed_pages base words)).pool (store_pages old (changed_pages base words)).table words 1024 stored.0.table.count whole shown)
   where
     either : (p : ℕ) → p < 1024 → (b : Bool) → MatchBool b (page_at words p ≡ page_at base p) (page_at words p ≡ page_at base p → ⊥)
-        → (page_at words p ≡ page_at base p → IsShown words (lay_pages old (changed_pages base words)) p)
-        → ((page_at words p ≡ page_at base p → ⊥) → IsShown words (lay_pages old (changed_pages base words)) p)
-        → IsShown words (lay_pages old (changed_pages base words)) p
+        → (page_at words p ≡ page_at base p → IsShown words (store_pages old (changed_pages base words)) p)
+        → ((page_at words p ≡ page_at base p → ⊥) → IsShown words (store_pages old (changed_pages base words)) p)
+        → IsShown words (store_pages old (changed_pages base words)) p
     either p lt true told same other = same told
     either p lt false told same other = other told

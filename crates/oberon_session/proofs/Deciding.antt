@@ -65,8 +65,8 @@ module _ (test : ℕ → ℕ → Bool) (R : ℕ → ℕ → Type 0) (each : (a b
       let next : suc k + 1 ≡ suc (k + 1) = omega arith in
       rw next (h.1 k (omega arith))
 
-  behind : (x y : ℕ) (ys : List ℕ) → OfNeighbours (x ∷ y ∷ ys) → OfNeighbours (y ∷ ys)
-  behind x y ys h k inside =
+  after : (x y : ℕ) (ys : List ℕ) → OfNeighbours (x ∷ y ∷ ys) → OfNeighbours (y ∷ ys)
+  after x y ys h k inside =
       let next : suc k + 1 ≡ suc (k + 1) = omega arith in
       subst (λ (n : ℕ). R (slice_index (y ∷ ys) k) (slice_index (x ∷ y ∷ ys) n)) next (h (suc k) (omega arith))
 
@@ -74,7 +74,7 @@ module _ (test : ℕ → ℕ → Bool) (R : ℕ → ℕ → Type 0) (each : (a b
   decides-neighbours [] = (λ _ k inside. absurd (omega arith), λ _. refl)
   decides-neighbours (x ∷ []) = (λ _ k inside. absurd (omega arith), λ _. refl)
   decides-neighbours (x ∷ y ∷ ys) =
-      Decides-like (of_neighbours test (x ∷ y ∷ ys)) (in-front x y ys) (λ h. (h 0 (omega arith), behind x y ys h))
+      Decides-like (of_neighbours test (x ∷ y ∷ ys)) (in-front x y ys) (λ h. (h 0 (omega arith), after x y ys h))
       (Decides-and (test x y) (of_neighbours test (y ∷ ys)) (each x y) (decides-neighbours (y ∷ ys)))
 
 pub decides-order : (draft : Draft) → Decides (in_order draft) (InOrder draft)

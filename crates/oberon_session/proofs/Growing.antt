@@ -17,44 +17,44 @@ use Rattle.oberon_format.specs.CheckpointParts.{CheckpointParts, checkpoint_part
 use Rattle.oberon_format.specs.declared.checkpoint.Checkpoint.{Checkpoint}
 use Rattle.oberon_format.specs.Defined.{Outcome, claim_of, claimed}
 use Rattle.oberon_format.specs.Recording.{IsFit, IsLawful, RecordingParts, checkpoint_at, last_of, output_of, parts_of}
-use Rattle.oberon_session.proofs.Contents.{Leads, memory-laid, table_words-grown}
-use Rattle.oberon_session.proofs.LaidLaws.{laid-law}
+use Rattle.oberon_session.proofs.Contents.{Leads, memory-stored, table_words-grown}
+use Rattle.oberon_session.proofs.StoredLaws.{stored-law}
 use Rattle.oberon_session.proofs.LawfulMore.{lawful-more}
 use Rattle.oberon_session.specs.Extended.{IsBegun, IsExtended, IsNext, IsTooMuch, outcome_of}
 use Rattle.oberon_session.specs.declared.claim.Claim.{Claim}
 use Rattle.oberon_session.specs.declared.extend_fault.ExtendFault.{ExtendFault}
 use Rattle.oberon_session.specs.declared.extend_fault.ExtendFault.TheVariants as fault
-use Rattle.oberon_session.specs.declared.laying.LaidPages.{LaidPages}
-use Rattle.oberon_session.specs.Laid.{Laid, new_pages}
+use Rattle.oberon_session.specs.declared.storing.StoredPages.{StoredPages}
+use Rattle.oberon_session.specs.Stored.{Stored, new_pages}
 use Rattle.oberon_session.specs.Laws.{IsTableOf}
-use Rattle.oberon_session.specs.inner.Growing.{HasGrown, NeedsPages, checkpoint_of, last_laid, laid_on}
-use Rattle.oberon_session.specs.inner.Progress.{laid_view}
+use Rattle.oberon_session.specs.inner.Growing.{HasGrown, NeedsPages, checkpoint_of, last_stored, stored_on}
+use Rattle.oberon_session.specs.inner.Progress.{stored_view}
 
-module _ (laid : Laid) (words : List ℕ) (good : IsTableOf laid) (pages : ArePages laid.pool) (whole : length words ≡ 262144) where
-  -- words that are laid are the content of the new table
-  pub leads : Leads words laid (laid_on laid words) × (table_words (laid_on laid words).pool (laid_on laid words).table ≡ words)
-  leads = memory-laid (table_words laid.pool laid.table) words laid good pages refl whole
+module _ (stored : Stored) (words : List ℕ) (good : IsTableOf stored) (pages : ArePages stored.pool) (whole : length words ≡ 262144) where
+  -- words that are stored are the content of the new table
+  pub leads : Leads words stored (stored_on stored words) × (table_words (stored_on stored words).pool (stored_on stored words).table ≡ words)
+  leads = memory-stored (table_words stored.pool stored.table) words stored good pages refl whole
 
   -- the pages that changed join the pool
-  pub pool-laid : (laid_on laid words).pool ≡ laid.pool ++ new_pages (table_words laid.pool laid.table) words
-  pool-laid = (laid-law (table_words laid.pool laid.table) words laid good pages refl whole).pool
+  pub pool-stored : (stored_on stored words).pool ≡ stored.pool ++ new_pages (table_words stored.pool stored.table) words
+  pool-stored = (stored-law (table_words stored.pool stored.table) words stored good pages refl whole).pool
 
 module _ (r : RecordingParts) (lawful : IsLawful r) where
   pub last-fit : IsFit r.pool (checkpoint_at r (last_of r))
   last-fit = lawful.fit (last_of r) (omega (arith, lawful.some))
 
-  pub last-table : IsTableOf (last_laid r)
+  pub last-table : IsTableOf (last_stored r)
   last-table = record { count = last-fit.table.count; named = last-fit.named }
 
   module _ (inputs : List Event) (count : ℕ) (cpu : CpuState) (devices : DeviceState) (words sent : List ℕ) (whole : length words ≡ 262144) where
-    abbrev pub laid-next : Laid
-    laid-next = laid_on (last_laid r) words
+    abbrev pub stored-next : Stored
+    stored-next = stored_on (last_stored r) words
 
     abbrev pub next : CheckpointParts
-    next = record { count = count; cpu = cpu; devices = devices; sent = sent; table = (laid_on (last_laid r) words).table }
+    next = record { count = count; cpu = cpu; devices = devices; sent = sent; table = (stored_on (last_stored r) words).table }
 
     abbrev pub new : RecordingParts
-    new = record { pool = (laid_on (last_laid r) words).pool; inputs = r.inputs ++ inputs; checkpoints = r.checkpoints ++ next ∷ [] }
+    new = record { pool = (stored_on (last_stored r) words).pool; inputs = r.inputs ++ inputs; checkpoints = r.checkpoints ++ next ∷ [] }
 
     abbrev outcome : Outcome
     outcome = record { state = record { cpu = cpu; devices = devices; words = words }; sent = sent }
@@ -65,32 +65,32 @@ module _ (r : RecordingParts) (lawful : IsLawful r) where
     at-last : checkpoint_at new (length r.checkpoints) ≡ next
     at-last = get_or_push r.checkpoints next no_checkpoint (length r.checkpoints) refl
 
-    led : Leads words (last_laid r) laid-next × (table_words laid-next.pool laid-next.table ≡ words)
-    led = leads (last_laid r) words last-table lawful.pool whole
+    led : Leads words (last_stored r) stored-next × (table_words stored-next.pool stored-next.table ≡ words)
+    led = leads (last_stored r) words last-table lawful.pool whole
 
     claims-before : (k : ℕ) → k < length r.checkpoints → claimed new k ≡ claimed r k
     claims-before k lt =
-        ap (λ (c : CheckpointParts). claim_of laid-next.pool c) (at-before k lt)
+        ap (λ (c : CheckpointParts). claim_of stored-next.pool c) (at-before k lt)
         ∙ ap (λ (pool : List (List ℕ)). claim_of pool (checkpoint_at r k)) led.0.grown
         ∙ ap (λ (w : List ℕ). record { state = record { cpu = (checkpoint_at r k).cpu; devices = (checkpoint_at r k).devices; words = w }; sent = (checkpoint_at r k).sent })
         (table_words-grown r.pool led.0.extra (checkpoint_at r k).table (lawful.fit k lt).named)
 
     pub is-extended : IsExtended r inputs count outcome new
     is-extended = record {
-      pool = pool-laid (last_laid r) words last-table lawful.pool whole;
+      pool = pool-stored (last_stored r) words last-table lawful.pool whole;
       inputs_more = refl;
       more = length_push r.checkpoints next;
       counts = λ k lt. ap (λ (c : CheckpointParts). c.count) (at-before k lt);
       claims = claims-before;
       last_counts = ap (λ (c : CheckpointParts). c.count) at-last;
       last_claims =
-          ap (λ (c : CheckpointParts). claim_of laid-next.pool c) at-last
+          ap (λ (c : CheckpointParts). claim_of stored-next.pool c) at-last
           ∙ ap (λ (w : List ℕ). record { state = record { cpu = cpu; devices = devices; words = w }; sent = sent }) led.1;
     }
 
     -- it is lawful where nothing is too much
     module _ (follows : IsNext r inputs count) (events : length (r.inputs ++ inputs) ≤ MAX_EVENTS) (room : length r.checkpoints ≤ LAST_CHECKPOINT)
-        (few : length laid-next.pool ≤ MAX_PAGES) (pages : ArePages laid-next.pool) (cpus : IsCpuState cpu) (states : IsDeviceState devices)
+        (few : length stored-next.pool ≤ MAX_PAGES) (pages : ArePages stored-next.pool) (cpus : IsCpuState cpu) (states : IsDeviceState devices)
         (bytes : All (λ byte. byte < 2 ^ 8) sent) where
       with-inputs : IsLawful (record r { inputs = r.inputs ++ inputs })
       with-inputs = record {
@@ -107,7 +107,7 @@ module _ (r : RecordingParts) (lawful : IsLawful r) where
         fit = lawful.fit;
       }
 
-      next-fits : IsFit laid-next.pool next
+      next-fits : IsFit stored-next.pool next
       next-fits = record {
         bounded = follows.bounded;
         cpu = cpus;
@@ -130,29 +130,29 @@ module _ (r : RecordingParts) (lawful : IsLawful r) where
 
 -- what has grown, as Rust has it
 module _ (r : RecordingParts) (lawful : IsLawful r) (inputs all : List Event) (claim : Claim) (whole : length claim.words.now ≡ 262144)
-    (laid : LaidPages) (checkpoints : List Checkpoint) (grown : HasGrown r claim (laid_view laid) (map checkpoint_parts checkpoints)) (joined : all ≡ r.inputs ++ inputs) where
+    (stored : StoredPages) (checkpoints : List Checkpoint) (grown : HasGrown r claim (stored_view stored) (map checkpoint_parts checkpoints)) (joined : all ≡ r.inputs ++ inputs) where
   abbrev grown-new : RecordingParts
   grown-new = new r lawful inputs claim.count (cpu_state claim.cpu) claim.devices claim.words.now claim.sent.now whole
 
-  grown-is : parts_of laid.pool all checkpoints ≡ grown-new
+  grown-is : parts_of stored.pool all checkpoints ≡ grown-new
   grown-is =
-      let pushed = grown.pushed ∙ ap (λ (l : Laid). r.checkpoints ++ checkpoint_of claim l.table ∷ []) grown.laid_so in
-      λ i. record { pool = (grown.laid_so i).pool; inputs = joined i; checkpoints = pushed i }
+      let pushed = grown.pushed ∙ ap (λ (l : Stored). r.checkpoints ++ checkpoint_of claim l.table ∷ []) grown.stored_so in
+      λ i. record { pool = (grown.stored_so i).pool; inputs = joined i; checkpoints = pushed i }
 
-  pub grown-extended : (made : RecordingParts) → made ≡ parts_of laid.pool all checkpoints → IsExtended r inputs claim.count (outcome_of claim) made
+  pub grown-extended : (made : RecordingParts) → made ≡ parts_of stored.pool all checkpoints → IsExtended r inputs claim.count (outcome_of claim) made
   grown-extended made is =
       subst (IsExtended r inputs claim.count (outcome_of claim)) (sym (is ∙ grown-is))
       (is-extended r lawful inputs claim.count (cpu_state claim.cpu) claim.devices claim.words.now claim.sent.now whole)
 
   -- where nothing else is too much, it is the output that is
   pub grown-output : claim.cpu.pc < COUNTER_END → claim.cpu.stop ≤ 4 → IsNext r inputs claim.count → length (r.inputs ++ inputs) ≤ MAX_EVENTS
-      → length r.checkpoints ≤ LAST_CHECKPOINT → (IsLawful (parts_of laid.pool all checkpoints) → ⊥) → MAX_OUTPUT < length (output_of r.checkpoints) + length claim.sent.now
+      → length r.checkpoints ≤ LAST_CHECKPOINT → (IsLawful (parts_of stored.pool all checkpoints) → ⊥) → MAX_OUTPUT < length (output_of r.checkpoints) + length claim.sent.now
   grown-output counter stop follows events room unlawful = elim (cases_lt MAX_OUTPUT (length (output_of r.checkpoints) + length claim.sent.now)) [
     | inl more ↦ more
     | inr few ↦ absurd (unlawful (subst IsLawful (sym grown-is)
         (is-lawful-more r lawful inputs claim.count (cpu_state claim.cpu) claim.devices claim.words.now claim.sent.now whole follows events room
-        (subst (λ (l : Laid). length l.pool ≤ MAX_PAGES) grown.laid_so grown.few)
-        (subst (λ (l : Laid). ArePages l.pool) grown.laid_so grown.pages)
+        (subst (λ (l : Stored). length l.pool ≤ MAX_PAGES) grown.stored_so grown.few)
+        (subst (λ (l : Stored). ArePages l.pool) grown.stored_so grown.pages)
         (record { count = claim.cpu.count; registers = claim.cpu.registers; auxiliary = claim.cpu.auxiliary; counter = counter; stops = stop })
         grown.devices grown.bytes few)))
   ]
@@ -162,21 +162,21 @@ not-pages f memory pages needs = pages (needs memory).0
 
 -- what a refusal for pages comes to
 pub too-many-pages : (r : RecordingParts) → IsLawful r → (inputs : List Event) (claim : Claim) → length claim.words.now ≡ 262144 → (f : ExtendFault)
-    → NeedsPages (last_laid r) claim.words.now f → IsTooMuch r inputs claim.count (outcome_of claim) f
+    → NeedsPages (last_stored r) claim.words.now f → IsTooMuch r inputs claim.count (outcome_of claim) f
 too-many-pages r lawful inputs claim whole fault.Order needs = absurd (not-pages fault.Order (λ e. let no : fault.Order ≡ fault.Memory = e in cc) (λ e. let no : fault.Order ≡ fault.Pages = e in cc) needs)
 too-many-pages r lawful inputs claim whole fault.Inputs needs = absurd (not-pages fault.Inputs (λ e. let no : fault.Inputs ≡ fault.Memory = e in cc) (λ e. let no : fault.Inputs ≡ fault.Pages = e in cc) needs)
 too-many-pages r lawful inputs claim whole fault.Checkpoints needs = absurd (not-pages fault.Checkpoints (λ e. let no : fault.Checkpoints ≡ fault.Memory = e in cc) (λ e. let no : fault.Checkpoints ≡ fault.Pages = e in cc) needs)
 too-many-pages r lawful inputs claim whole fault.Output needs = absurd (not-pages fault.Output (λ e. let no : fault.Output ≡ fault.Memory = e in cc) (λ e. let no : fault.Output ≡ fault.Pages = e in cc) needs)
 too-many-pages r lawful inputs claim whole fault.Pages needs =
     let many = (needs (λ e. let no : fault.Pages ≡ fault.Memory = e in cc)).1 in
-    let laid = pool-laid (last_laid r) claim.words.now (last-table r lawful) lawful.pool whole in
-    let long = ap length laid in
+    let stored = pool-stored (last_stored r) claim.words.now (last-table r lawful) lawful.pool whole in
+    let long = ap length stored in
     omega (arith, many, long, length-append r.pool (new_pages (table_words r.pool (checkpoint_at r (last_of r)).table) claim.words.now))
 too-many-pages r lawful inputs claim whole fault.Memory needs = tt
 
 -- ---- a recording that begins
 
-abbrev pub no-pages : Laid
+abbrev pub no-pages : Stored
 no-pages = record { pool = []; table = zero_numbers }
 
 pub no-table : IsTableOf no-pages
@@ -190,28 +190,28 @@ pub none-pages : ArePages []
 none-pages = λ k d lt. absurd (omega arith)
 
 module _ (cpu : CpuState) (devices : DeviceState) (words : List ℕ) (whole : length words ≡ 262144) where
-  abbrev pub first-laid : Laid
-  first-laid = laid_on no-pages words
+  abbrev pub first-stored : Stored
+  first-stored = stored_on no-pages words
 
   abbrev pub first : CheckpointParts
-  first = record { count = 0; cpu = cpu; devices = devices; sent = []; table = (laid_on no-pages words).table }
+  first = record { count = 0; cpu = cpu; devices = devices; sent = []; table = (stored_on no-pages words).table }
 
   abbrev pub begun : RecordingParts
-  begun = record { pool = (laid_on no-pages words).pool; inputs = []; checkpoints = first ∷ [] }
+  begun = record { pool = (stored_on no-pages words).pool; inputs = []; checkpoints = first ∷ [] }
 
-  first-led : Leads words no-pages first-laid × (table_words first-laid.pool first-laid.table ≡ words)
+  first-led : Leads words no-pages first-stored × (table_words first-stored.pool first-stored.table ≡ words)
   first-led = leads no-pages words no-table none-pages whole
 
   pub is-begun : IsBegun (record { cpu = cpu; devices = devices; words = words }) begun
   is-begun = record {
-    pool = pool-laid no-pages words no-table none-pages whole;
+    pool = pool-stored no-pages words no-table none-pages whole;
     inputs = refl;
     one = refl;
     begins = refl;
     claims = ap (λ (w : List ℕ). record { state = record { cpu = cpu; devices = devices; words = w }; sent = [] }) first-led.1;
   }
 
-  pub lawful-begun : IsCpuState cpu → IsDeviceState devices → length first-laid.pool ≤ 1024 → ArePages first-laid.pool → IsLawful begun
+  pub lawful-begun : IsCpuState cpu → IsDeviceState devices → length first-stored.pool ≤ 1024 → ArePages first-stored.pool → IsLawful begun
   lawful-begun cpus states few pages = record {
     pages = omega arith;
     pool = pages;
@@ -225,7 +225,7 @@ module _ (cpu : CpuState) (devices : DeviceState) (words : List ℕ) (whole : le
     output = omega arith;
     fit = λ k lt.
         let this : 0 ≡ k = omega arith in
-        subst (λ (j : ℕ). IsFit first-laid.pool (get_or (first ∷ []) j no_checkpoint)) this (record {
+        subst (λ (j : ℕ). IsFit first-stored.pool (get_or (first ∷ []) j no_checkpoint)) this (record {
           bounded = omega arith;
           cpu = cpus;
           devices = states;

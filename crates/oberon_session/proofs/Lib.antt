@@ -5,7 +5,7 @@ mod Lawful
 mod PartLemmas
 mod RuleLemmas
 mod Runs
-mod LaidPages
+mod StoredPages
 mod Contents
 mod Steps
 mod LawfulMore
@@ -13,7 +13,7 @@ mod Next
 mod Reaching
 mod Begun
 mod Whole
-mod LaidLaws
+mod StoredLaws
 mod Growing
 mod FirstTables
 mod Deciding

@@ -11,35 +11,35 @@ use Rattle.recording_limits.specs.declared.limits.TheConstants.{MAX_OUTPUT, MAX_
 use Rattle.oberon_format.proofs.Output.{output_of_push}
 use Rattle.oberon_format.specs.CheckpointParts.{CheckpointParts, no_checkpoint}
 use Rattle.oberon_format.specs.Recording.{IsFit, IsLawful, RecordingParts, count_at, output_of}
-use Rattle.oberon_session.proofs.Contents.{Leads, memory-laid, table_words-grown}
+use Rattle.oberon_session.proofs.Contents.{Leads, memory-stored, table_words-grown}
 use Rattle.oberon_session.proofs.LawfulMore.{lawful-more}
-use Rattle.oberon_session.proofs.Steps.{count-fits, count-rises, laid_of-next, nothing-too-much, output-on}
-use Rattle.oberon_session.specs.Laid.{Laid}
+use Rattle.oberon_session.proofs.Steps.{count-fits, count-rises, stored_of-next, nothing-too-much, output-on}
+use Rattle.oberon_session.specs.Stored.{Stored}
 use Rattle.oberon_session.specs.Laws.{IsTableOf}
-use Rattle.oberon_session.specs.Recorded.{checkpoint_of, count_of, laid_of, output_between, output_up_to, state_of}
+use Rattle.oberon_session.specs.Recorded.{checkpoint_of, count_of, stored_of, output_between, output_up_to, state_of}
 use Rattle.oberon_session.specs.SessionParts.{SessionParts, IsLawful as IsLawfulSession}
 use Rattle.oberon_session.specs.inner.Progress.{IsContentOf, IsRecorded, checkpoints_to}
 
 module _ (s : SessionParts) where
   -- what is recorded up to checkpoint k, in the words of the session
   abbrev pub recorded_to : ℕ → RecordingParts
-  recorded_to k = record { pool = (laid_of s k).pool; inputs = s.inputs; checkpoints = checkpoints_to s k }
+  recorded_to k = record { pool = (stored_of s k).pool; inputs = s.inputs; checkpoints = checkpoints_to s k }
 
   abbrev pub Recorded : ℕ → Type 0
-  Recorded k = IsRecorded s k (laid_of s k) (checkpoints_to s k) (length (output_up_to s (count_of s k)))
+  Recorded k = IsRecorded s k (stored_of s k) (checkpoints_to s k) (length (output_up_to s (count_of s k)))
 
-  module _ (laid : Laid) (cs : List CheckpointParts) (sent k : ℕ) where
-    pub recorded-so : IsRecorded s k laid cs sent → Recorded k
+  module _ (stored : Stored) (cs : List CheckpointParts) (sent k : ℕ) where
+    pub recorded-so : IsRecorded s k stored cs sent → Recorded k
     recorded-so so =
-        subst (λ (n : ℕ). IsRecorded s k (laid_of s k) (checkpoints_to s k) n) so.long
-        (subst (λ (l : List CheckpointParts). IsRecorded s k (laid_of s k) l sent) so.recorded
-        (subst (λ (l : Laid). IsRecorded s k l cs sent) so.laid_so so))
+        subst (λ (n : ℕ). IsRecorded s k (stored_of s k) (checkpoints_to s k) n) so.long
+        (subst (λ (l : List CheckpointParts). IsRecorded s k (stored_of s k) l sent) so.recorded
+        (subst (λ (l : Stored). IsRecorded s k l cs sent) so.stored_so so))
 
-    pub so-recorded : laid ≡ laid_of s k → cs ≡ checkpoints_to s k → sent ≡ length (output_up_to s (count_of s k)) → Recorded k → IsRecorded s k laid cs sent
-    so-recorded laid-so cs-so long so =
-        subst (λ (l : Laid). IsRecorded s k l cs sent) (sym laid-so)
-        (subst (λ (l : List CheckpointParts). IsRecorded s k (laid_of s k) l sent) (sym cs-so)
-        (subst (λ (n : ℕ). IsRecorded s k (laid_of s k) (checkpoints_to s k) n) (sym long) so))
+    pub so-recorded : stored ≡ stored_of s k → cs ≡ checkpoints_to s k → sent ≡ length (output_up_to s (count_of s k)) → Recorded k → IsRecorded s k stored cs sent
+    so-recorded stored-so cs-so long so =
+        subst (λ (l : Stored). IsRecorded s k l cs sent) (sym stored-so)
+        (subst (λ (l : List CheckpointParts). IsRecorded s k (stored_of s k) l sent) (sym cs-so)
+        (subst (λ (n : ℕ). IsRecorded s k (stored_of s k) (checkpoints_to s k) n) (sym long) so))
 
   pub length-checkpoints : (k : ℕ) → length (checkpoints_to s k) ≡ k + 1
   length-checkpoints k = length-map-range_with_len (checkpoint_of s) 0 (k + 1)
@@ -50,15 +50,15 @@ module _ (s : SessionParts) where
   pub checkpoints-more : (k : ℕ) → checkpoints_to s (k + 1) ≡ checkpoints_to s k ++ checkpoint_of s (k + 1) ∷ []
   checkpoints-more k = map-range_with_len_more (checkpoint_of s) 0 (k + 1) (k + 1) (omega arith)
 
-  pub fit-there : (k j : ℕ) → Recorded k → j ≤ k → IsFit (laid_of s k).pool (checkpoint_of s j)
-  fit-there k j so lt = subst (IsFit (laid_of s k).pool) (checkpoint-there k j lt) (so.lawful.fit j (omega (arith, length-checkpoints k)))
+  pub fit-there : (k j : ℕ) → Recorded k → j ≤ k → IsFit (stored_of s k).pool (checkpoint_of s j)
+  fit-there k j so lt = subst (IsFit (stored_of s k).pool) (checkpoint-there k j lt) (so.lawful.fit j (omega (arith, length-checkpoints k)))
 
   -- the parts of a checkpoint
   pub count-of : (k : ℕ) → (checkpoint_of s k).count ≡ count_of s k
   unfolding checkpoint_of
   count-of k = refl
 
-  table-of : (k : ℕ) → (checkpoint_of s k).table ≡ (laid_of s k).table
+  table-of : (k : ℕ) → (checkpoint_of s k).table ≡ (stored_of s k).table
   unfolding checkpoint_of
   table-of k = refl
 
@@ -68,12 +68,12 @@ module _ (s : SessionParts) where
       let before : k + 1 - 1 ≡ k = omega arith in
       ap (λ (j : ℕ). output_between s (count_of s j) (count_of s (k + 1))) before
 
-  pub table-good : (k : ℕ) → Recorded k → IsTableOf (laid_of s k)
+  pub table-good : (k : ℕ) → Recorded k → IsTableOf (stored_of s k)
   table-good k so =
       let fit = fit-there k k so (omega arith) in
       record {
         count = ap length (sym (table-of k)) ∙ fit.table.count;
-        named = subst (IsNamed (laid_of s k).pool) (table-of k) fit.named;
+        named = subst (IsNamed (stored_of s k).pool) (table-of k) fit.named;
       }
 
   -- what the next state and its layout are known to be
@@ -83,26 +83,26 @@ module _ (s : SessionParts) where
     pub whole : length (state_of s (k + 1)).words ≡ 262144
     pub bytes : All (λ byte. byte < 2 ^ 8) (output_between s (count_of s k) (count_of s (k + 1)))
     pub output : length (output_up_to s (count_of s (k + 1))) ≤ MAX_OUTPUT
-    pub pages : length (laid_of s (k + 1)).pool ≤ MAX_PAGES
-    pub pool : ArePages (laid_of s (k + 1)).pool
+    pub pages : length (stored_of s (k + 1)).pool ≤ MAX_PAGES
+    pub pool : ArePages (stored_of s (k + 1)).pool
 
   module _ (lawful : IsLawfulSession s) (k : ℕ) (inside : k < length s.counts) (so : Recorded k) (good : IsGoodNext k) where
-    abbrev Lays : Laid → Type 0
-    Lays laid = Leads (state_of s (k + 1)).words (laid_of s k) laid × (table_words laid.pool laid.table ≡ (state_of s (k + 1)).words)
+    abbrev Stores : Stored → Type 0
+    Stores stored = Leads (state_of s (k + 1)).words (stored_of s k) stored × (table_words stored.pool stored.table ≡ (state_of s (k + 1)).words)
 
-    lays : Lays (laid_of s (k + 1))
-    lays =
-        subst Lays (sym (laid_of-next s k))
-        (memory-laid (state_of s k).words (state_of s (k + 1)).words (laid_of s k) (table-good k so) so.lawful.pool (so.content k (omega arith)) good.whole)
+    stores : Stores (stored_of s (k + 1))
+    stores =
+        subst Stores (sym (stored_of-next s k))
+        (memory-stored (state_of s k).words (state_of s (k + 1)).words (stored_of s k) (table-good k so) so.lawful.pool (so.content k (omega arith)) good.whole)
 
-    next-fits : IsFit (laid_of s (k + 1)).pool (checkpoint_of s (k + 1))
+    next-fits : IsFit (stored_of s (k + 1)).pool (checkpoint_of s (k + 1))
     unfolding checkpoint_of
     next-fits = record {
       bounded = count-fits s lawful k inside;
       cpu = good.cpu;
       devices = good.devices;
-      table = record { count = lays.0.table.count; fit = λ j d lt. omega (arith, lays.0.table.named j d lt, good.pages) };
-      named = lays.0.table.named;
+      table = record { count = stores.0.table.count; fit = λ j d lt. omega (arith, stores.0.table.named j d lt, good.pages) };
+      named = stores.0.table.named;
       bytes =
           let before : k ≡ k + 1 - 1 = omega arith in
           subst (λ (j : ℕ). All (λ byte. byte < 2 ^ 8) (output_between s (count_of s j) (count_of s (k + 1)))) before good.bytes;
@@ -125,11 +125,11 @@ module _ (s : SessionParts) where
 
     lawful-next : IsLawful (recorded_to (k + 1))
     lawful-next =
-        let grown = lays.0.grown in
+        let grown = stores.0.grown in
         let whole-output = ap length output-more in
         let sums = ap length (ap output_of (checkpoints-more k) ∙ output_of_push (checkpoints_to s k) (checkpoint_of s (k + 1))) in
         let parts = length-append (output_of (checkpoints_to s k)) (checkpoint_of s (k + 1)).sent in
-        let more = lawful-more (recorded_to k) lays.0.extra (checkpoint_of s (k + 1)) so.lawful
+        let more = lawful-more (recorded_to k) stores.0.extra (checkpoint_of s (k + 1)) so.lawful
         (subst (λ (p : List (List ℕ)). length p ≤ MAX_PAGES) grown good.pages)
         (subst ArePages grown good.pool)
         (omega (arith, length-checkpoints k, lawful.counts.0))
@@ -137,22 +137,22 @@ module _ (s : SessionParts) where
         (subst (λ (p : List (List ℕ)). IsFit p (checkpoint_of s (k + 1))) grown next-fits)
         (omega (arith, whole-output, sums, parts, good.output)) in
         subst (λ (p : List (List ℕ)). IsLawful (record { pool = p; inputs = s.inputs; checkpoints = checkpoints_to s (k + 1) })) (sym grown)
-        (subst (λ (cs : List CheckpointParts). IsLawful (record { pool = (laid_of s k).pool ++ lays.0.extra; inputs = s.inputs; checkpoints = cs })) (sym (checkpoints-more k)) more)
+        (subst (λ (cs : List CheckpointParts). IsLawful (record { pool = (stored_of s k).pool ++ stores.0.extra; inputs = s.inputs; checkpoints = cs })) (sym (checkpoints-more k)) more)
 
-    content-next : (j : ℕ) → j ≤ k + 1 → IsContentOf s (laid_of s (k + 1)).pool j
+    content-next : (j : ℕ) → j ≤ k + 1 → IsContentOf s (stored_of s (k + 1)).pool j
     content-next j low = elim (cases_lt j (k + 1)) [
       | inl before ↦
-          let named : IsNamed (laid_of s k).pool (laid_of s j).table = subst (IsNamed (laid_of s k).pool) (table-of j) (fit-there k j so (omega arith)).named in
-          ap (λ (p : List (List ℕ)). table_words p (laid_of s j).table) lays.0.grown
-          ∙ table_words-grown (laid_of s k).pool lays.0.extra (laid_of s j).table named ∙ so.content j (omega arith)
+          let named : IsNamed (stored_of s k).pool (stored_of s j).table = subst (IsNamed (stored_of s k).pool) (table-of j) (fit-there k j so (omega arith)).named in
+          ap (λ (p : List (List ℕ)). table_words p (stored_of s j).table) stores.0.grown
+          ∙ table_words-grown (stored_of s k).pool stores.0.extra (stored_of s j).table named ∙ so.content j (omega arith)
       | inr last ↦
           let this : k + 1 ≡ j = omega arith in
-          subst (λ (n : ℕ). IsContentOf s (laid_of s (k + 1)).pool n) this lays.1
+          subst (λ (n : ℕ). IsContentOf s (stored_of s (k + 1)).pool n) this stores.1
     ]
 
     pub recorded-next : Recorded (k + 1)
     recorded-next = record {
-      laid_so = refl;
+      stored_so = refl;
       recorded = refl;
       output = output-more;
       long = refl;

@@ -15,23 +15,23 @@ use Rattle.oberon_format.specs.CheckpointParts.{CheckpointParts, checkpoint_part
 use Rattle.oberon_format.specs.Defined.{claim_of}
 use Rattle.oberon_format.specs.Recording.{IsFit}
 use Rattle.oberon_session.proofs.Next.{IsGoodNext, Recorded, checkpoint-there, checkpoints-more, count-of, fit-there, length-checkpoints, recorded-next, recorded-so, so-recorded}
-use Rattle.oberon_session.proofs.Steps.{count-rises, count_of-next, laid_of-next, output-on, state-on, too-many-pages, too-much-output}
-use Rattle.oberon_session.specs.Laid.{Laid, changed_pages, lay, lay_pages}
-use Rattle.oberon_session.specs.Recorded.{checkpoint_of, count_of, laid_of, output_between, output_up_to, record_fault_of, state_of}
+use Rattle.oberon_session.proofs.Steps.{count-rises, count_of-next, stored_of-next, output-on, state-on, too-many-pages, too-much-output}
+use Rattle.oberon_session.specs.Stored.{Stored, changed_pages, store, store_pages}
+use Rattle.oberon_session.specs.Recorded.{checkpoint_of, count_of, stored_of, output_between, output_up_to, record_fault_of, state_of}
 use Rattle.oberon_session.specs.SessionParts.{SessionParts, IsLawful}
 use Rattle.oberon_session.specs.inner.Progress.{IsReached, IsRecorded, checkpoints_to, page_view}
 use Rattle.oberon_session.specs.declared.way.Reached.{Reached}
 use Rattle.oberon_session.specs.declared.record_fault.RecordFault.TheVariants as fault
 
 -- what checkpoint k claims is the state there, where its table has that memory as its content
-pub claimed-is : (s : SessionParts) (k : ℕ) (pool : List (List ℕ)) → table_words pool (laid_of s k).table ≡ (state_of s k).words → (claim_of pool (checkpoint_of s k)).state ≡ state_of s k
+pub claimed-is : (s : SessionParts) (k : ℕ) (pool : List (List ℕ)) → table_words pool (stored_of s k).table ≡ (state_of s k).words → (claim_of pool (checkpoint_of s k)).state ≡ state_of s k
 unfolding checkpoint_of
 claimed-is s k pool content = ap (λ (words : List ℕ). record { cpu = (state_of s k).cpu; devices = (state_of s k).devices; words = words }) content
 
 -- the parts of checkpoint k + 1
 checkpoint-is : (s : SessionParts) (k count : ℕ) (cpu : CpuState) (devices : DeviceState) (sent table : List ℕ) → count ≡ count_of s (k + 1)
     → cpu ≡ (state_of s (k + 1)).cpu → devices ≡ (state_of s (k + 1)).devices → sent ≡ output_between s (count_of s k) (count_of s (k + 1))
-    → table ≡ (laid_of s (k + 1)).table → record { count = count; cpu = cpu; devices = devices; sent = sent; table = table } ≡ checkpoint_of s (k + 1)
+    → table ≡ (stored_of s (k + 1)).table → record { count = count; cpu = cpu; devices = devices; sent = sent; table = table } ≡ checkpoint_of s (k + 1)
 unfolding checkpoint_of
 checkpoint-is s k count cpu devices sent table counts cpus states sents tables =
     let before : k ≡ k + 1 - 1 = omega arith in
@@ -39,22 +39,22 @@ checkpoint-is s k count cpu devices sent table counts cpus states sents tables =
     λ i. record { count = counts i; cpu = cpus i; devices = states i; sent = sents-so i; table = tables i }
 
 -- where the machine begins that is started at a checkpoint
-abbrev first : Laid → Checkpoint → State
-first laid last = (claim_of laid.pool (checkpoint_parts last)).state
+abbrev first : Stored → Checkpoint → State
+first stored last = (claim_of stored.pool (checkpoint_parts last)).state
 
 -- and where it ends at a count
-abbrev end : Laid → Checkpoint → List Event → ℕ → State
-end laid last es count = run_of es last.count (count - last.count) (first laid last)
+abbrev end : Stored → Checkpoint → List Event → ℕ → State
+end stored last es count = run_of es last.count (count - last.count) (first stored last)
 
 -- what it sends on the way
-abbrev sends : Laid → Checkpoint → List Event → ℕ → List ℕ
-sends laid last es count = sent_of es last.count (count - last.count) (first laid last)
+abbrev sends : Stored → Checkpoint → List Event → ℕ → List ℕ
+sends stored last es count = sent_of es last.count (count - last.count) (first stored last)
 
 -- the count to which it runs
 pub next-count : (s : SessionParts) {counts : List ℕ} (k : ℕ) → counts ≡ s.counts → get_or counts k 0 ≡ count_of s (k + 1)
 next-count s k same = ap (λ (l : List ℕ). get_or l k 0) same ∙ sym (count_of-next s k)
 
-module _ {s : SessionParts} {k : ℕ} {laid : Laid} (checkpoints : List Checkpoint) {sent : ℕ} (so : IsRecorded s k laid (map checkpoint_parts checkpoints) sent) where
+module _ {s : SessionParts} {k : ℕ} {stored : Stored} (checkpoints : List Checkpoint) {sent : ℕ} (so : IsRecorded s k stored (map checkpoint_parts checkpoints) sent) where
   many : length (map checkpoint_parts checkpoints) ≡ k + 1
   many = ap length so.recorded ∙ length-checkpoints s k
 
@@ -73,70 +73,70 @@ module _ {s : SessionParts} {k : ℕ} {laid : Laid} (checkpoints : List Checkpoi
     pub last-count : last.count ≡ count_of s k
     last-count = ap (λ (c : CheckpointParts). c.count) last-is ∙ count-of s k
 
-    pub last-fit : IsFit laid.pool (checkpoint_parts last)
+    pub last-fit : IsFit stored.pool (checkpoint_parts last)
     last-fit =
-        subst (λ (c : CheckpointParts). IsFit laid.pool c) (sym last-is)
-        (subst (λ (l : Laid). IsFit l.pool (checkpoint_of s k)) (sym so.laid_so)
-        (fit-there s k k (recorded-so s laid (map checkpoint_parts checkpoints) sent k so) (omega arith)))
+        subst (λ (c : CheckpointParts). IsFit stored.pool c) (sym last-is)
+        (subst (λ (l : Stored). IsFit l.pool (checkpoint_of s k)) (sym so.stored_so)
+        (fit-there s k k (recorded-so s stored (map checkpoint_parts checkpoints) sent k so) (omega arith)))
 
-    pub begun : (claim_of laid.pool (checkpoint_parts last)).state ≡ state_of s k
+    pub begun : (claim_of stored.pool (checkpoint_parts last)).state ≡ state_of s k
     begun =
-        ap (λ (c : CheckpointParts). (claim_of laid.pool c).state) last-is
-        ∙ claimed-is s k laid.pool (so.content k (omega arith))
+        ap (λ (c : CheckpointParts). (claim_of stored.pool c).state) last-is
+        ∙ claimed-is s k stored.pool (so.content k (omega arith))
 
     module _ (lawful : IsLawful s) (within : k < length s.counts) {es : List Event} (same : es ≡ s.inputs) {count : ℕ} (next : count ≡ count_of s (k + 1)) where
       on : count_of s k ≤ count_of s (k + 1)
       on = omega (arith, count-rises s lawful k within)
 
       from-to : {X : Type 0} (f : List Event → ℕ → ℕ → State → X)
-          → f es last.count (count - last.count) (first laid last) ≡ f s.inputs (count_of s k) (count_of s (k + 1) - count_of s k) (state_of s k)
+          → f es last.count (count - last.count) (first stored last) ≡ f s.inputs (count_of s k) (count_of s (k + 1) - count_of s k) (state_of s k)
       from-to f =
           ap (λ (t : State). f es last.count (count - last.count) t) begun
           ∙ ap (λ (l : List Event). f l last.count (count - last.count) (state_of s k)) same
           ∙ ap (λ (n : ℕ). f s.inputs n (count - n) (state_of s k)) last-count
           ∙ ap (λ (m : ℕ). f s.inputs (count_of s k) (m - count_of s k) (state_of s k)) next
 
-      state-reached : end laid last es count ≡ state_of s (k + 1)
+      state-reached : end stored last es count ≡ state_of s (k + 1)
       state-reached = from-to run_of ∙ state-on s (count_of s k) (count_of s (k + 1)) on
 
-      output-reached : sends laid last es count ≡ output_between s (count_of s k) (count_of s (k + 1))
+      output-reached : sends stored last es count ≡ output_between s (count_of s k) (count_of s (k + 1))
       output-reached = from-to sent_of
 
-      whole-output : length (output_up_to s (count_of s (k + 1))) ≡ sent + length (sends laid last es count)
+      whole-output : length (output_up_to s (count_of s (k + 1))) ≡ sent + length (sends stored last es count)
       whole-output =
           let parts = ap length (output-on s (count_of s k) (count_of s (k + 1)) on) in
           let here = ap length output-reached in
           omega (arith, parts, here, so.long, length-append (output_up_to s (count_of s k)) (output_between s (count_of s k) (count_of s (k + 1))))
 
       -- it sends too much
-      pub refused-output : MAX_OUTPUT - sent < length (sends laid last es count) → record_fault_of s ≡ Some fault.Output
+      pub refused-output : MAX_OUTPUT - sent < length (sends stored last es count) → record_fault_of s ≡ Some fault.Output
       refused-output many = too-much-output s k within so.faultless (omega (arith, whole-output))
 
-      module _ {r : Reached} (reached : IsReached (first laid last).words (end laid last es count) (sends laid last es count) r) {laid' : Laid} (laid-so : laid' ≡ lay_pages laid (map page_view r.changed.items)) where
-        lay-is : lay (first laid last).words (end laid last es count).words laid ≡ lay_pages laid (changed_pages (first laid last).words (end laid last es count).words)
-        unfolding lay
-        lay-is = refl
+      module _ {r : Reached} (reached : IsReached (first stored last).words (end stored last es count) (sends stored last es count) r) {stored' : Stored} (stored-so : stored' ≡ store_pages stored (map page_view r.changed.items)) where
+        store-is : store (first stored last).words (end stored last es count).words stored ≡ store_pages stored (changed_pages (first stored last).words (end stored last es count).words)
+        unfolding store
+        store-is = refl
 
-        laid-next : laid' ≡ laid_of s (k + 1)
-        laid-next =
-            laid-so ∙ ap (λ (pages : List (ℕ × List ℕ)). lay_pages laid pages) reached.changed ∙ sym lay-is
-            ∙ ap (λ (l : List ℕ). lay l (end laid last es count).words laid) (ap (λ (t : State). t.words) begun)
-            ∙ ap (λ (l : List ℕ). lay (state_of s k).words l laid) (ap (λ (t : State). t.words) state-reached)
-            ∙ ap (λ (l : Laid). lay (state_of s k).words (state_of s (k + 1)).words l) so.laid_so
-            ∙ sym (laid_of-next s k)
+        stored-next : stored' ≡ stored_of s (k + 1)
+        stored-next =
+            stored-so ∙ ap (λ (pages : List (ℕ × List ℕ)). store_pages stored pages) reached.changed ∙ sym store-is
+            ∙ ap (λ (l : List ℕ). store l (end stored last es count).words stored) (ap (λ (t : State). t.words) begun)
+            ∙ ap (λ (l : List ℕ). store (state_of s k).words l stored) (ap (λ (t : State). t.words) state-reached)
+            ∙ ap (λ (l : Stored). store (state_of s k).words (state_of s (k + 1)).words l) so.stored_so
+            ∙ sym (stored_of-next s k)
 
         -- as much is sent as may be
         module _ (room : length r.sent.items ≤ MAX_OUTPUT - sent) where
           few-bytes : length (output_up_to s (count_of s (k + 1))) ≤ MAX_OUTPUT
           few-bytes = omega (arith, few-sent, whole-output, ap length reached.output)
 
-          -- too many pages were laid
-          pub refused-pages : MAX_PAGES < length laid'.pool → record_fault_of s ≡ Some fault.Pages
+          -- too many pages were stored
+          pub refused-pages : MAX_PAGES < length stored'.pool → record_fault_of s ≡ Some fault.Pages
           refused-pages many =
-              too-many-pages s k within so.faultless few-bytes (subst (λ (l : Laid). MAX_PAGES < length l.pool) laid-next many)
+              too-many-pages s k within so.faultless few-bytes (subst (λ (l : Stored). MAX_PAGES < length l.pool) stored-next many)
 
           -- the next checkpoint is recorded
-          module _ (pages : length laid'.pool ≤ MAX_PAGES) (pool : ArePages laid'.pool)
+          module _ (pages : length stored'.pool ≤ MAX_PAGES) (pool : ArePages stored'.pool)
               (devices : IsDeviceState r.devices) (bytes : All (λ byte. byte < 2 ^ 8) r.sent.items) where
             good : IsGoodNext s k
             good =
@@ -147,21 +147,21 @@ module _ {s : SessionParts} {k : ℕ} {laid : Laid} (checkpoints : List Checkpoi
                   whole = ap (λ (t : State). length t.words) (sym state-reached) ∙ reached.whole;
                   bytes = subst (All (λ byte. byte < 2 ^ 8)) sent-so bytes;
                   output = few-bytes;
-                  pages = subst (λ (l : Laid). length l.pool ≤ MAX_PAGES) laid-next pages;
-                  pool = subst (λ (l : Laid). ArePages l.pool) laid-next pool;
+                  pages = subst (λ (l : Stored). length l.pool ≤ MAX_PAGES) stored-next pages;
+                  pool = subst (λ (l : Stored). ArePages l.pool) stored-next pool;
                 }
 
             pub recorded-more : (items : List Checkpoint) (new : Checkpoint) → items ≡ checkpoints ++ new ∷ []
-                → checkpoint_parts new ≡ record { count = count; cpu = cpu_state r.cpu; devices = r.devices; sent = r.sent.items; table = laid'.table }
-                → (long : ℕ) → long ≡ sent + length r.sent.items → IsRecorded s (k + 1) laid' (map checkpoint_parts items) long
+                → checkpoint_parts new ≡ record { count = count; cpu = cpu_state r.cpu; devices = r.devices; sent = r.sent.items; table = stored'.table }
+                → (long : ℕ) → long ≡ sent + length r.sent.items → IsRecorded s (k + 1) stored' (map checkpoint_parts items) long
             recorded-more items new pushed new-so long long-so =
-                let after : Recorded s (k + 1) = recorded-next s lawful k within (recorded-so s laid (map checkpoint_parts checkpoints) sent k so) good in
+                let after : Recorded s (k + 1) = recorded-next s lawful k within (recorded-so s stored (map checkpoint_parts checkpoints) sent k so) good in
                 let cpu = reached.cpu ∙ ap (λ (t : State). t.cpu) state-reached in
                 let devices-so = reached.devices ∙ ap (λ (t : State). t.devices) state-reached in
                 let is : checkpoint_parts new ≡ checkpoint_of s (k + 1) =
-                new-so ∙ checkpoint-is s k count (cpu_state r.cpu) r.devices r.sent.items laid'.table next cpu devices-so (reached.output ∙ output-reached) (ap (λ (l : Laid). l.table) laid-next) in
+                new-so ∙ checkpoint-is s k count (cpu_state r.cpu) r.devices r.sent.items stored'.table next cpu devices-so (reached.output ∙ output-reached) (ap (λ (l : Stored). l.table) stored-next) in
                 let all = ap (map checkpoint_parts) pushed ∙ map-append checkpoint_parts checkpoints (new ∷ [])
                 ∙ ap (λ (l : List CheckpointParts). l ++ checkpoint_parts new ∷ []) so.recorded
                 ∙ ap (λ (c : CheckpointParts). checkpoints_to s k ++ c ∷ []) is ∙ sym (checkpoints-more s k) in
-                so-recorded s laid' (map checkpoint_parts items) long (k + 1) laid-next all
+                so-recorded s stored' (map checkpoint_parts items) long (k + 1) stored-next all
                 (omega (arith, long-so, whole-output, ap length reached.output)) after

@@ -7,8 +7,8 @@ use Rattle.risc_model.specs.MachineState.{State}
 use Rattle.risc_model.specs.Replay.{run_of, sent_of}
 use Rattle.risc_model.specs.declared.inputs.TheConstants.{MAX_COUNT}
 use Rattle.oberon_session.proofs.Runs.{run-on, sent-on}
-use Rattle.oberon_session.specs.Laid.{lay}
-use Rattle.oberon_session.specs.Recorded.{count_of, fault_at, first_fault, first_laid, first_state, laid_of, output_between, output_up_to, record_fault_of, state_at, state_of}
+use Rattle.oberon_session.specs.Stored.{store}
+use Rattle.oberon_session.specs.Recorded.{count_of, fault_at, first_fault, first_stored, first_state, stored_of, output_between, output_up_to, record_fault_of, state_at, state_of}
 use Rattle.oberon_session.specs.SessionParts.{CountFits, SessionParts, IsLawful}
 use Rattle.oberon_session.specs.declared.record_fault.RecordFault.{RecordFault}
 use Rattle.oberon_session.specs.declared.record_fault.RecordFault.TheVariants as fault
@@ -59,20 +59,20 @@ module _ (s : SessionParts) where
       let next : k + 1 ≡ suc k = omega arith in
       ap (λ (n : ℕ). count_of s n) next ∙ count_of-suc k
 
-  -- ---- what is laid
+  -- ---- what is stored
 
-  pub laid_of-zero : laid_of s 0 ≡ first_laid s.pages
-  unfolding laid_of
-  laid_of-zero = refl
+  pub stored_of-zero : stored_of s 0 ≡ first_stored s.pages
+  unfolding stored_of
+  stored_of-zero = refl
 
-  laid_of-suc : (k : ℕ) → laid_of s (suc k) ≡ lay (state_of s k).words (state_of s (suc k)).words (laid_of s k)
-  unfolding laid_of
-  laid_of-suc k = refl
+  stored_of-suc : (k : ℕ) → stored_of s (suc k) ≡ store (state_of s k).words (state_of s (suc k)).words (stored_of s k)
+  unfolding stored_of
+  stored_of-suc k = refl
 
-  pub laid_of-next : (k : ℕ) → laid_of s (k + 1) ≡ lay (state_of s k).words (state_of s (k + 1)).words (laid_of s k)
-  laid_of-next k =
+  pub stored_of-next : (k : ℕ) → stored_of s (k + 1) ≡ store (state_of s k).words (state_of s (k + 1)).words (stored_of s k)
+  stored_of-next k =
       let next : k + 1 ≡ suc k = omega arith in
-      rw next (laid_of-suc k)
+      rw next (stored_of-suc k)
 
   -- ---- refusals
 
@@ -112,22 +112,22 @@ module _ (s : SessionParts) where
       let test : nat_lt MAX_OUTPUT (length (output_up_to s (count_of s (k + 1)))) ≡ true = lt-ltb _ _ many in
       refused-at k fault.Output inside before (rw test refl)
 
-  -- too many pages are laid up to the next checkpoint
+  -- too many pages are stored up to the next checkpoint
   pub too-many-pages : (k : ℕ) → k < length s.counts → first_fault s k ≡ None → length (output_up_to s (count_of s (k + 1))) ≤ MAX_OUTPUT
-      → MAX_PAGES < length (laid_of s (k + 1)).pool → record_fault_of s ≡ Some fault.Pages
+      → MAX_PAGES < length (stored_of s (k + 1)).pool → record_fault_of s ≡ Some fault.Pages
   unfolding fault_at
   too-many-pages k inside before few many =
       let test : nat_lt MAX_OUTPUT (length (output_up_to s (count_of s (k + 1)))) ≡ false = le-ltb _ _ few in
-      let pages : nat_lt MAX_PAGES (length (laid_of s (k + 1)).pool) ≡ true = lt-ltb _ _ many in
+      let pages : nat_lt MAX_PAGES (length (stored_of s (k + 1)).pool) ≡ true = lt-ltb _ _ many in
       refused-at k fault.Pages inside before (rw (test, pages) refl)
 
   -- nothing is too much up to the next checkpoint
   pub nothing-too-much : (k : ℕ) → first_fault s k ≡ None → length (output_up_to s (count_of s (k + 1))) ≤ MAX_OUTPUT
-      → length (laid_of s (k + 1)).pool ≤ MAX_PAGES → first_fault s (k + 1) ≡ None
+      → length (stored_of s (k + 1)).pool ≤ MAX_PAGES → first_fault s (k + 1) ≡ None
   unfolding fault_at
   nothing-too-much k before few pages =
       let test : nat_lt MAX_OUTPUT (length (output_up_to s (count_of s (k + 1)))) ≡ false = le-ltb _ _ few in
-      let room : nat_lt MAX_PAGES (length (laid_of s (k + 1)).pool) ≡ false = le-ltb _ _ pages in
+      let room : nat_lt MAX_PAGES (length (stored_of s (k + 1)).pool) ≡ false = le-ltb _ _ pages in
       first_fault-next k before ∙ rw (test, room) refl
 
 -- ---- counts of a lawful session

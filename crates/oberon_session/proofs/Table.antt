@@ -170,7 +170,7 @@ faultless bytes none =
 
 -- ---- a text that is cut off
 
--- one that is cut off behind more bytes than a session may have has the fault of the whole
+-- one that is cut off after more bytes than a session may have has the fault of the whole
 pub fault-cut : (n : ℕ) (bytes : List ℕ) → LONGEST_SESSION < n → n ≤ length bytes → first_fault_of (take n bytes) ≡ first_fault_of bytes
 fault-cut n bytes over within =
     let long : LONGEST_SESSION < length (take n bytes) = simp length-take (omega arith) in

@@ -11,7 +11,7 @@ use Rattle.oberon_session.proofs.Next.{Recorded, recorded-so, checkpoint-there, 
 use Rattle.oberon_session.proofs.Reaching.{claimed-is}
 use Rattle.oberon_session.specs.Recorded.{checkpoint_of, count_of, first_state, last_of, output_between, record_fault_of, recording_of, state_at, state_of}
 use Rattle.oberon_session.specs.SessionParts.{SessionParts}
-use Rattle.oberon_session.specs.Laid.{Laid}
+use Rattle.oberon_session.specs.Stored.{Stored}
 use Rattle.oberon_session.specs.inner.Progress.{IsRecorded}
 
 module _ (s : SessionParts) where
@@ -61,21 +61,21 @@ module _ (s : SessionParts) where
         λ i. record { state = state i; sent = sent i }
 
 -- what was recorded up to the last checkpoint
-module _ (s : SessionParts) (laid : Laid) (cs : List CheckpointParts) (sent k : ℕ) (all : k ≡ last_of s) (so : IsRecorded s k laid cs sent) where
-  last-so : IsRecorded s (last_of s) laid cs sent
-  last-so = subst (λ (n : ℕ). IsRecorded s n laid cs sent) all so
+module _ (s : SessionParts) (stored : Stored) (cs : List CheckpointParts) (sent k : ℕ) (all : k ≡ last_of s) (so : IsRecorded s k stored cs sent) where
+  last-so : IsRecorded s (last_of s) stored cs sent
+  last-so = subst (λ (n : ℕ). IsRecorded s n stored cs sent) all so
 
   pub made : record_fault_of s ≡ None
-  made = nothing-refused s (recorded-so s laid cs sent (last_of s) last-so)
+  made = nothing-refused s (recorded-so s stored cs sent (last_of s) last-so)
 
-  whole-is : record { pool = laid.pool; inputs = s.inputs; checkpoints = cs } ≡ recorded_to s (last_of s)
-  whole-is = λ i. record { pool = (last-so.laid_so i).pool; inputs = s.inputs; checkpoints = last-so.recorded i }
+  whole-is : record { pool = stored.pool; inputs = s.inputs; checkpoints = cs } ≡ recorded_to s (last_of s)
+  whole-is = λ i. record { pool = (last-so.stored_so i).pool; inputs = s.inputs; checkpoints = last-so.recorded i }
 
-  pub recording-of : (es : List Event) → es ≡ s.inputs → record { pool = laid.pool; inputs = es; checkpoints = cs } ≡ recording_of s
-  recording-of es same = ap (λ (l : List Event). record { pool = laid.pool; inputs = l; checkpoints = cs }) same ∙ whole-is ∙ recording-is s
+  pub recording-of : (es : List Event) → es ≡ s.inputs → record { pool = stored.pool; inputs = es; checkpoints = cs } ≡ recording_of s
+  recording-of es same = ap (λ (l : List Event). record { pool = stored.pool; inputs = l; checkpoints = cs }) same ∙ whole-is ∙ recording-is s
 
   -- all checkpoints of the recording are true
   pub truth-of : (r : RecordingParts) → r ≡ recording_of s → (j : ℕ) → j < length r.checkpoints → IsTrueAt r j
   truth-of r is =
       subst (λ (x : RecordingParts). (j : ℕ) → j < length x.checkpoints → IsTrueAt x j) (recording-is s ∙ sym is)
-      (truth-there s (last_of s) (recorded-so s laid cs sent (last_of s) last-so))
+      (truth-there s (last_of s) (recorded-so s stored cs sent (last_of s) last-so))

@@ -5,7 +5,7 @@ use Rattle.hex.specs.Hex.{decode_of}
 use Rattle.oberon_session.specs.Shape.{◌>>=◌, each}
 use Rattle.oberon_session.specs.Draft.{PageText}
 
--- a page and the place where it stands
+-- a page and its place
 pub record PlacedWords : Type 0 where
   pub at : ℕ
   pub words : List ℕ
@@ -26,7 +26,7 @@ abbrev pub ok_of : {T E : Type 0} → Result T E → Option T
 ok_of (Ok x) = Some x
 ok_of (Err e) = None
 
--- what the digits of a page say, where they are hexadecimal digits and their number is even
+-- what the digits of a page say, if they are hexadecimal digits and their number is even
 abbrev pub placed_of : PageText → Option PlacedWords
 placed_of page = do
   bytes ← ok_of (decode_of page.hex)

@@ -1,4 +1,4 @@
--- What a JSON value says, where it has the shape of a session of version 1 or 2. The format is this project's own.
+-- What a JSON value says, if it has the shape of a session of version 1 or 2. The format is this project's own.
 use Rattle.std.specs.Prelude.{◌==◌, ◌||◌, ℕ, List, [], ◌∷◌, length, Option, Some, None, if◌then◌else◌, codes}
 use Rattle.std.specs.Str.{bytes_eq}
 use Rattle.serde_json.specs.Data.{Data}
@@ -33,7 +33,7 @@ pub record Draft : Type 0 where
 
 -- ---- the shape
 
--- the version, where there is one of this number
+-- the version, if there is one of this number
 abbrev pub version_of : Data → Option ℕ
 version_of json = do
   version ← number_of json

@@ -10,7 +10,7 @@ use Rattle.risc_model.specs.declared.inputs.TheConstants.{MAX_COUNT}
 use Rattle.recording_limits.specs.declared.limits.TheConstants.{LAST_CHECKPOINT, MAX_EVENTS, MAX_OUTPUT, MAX_PAGES}
 use Rattle.oberon_format.specs.Defined.{Outcome, claimed}
 use Rattle.oberon_format.specs.Recording.{RecordingParts, count_at, last_of, output_of}
-use Rattle.oberon_session.specs.Laid.{new_pages}
+use Rattle.oberon_session.specs.Stored.{new_pages}
 use Rattle.oberon_session.specs.declared.claim.Claim.{Claim}
 use Rattle.oberon_session.specs.declared.extend_fault.ExtendFault.{ExtendFault}
 use Rattle.oberon_session.specs.declared.extend_fault.ExtendFault.TheVariants as fault

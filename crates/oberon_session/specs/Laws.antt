@@ -1,10 +1,10 @@
--- Laws of the definitions: what laying comes to, in the words of pages and places, and that a text has one answer.
+-- Laws of the definitions: what storing a memory does to pages and places, and that each input has one answer.
 use Rattle.std.specs.Prelude.{ℕ, ◌≡◌, ◌≢◌, ◌+◌, ◌<◌, true, false, List, ◌++◌, All, Some, Result, Ok, Err, length, slice_index}
 use Rattle.std.specs.List.Sorted.{IsStrictlyIncreasing}
 use Rattle.risc_pages.specs.Tables.{IsNamed, table_words}
 use Rattle.risc_pages.specs.Pages.{ArePages, page_at}
 use Rattle.oberon_session.specs.Digits.{PlacedWords}
-use Rattle.oberon_session.specs.Laid.{Laid, is_blank, lay, new_pages}
+use Rattle.oberon_session.specs.Stored.{Stored, is_blank, store, new_pages}
 use Rattle.oberon_session.specs.Recorded.{numbered}
 use Rattle.oberon_session.specs.Rules.{first_fault_of}
 use Rattle.oberon_session.specs.Session.{IsSession}
@@ -12,30 +12,30 @@ use Rattle.oberon_session.specs.SessionParts.{SessionParts, places_in}
 use Rattle.oberon_session.specs.declared.fault.SessionFault.{SessionFault}
 
 -- a table of pages of the pool
-pub record IsTableOf (laid : Laid) : Type 0 where
-  pub count : length laid.table ≡ 1024
-  pub named : IsNamed laid.pool laid.table
+pub record IsTableOf (stored : Stored) : Type 0 where
+  pub count : length stored.table ≡ 1024
+  pub named : IsNamed stored.pool stored.table
 
--- a memory was laid where an earlier one was laid last
-pub record IsLaidAfter (earlier words : List ℕ) (old new : Laid) : Type 0 where
+-- a memory was stored after an earlier one
+pub record IsStoredAfter (earlier words : List ℕ) (old new : Stored) : Type 0 where
   -- the new pages join the pool, and nothing else changes there
   pub pool : new.pool ≡ old.pool ++ new_pages earlier words
   -- a place that did not change keeps its number
   pub kept : (p : ℕ) → p < 1024 → page_at words p ≡ page_at earlier p → slice_index new.table p ≡ slice_index old.table p
-  -- one that changed has number 0 where it is all zeros now
+  -- one that changed has number 0 if it is all zeros now
   pub zeros : (p : ℕ) → p < 1024 → page_at words p ≢ page_at earlier p → is_blank (page_at words p) ≡ true → slice_index new.table p ≡ 0
   -- and else the number of a new page
   pub fresh : (p : ℕ) → p < 1024 → page_at words p ≢ page_at earlier p → is_blank (page_at words p) ≡ false → length old.pool < slice_index new.table p
   -- and the memory is the content of the new table over the new pool
   pub content : table_words new.pool new.table ≡ words
 
--- so it is for each memory that differs from one that was laid
-abbrev pub LaidLaw : Type 0
-LaidLaw =
-    (earlier words : List ℕ) (old : Laid) → IsTableOf old → ArePages old.pool → table_words old.pool old.table ≡ earlier
-    → length words ≡ 262144 → IsLaidAfter earlier words old (lay earlier words old)
+-- so it is for each memory that differs from one that was stored
+abbrev pub StoredLaw : Type 0
+StoredLaw =
+    (earlier words : List ℕ) (old : Stored) → IsTableOf old → ArePages old.pool → table_words old.pool old.table ≡ earlier
+    → length words ≡ 262144 → IsStoredAfter earlier words old (store earlier words old)
 
--- in a session's first table the place of page i has number i + 1, and each place where no page stands has number 0
+-- in a session's first table the place of page i has number i + 1, and each place without a page has number 0
 pub record IsFirstTable (pages : List PlacedWords) (table : List ℕ) : Type 0 where
   pub pages_named : (i : ℕ) → i < length pages → slice_index table (slice_index (places_in pages) i) ≡ i + 1
   pub others_zero : (p : ℕ) → All (λ place. place ≢ p) (places_in pages) → slice_index table p ≡ 0
@@ -45,7 +45,7 @@ FirstTableLaw =
     (pages : List PlacedWords) → IsStrictlyIncreasing (places_in pages) → All (λ place. place < 1024) (places_in pages)
     → IsFirstTable pages (numbered pages (length pages))
 
--- what a text says, where memory suffices: its session, or the fault of the first rule that it breaks
+-- what a text says, if memory suffices: its session, or the fault of the first rule that it breaks
 abbrev pub IsAnswer : List ℕ → Result SessionParts SessionFault → Type 0
 IsAnswer bytes (Ok session) = IsSession bytes session
 IsAnswer bytes (Err fault) = first_fault_of bytes ≡ Some fault

@@ -9,7 +9,7 @@ pub mod Parts
 pub mod Rules
 pub mod Session
 pub mod FaultNames
-pub mod Laid
+pub mod Stored
 pub mod Recorded
 pub mod Extended
 pub mod Laws

@@ -11,7 +11,7 @@ use Rattle.recording_limits.specs.declared.limits.TheConstants.{LAST_CHECKPOINT,
 
 -- ---- ranges
 
--- a timer's rate and phase: two words, of which the phase is below the rate, or 0 where the rate is 0
+-- a timer's rate and phase: two words, of which the phase is below the rate, or 0 if the rate is 0
 abbrev pub timer_fits : ℕ → ℕ → Bool
 timer_fits rate phase = nat_lt rate (2 ^ 32) && nat_lt phase (2 ^ 32) && is_phase rate phase
 

@@ -10,7 +10,7 @@ use Rattle.recording_limits.specs.declared.limits.TheConstants.{MAX_OUTPUT, MAX_
 use Rattle.oberon_format.specs.CheckpointParts.{CheckpointParts}
 use Rattle.oberon_format.specs.Recording.{RecordingParts}
 use Rattle.oberon_session.specs.Digits.{PlacedWords}
-use Rattle.oberon_session.specs.Laid.{Laid, lay}
+use Rattle.oberon_session.specs.Stored.{Stored, store}
 use Rattle.oberon_session.specs.SessionParts.{SessionParts, places_in}
 use Rattle.oberon_session.specs.declared.record_fault.RecordFault.{RecordFault}
 use Rattle.oberon_session.specs.declared.record_fault.RecordFault.TheVariants as fault
@@ -23,8 +23,8 @@ numbered pages zero = zero_numbers
 numbered pages (suc n) = slice_set (numbered pages n) (slice_index (places_in pages) n) (suc n)
 
 -- a session's pages in their order, and the table that has number i + 1 at the place of page i
-unfoldable pub first_laid : List PlacedWords → Laid
-first_laid pages = record { pool = map (λ page. page.words) pages; table = numbered pages (length pages) }
+unfoldable pub first_stored : List PlacedWords → Stored
+first_stored pages = record { pool = map (λ page. page.words) pages; table = numbered pages (length pages) }
 
 -- devices that are all zeros, with no keys, save the timer's rate and phase
 abbrev pub first_devices : ℕ → ℕ → DeviceState
@@ -34,7 +34,7 @@ first_devices rate phase =
 -- the state in which the session begins
 unfoldable pub first_state : SessionParts → State
 first_state s =
-    record { cpu = s.cpu; devices = first_devices s.rate s.phase; words = table_words (first_laid s.pages).pool (first_laid s.pages).table }
+    record { cpu = s.cpu; devices = first_devices s.rate s.phase; words = table_words (first_stored s.pages).pool (first_stored s.pages).table }
 
 -- ---- the one run from the first state
 
@@ -61,10 +61,10 @@ count_of s (suc k) = slice_index s.counts k
 abbrev pub state_of : SessionParts → ℕ → State
 state_of s k = state_at s (count_of s k)
 
--- the pool and the table of checkpoint k: the memory of each checkpoint is laid where that of the one before was laid last
-unfoldable pub laid_of : SessionParts → ℕ → Laid
-laid_of s zero = first_laid s.pages
-laid_of s (suc k) = lay (state_of s k).words (state_of s (suc k)).words (laid_of s k)
+-- the pool and the table of checkpoint k: the memory of each checkpoint is stored after that of the one before
+unfoldable pub stored_of : SessionParts → ℕ → Stored
+stored_of s zero = first_stored s.pages
+stored_of s (suc k) = store (state_of s k).words (state_of s (suc k)).words (stored_of s k)
 
 -- checkpoint k: the state at its count, and the bytes sent since the checkpoint before
 unfoldable pub checkpoint_of : SessionParts → ℕ → CheckpointParts
@@ -73,7 +73,7 @@ checkpoint_of s k = record {
   cpu = (state_of s k).cpu;
   devices = (state_of s k).devices;
   sent = output_between s (count_of s (k - 1)) (count_of s k);
-  table = (laid_of s k).table;
+  table = (stored_of s k).table;
 }
 
 -- the number of the last checkpoint
@@ -83,7 +83,7 @@ last_of s = length s.counts
 -- the recording: the pages that the last checkpoint needs and all before it, the session's inputs, and checkpoints 0 to K
 unfoldable pub recording_of : SessionParts → RecordingParts
 recording_of s = record {
-  pool = (laid_of s (last_of s)).pool;
+  pool = (stored_of s (last_of s)).pool;
   inputs = s.inputs;
   checkpoints = map (checkpoint_of s) (range_with_len 0 (last_of s + 1));
 }
@@ -94,7 +94,7 @@ recording_of s = record {
 unfoldable pub fault_at : SessionParts → ℕ → Option RecordFault
 fault_at s k =
     if nat_lt MAX_OUTPUT (length (output_up_to s (count_of s k))) then Some fault.Output
-    else if nat_lt MAX_PAGES (length (laid_of s k).pool) then Some fault.Pages
+    else if nat_lt MAX_PAGES (length (stored_of s k).pool) then Some fault.Pages
     else None
 
 -- the fault at the first of the checkpoints 1 to k that has one

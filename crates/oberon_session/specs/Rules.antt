@@ -17,11 +17,11 @@ use Rattle.recording_limits.specs.declared.limits.TheConstants.{LONGEST_SESSION}
 abbrev pub json_of : List ℕ → Option Data
 json_of bytes = if is_utf8 bytes then read bytes else None
 
--- what the text says, where its value has the shape of a session
+-- what the text says, if its value has the shape of a session
 abbrev pub draft_in : List ℕ → Option Draft
 draft_in bytes = json_of bytes >>= draft_of
 
--- a rule on what the text says. Where it says nothing, a rule before this one is broken
+-- a rule on what the text says. If it says nothing, a rule before this one is broken
 abbrev pub says : (Draft → Bool) → Option Draft → Bool
 says test None = true
 says test (Some draft) = test draft

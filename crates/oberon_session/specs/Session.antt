@@ -41,8 +41,8 @@ Fits bytes = length bytes ≤ LONGEST_SESSION
 abbrev pub IsSession : List ℕ → SessionParts → Type 0
 IsSession bytes session = (first_fault_of bytes ≡ None) × (draft : Draft) × (draft_in bytes ≡ Some draft) × Says draft session
 
--- this is the fault of the first rule that the text breaks. Want of memory is no fault of a text, and comes only where it is not
--- too long
+-- this is the fault of the first rule that the text breaks. Running out of memory is no fault of a text, and happens only if it is
+-- not too long
 abbrev pub Breaks : List ℕ → SessionFault → Type 0
 Breaks bytes fault.Memory = Fits bytes
 Breaks bytes own = first_fault_of bytes ≡ Some own

@@ -3,13 +3,13 @@ use Rattle.std.specs.Prelude.{◌==◌, ℕ, suc, List, [], ◌∷◌, Bool, tru
 use Rattle.serde_json.specs.Data.{Data, Items, no_items, item, Members, no_members, member}
 use Rattle.serde_json.specs.Find.{as_array, as_number, as_object, as_str, as_u64}
 
--- the second step, where the first gave a value
+-- the second step, if the first gave a value
 infixl 10 ◌>>=◌
 abbrev pub ◌>>=◌ : {A B : Type 0} → Option A → (A → Option B) → Option B
 Some x >>= f = f x
 None >>= f = None
 
--- the value, where the test holds
+-- the value, if the test holds
 abbrev pub only_if : {A : Type 0} → Bool → A → Option A
 only_if true x = Some x
 only_if false x = None
@@ -19,7 +19,7 @@ abbrev pub member_count : Members → ℕ
 member_count no_members = 0
 member_count (member name value rest) = suc (member_count rest)
 
--- the value, where it is an object of so many members
+-- the value, if it is an object of so many members
 abbrev pub exactly : ℕ → Data → Option Data
 exactly count json = as_object json >>= λ members. if member_count members == count then Some json else None
 
@@ -37,7 +37,7 @@ list_of (item json rest) = json ∷ list_of rest
 abbrev pub items_of : Data → Option (List Data)
 items_of json = option_map list_of (as_array json)
 
--- what each item says, where each says something
+-- what each item says, if each says something
 abbrev pub each : {A X : Type 0} → (A → Option X) → List A → Option (List X)
 each read [] = Some []
 each read (x ∷ rest) = do

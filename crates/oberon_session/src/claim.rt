@@ -6,7 +6,7 @@ use risc_model::Cpu;
 /// A machine's state at a count, with the words of its memory, and the bytes that it sent since the checkpoint before.
 #[derive(Drop)]
 pub struct Claim<'a> {
-    /// How many instructions stand before it.
+    /// How many instructions come before it.
     pub count: u64,
     /// The processor.
     pub cpu: Cpu,

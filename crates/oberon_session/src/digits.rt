@@ -12,14 +12,17 @@ use hex::FromHexError;
 use risc_pages::Page;
 use std::alloc::Global;
 
-/// A page of a session, and the place from 0 to 1,023 where it stands.
+/// How many places of pages a memory has.
+pub const PLACES: u16 = 1_024;
+
+/// A page of a session, and its place, from 0 to 1,023.
 #[derive(Clone, Copy)]
 pub struct PlacedPage {
     pub at: u16,
     pub page: Page,
 }
 
-/// The pages of a session, where each is written in pairs of hexadecimal digits.
+/// The pages of a session, if each is written in pairs of hexadecimal digits.
 pub fn placed_pages(
     alloc: Global,
     drafts: &[PageDraft<'_>],
@@ -47,7 +50,7 @@ fn placed_page(alloc: Global, draft: &PageDraft<'_>) -> Result<PlacedPage, Sessi
     }
 }
 
-/// The fault of digits that `hex` refuses: want of memory where it says so, and else wrong digits.
+/// The fault of digits that `hex` refuses: `Memory` if it ran out of memory, and else wrong digits.
 fn hex_fault(refused: &FromHexError) -> SessionFault
     ensures memory { (result ≡ SessionFault.Memory) ↔ (refused.now ≡ FromHexError.OutOfMemory) }
     ensures hex { (result ≡ SessionFault.Hex) ↔ (refused.now ≢ FromHexError.OutOfMemory) }

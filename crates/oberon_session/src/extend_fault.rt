@@ -1,9 +1,9 @@
-//! Why a recording is not extended. When each refusal comes stands in `specs/`.
+//! Why a recording is not extended. `specs/Extended.antt` says when each refusal comes.
 
 use std::alloc::{AllocError, AllocFailed};
 use thiserror::Error;
 
-/// What is wrong with a recording's next checkpoint, or too much for the recording, or want of memory.
+/// What is wrong with a recording's next checkpoint, or too much for the recording, or that memory ran out.
 ///
 /// The limits are this project's own choice.
 #[derive(Clone, Copy, Debug, PartialEq, Eq, Error)]
@@ -23,7 +23,7 @@ pub enum ExtendFault {
     /// More than 65,536 pages.
     #[error("the recording has too many pages")]
     Pages,
-    /// There was no room for the recording.
+    /// Memory ran out.
     #[error("no memory")]
     Memory,
 }
@@ -34,7 +34,7 @@ impl From<AllocError> for ExtendFault {
 
     ghost from_gives = { λ _ fault. fault ≡ ExtendFault.Memory };
 
-    fn from(_wanting: AllocError) -> ExtendFault {
+    fn from(_failure: AllocError) -> ExtendFault {
         ExtendFault::Memory
     }
 }
@@ -45,7 +45,7 @@ impl<T: Drop> From<AllocFailed<T>> for ExtendFault {
 
     ghost from_gives = { λ _ fault. fault ≡ ExtendFault.Memory };
 
-    fn from(_wanting: AllocFailed<T>) -> ExtendFault {
+    fn from(_failure: AllocFailed<T>) -> ExtendFault {
         ExtendFault::Memory
     }
 }

@@ -10,12 +10,12 @@ ghost use Rattle.risc_pages.specs.Tables.{IsNamed};
 ghost use Rattle.oberon_format.specs.CheckpointParts.{checkpoint_parts};
 ghost use Rattle.oberon_format.specs.Recording.{IsLawful, parts_of};
 ghost use Rattle.oberon_session.specs.Extended.{IsBegun, IsExtended, IsNext, IsTooMuch, outcome_of};
-ghost use Rattle.oberon_session.specs.inner.Growing.{HasGrown, NeedsPages, checkpoint_of, laid_on, last_laid};
-ghost use Rattle.oberon_session.specs.inner.Progress.{laid_view};
+ghost use Rattle.oberon_session.specs.inner.Growing.{HasGrown, NeedsPages, checkpoint_of, stored_on, last_stored};
+ghost use Rattle.oberon_session.specs.inner.Progress.{stored_view};
 
 use crate::claim::Claim;
 use crate::extend_fault::ExtendFault;
-use crate::laying::{LaidPages, lay_words};
+use crate::storing::{StoredPages, store_words};
 use crate::recorder::{bytes_fit, recording_of};
 use oberon_format::{Checkpoint, LAST_CHECKPOINT, MAX_COUNT, MAX_EVENTS, MAX_PAGES, Recording};
 use risc_devices::Devices;
@@ -23,7 +23,7 @@ use risc_model::{Cpu, Event, Inputs};
 use risc_pages::{Pool, Table};
 use std::alloc::{AllocError, Global};
 
-/// The recording that begins with a state: no inputs, and checkpoint 0 alone. It fails only for want of memory.
+/// The recording that begins with a state: no inputs, and checkpoint 0 alone. It fails only if memory runs out.
 pub fn begin_recording(
     alloc: Global,
     cpu: Cpu,
@@ -35,11 +35,11 @@ pub fn begin_recording(
     requires whole { length words.now ≡ 262144 }
     ensures { IfOk result (IsBegun (record { cpu = cpu_state cpu; devices = devices; words = words.now })) }
 {
-    let mut laid = LaidPages {
+    let mut stored = StoredPages {
         pool: Pool::new(alloc),
         table: Table::zeros(),
     };
-    lay_words(alloc, &mut laid, words)?;
+    store_words(alloc, &mut stored, words)?;
     let mut checkpoints = Vec::new(alloc);
     let claim = Claim {
         count: 0,
@@ -48,16 +48,15 @@ pub fn begin_recording(
         words,
         sent: &[],
     };
-    checkpoints.push(checkpoint_of(alloc, &claim, &laid.table)?)?;
+    checkpoints.push(checkpoint_of(alloc, &claim, &stored.table)?)?;
     // What the type of a pool says of its pages.
-    let _pages = laid.pool.len();
-    Ok(recording_of(laid.pool, no_inputs(alloc), checkpoints))
+    let _pages = stored.pool.len();
+    Ok(recording_of(stored.pool, no_inputs(alloc), checkpoints))
 }
 
 /// The recording with the inputs that came since its last checkpoint, and one checkpoint more, which makes this claim.
 ///
-/// A recording that is refused is given up. The refusal says what is wrong or too much; where memory is wanting, `Memory` may stand
-/// in place of each answer.
+/// A recording that is refused is dropped. The refusal says what is wrong or too much; if memory runs out, it is `Memory` instead.
 pub fn extend_recording(
     alloc: Global,
     recording: Recording,
@@ -77,9 +76,9 @@ pub fn extend_recording(
     ensures refused { IfErr result (IsTooMuch recording inputs.now claim.now.count (outcome_of claim.now)) }
 {
     let inputs = next_inputs(alloc, &recording, inputs, claim)?;
-    let (laid, checkpoints) = next_checkpoints(alloc, recording, claim)?;
+    let (stored, checkpoints) = next_checkpoints(alloc, recording, claim)?;
     // All limits but that of the output were tested.
-    match made(laid.pool, inputs, checkpoints) {
+    match made(stored.pool, inputs, checkpoints) {
         Some(recording) => Ok(recording),
         None => Err(ExtendFault::Output),
     }
@@ -149,44 +148,44 @@ fn next_checkpoints(
     alloc: Global,
     recording: Recording,
     claim: &Claim<'_>,
-) -> Result<(LaidPages, Vec<Checkpoint>), ExtendFault>
+) -> Result<(StoredPages, Vec<Checkpoint>), ExtendFault>
     requires { length claim.now.words.now ≡ 262144 }
     ensures lawful { IsLawful recording }
-    ensures grown { IfOk result (λ grown. HasGrown recording claim.now (laid_view grown.0) (map checkpoint_parts grown.1.items)) }
-    ensures refused { IfErr result (NeedsPages (last_laid recording) claim.now.words.now) }
+    ensures grown { IfOk result (λ grown. HasGrown recording claim.now (stored_view grown.0) (map checkpoint_parts grown.1.items)) }
+    ensures refused { IfErr result (NeedsPages (last_stored recording) claim.now.words.now) }
 {
     let (pool, _inputs, mut checkpoints) = recording.into_parts();
     let last = &checkpoints[checkpoints.len() - 1];
-    let laid = next_laid(alloc, pool, &last.table, claim.words)?;
-    let next = checkpoint_of(alloc, claim, &laid.table)?;
+    let stored = next_stored(alloc, pool, &last.table, claim.words)?;
+    let next = checkpoint_of(alloc, claim, &stored.table)?;
     checkpoints.push(next)?;
-    Ok((laid, checkpoints))
+    Ok((stored, checkpoints))
 }
 
 /// A pool with the pages of words that differ from the content of a table, and the table of the words.
-fn next_laid(
+fn next_stored(
     alloc: Global,
     pool: Pool,
     table: &Table,
     words: &[u32],
-) -> Result<LaidPages, ExtendFault>
+) -> Result<StoredPages, ExtendFault>
     requires whole { length words.now ≡ 262144 }
     requires named { IsNamed pool table.now }
     requires room { length pool ≤ MAX_PAGES }
-    ensures laid { IfOk result (λ laid. laid_view laid ≡ laid_on (record { pool = pool; table = table.now }) words.now) }
-    ensures few { IfOk result (λ laid. length laid.pool ≤ MAX_PAGES) }
-    ensures pages { IfOk result (λ laid. ArePages laid.pool) }
+    ensures stored { IfOk result (λ stored. stored_view stored ≡ stored_on (record { pool = pool; table = table.now }) words.now) }
+    ensures few { IfOk result (λ stored. length stored.pool ≤ MAX_PAGES) }
+    ensures pages { IfOk result (λ stored. ArePages stored.pool) }
     ensures refused { IfErr result (NeedsPages (record { pool = pool; table = table.now }) words.now) }
 {
-    let mut laid = LaidPages {
+    let mut stored = StoredPages {
         pool,
         table: table.copy(),
     };
-    lay_words(alloc, &mut laid, words)?;
-    if laid.pool.len() > MAX_PAGES {
+    store_words(alloc, &mut stored, words)?;
+    if stored.pool.len() > MAX_PAGES {
         return Err(ExtendFault::Pages);
     }
-    Ok(laid)
+    Ok(stored)
 }
 
 /// The checkpoint that makes a claim, over a table.

@@ -1,4 +1,4 @@
-//! Why a text is no session. The rules stand in the order in which they are tested in `specs/Rules.antt`.
+//! Why a text is no session. `specs/Rules.antt` has the rules in the order in which they are tested.
 
 ghost use Rattle.std.specs.Prelude.{◌≡◌};
 ghost use Rattle.oberon_session.specs.FaultNames.{session_fault_name, session_fault_number};
@@ -6,7 +6,7 @@ ghost use Rattle.oberon_session.specs.FaultNames.{session_fault_name, session_fa
 use std::alloc::{AllocError, AllocFailed};
 use thiserror::Error;
 
-/// The first rule that a text breaks, or want of memory.
+/// The first rule that a text breaks, or that memory ran out.
 ///
 /// The numbers, the names and the rules are this project's own choice.
 #[derive(Clone, Copy, Debug, PartialEq, Eq, Error)]
@@ -26,13 +26,13 @@ pub enum SessionFault {
     /// 5, `hex`: a page has an odd number of digits, or one that is not hexadecimal.
     #[error("a page of the session is not written in hexadecimal digits")]
     Hex,
-    /// There was no room for the session. No fault of the text.
+    /// Memory ran out. No fault of the text.
     #[error("no memory")]
     Memory,
 }
 
 impl SessionFault {
-    /// The fault's number, from 1 to 5; none for want of memory.
+    /// The fault's number, from 1 to 5; none for `Memory`.
     pub fn number(self) -> Option<u8>
         ensures { result ≡ session_fault_number self }
     {
@@ -67,7 +67,7 @@ impl From<AllocError> for SessionFault {
 
     ghost from_gives = { λ _ fault. fault ≡ SessionFault.Memory };
 
-    fn from(_wanting: AllocError) -> SessionFault {
+    fn from(_failure: AllocError) -> SessionFault {
         SessionFault::Memory
     }
 }
@@ -78,7 +78,7 @@ impl<T: Drop> From<AllocFailed<T>> for SessionFault {
 
     ghost from_gives = { λ _ fault. fault ≡ SessionFault.Memory };
 
-    fn from(_wanting: AllocFailed<T>) -> SessionFault {
+    fn from(_failure: AllocFailed<T>) -> SessionFault {
         SessionFault::Memory
     }
 }

@@ -1,4 +1,4 @@
-//! Sessions of the RISC5 workstation: a first state, inputs with their counts, and the counts at which checkpoints are wanted.
+//! Sessions of the RISC5 workstation: a first state, inputs with their counts, and the counts at which checkpoints are to be made.
 //!
 //! A session is written in JSON, in a format of this project's own. Here its text is read, or refused with the first rule that it
 //! breaks, and its recording is made, or refused at the first checkpoint that is too much. JSON and hexadecimal digits are read by
@@ -14,7 +14,7 @@ mod extend_fault;
 mod extension;
 mod fault;
 mod laws;
-mod laying;
+mod storing;
 mod parts;
 mod range;
 mod reading;

@@ -8,7 +8,7 @@ ghost use Rattle.oberon_session.specs.SessionParts.{IsLawful};
 ghost use Rattle.oberon_session.specs.inner.Tested.{PartsFit, PlacedFit, RisesBy};
 
 use crate::SessionFault;
-use crate::digits::PlacedPage;
+use crate::digits::{PLACES, PlacedPage};
 use crate::range::{counts_fit, rises, timer_fits};
 use oberon_format::MAX_EVENTS;
 use risc_core::COUNTER_END;
@@ -73,7 +73,7 @@ fn runs(cpu: &Cpu) -> bool
 fn pages_fit(pages: &[PlacedPage]) -> bool
     ensures { IsTrue result ↔ PlacedFit pages.now }
 {
-    pages.len() <= 1_024 && pages.iter().all(|page| page.at < 1_024)
+    pages.len() <= PLACES as usize && pages.iter().all(|page| page.at < PLACES)
 }
 
 /// Whether the places of pages rise.

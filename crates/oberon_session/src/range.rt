@@ -1,5 +1,4 @@
-//! The ranges of a session's numbers, and the order of its pages and checkpoints. Inputs are tested where they are made, in
-//! `events`.
+//! The ranges of a session's numbers, and the order of its pages and checkpoints. `events` tests the inputs and makes them.
 
 ghost use Rattle.std.specs.Prelude.{◌≡◌, ◌<◌, ◌^◌, ◌↔◌, IsTrue};
 ghost use Rattle.std.specs.List.{All};
@@ -9,10 +8,14 @@ ghost use Rattle.oberon_session.specs.inner.Tested.{DraftPagesFit, NumbersFit, N
 ghost use Rattle.oberon_session.specs.Ranges.{timer_fits};
 ghost use Rattle.oberon_session.specs.SessionParts.{CountsFit};
 
+use crate::digits::PLACES;
 use crate::draft::{Draft, PageDraft, StartDraft};
 use oberon_format::{LAST_CHECKPOINT, MAX_COUNT};
 use risc_core::COUNTER_END;
 use risc_devices::is_phase_at;
+
+/// How many digits a page may have: two for each of its bytes.
+const MOST_DIGITS: usize = 2_048;
 
 /// Whether the numbers of the first state, of pages and of checkpoints are in their ranges.
 pub fn is_in_range(draft: &Draft<'_>) -> bool
@@ -56,10 +59,10 @@ fn registers_fit(registers: &[u64]) -> bool
 fn pages_fit(pages: &[PageDraft<'_>]) -> bool
     ensures { IsTrue result ↔ DraftPagesFit pages.now }
 {
-    pages.len() <= 1_024
+    pages.len() <= PLACES as usize
         && pages
             .iter()
-            .all(|page| page.at < 1_024 && page.hex.len() <= 2_048)
+            .all(|page| page.at < PLACES as u64 && page.hex.len() <= MOST_DIGITS)
 }
 
 /// Whether there are at most 4,096 checkpoints, each at a count from 1 to 2^40.

@@ -25,7 +25,7 @@ use std::alloc::Global;
 /// The rules, in the order in which they are tested: the text has at most `LONGEST_SESSION` bytes (`Range`), is JSON (`Json`),
 /// has the shape of a session (`Shape`), and its numbers are in their ranges (`Range`); places of pages and counts of
 /// checkpoints rise, and counts of inputs don't fall (`Order`); and pages are written in pairs of hexadecimal digits (`Hex`).
-/// Where memory is wanting, `Memory` may stand in place of each answer, save where the text is too long.
+/// If memory runs out, the answer is `Memory` instead, unless the text is too long.
 pub fn read_session(alloc: Global, bytes: &[u8]) -> Result<Session, SessionFault>
     ensures ok { IfOk result (IsSession bytes.now) }
     ensures err { IfErr result (Breaks bytes.now) }
@@ -39,7 +39,7 @@ pub fn read_session(alloc: Global, bytes: &[u8]) -> Result<Session, SessionFault
     }
 }
 
-/// The fault of a text that `serde_json` refuses: want of memory where it says so, and else no JSON.
+/// The fault of a text that `serde_json` refuses: `Memory` if it ran out of memory, and else no JSON.
 fn json_fault(refused: &Error) -> SessionFault
     ensures memory { (result ≡ SessionFault.Memory) ↔ IsMemory refused.now }
     ensures json { (result ≡ SessionFault.Json) ↔ (IsMemory refused.now → ⊥) }

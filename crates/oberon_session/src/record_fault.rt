@@ -1,4 +1,4 @@
-//! Why a session has no recording. When each refusal comes stands in `specs/`.
+//! Why a session has no recording. `specs/Recorded.antt` says when each refusal comes.
 
 ghost use Rattle.std.specs.Prelude.{◌≡◌};
 ghost use Rattle.oberon_session.specs.FaultNames.{record_fault_name, record_fault_number};
@@ -6,7 +6,7 @@ ghost use Rattle.oberon_session.specs.FaultNames.{record_fault_name, record_faul
 use std::alloc::{AllocError, AllocFailed};
 use thiserror::Error;
 
-/// What is too much for a recording, or want of memory.
+/// What is too much for a recording, or that memory ran out.
 ///
 /// The numbers, the names and the limits are this project's own choice.
 #[derive(Clone, Copy, Debug, PartialEq, Eq, Error)]
@@ -17,13 +17,13 @@ pub enum RecordFault {
     /// 2, `pages`: more than 65,536 pages are needed up to a checkpoint.
     #[error("the session changes too many pages")]
     Pages,
-    /// There was no room for the recording. No fault of the session.
+    /// Memory ran out. No fault of the session.
     #[error("no memory")]
     Memory,
 }
 
 impl RecordFault {
-    /// The fault's number, 1 or 2; none for want of memory.
+    /// The fault's number, 1 or 2; none for `Memory`.
     pub fn number(self) -> Option<u8>
         ensures { result ≡ record_fault_number self }
     {
@@ -52,7 +52,7 @@ impl From<AllocError> for RecordFault {
 
     ghost from_gives = { λ _ fault. fault ≡ RecordFault.Memory };
 
-    fn from(_wanting: AllocError) -> RecordFault {
+    fn from(_failure: AllocError) -> RecordFault {
         RecordFault::Memory
     }
 }
@@ -63,7 +63,7 @@ impl<T: Drop> From<AllocFailed<T>> for RecordFault {
 
     ghost from_gives = { λ _ fault. fault ≡ RecordFault.Memory };
 
-    fn from(_wanting: AllocFailed<T>) -> RecordFault {
+    fn from(_failure: AllocFailed<T>) -> RecordFault {
         RecordFault::Memory
     }
 }

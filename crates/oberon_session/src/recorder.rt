@@ -7,7 +7,7 @@ ghost use Rattle.oberon_format.specs.Recording.{parts_of, IsLawful};
 ghost use Rattle.oberon_session.specs.Recorded.{first_devices, record_fault_of, recording_of};
 ghost use Rattle.oberon_session.specs.inner.Progress.{HasRecorded};
 
-use crate::laying::{LaidPages, lay_first, lay_pages};
+use crate::storing::{StoredPages, store_first, store_pages};
 use crate::record_fault::RecordFault;
 use crate::session::Session;
 use crate::way::reach;
@@ -20,7 +20,7 @@ use std::alloc::Global;
 /// What was recorded so far: pages and the last table, checkpoints from 0 on, and the number of bytes that they send.
 #[derive(Drop)]
 struct Recorder {
-    laid: LaidPages,
+    stored: StoredPages,
     checkpoints: Vec<Checkpoint>,
     sent: usize,
 }
@@ -28,11 +28,11 @@ struct Recorder {
 /// The recording of a session: its first state, its inputs, and the state and output at each of its counts, in one run.
 ///
 /// Refused at the first checkpoint up to which more than 1,048,576 bytes are sent (`Output`) or else more than 65,536 pages are
-/// needed (`Pages`). Where memory is wanting, `Memory` may stand in place of each answer.
+/// needed (`Pages`). If memory runs out, the answer is `Memory` instead.
 pub fn make_recording(alloc: Global, session: &Session) -> Result<Recording, RecordFault>
     // The recording is that of the session.
     ensures recording { IfOk result (λ recording. recording ≡ recording_of session.now) }
-    // It is made only where nothing is too much.
+    // It is made only if nothing is too much.
     ensures made { OnOk result (record_fault_of session.now ≡ None) }
     // Else the fault is that of the first checkpoint that is too much.
     ensures refused { IfErr result (λ fault. fault ≢ RecordFault.Memory → record_fault_of session.now ≡ Some fault) }
@@ -49,20 +49,20 @@ pub fn make_recording(alloc: Global, session: &Session) -> Result<Recording, Rec
 /// Checkpoint 0 of a session.
 fn begin(alloc: Global, session: &Session) -> Result<Recorder, RecordFault>
     ensures recorded { IfOk result (HasRecorded session.now 0) }
-    ensures wanting { IfErr result (λ fault. fault ≡ RecordFault.Memory) }
+    ensures memory { IfErr result (λ fault. fault ≡ RecordFault.Memory) }
 {
-    let laid = lay_first(alloc, session.pages())?;
+    let stored = store_first(alloc, session.pages())?;
     let first = Checkpoint {
         count: 0,
         cpu: session.cpu(),
         devices: first_devices(session.rate(), session.phase()),
         sent: Vec::new(alloc),
-        table: laid.table.copy(),
+        table: stored.table.copy(),
     };
     let mut checkpoints = Vec::with_capacity(alloc, session.counts().len() + 1)?;
     checkpoints.push(first)?;
     Ok(Recorder {
-        laid,
+        stored,
         checkpoints,
         sent: 0,
     })
@@ -94,10 +94,10 @@ fn record_next(
     let last = &recorder.checkpoints[k];
     let count = session.counts()[k];
     let room = MAX_OUTPUT as usize - recorder.sent;
-    let pool = &recorder.laid.pool;
+    let pool = &recorder.stored.pool;
     let reached = reach(alloc, pool, session.inputs(), last, count, room)?;
-    lay_pages(&mut recorder.laid, &reached.changed)?;
-    if recorder.laid.pool.len() > MAX_PAGES {
+    store_pages(&mut recorder.stored, &reached.changed)?;
+    if recorder.stored.pool.len() > MAX_PAGES {
         return Err(RecordFault::Pages);
     }
     let sent: &[u8] = &reached.sent;
@@ -110,7 +110,7 @@ fn record_next(
         cpu: reached.cpu,
         devices: reached.devices,
         sent: reached.sent,
-        table: recorder.laid.table.copy(),
+        table: recorder.stored.table.copy(),
     })?;
     Ok(())
 }
@@ -122,12 +122,12 @@ pub fn bytes_fit(bytes: &[u8])
 
 /// The recording of all that was recorded.
 fn finish(alloc: Global, inputs: &Inputs, recorder: Recorder) -> Result<Recording, RecordFault>
-    requires { IsLawful (parts_of recorder.laid.pool inputs.now recorder.checkpoints.items) }
-    ensures recording { IfOk result (λ recording. recording ≡ parts_of recorder.laid.pool inputs.now recorder.checkpoints.items) }
-    ensures wanting { IfErr result (λ fault. fault ≡ RecordFault.Memory) }
+    requires { IsLawful (parts_of recorder.stored.pool inputs.now recorder.checkpoints.items) }
+    ensures recording { IfOk result (λ recording. recording ≡ parts_of recorder.stored.pool inputs.now recorder.checkpoints.items) }
+    ensures memory { IfErr result (λ fault. fault ≡ RecordFault.Memory) }
 {
     let inputs = copy_inputs(alloc, inputs)?;
-    Ok(recording_of(recorder.laid.pool, inputs, recorder.checkpoints))
+    Ok(recording_of(recorder.stored.pool, inputs, recorder.checkpoints))
 }
 
 /// The recording of parts that are known to be lawful.
@@ -144,7 +144,7 @@ pub fn recording_of(pool: Pool, inputs: Inputs, checkpoints: Vec<Checkpoint>) ->
 /// The same inputs again.
 fn copy_inputs(alloc: Global, inputs: &Inputs) -> Result<Inputs, RecordFault>
     ensures same { IfOk result (λ copy. copy ≡ inputs.now) }
-    ensures wanting { IfErr result (λ fault. fault ≡ RecordFault.Memory) }
+    ensures memory { IfErr result (λ fault. fault ≡ RecordFault.Memory) }
 {
     let events = inputs.events().to_vec(alloc)?;
     match Inputs::new(events) {

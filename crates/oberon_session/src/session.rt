@@ -1,4 +1,4 @@
-//! Sessions as the recorder takes them. How one is read from its text stands in `reading`, and how parts are tested in `parts`.
+//! Sessions as the recorder takes them. `reading` reads one from JSON, and `parts` tests the parts of one.
 
 ghost use Rattle.std.specs.Prelude.{◌≡◌, ◌<◌};
 
@@ -13,12 +13,12 @@ use std::marker::Model;
 /// | what | limit |
 /// |---|---|
 /// | program counter of the first state | below 2^22 |
-/// | the timer's rate and phase in it | below 2^32, the phase below the rate, or 0 where the rate is 0 |
+/// | the timer's rate and phase in it | below 2^32, the phase below the rate, or 0 if the rate is 0 |
 /// | pages of the first state's memory | at most 1,024, their places below 1,024 and rising |
 /// | inputs | at most 1,000,000, their counts not falling and at most 2^40 |
 /// | checkpoints | at most 4,096, their counts from 1 to 2^40 and rising |
 ///
-/// The first state is not stopped, all else in its devices is zeros, and so is its memory where no page stands. All limits are this
+/// The first state is not stopped. All else in its devices is zeros, and so is its memory outside these pages. All limits are this
 /// project's own choice. In contracts a session is the record of its parts.
 #[derive(Drop)]
 pub struct Session {

@@ -1,4 +1,4 @@
-//! The way of a machine from one checkpoint to the next.
+//! The run of a machine from one checkpoint to the next.
 
 ghost use Rattle.std.specs.Prelude.{◌≡◌, ◌-◌, ◌<◌, ◌≤◌, IfOk, IfErr, OnOk, length};
 ghost use Rattle.risc_core.specs.declared.branch.TheConstants.{COUNTER_END};
@@ -28,7 +28,7 @@ pub struct Reached {
     pub changed: Vec<(u16, Page)>,
 }
 
-/// Starts a machine at a checkpoint and runs it up to the count `to`, where it sends at most `room` bytes.
+/// Starts a machine at a checkpoint and runs it up to the count `to`, if it sends at most `room` bytes on the way.
 pub fn reach(
     alloc: Global,
     pool: &Pool,
@@ -58,7 +58,7 @@ pub fn reach(
     })
 }
 
-/// Runs a machine from one count up to another, and gives what it sends, where that is at most `room` bytes.
+/// Runs a machine from one count up to another, and returns what it sends, if that is at most `room` bytes.
 fn run_in_pieces(
     alloc: Global,
     machine: &mut Machine<'_>,

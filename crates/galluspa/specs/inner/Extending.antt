@@ -28,7 +28,7 @@ pub record IsFull (text : List ℕ) (events : List Event) (claim : Claim) (fault
   pub is_text : Text text recording
   pub too_much : IsTooMuch recording events claim.count (outcome_of claim) fault
 
--- what a caller is told
+-- what a caller gets
 abbrev pub unextended : ExtendFault → Unrecorded
 unextended fault.Order = refusal.Range
 unextended fault.Inputs = refusal.Inputs

@@ -10,7 +10,7 @@ use Rattle.oberon_session.specs.declared.draft.Members.{Members as MembersValue}
 use Rattle.oberon_session.specs.Draft.{Start, PageText, InputNumbers, Members, Draft}
 use Rattle.serde_json.specs.View.{view}
 
--- the result is what the definition gives, and this fault comes only where it gives nothing
+-- the result is what the definition gives, and this fault comes only if it gives nothing
 abbrev pub GivesOr : {T X : Type 0} → SessionFault → (T → X) → Option X → Result T SessionFault → Type 0
 GivesOr why view found result =
     MatchResult result (λ value. found ≡ Some (view value))

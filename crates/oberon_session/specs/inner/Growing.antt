@@ -8,7 +8,7 @@ use Rattle.risc_pages.specs.Tables.{table_words}
 use Rattle.recording_limits.specs.declared.limits.TheConstants.{MAX_PAGES}
 use Rattle.oberon_format.specs.CheckpointParts.{CheckpointParts}
 use Rattle.oberon_format.specs.Recording.{RecordingParts, checkpoint_at, last_of}
-use Rattle.oberon_session.specs.Laid.{Laid, lay}
+use Rattle.oberon_session.specs.Stored.{Stored, store}
 use Rattle.oberon_session.specs.declared.claim.Claim.{Claim}
 use Rattle.oberon_session.specs.declared.extend_fault.ExtendFault.{ExtendFault}
 
@@ -16,23 +16,23 @@ use Rattle.oberon_session.specs.declared.extend_fault.ExtendFault.{ExtendFault}
 abbrev pub checkpoint_of : Claim → List ℕ → CheckpointParts
 checkpoint_of c table = record { count = c.count; cpu = cpu_state c.cpu; devices = c.devices; sent = c.sent.now; table = table }
 
--- words are laid where a memory was laid last
-abbrev pub laid_on : Laid → List ℕ → Laid
-laid_on laid words = lay (table_words laid.pool laid.table) words laid
+-- words are stored after the memory of a table
+abbrev pub stored_on : Stored → List ℕ → Stored
+stored_on stored words = store (table_words stored.pool stored.table) words stored
 
 -- the pool and the table of a recording's last checkpoint
-abbrev pub last_laid : RecordingParts → Laid
-last_laid r = record { pool = r.pool; table = (checkpoint_at r (last_of r)).table }
+abbrev pub last_stored : RecordingParts → Stored
+last_stored r = record { pool = r.pool; table = (checkpoint_at r (last_of r)).table }
 
--- the memory of a claim is laid, and its checkpoint has joined those of the recording
-pub record HasGrown (r : RecordingParts) (claim : Claim) (laid : Laid) (checkpoints : List CheckpointParts) : Type 0 where
-  pub laid_so : laid ≡ laid_on (last_laid r) claim.words.now
-  pub pushed : checkpoints ≡ r.checkpoints ++ checkpoint_of claim laid.table ∷ []
-  pub few : length laid.pool ≤ MAX_PAGES
-  pub pages : ArePages laid.pool
+-- the memory of a claim is stored, and its checkpoint has joined those of the recording
+pub record HasGrown (r : RecordingParts) (claim : Claim) (stored : Stored) (checkpoints : List CheckpointParts) : Type 0 where
+  pub stored_so : stored ≡ stored_on (last_stored r) claim.words.now
+  pub pushed : checkpoints ≡ r.checkpoints ++ checkpoint_of claim stored.table ∷ []
+  pub few : length stored.pool ≤ MAX_PAGES
+  pub pages : ArePages stored.pool
   pub devices : IsDeviceState claim.devices
   pub bytes : All (λ byte. byte < 2 ^ 8) claim.sent.now
 
--- where memory is not wanting, words need more pages than there may be
-abbrev pub NeedsPages : Laid → List ℕ → ExtendFault → Type 0
-NeedsPages laid words fault = fault ≢ ExtendFault.Memory → (fault ≡ ExtendFault.Pages) × (MAX_PAGES < length (laid_on laid words).pool)
+-- unless memory ran out, words need more pages than there may be
+abbrev pub NeedsPages : Stored → List ℕ → ExtendFault → Type 0
+NeedsPages stored words fault = fault ≢ ExtendFault.Memory → (fault ≡ ExtendFault.Pages) × (MAX_PAGES < length (stored_on stored words).pool)

@@ -9,23 +9,23 @@ use Rattle.risc_model.specs.Replay.{run_of, sent_of}
 use Rattle.oberon_format.specs.CheckpointParts.{CheckpointParts, checkpoint_parts}
 use Rattle.oberon_format.specs.Defined.{claim_of}
 use Rattle.oberon_format.specs.Recording.{IsLawful, output_of}
-use Rattle.oberon_session.specs.Laid.{Laid, changed_pages}
-use Rattle.oberon_session.specs.Recorded.{checkpoint_of, count_of, first_fault, laid_of, output_up_to, state_of}
+use Rattle.oberon_session.specs.Stored.{Stored, changed_pages}
+use Rattle.oberon_session.specs.Recorded.{checkpoint_of, count_of, first_fault, stored_of, output_up_to, state_of}
 use Rattle.oberon_session.specs.SessionParts.{SessionParts}
-use Rattle.oberon_session.specs.declared.laying.LaidPages.{LaidPages}
+use Rattle.oberon_session.specs.declared.storing.StoredPages.{StoredPages}
 use Rattle.oberon_session.specs.declared.record_fault.RecordFault.{RecordFault}
 use Rattle.oberon_session.specs.declared.recorder.Recorder.{Recorder}
 use Rattle.oberon_session.specs.declared.way.Reached.{Reached}
 
 -- a pool and a table, as Rust has them
-abbrev pub laid_view : LaidPages → Laid
-laid_view l = record { pool = l.pool; table = l.table }
+abbrev pub stored_view : StoredPages → Stored
+stored_view l = record { pool = l.pool; table = l.table }
 
 -- a changed page and its place
 abbrev pub page_view : ℕ × Page → ℕ × List ℕ
 page_view c = (c.0, c.1.words)
 
--- a machine that began in a state of these words came to a state and sent these bytes, and its changes are told
+-- a machine that began in a state of these words came to a state and sent these bytes, and these are its changes
 pub record IsReached (begun : List ℕ) (state : State) (sent : List ℕ) (r : Reached) : Type 0 where
   pub cpu : cpu_state r.cpu ≡ state.cpu
   pub devices : r.devices ≡ state.devices
@@ -40,23 +40,23 @@ checkpoints_to s k = map (checkpoint_of s) (range_with_len 0 (k + 1))
 
 -- the content of the table of checkpoint j is the memory of its state
 abbrev pub IsContentOf : SessionParts → List (List ℕ) → ℕ → Type 0
-IsContentOf s pool j = table_words pool (laid_of s j).table ≡ (state_of s j).words
+IsContentOf s pool j = table_words pool (stored_of s j).table ≡ (state_of s j).words
 
 -- the session was recorded up to checkpoint k, of which nothing is too much
-pub record IsRecorded (s : SessionParts) (k : ℕ) (laid : Laid) (checkpoints : List CheckpointParts) (sent : ℕ) : Type 0 where
-  pub laid_so : laid ≡ laid_of s k
+pub record IsRecorded (s : SessionParts) (k : ℕ) (stored : Stored) (checkpoints : List CheckpointParts) (sent : ℕ) : Type 0 where
+  pub stored_so : stored ≡ stored_of s k
   pub recorded : checkpoints ≡ checkpoints_to s k
   pub output : output_of checkpoints ≡ output_up_to s (count_of s k)
   pub long : sent ≡ length (output_up_to s (count_of s k))
-  pub lawful : IsLawful (record { pool = laid.pool; inputs = s.inputs; checkpoints = checkpoints })
-  pub content : (j : ℕ) → j ≤ k → IsContentOf s laid.pool j
+  pub lawful : IsLawful (record { pool = stored.pool; inputs = s.inputs; checkpoints = checkpoints })
+  pub content : (j : ℕ) → j ≤ k → IsContentOf s stored.pool j
   pub faultless : first_fault s k ≡ None
 
 -- what the recorder holds when the session was recorded up to checkpoint k
 abbrev pub HasRecorded : SessionParts → ℕ → Recorder → Type 0
-HasRecorded s k r = IsRecorded s k (laid_view r.laid) (map checkpoint_parts r.checkpoints.items) r.sent
+HasRecorded s k r = IsRecorded s k (stored_view r.stored) (map checkpoint_parts r.checkpoints.items) r.sent
 
--- where memory is not wanting, more bytes are sent than there is room for
+-- unless memory ran out, more bytes are sent than there is room for
 abbrev pub SendsTooMuch : ℕ → List ℕ → RecordFault → Type 0
 SendsTooMuch room sent fault = fault ≢ RecordFault.Memory → (fault ≡ RecordFault.Output) × (room < length sent)
 
@@ -68,7 +68,7 @@ claimed pool c = (claim_of pool c).state
 abbrev pub sent_on : List (List ℕ) → List Event → CheckpointParts → ℕ → List ℕ
 sent_on pool events c to = sent_of events c.count (to - c.count) (claimed pool c)
 
--- what a machine came to that ran from checkpoint c up to a count is told
+-- what a machine came to that ran from checkpoint c up to a count
 abbrev pub HasReached : List (List ℕ) → List Event → CheckpointParts → ℕ → Reached → Type 0
 HasReached pool events c to reached =
     IsReached (claimed pool c).words (run_of events c.count (to - c.count) (claimed pool c)) (sent_on pool events c to) reached

@@ -1,5 +1,5 @@
--- What single tests of a draft say, in the words of their proofs. That the tests of the table are right about them stands in
--- `proofs/Deciding.antt`.
+-- What single tests of a draft say, in the words of their proofs. `proofs/Deciding.antt` proves that the tests of the
+-- table are right about them.
 use Rattle.std.specs.Prelude.{◌≡◌, ◌≢◌, ◌+◌, ◌<◌, ◌≤◌, ◌^◌, ℕ, List, Option, MatchOption, length, map, slice_index, slice_index_or, Some, None, IsTrue, IsUtf8, ⊤}
 use Rattle.std.specs.List.{All}
 use Rattle.std.specs.List.Sorted.{IsStrictlyIncreasing}
@@ -139,6 +139,6 @@ BreaksIn json fault.Memory = ⊤
 abbrev pub IsEventOf : InputNumbers → Option Event → Type 0
 IsEventOf input event = MatchOption event (InputFits input → ⊥) (λ e. (numbers_of_event e ≡ input) × InputFits input)
 
--- where memory is not wanting, an input is out of its range
+-- unless memory ran out, an input is out of its range
 abbrev pub BreaksRanges : List InputNumbers → SessionFault → Type 0
 BreaksRanges inputs broken = broken ≢ fault.Memory → (broken ≡ fault.Range) × (All InputFits inputs → ⊥)

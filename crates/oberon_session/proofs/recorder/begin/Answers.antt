@@ -5,13 +5,13 @@ use Rattle.oberon_session.proofs.Begun.{one-checkpoint, so-first, timer-phase}
 use Rattle.oberon_session.proofs.Mapped.{unmapped}
 use Rattle.oberon_session.specs.Digits.{PlacedWords}
 use Rattle.oberon_session.specs.Parts.{placed_view}
-use Rattle.oberon_session.specs.Laid.{Laid}
-use Rattle.oberon_session.specs.Recorded.{first_devices, first_laid}
-use Rattle.oberon_session.specs.inner.Progress.{laid_view}
+use Rattle.oberon_session.specs.Stored.{Stored}
+use Rattle.oberon_session.specs.Recorded.{first_devices, first_stored}
+use Rattle.oberon_session.specs.inner.Progress.{stored_view}
 use Rattle.oberon_session.proofs.recorder.begin.Goals as goal
 
-pub lay_first-requires-clause-places : goal.lay_first-requires-clause-places
-lay_first-requires-clause-places c =
+pub store_first-requires-clause-places : goal.store_first-requires-clause-places
+store_first-requires-clause-places c =
     unmapped placed_view (λ (page : PlacedWords). page.at < 1024) c.pages.result.now (rw c.pages.ensures.pages c.pages.ensures.lawful.places)
 
 pub first_devices-requires : goal.first_devices-requires
@@ -21,11 +21,11 @@ first_devices-requires c =
 pub returns-clause-recorded : goal.returns-clause-recorded
 returns-clause-recorded c =
     let s = c.args.session.now in
-    let laid-so = c.in_ok-laid.ensures ∙ ap first_laid c.pages.ensures.pages in
-    let table = c.copy.ensures ∙ ap (λ (l : Laid). l.table) laid-so in
+    let stored-so = c.in_ok-stored.ensures ∙ ap first_stored c.pages.ensures.pages in
+    let table = c.copy.ensures ∙ ap (λ (l : Stored). l.table) stored-so in
     let sent = c.new.ensures.items in
     let devices = c.first_devices.ensures ∙ ap₂ first_devices c.rate.ensures.rate c.phase.ensures.phase in
     let pushed = rw c.in_ok-checkpoints.ensures.items at c.in_ok-push.ensures.items in
-    so-first s c.pages.ensures.lawful (laid_view c.in_ok-laid.laid) laid-so (map checkpoint_parts c.push.new.self.items)
+    so-first s c.pages.ensures.lawful (stored_view c.in_ok-stored.stored) stored-so (map checkpoint_parts c.push.new.self.items)
     (ap (map checkpoint_parts) pushed
     ∙ one-checkpoint s (cpu_state c.cpu.result) c.first_devices.result c.new.result.items c.copy.result c.cpu.ensures.cpu devices sent table)

@@ -6,7 +6,7 @@ use Rattle.oberon_format.specs.Defined.{IsTrueAt}
 use Rattle.oberon_format.specs.Recording.{parts_of, RecordingParts}
 use Rattle.oberon_session.proofs.Whole.{made, recording-of, truth-of}
 use Rattle.oberon_session.specs.Recorded.{last_of, recording_of}
-use Rattle.oberon_session.specs.inner.Progress.{laid_view}
+use Rattle.oberon_session.specs.inner.Progress.{stored_view}
 use Rattle.oberon_session.proofs.recorder.make_recording.Goals as goal
 
 pub returns-clause-recording : goal.returns-clause-recording
@@ -15,8 +15,8 @@ returns-clause-recording c =
     let r = c.loop-k.recorder in
     let cs = map checkpoint_parts r.checkpoints.items in
     let all : c.loop-k.k ≡ last_of s = omega (arith, ap length c.counts-k-end.ensures.counts) in
-    IfOk-weaker c.finish.result (λ (x : RecordingParts). x ≡ parts_of r.laid.pool c.inputs.result.now r.checkpoints.items) (λ (x : RecordingParts). x ≡ recording_of s)
-    (λ x is. is ∙ recording-of s (laid_view r.laid) cs r.sent c.loop-k.k all c.loop-k.invariant c.inputs.result.now c.inputs.ensures.inputs) c.finish.ensures.recording
+    IfOk-weaker c.finish.result (λ (x : RecordingParts). x ≡ parts_of r.stored.pool c.inputs.result.now r.checkpoints.items) (λ (x : RecordingParts). x ≡ recording_of s)
+    (λ x is. is ∙ recording-of s (stored_view r.stored) cs r.sent c.loop-k.k all c.loop-k.invariant c.inputs.result.now c.inputs.ensures.inputs) c.finish.ensures.recording
 
 so-on-ok : {T E P : Type 0} (r : Result T E) → P → OnOk r P
 so-on-ok (Ok x) p = p
@@ -27,7 +27,7 @@ returns-clause-made c =
     let r = c.loop-k.recorder in
     let all : c.loop-k.k ≡ last_of c.args.session.now = omega (arith, ap length c.counts-k-end.ensures.counts) in
     so-on-ok c.finish.result
-    (made c.args.session.now (laid_view r.laid) (map checkpoint_parts r.checkpoints.items) r.sent c.loop-k.k all c.loop-k.invariant)
+    (made c.args.session.now (stored_view r.stored) (map checkpoint_parts r.checkpoints.items) r.sent c.loop-k.k all c.loop-k.invariant)
 
 pub returns-clause-truth : goal.returns-clause-truth
 returns-clause-truth c =
@@ -35,7 +35,7 @@ returns-clause-truth c =
     let r = c.loop-k.recorder in
     let cs = map checkpoint_parts r.checkpoints.items in
     let all : c.loop-k.k ≡ last_of s = omega (arith, ap length c.counts-k-end.ensures.counts) in
-    IfOk-weaker c.finish.result (λ (x : RecordingParts). x ≡ parts_of r.laid.pool c.inputs.result.now r.checkpoints.items)
+    IfOk-weaker c.finish.result (λ (x : RecordingParts). x ≡ parts_of r.stored.pool c.inputs.result.now r.checkpoints.items)
     (λ (x : RecordingParts). (k : ℕ) → k < length x.checkpoints → IsTrueAt x k)
-    (λ x is. truth-of s (laid_view r.laid) cs r.sent c.loop-k.k all c.loop-k.invariant x
-    (is ∙ recording-of s (laid_view r.laid) cs r.sent c.loop-k.k all c.loop-k.invariant c.inputs.result.now c.inputs.ensures.inputs)) c.finish.ensures.recording
+    (λ x is. truth-of s (stored_view r.stored) cs r.sent c.loop-k.k all c.loop-k.invariant x
+    (is ∙ recording-of s (stored_view r.stored) cs r.sent c.loop-k.k all c.loop-k.invariant c.inputs.result.now c.inputs.ensures.inputs)) c.finish.ensures.recording

@@ -1,7 +1,7 @@
 use Rattle.std.proofs.Common.{◌≢◌, Some, ◌+◌, ◌∙◌, ℕ, List, ap, arith, length, sym, get_or}
 use Rattle.std.proofs.lemmas.Result.{err_from_is_err_and}
 use Rattle.risc_model.specs.MachineState.{cpu_state}
-use Rattle.oberon_session.proofs.LaidPages.{few-changes, low-changes}
+use Rattle.oberon_session.proofs.StoredPages.{few-changes, low-changes}
 use Rattle.oberon_session.proofs.Reaching.{few-sent, inside-of, last-count, last-fit, next-count, recorded-more, refused-output, refused-pages}
 use Rattle.oberon_session.proofs.Steps.{count-rises}
 use Rattle.oberon_session.specs.declared.record_fault.RecordFault.{RecordFault}
@@ -39,28 +39,28 @@ returns-in_err-reached-clause-refused c =
     c.inputs.ensures.inputs (next-count c.args.session.now c.args.k c.counts.ensures.counts) refused.1 in
     record-fault ∙ ap Some (sym refused.0 ∙ sym from.2))
 
-pub lay_pages-requires-clause-few : goal.lay_pages-requires-clause-few
-lay_pages-requires-clause-few c =
+pub store_pages-requires-clause-few : goal.store_pages-requires-clause-few
+store_pages-requires-clause-few c =
     rw c.deref.ensures.value (few-changes _ _ c.in_ok-reached.reached.changed.items c.in_ok-reached.ensures.reached.changed)
 
-pub lay_pages-requires-clause-places : goal.lay_pages-requires-clause-places
-lay_pages-requires-clause-places c =
+pub store_pages-requires-clause-places : goal.store_pages-requires-clause-places
+store_pages-requires-clause-places c =
     rw c.deref.ensures.value (low-changes _ _ c.in_ok-reached.reached.changed.items c.in_ok-reached.ensures.reached.changed)
 
 pub returns-then-len-gt-MAX_PAGES-clause-refused : goal.returns-then-len-gt-MAX_PAGES-clause-refused
 returns-then-len-gt-MAX_PAGES-clause-refused c =
-    let laid-so = rw c.deref.ensures.value at c.in_ok-lay_pages.ensures.laid in
+    let stored-so = rw c.deref.ensures.value at c.in_ok-store_pages.ensures.stored in
     λ _. refused-pages _ c.requires.recorded c.index-last.ensures c.counts.ensures.lawful c.requires.inside
-    c.inputs.ensures.inputs (next-count c.args.session.now c.args.k c.counts.ensures.counts) c.in_ok-reached.ensures.reached laid-so c.in_ok-reached.ensures.room (omega arith)
+    c.inputs.ensures.inputs (next-count c.args.session.now c.args.k c.counts.ensures.counts) c.in_ok-reached.ensures.reached stored-so c.in_ok-reached.ensures.room (omega arith)
 
 pub returns-clause-recorded : goal.returns-clause-recorded
 returns-clause-recorded c =
-    let laid-so = rw c.deref.ensures.value at c.in_ok-lay_pages.ensures.laid in
+    let stored-so = rw c.deref.ensures.value at c.in_ok-store_pages.ensures.stored in
     let bytes = rw c.deref-sent.ensures.value at c.bytes_fit.ensures in
     let r = c.in_ok-reached.reached in
     let count : ℕ = get_or c.counts.result.now c.args.k 0 in
     recorded-more _ c.requires.recorded c.index-last.ensures c.counts.ensures.lawful c.requires.inside
-    c.inputs.ensures.inputs (next-count c.args.session.now c.args.k c.counts.ensures.counts) c.in_ok-reached.ensures.reached laid-so c.in_ok-reached.ensures.room
+    c.inputs.ensures.inputs (next-count c.args.session.now c.args.k c.counts.ensures.counts) c.in_ok-reached.ensures.reached stored-so c.in_ok-reached.ensures.room
     (omega arith) c.len.ensures.pages c.timer-timer.ensures.ranges bytes
     c.push.new.self.items _ c.in_ok-push.ensures.items
     (ap (λ (table : List ℕ). record { count = count; cpu = cpu_state r.cpu; devices = r.devices; sent = r.sent.items; table = table }) c.copy.ensures)

@@ -1,7 +1,7 @@
 use Rattle.std.proofs.Common.{◌∙◌, ap₂}
-use Rattle.oberon_session.proofs.LaidPages.{changes}
-use Rattle.oberon_session.specs.Laid.{changed_pages}
-use Rattle.oberon_session.proofs.laying.changed_pages.Goals as goal
+use Rattle.oberon_session.proofs.StoredPages.{changes}
+use Rattle.oberon_session.specs.Stored.{changed_pages}
+use Rattle.oberon_session.proofs.storing.changed_pages.Goals as goal
 
 pub returns : goal.returns
 returns c =

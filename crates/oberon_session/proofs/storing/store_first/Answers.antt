@@ -2,13 +2,13 @@ use Rattle.std.proofs.Common.{◌≡◌, ◌+◌, ◌<◌, ◌∙◌, ℕ, ap, a
 use Rattle.std.specs.Prelude.{slice_index}
 use Rattle.std.proofs.lemmas.Grind.{common_steps}
 use Rattle.std.proofs.lemmas.List.{length-map, length_push}
-use Rattle.oberon_session.proofs.LaidPages.{numbered-more, numbered-none}
+use Rattle.oberon_session.proofs.StoredPages.{numbered-more, numbered-none}
 use Rattle.oberon_session.proofs.Mapped.{at-mapped}
 use Rattle.oberon_session.specs.Parts.{placed_view}
-use Rattle.oberon_session.specs.Recorded.{first_laid}
+use Rattle.oberon_session.specs.Recorded.{first_stored}
 use Rattle.oberon_session.specs.SessionParts.{places_in}
 use Rattle.oberon_session.specs.declared.digits.PlacedPage.{PlacedPage}
-use Rattle.oberon_session.proofs.laying.lay_first.Goals as goal
+use Rattle.oberon_session.proofs.storing.store_first.Goals as goal
 
 pub loop-page-init : goal.loop-page-init
 loop-page-init c = record {
@@ -33,7 +33,7 @@ loop-page-preserved c =
     }
 
 pub returns : goal.returns
-unfolding first_laid
+unfolding first_stored
 returns c =
     let end : c.loop-page.page-index ≡ length c.args.pages.now = omega arith in
     let all : c.loop-page.page-index ≡ length (map placed_view c.args.pages.now) = end ∙ sym (length-map c.args.pages.now placed_view) in

@@ -1,30 +1,33 @@
-//! Pages laid into a pool, and the table that names them.
+//! Pages that are stored in a pool, and the table that names them.
 
 ghost use Rattle.std.specs.Prelude.{◌≡◌, ◌≢◌, ◌+◌, ◌<◌, ◌≤◌, ◌^◌, All, IfOk, OnOk, ℕ, length, map, slice_index};
 ghost use Rattle.risc_pages.specs.declared.page.Page.{Page};
 ghost use Rattle.oberon_session.specs.Parts.{placed_view};
 ghost use Rattle.risc_pages.specs.Tables.{IsNamed, table_words};
-ghost use Rattle.oberon_session.specs.Laid.{changed_pages, is_blank, lay, lay_page, lay_pages};
-ghost use Rattle.oberon_session.specs.Recorded.{first_laid};
-ghost use Rattle.oberon_session.specs.inner.Progress.{laid_view, page_view};
+ghost use Rattle.oberon_session.specs.Stored.{changed_pages, is_blank, store, store_page, store_pages};
+ghost use Rattle.oberon_session.specs.Recorded.{first_stored};
+ghost use Rattle.oberon_session.specs.inner.Progress.{stored_view, page_view};
 
 use crate::digits::PlacedPage;
 use oberon_format::MAX_PAGES;
 use risc_pages::{Memory, Page, Pool, Table};
 use std::alloc::{AllocError, Global};
 
-/// The pages laid so far, and the table of the memory that was laid last.
+/// How many words a memory has.
+const WORDS: u32 = 262_144;
+
+/// The pages that were stored so far, and the table of the memory that was stored last.
 #[derive(Drop)]
-pub struct LaidPages {
+pub struct StoredPages {
     pub pool: Pool,
     pub table: Table,
 }
 
-/// Lays the pages of a session's first memory in their order, each named at its place.
-pub fn lay_first(alloc: Global, pages: &[PlacedPage]) -> Result<LaidPages, AllocError>
+/// Stores the pages of a session's first memory in their order, each named at its place.
+pub fn store_first(alloc: Global, pages: &[PlacedPage]) -> Result<StoredPages, AllocError>
     requires few { length pages.now ≤ 1024 }
     requires places { All (λ page. page.at < 1024) pages.now }
-    ensures { IfOk result (λ laid. laid_view laid ≡ first_laid (map placed_view pages.now)) }
+    ensures { IfOk result (λ stored. stored_view stored ≡ first_stored (map placed_view pages.now)) }
 {
     let mut pool = Pool::new(alloc);
     let mut table = Table::zeros();
@@ -32,59 +35,59 @@ pub fn lay_first(alloc: Global, pages: &[PlacedPage]) -> Result<LaidPages, Alloc
         pool.push(page.page)?;
         table.set(page.at, pool.len());
     }
-    Ok(LaidPages { pool, table })
+    Ok(StoredPages { pool, table })
 }
 
-/// Lays pages one after another, each at its place.
-pub fn lay_pages(laid: &mut LaidPages, changed: &[(u16, Page)]) -> Result<(), AllocError>
+/// Stores pages one after another, each at its place.
+pub fn store_pages(stored: &mut StoredPages, changed: &[(u16, Page)]) -> Result<(), AllocError>
     requires few { length changed.now ≤ 1024 }
-    requires room { length laid.old.pool ≤ MAX_PAGES }
+    requires room { length stored.old.pool ≤ MAX_PAGES }
     requires places { All (λ (c : ℕ × Page). c.0 < 1024) changed.now }
-    ensures laid { OnOk result (laid_view laid.new ≡ lay_pages (laid_view laid.old) (map page_view changed.now)) }
-    ensures grown { OnOk result (length laid.new.pool ≤ length laid.old.pool + length changed.now) }
+    ensures stored { OnOk result (stored_view stored.new ≡ store_pages (stored_view stored.old) (map page_view changed.now)) }
+    ensures grown { OnOk result (length stored.new.pool ≤ length stored.old.pool + length changed.now) }
 {
     for (place, page) in changed {
-        lay_page(laid, *place, page)?;
+        store_page(stored, *place, page)?;
     }
     Ok(())
 }
 
-/// Lays a page at a place: a page of zeros has number 0, and any other becomes a new page at the pool's end.
-#[tactic(auto, unfolding(crate::specs::Laid::lay_page))]
-fn lay_page(laid: &mut LaidPages, place: u16, page: &Page) -> Result<(), AllocError>
+/// Stores a page at a place: a page of zeros has number 0, and any other becomes a new page at the pool's end.
+#[tactic(auto, unfolding(crate::specs::Stored::store_page))]
+fn store_page(stored: &mut StoredPages, place: u16, page: &Page) -> Result<(), AllocError>
     requires place { place < 1024 }
-    requires room { length laid.old.pool < 2 ^ 31 }
-    ensures laid { OnOk result (laid_view laid.new ≡ lay_page (laid_view laid.old) (place, page.now.words)) }
-    ensures grown { OnOk result (length laid.new.pool ≤ length laid.old.pool + 1) }
+    requires room { length stored.old.pool < 2 ^ 31 }
+    ensures stored { OnOk result (stored_view stored.new ≡ store_page (stored_view stored.old) (place, page.now.words)) }
+    ensures grown { OnOk result (length stored.new.pool ≤ length stored.old.pool + 1) }
 {
     if is_blank(page) {
-        laid.table.set(place, 0);
+        stored.table.set(place, 0);
         return Ok(());
     }
-    laid.pool.push(*page)?;
-    laid.table.set(place, laid.pool.len());
+    stored.pool.push(*page)?;
+    stored.table.set(place, stored.pool.len());
     Ok(())
 }
 
 /// Whether a page is all zeros.
-#[tactic(auto, unfolding(crate::specs::Laid::is_blank))]
+#[tactic(auto, unfolding(crate::specs::Stored::is_blank))]
 fn is_blank(page: &Page) -> bool
     ensures { result ≡ is_blank page.now.words }
 {
     page.words.iter().all(|word| *word == 0)
 }
 
-/// Lays a memory of these words where another memory was laid last: only the pages that differ.
-#[tactic(auto, unfolding(crate::specs::Laid::lay))]
-pub fn lay_words(alloc: Global, laid: &mut LaidPages, words: &[u32]) -> Result<(), AllocError>
+/// Stores a memory of these words after another one: only the pages that differ from it.
+#[tactic(auto, unfolding(crate::specs::Stored::store))]
+pub fn store_words(alloc: Global, stored: &mut StoredPages, words: &[u32]) -> Result<(), AllocError>
     requires whole { length words.now ≡ 262144 }
-    requires named { IsNamed laid.old.pool laid.old.table }
-    requires room { length laid.old.pool ≤ MAX_PAGES }
-    ensures laid { OnOk result (laid_view laid.new ≡ lay (table_words laid.old.pool laid.old.table) words.now (laid_view laid.old)) }
-    ensures grown { OnOk result (length laid.new.pool ≤ length laid.old.pool + 1024) }
+    requires named { IsNamed stored.old.pool stored.old.table }
+    requires room { length stored.old.pool ≤ MAX_PAGES }
+    ensures stored { OnOk result (stored_view stored.new ≡ store (table_words stored.old.pool stored.old.table) words.now (stored_view stored.old)) }
+    ensures grown { OnOk result (length stored.new.pool ≤ length stored.old.pool + 1024) }
 {
-    let changed = changed_pages(alloc, &laid.pool, &laid.table, words)?;
-    lay_pages(laid, &changed)
+    let changed = changed_pages(alloc, &stored.pool, &stored.table, words)?;
+    store_pages(stored, &changed)
 }
 
 /// The pages in which words differ from the content of a table, each with its place.
@@ -112,7 +115,7 @@ fn write_words(memory: &mut Memory<'_>, words: &[u32]) -> Result<(), AllocError>
 {
     // Each read of a memory says that it is whole.
     let _first = memory.read(0);
-    for word_no in 0..262_144 {
+    for word_no in 0..WORDS {
         write_word(memory, word_no, words[word_no as usize])?;
     }
     Ok(())

@@ -1,6 +1,6 @@
 use Rattle.std.proofs.Common.{◌≡◌, ◌<◌, ℕ, length}
 use Rattle.std.specs.Prelude.{slice_index}
-use Rattle.oberon_session.proofs.laying.write_words.Given as goal
+use Rattle.oberon_session.proofs.storing.write_words.Given as goal
 
 abbrev pub invariant-loop-word_no : goal.invariant-loop-word_no
 invariant-loop-word_no l = record {

@@ -1,4 +1,4 @@
--- The laws of what is laid.
+-- The laws of what is stored.
 use Rattle.std.proofs.Common.{◌≡◌, ◌≢◌, ℕ, zero, suc, ◌+◌, ◌<◌, ◌≤◌, ◌⊎◌, inl, inr, Bool, true, false, cond, List, [], ◌∷◌, ◌++◌, ap, append_assoc, arith, get_or-set_other, length, length-set, map, not, refl, subst, sym, ◌∙◌}
 use Rattle.std.proofs.lemmas.Bool.{false≢true}
 use Rattle.std.proofs.lemmas.Bool.Decides.{eqb_tells}
@@ -9,17 +9,17 @@ use Rattle.std.specs.Prelude.{slice_index}
 use Rattle.risc_pages.proofs.DeltaLemmas.{AreDifferences-changed_below}
 use Rattle.risc_pages.specs.Delta.{changed_below}
 use Rattle.risc_pages.specs.Pages.{page_at}
-use Rattle.oberon_session.proofs.Contents.{blank-is, memory-laid, other-is}
-use Rattle.oberon_session.proofs.LaidPages.{with-page}
-use Rattle.oberon_session.specs.Laid.{Laid, is_blank, lay, lay_page, lay_pages}
-use Rattle.oberon_session.specs.Laws.{LaidLaw}
+use Rattle.oberon_session.proofs.Contents.{blank-is, memory-stored, other-is}
+use Rattle.oberon_session.proofs.StoredPages.{with-page}
+use Rattle.oberon_session.specs.Stored.{Stored, is_blank, store, store_page, store_pages}
+use Rattle.oberon_session.specs.Laws.{StoredLaw}
 
 module _ (words : List ℕ) where
   abbrev new-pages : List ℕ → List (List ℕ)
   new-pages places = filter (λ page. not (is_blank page)) (map (page_at words) places)
 
-  -- what the pages at these places come to, laid one after another
-  pub record Steps (old new : Laid) (places : List ℕ) (n : ℕ) : Type 0 where
+  -- what the pages at these places come to, stored one after another
+  pub record Steps (old new : Stored) (places : List ℕ) (n : ℕ) : Type 0 where
     pub pool : new.pool ≡ old.pool ++ new-pages places
     pub kept : (p : ℕ) → ¬ (Contains places p) → slice_index new.table p ≡ slice_index old.table p
     pub zeros : (p : ℕ) → is_blank (page_at words p) ≡ true → Contains places p ⊎ (slice_index old.table p ≡ 0) → slice_index new.table p ≡ 0
@@ -31,7 +31,7 @@ module _ (words : List ℕ) where
   first-or-rest q p places (suc k, lt, is) = inr (k, omega arith, is)
 
   -- what one page at place q comes to
-  record One (old mid : Laid) (q n : ℕ) : Type 0 where
+  record One (old mid : Stored) (q n : ℕ) : Type 0 where
     pub pool : mid.pool ≡ old.pool ++ new-pages (q ∷ [])
     pub count : length mid.table ≡ 1024
     pub grown : n ≤ length mid.pool
@@ -39,10 +39,10 @@ module _ (words : List ℕ) where
     pub zero-there : is_blank (page_at words q) ≡ true → slice_index mid.table q ≡ 0
     pub new-there : is_blank (page_at words q) ≡ false → n < slice_index mid.table q
 
-  module _ (old : Laid) (count : length old.table ≡ 1024) (q : ℕ) (low : q < 1024) (n : ℕ) (bound : n ≤ length old.pool) where
-    one : (b : Bool) → is_blank (page_at words q) ≡ b → One old (lay_page old (q, page_at words q)) q n
+  module _ (old : Stored) (count : length old.table ≡ 1024) (q : ℕ) (low : q < 1024) (n : ℕ) (bound : n ≤ length old.pool) where
+    one : (b : Bool) → is_blank (page_at words q) ≡ b → One old (store_page old (q, page_at words q)) q n
     one true blank =
-        subst (λ (l : Laid). One old l q n) (sym (blank-is words old q blank)) (record {
+        subst (λ (l : Stored). One old l q n) (sym (blank-is words old q blank)) (record {
           pool = rw blank (sym (append-nil old.pool));
           count = length-set old.table q 0 ∙ count;
           grown = bound;
@@ -53,7 +53,7 @@ module _ (words : List ℕ) where
     one false other =
         let page : List ℕ = page_at words q in
         let long = length_push old.pool page in
-        subst (λ (l : Laid). One old l q n) (sym (other-is words old q other)) (record {
+        subst (λ (l : Stored). One old l q n) (sym (other-is words old q other)) (record {
           pool = rw other refl;
           count = length-set old.table q (length old.pool + 1) ∙ count;
           grown = omega arith;
@@ -72,8 +72,8 @@ module _ (words : List ℕ) where
   not-there p (inl there) = absurd (omega (arith, there.1))
   not-there p (inr before) = before
 
-  steps : (places : List ℕ) → All (λ p. p < 1024) places → (old : Laid) → length old.table ≡ 1024 → (n : ℕ) → n ≤ length old.pool
-      → Steps old (lay_pages old (map (with-page words) places)) places n
+  steps : (places : List ℕ) → All (λ p. p < 1024) places → (old : Stored) → length old.table ≡ 1024 → (n : ℕ) → n ≤ length old.pool
+      → Steps old (store_pages old (map (with-page words) places)) places n
   steps [] low old count n bound = record {
     pool = sym (append-nil old.pool);
     kept = λ p none. refl;
@@ -82,7 +82,7 @@ module _ (words : List ℕ) where
   }
   steps (q ∷ places) low old count n bound =
       let first = one old count q (low 0 q (omega arith)) n bound (is_blank (page_at words q)) refl in
-      let mid : Laid = lay_page old (q, page_at words q) in
+      let mid : Stored = store_page old (q, page_at words q) in
       let rest = steps places (λ k d lt. low (suc k) d (omega arith)) mid first.count n first.grown in
       record {
         pool =
@@ -96,7 +96,7 @@ module _ (words : List ℕ) where
         fresh = λ p other before. rest.fresh p other (fresh-on q p places n old mid first.other first.new-there other before);
       }
     where
-      zeros-on : (q p : ℕ) (places : List ℕ) (old mid : Laid) → ((p : ℕ) → p ≢ q → slice_index mid.table p ≡ slice_index old.table p)
+      zeros-on : (q p : ℕ) (places : List ℕ) (old mid : Stored) → ((p : ℕ) → p ≢ q → slice_index mid.table p ≡ slice_index old.table p)
           → (is_blank (page_at words q) ≡ true → slice_index mid.table q ≡ 0) → is_blank (page_at words p) ≡ true
           → Contains (q ∷ places) p ⊎ (slice_index old.table p ≡ 0) → Contains places p ⊎ (slice_index mid.table p ≡ 0)
       zeros-on q p places old mid other here blank before = elim (eqb_tells p q) [
@@ -110,7 +110,7 @@ module _ (words : List ℕ) where
         ]
       ]
 
-      fresh-on : (q p : ℕ) (places : List ℕ) (n : ℕ) (old mid : Laid) → ((p : ℕ) → p ≢ q → slice_index mid.table p ≡ slice_index old.table p)
+      fresh-on : (q p : ℕ) (places : List ℕ) (n : ℕ) (old mid : Stored) → ((p : ℕ) → p ≢ q → slice_index mid.table p ≡ slice_index old.table p)
           → (is_blank (page_at words q) ≡ false → n < slice_index mid.table q) → is_blank (page_at words p) ≡ false
           → Contains (q ∷ places) p ⊎ (n < slice_index old.table p) → Contains places p ⊎ (n < slice_index mid.table p)
       fresh-on q p places n old mid other here blank before = elim (eqb_tells p q) [
@@ -124,16 +124,16 @@ module _ (words : List ℕ) where
         ]
       ]
 
-pub laid-law : LaidLaw
-unfolding lay
-laid-law earlier words old good pages content whole =
+pub stored-law : StoredLaw
+unfolding store
+stored-law earlier words old good pages content whole =
     let places : List ℕ = changed_below 1024 earlier words in
     let differences = AreDifferences-changed_below earlier words (changed_below 1024 earlier words) refl in
-    let laid = steps words (changed_below 1024 earlier words) (λ k d lt. (differences.each k d lt).0) old good.count (length old.pool) (omega arith) in
+    let stored = steps words (changed_below 1024 earlier words) (λ k d lt. (differences.each k d lt).0) old good.count (length old.pool) (omega arith) in
     record {
-      pool = laid.pool;
-      kept = λ p lt same. laid.kept p (λ there. (differences.each there.0 p there.1).1 (subst (λ (x : ℕ). page_at words x ≡ page_at earlier x) (sym there.2) same));
-      zeros = λ p lt differ blank. laid.zeros p blank (inl (differences.all p lt differ));
-      fresh = λ p lt differ other. laid.fresh p other (inl (differences.all p lt differ));
-      content = (memory-laid earlier words old good pages content whole).1;
+      pool = stored.pool;
+      kept = λ p lt same. stored.kept p (λ there. (differences.each there.0 p there.1).1 (subst (λ (x : ℕ). page_at words x ≡ page_at earlier x) (sym there.2) same));
+      zeros = λ p lt differ blank. stored.zeros p blank (inl (differences.all p lt differ));
+      fresh = λ p lt differ other. stored.fresh p other (inl (differences.all p lt differ));
+      content = (memory-stored earlier words old good pages content whole).1;
     }

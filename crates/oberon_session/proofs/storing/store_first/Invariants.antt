@@ -2,7 +2,7 @@ use Rattle.std.proofs.Common.{◌≡◌, length, map, take}
 use Rattle.oberon_session.specs.Digits.{PlacedWords}
 use Rattle.oberon_session.specs.Parts.{placed_view}
 use Rattle.oberon_session.specs.Recorded.{numbered}
-use Rattle.oberon_session.proofs.laying.lay_first.Given as goal
+use Rattle.oberon_session.proofs.storing.store_first.Given as goal
 
 abbrev pub invariant-loop-page : goal.invariant-loop-page
 invariant-loop-page l = record {

@@ -12,7 +12,7 @@ use Rattle.oberon_session.proofs.Mapped.{unmapped}
 use Rattle.risc_pages.specs.Pages.{page_at}
 use Rattle.risc_pages.specs.Tables.{zero_numbers}
 use Rattle.oberon_session.specs.Digits.{PlacedWords}
-use Rattle.oberon_session.specs.Laid.{changed_pages}
+use Rattle.oberon_session.specs.Stored.{changed_pages}
 use Rattle.oberon_session.specs.Recorded.{numbered}
 use Rattle.oberon_session.specs.SessionParts.{places_in}
 use Rattle.oberon_session.specs.inner.Progress.{page_view}

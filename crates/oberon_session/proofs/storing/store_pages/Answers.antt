@@ -1,6 +1,6 @@
 use Rattle.std.proofs.Common.{arith}
 use Rattle.std.proofs.lemmas.Grind.{common_steps}
-use Rattle.oberon_session.proofs.laying.lay_pages.Goals as goal
+use Rattle.oberon_session.proofs.storing.store_pages.Goals as goal
 
 pub returns : goal.returns
 returns c = grind (arith, common_steps)

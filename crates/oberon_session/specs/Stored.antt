@@ -1,0 +1,37 @@
+-- How memories are stored as pages of a pool and tables of page numbers (this project's own choice).
+use Rattle.std.specs.Prelude.{ℕ, ◌+◌, ◌==◌, Bool, List, [], ◌∷◌, ◌++◌, filter, length, map, not, slice_set, if◌then◌else◌}
+use Rattle.std.specs.List.{fold, list_all}
+use Rattle.risc_pages.specs.Delta.{changed_below}
+use Rattle.risc_pages.specs.Pages.{page_at}
+
+-- the pages that were stored so far, and the table of the memory that was stored last
+pub record Stored : Type 0 where
+  pub pool : List (List ℕ)
+  pub table : List ℕ
+
+-- whether these words are all zeros
+unfoldable pub is_blank : List ℕ → Bool
+is_blank words = list_all (λ word. word == 0) words
+
+-- a page is stored at a place: if it is all zeros the place gets number 0, and else that of a new page at the pool's end
+unfoldable pub store_page : Stored → ℕ × List ℕ → Stored
+store_page stored (place, words) =
+    if is_blank words
+    then record stored { table = slice_set stored.table place 0 }
+    else record { pool = stored.pool ++ words ∷ []; table = slice_set stored.table place (length stored.pool + 1) }
+
+-- pages are stored one after another
+abbrev pub store_pages : Stored → List (ℕ × List ℕ) → Stored
+store_pages stored pages = fold store_page stored pages
+
+-- the pages in which a memory differs from an earlier one, each with its place, by rising place
+abbrev pub changed_pages : List ℕ → List ℕ → List (ℕ × List ℕ)
+changed_pages earlier words = map (λ place. (place, page_at words place)) (changed_below 1024 earlier words)
+
+-- the pages that changed and are not all zeros, by rising place
+abbrev pub new_pages : List ℕ → List ℕ → List (List ℕ)
+new_pages earlier words = filter (λ page. not (is_blank page)) (map (page_at words) (changed_below 1024 earlier words))
+
+-- a memory is stored after an earlier one: what changed is stored, and other places keep their numbers
+unfoldable pub store : List ℕ → List ℕ → Stored → Stored
+store earlier words stored = store_pages stored (changed_pages earlier words)
