@@ -4,7 +4,7 @@ use Rattle.std.specs.Prelude.{All, Contains}
 use mathlib.Core.Logic.{dite}
 use native.Mathlib.Decide.{dec_lt}
 use Rattle.oberon_claims.specs.Pass.{PassRecord}
-use Rattle.oberon_claims.specs.Ledger.{all_told, IsLeastOf}
+use Rattle.oberon_claims.specs.Ledger.{all_reported, IsLeastOf}
 use Rattle.oberon_format.specs.Recording.{RecordingParts, IsLawful, last_of}
 use Rattle.oberon_format.specs.Defined.{Outcome, claimed, defined, IsTrueAt}
 use Rattle.oberon_check.specs.declared.part.Part.{Part}
@@ -12,7 +12,7 @@ use Rattle.oberon_check.specs.declared.verdict.Verdict.{Verdict}
 use Rattle.oberon_check.specs.declared.verdict.Verdict.TheVariants.{Accepted, FalseAt}
 use Rattle.oberon_check.specs.Difference.{first_difference, IsDifference}
 use Rattle.oberon_check.specs.Segment.{replayed, IsSegmentPart, Finding, IsTrueFinding}
-use Rattle.oberon_check.specs.Collecting.{segment_at, part_at, StandsBelow}
+use Rattle.oberon_check.specs.Collecting.{segment_at, part_at, OccursBelow}
 use Rattle.oberon_check.specs.Verdict.{IsVerdict}
 use Rattle.oberon_check.specs.Work.{DoneRecord}
 use Rattle.oberon_check.specs.Gathering.{IsEachOnce, HasFinding, below_answer, HasAnswer, IsAfterLeast, IsGathered, all_findings, passes_of}
@@ -20,7 +20,7 @@ use Rattle.oberon_check.proofs.Replays.{HoldBelow, replayed-defined}
 use Rattle.oberon_check.proofs.Collects.{IsTruth, truth}
 use Rattle.oberon_check.proofs.Tallying.{not_some}
 use Rattle.oberon_check.proofs.Parts.{not_first}
-use Rattle.oberon_check.proofs.Gathered.{AllBack, at_most_once, stands_or_behind, told_stands}
+use Rattle.oberon_check.proofs.Gathered.{AllBack, at_most_once, occurs_or_after, reported_occurs}
 
 -- where the checkpoints up to one are true, the segments below it hold
 hold_of : (r : RecordingParts) → IsLawful r → (n : ℕ) → n ≤ last_of r → ((k : ℕ) → 0 < k → k ≤ n → IsTrueAt r k) → HoldBelow r n
@@ -63,28 +63,28 @@ held_below : (r : RecordingParts) → IsLawful r → (vs : List Finding) → ((k
 held_below r lawful vs truths v is k inside below =
     no_part _ _ (part_at vs k) (hold_below_answer r lawful v is (segment_at vs k) below) (truths k inside).replay
 
--- so nothing that was told lies there
-none_told_below : (r : RecordingParts) (cut : ℕ) (ps : List PassRecord) (vs : List Finding) → AllBack (last_of r) cut ps vs → IsLawful r → ((k : ℕ) → k < length vs → IsTruth r vs k)
-    → (v : Verdict) → IsVerdict r v → (x : ℕ) → Contains (all_told ps) x → x < below_answer v → ⊥
-none_told_below r cut ps vs b lawful truths v is x told below =
-    let k = told_stands (last_of r) cut ps vs b x told in
+-- so nothing that was reported lies there
+none_reported_below : (r : RecordingParts) (cut : ℕ) (ps : List PassRecord) (vs : List Finding) → AllBack (last_of r) cut ps vs → IsLawful r → ((k : ℕ) → k < length vs → IsTruth r vs k)
+    → (v : Verdict) → IsVerdict r v → (x : ℕ) → Contains (all_reported ps) x → x < below_answer v → ⊥
+none_reported_below r cut ps vs b lawful truths v is x reported below =
+    let k = reported_occurs (last_of r) cut ps vs b x reported in
     let at = k.2 in
     not_some _ (held_below r lawful vs truths v is k.0 k.1 (omega arith)) k.3
 
 -- each segment up to the answer's has a finding
-stands_to : (r : RecordingParts) (cut : ℕ) (ps : List PassRecord) (vs : List Finding) → AllBack (last_of r) cut ps vs → IsLawful r → ((k : ℕ) → k < length vs → IsTruth r vs k)
-    → (v : Verdict) → IsVerdict r v → (s : ℕ) → s < last_of r → s ≤ below_answer v → StandsBelow vs (length vs) s
-stands_to r cut ps vs b lawful truths v is s inside within =
+occurs_to : (r : RecordingParts) (cut : ℕ) (ps : List PassRecord) (vs : List Finding) → AllBack (last_of r) cut ps vs → IsLawful r → ((k : ℕ) → k < length vs → IsTruth r vs k)
+    → (v : Verdict) → IsVerdict r v → (s : ℕ) → s < last_of r → s ≤ below_answer v → OccursBelow vs (length vs) s
+occurs_to r cut ps vs b lawful truths v is s inside within =
     ⊎_elim
-    (λ (stands : StandsBelow vs (length vs) s). stands)
-    (λ (w : (x : ℕ) × Contains (all_told ps) x × (x < s)). (let before = w.2 in absurd (none_told_below r cut ps vs b lawful truths v is w.0 w.1 (omega arith))))
-    (stands_or_behind (last_of r) cut ps vs b s inside)
+    (λ (stands : OccursBelow vs (length vs) s). stands)
+    (λ (w : (x : ℕ) × Contains (all_reported ps) x × (x < s)). (let before = w.2 in absurd (none_reported_below r cut ps vs b lawful truths v is w.0 w.1 (omega arith))))
+    (occurs_or_after (last_of r) cut ps vs b s inside)
 
 has_below : (r : RecordingParts) (cut : ℕ) (ps : List PassRecord) (vs : List Finding) → AllBack (last_of r) cut ps vs → IsLawful r → ((k : ℕ) → k < length vs → IsTruth r vs k)
     → (v : Verdict) → IsVerdict r v → (s : ℕ) → s < below_answer v → HasFinding r vs s None
 has_below r cut ps vs b lawful truths v is s below =
     let within = below_within r v is in
-    let at = stands_to r cut ps vs b lawful truths v is s (omega arith) (omega arith) in
+    let at = occurs_to r cut ps vs b lawful truths v is s (omega arith) (omega arith) in
     let here = at.2 in
     record {
       at = at.0;
@@ -107,7 +107,7 @@ has_answer r cut ps vs b lawful truths (FalseAt checkpoint count part) is =
     let same : replayed r s ≡ defined r (s + 1) = replayed-defined r lawful s inside hold in
     let P : (ℕ × Outcome) → Type 0 = λ x. first_difference (claimed r x.0) x.1 ≡ Some part in
     let first : first_difference (claimed r (s + 1)) (replayed r s) ≡ Some part = subst P (λ i. (sym next i, (ap (λ (n : ℕ). defined r n) (sym next) ∙ sym same) i)) is.differs in
-    let at = stands_to r cut ps vs b lawful truths (FalseAt checkpoint count part) is s inside (omega arith) in
+    let at = occurs_to r cut ps vs b lawful truths (FalseAt checkpoint count part) is s inside (omega arith) in
     let Q : ℕ → Type 0 = λ n. IsSegmentPart r n (part_at vs at.0) in
     let replay = subst Q at.2 (truths at.0 at.1).replay in
     record {
@@ -118,19 +118,19 @@ has_answer r cut ps vs b lawful truths (FalseAt checkpoint count part) is =
       replay = first;
     }
 
--- what was passed over lies after the least that was told
-after_least : (last cut : ℕ) (ps : List PassRecord) (vs : List Finding) → AllBack last cut ps vs → (least : Option ℕ) → IsLeastOf (all_told ps) least → (s : ℕ) → s < last → ¬ (StandsBelow vs (length vs) s) → IsAfterLeast (all_told ps) s
+-- what was passed over lies after the least that was reported
+after_least : (last cut : ℕ) (ps : List PassRecord) (vs : List Finding) → AllBack last cut ps vs → (least : Option ℕ) → IsLeastOf (all_reported ps) least → (s : ℕ) → s < last → ¬ (OccursBelow vs (length vs) s) → IsAfterLeast (all_reported ps) s
 after_least last cut ps vs b least is s inside not =
     ⊎_elim
-    (λ (stands : StandsBelow vs (length vs) s). absurd (not stands))
-    (λ (w : (x : ℕ) × Contains (all_told ps) x × (x < s)). of least is w.0 w.1 w.2)
-    (stands_or_behind last cut ps vs b s inside)
+    (λ (stands : OccursBelow vs (length vs) s). absurd (not stands))
+    (λ (w : (x : ℕ) × Contains (all_reported ps) x × (x < s)). of least is w.0 w.1 w.2)
+    (occurs_or_after last cut ps vs b s inside)
   where
-    of : (o : Option ℕ) → IsLeastOf (all_told ps) o → (x : ℕ) → Contains (all_told ps) x → x < s → IsAfterLeast (all_told ps) s
-    of None none x told before = let none_there = subst (λ (l : List ℕ). Contains l x) none told in let h = none_there.1 in absurd (omega arith)
-    of (Some y) is x told before =
-        let at : get_or (all_told ps) told.0 x ≡ x = told.2 in
-        let le : y ≤ get_or (all_told ps) told.0 x = is.1 told.0 x told.1 in
+    of : (o : Option ℕ) → IsLeastOf (all_reported ps) o → (x : ℕ) → Contains (all_reported ps) x → x < s → IsAfterLeast (all_reported ps) s
+    of None none x reported before = let none_there = subst (λ (l : List ℕ). Contains l x) none reported in let h = none_there.1 in absurd (omega arith)
+    of (Some y) is x reported before =
+        let at : get_or (all_reported ps) reported.0 x ≡ x = reported.2 in
+        let le : y ≤ get_or (all_reported ps) reported.0 x = is.1 reported.0 x reported.1 in
         (y, is, omega arith)
 
 each_once : (last cut : ℕ) (ps : List PassRecord) (vs : List Finding) → AllBack last cut ps vs → IsEachOnce vs
@@ -142,7 +142,7 @@ each_once last cut ps vs b j k inside_j inside_k same =
     (λ nor. omega arith))
 
 pub answered : (r : RecordingParts) (cut : ℕ) (ds : List DoneRecord) → AllBack (last_of r) cut (passes_of ds) (all_findings ds) → All (λ v. v.recording ≡ r) (all_findings ds)
-    → (least : Option ℕ) → IsLeastOf (all_told (passes_of ds)) least → IsLawful r → All IsTrueFinding (all_findings ds) → (v : Verdict) → IsVerdict r v → IsGathered r ds v
+    → (least : Option ℕ) → IsLeastOf (all_reported (passes_of ds)) least → IsLawful r → All IsTrueFinding (all_findings ds) → (v : Verdict) → IsVerdict r v → IsGathered r ds v
 answered r cut ds b of least is_least lawful findings v is =
     let truths = truth r (all_findings ds) of findings in record {
       once = each_once (last_of r) cut (passes_of ds) (all_findings ds) b;

@@ -10,7 +10,7 @@ use Rattle.oberon_check.specs.declared.collector.CollectFault.TheVariants.{Doubl
 use Rattle.oberon_check.specs.Difference.{first_difference}
 use Rattle.oberon_check.specs.Verdict.{IsAccepted, IsFirstFalse}
 use Rattle.oberon_check.specs.Segment.{replayed, IsSegmentPart, Finding, IsTrueFinding}
-use Rattle.oberon_check.specs.Collecting.{segment_at, part_at, StandsBelow, IsFirstDouble, IsCollectFault}
+use Rattle.oberon_check.specs.Collecting.{segment_at, part_at, OccursBelow, IsFirstDouble, IsCollectFault}
 use Rattle.oberon_check.specs.inner.Tally.{IsTally, IsLeastFailed, IsMarked, end_of}
 use Rattle.oberon_check.proofs.Replays.{HoldBelow, replayed-defined}
 use Rattle.oberon_check.proofs.Tallying.{segment_here, part_here, not_some}
@@ -44,7 +44,7 @@ holds_at vs n last (Some f) is k small below = none_or (part_at vs k) (λ some. 
 pub hold_below : (r : RecordingParts) (vs : List Finding) (n : ℕ) (seen : List Bool) (least : Option (ℕ × Part)) → ((k : ℕ) → k < n → IsTruth r vs k) → IsTally vs n seen least
     → end_of least (last_of r) ≤ 4096 → ((s : ℕ) → s < end_of least (last_of r) → IsMarked seen s) → HoldBelow r (end_of least (last_of r))
 hold_below r vs n seen least truths tally few marked j below =
-    let stands : StandsBelow vs n j = (tally.marks j (omega arith)).0 (marked j below) in
+    let stands : OccursBelow vs n j = (tally.marks j (omega arith)).0 (marked j below) in
     let k : ℕ = stands.0 in
     let is : segment_at vs k ≡ j = stands.2 in
     let held = holds_at vs n (last_of r) least tally.least_failed k stands.1 (omega arith) in
@@ -77,7 +77,7 @@ first_false r vs n f count is_count lawful truths is hold =
 
 pub no_double : (vs : List Finding) (seen : List Bool) (least : Option (ℕ × Part)) → IsTally vs (length vs) seen least → (s : ℕ) → IsFirstDouble vs s → ⊥
 no_double vs seen least tally s d =
-    tally.single d.at d.inside (d.stood.0, d.stood.1, d.stood.2 ∙ sym d.is)
+    tally.single d.at d.inside (d.occurred.0, d.occurred.1, d.occurred.2 ∙ sym d.is)
 
 end_below : (r : RecordingParts) (vs : List Finding) (n s : ℕ) (least : Option (ℕ × Part)) → IsLeastFailed vs n least → s < last_of r → ((k : ℕ) → k < n → IsSome (part_at vs k) → s < segment_at vs k) → s < end_of least (last_of r)
 end_below r vs n s None is inside below = inside

@@ -14,7 +14,7 @@ use Rattle.oberon_check.specs.Difference.{register_parts, control_parts, device_
 use Rattle.oberon_check.specs.Line.{part_name, line_of, status_of}
 use Rattle.oberon_check.specs.Segment.{Finding}
 use Rattle.oberon_check.specs.inner.Tally.{lesser_of, end_of}
-use Rattle.oberon_check.specs.Work.{IsBehind, IsJob, failed_of}
+use Rattle.oberon_check.specs.Work.{IsAfterShown, IsJob, failed_of}
 
 -- registers first, then the processor's other parts, the devices, the output, and the pages last
 order_of_registers : (a b : List ℕ) → map (λ (rule : Rule Part). rule.1) (register_parts a b) ≡ R 0 ∷ R 1 ∷ R 2 ∷ R 3 ∷ R 4 ∷ R 5 ∷ R 6 ∷ R 7 ∷ R 8 ∷ R 9 ∷ R 10 ∷ R 11 ∷ R 12 ∷ R 13 ∷ R 14 ∷ R 15 ∷ []
@@ -77,7 +77,7 @@ only_four (suc k) x small is = absurd (omega arith)
 not_eight : (x : ℕ) → x ≡ 8 → x < 8 → ⊥
 not_eight x is below = absurd (omega arith)
 
--- ten segments in jobs of four, of which segment 2 failed: job 0 ends with it, and it alone is told
+-- ten segments in jobs of four, of which segment 2 failed: job 0 ends with it, and it alone is reported
 module _ (r : RecordingParts) where
   abbrev found : ℕ → Option Part → Finding
   found segment part = record { recording = r; segment = segment; part = part }
@@ -88,8 +88,8 @@ module _ (r : RecordingParts) where
   job_ends_with_its_failed : IsJob 10 4 [] 0 first_job
   job_ends_with_its_failed = inr (omega arith, refl, (omega arith, refl, (omega arith, refl, refl)))
 
-  failed_is_told : failed_of first_job ≡ 2 ∷ []
-  failed_is_told = refl
+  failed_is_reported : failed_of first_job ≡ 2 ∷ []
+  failed_is_reported = refl
 
   -- job 1 begins at segment 4, so it may be passed over where 2 was shown, and not where 4 alone was
   passed_over : IsJob 10 4 (2 ∷ []) 1 []
@@ -97,7 +97,7 @@ module _ (r : RecordingParts) where
 
   not_at_its_first : IsJob 10 4 (4 ∷ []) 1 [] → ⊥
   not_at_its_first (inl over) =
-      let behind : IsBehind (4 ∷ []) 4 = over.1 in
+      let behind : IsAfterShown (4 ∷ []) 4 = over.1 in
       let there : Contains (4 ∷ []) behind.0 = behind.1 in
       let four = only_four there.0 behind.0 there.1 there.2 in
       let below : behind.0 < 4 = behind.2 in

@@ -9,15 +9,15 @@ use mathlib.Core.Logic.{dite}
 use native.Mathlib.Decide.{dec_le, dec_lt, ℕ_discrete}
 use Rattle.oberon_claims.specs.Counts.{times, once_below}
 use Rattle.oberon_claims.specs.Pass.{PassRecord}
-use Rattle.oberon_claims.specs.Ledger.{all_taken, all_told, all_shown}
+use Rattle.oberon_claims.specs.Ledger.{all_taken, all_reported, all_shown}
 use Rattle.oberon_claims.proofs.Sums.{times_append, times_front, once_here, one_is, one_same}
 use Rattle.oberon_format.specs.Recording.{RecordingParts, last_of}
 use Rattle.oberon_check.specs.declared.part.Part.{Part}
 use Rattle.oberon_check.specs.declared.collector.CollectFault.{CollectFault}
 use Rattle.oberon_check.specs.declared.collector.CollectFault.TheVariants.{Double, Missing}
 use Rattle.oberon_check.specs.Segment.{Finding, IsRun}
-use Rattle.oberon_check.specs.Collecting.{segment_at, part_at, StandsBelow, IsCollectFault}
-use Rattle.oberon_check.specs.Work.{IsJob, IsBehind, InPieces, one_failed, failed_of, HasDone}
+use Rattle.oberon_check.specs.Collecting.{segment_at, part_at, OccursBelow, IsCollectFault}
+use Rattle.oberon_check.specs.Work.{IsJob, IsAfterShown, InPieces, one_failed, failed_of, HasDone}
 use Rattle.oberon_check.proofs.Runs.{failed_append}
 
 abbrev pub segments : List Finding → List ℕ
@@ -111,7 +111,7 @@ in_job cut s job some from below =
 job_once : (last cut s job : ℕ) (shown : List ℕ) (vs : List Finding) → 0 < cut → IsJob last cut shown job vs → times s (segments vs) ≤ cond (nat_eq job (s / cut)) 1 0
 job_once last cut s job shown vs some h =
     ⊎_elim
-    (λ (w : (vs ≡ []) × IsBehind shown (job * cut)). (let none : times s (segments vs) ≡ 0 = ap (λ (l : List Finding). times s (segments l)) w.0 in omega arith))
+    (λ (w : (vs ≡ []) × IsAfterShown shown (job * cut)). (let none : times s (segments vs) ≡ 0 = ap (λ (l : List Finding). times s (segments l)) w.0 in omega arith))
     (λ (run : IsRun (job * cut) (min (job * cut + cut) last) vs).
     dite (dec_lt s (job * cut))
     (λ before. (let none = run_before _ _ s vs run before in omega arith))
@@ -147,19 +147,19 @@ two_times s (x ∷ xs) j zero before inside a b = absurd (omega arith)
 two_times s (x ∷ xs) zero (suc k) before inside a b = let front = times_front s x xs in let one = one_same x s a in let r = one_time s xs k (omega arith) b in omega arith
 two_times s (x ∷ xs) (suc j) (suc k) before inside a b = let front = times_front s x xs in let r = two_times s xs j k (omega arith) (omega arith) a b in omega arith
 
-stands : (vs : List Finding) (s : ℕ) → Contains (segments vs) s → StandsBelow vs (length vs) s
+stands : (vs : List Finding) (s : ℕ) → Contains (segments vs) s → OccursBelow vs (length vs) s
 stands vs s c =
     let l = length-map vs (λ (v : Finding). v.segment) in
     let inside = c.1 in
     (c.0, omega arith, get_or_default (segments vs) c.0 0 s inside ∙ c.2)
 
 -- a segment that failed has a verdict
-failed_stands : (vs : List Finding) (f : ℕ) → Contains (failed_of vs) f → (k : ℕ) × (k < length vs) × (segment_at vs k ≡ f) × IsSome (part_at vs k)
-failed_stands [] f c = let h = c.1 in absurd (omega arith)
-failed_stands (v ∷ vs) f c =
+failed_occurs : (vs : List Finding) (f : ℕ) → Contains (failed_of vs) f → (k : ℕ) × (k < length vs) × (segment_at vs k ≡ f) × IsSome (part_at vs k)
+failed_occurs [] f c = let h = c.1 in absurd (omega arith)
+failed_occurs (v ∷ vs) f c =
     ⊎_elim
     (λ (here : Contains (one_failed v.segment v.part) f). at v.part refl here)
-    (λ (there : Contains (failed_of vs) f). (let r = failed_stands vs f there in (suc r.0, (let h = r.1 in omega arith), r.2, r.3)))
+    (λ (there : Contains (failed_of vs) f). (let r = failed_occurs vs f there in (suc r.0, (let h = r.1 in omega arith), r.2, r.3)))
     (Contains-append_cases (one_failed v.segment v.part) (failed_of vs) f c)
   where
     at : (o : Option Part) → v.part ≡ o → Contains (one_failed v.segment o) f → (k : ℕ) × (k < length (v ∷ vs)) × (segment_at (v ∷ vs) k ≡ f) × IsSome (part_at (v ∷ vs) k)
@@ -237,10 +237,10 @@ taken_piece last cut job (p ∷ ps) vs h there =
       in_shown = λ x c. Contains-append_right p.shown (all_shown ps) x (r.in_shown x c);
     }))
 
-told_failed : (last cut : ℕ) (ps : List PassRecord) (vs : List Finding) → InPieces (HasDone last cut) ps vs → all_told ps ≡ failed_of vs
-told_failed last cut [] vs h = sym (ap failed_of h)
-told_failed last cut (p ∷ ps) vs h =
-    ap (λ (l : List ℕ). l ++ all_told ps) h.3.told ∙ ap (λ (l : List ℕ). failed_of h.0 ++ l) (told_failed last cut ps h.1 h.4) ∙ sym (failed_append h.0 h.1) ∙ ap failed_of (sym h.2)
+reported_failed : (last cut : ℕ) (ps : List PassRecord) (vs : List Finding) → InPieces (HasDone last cut) ps vs → all_reported ps ≡ failed_of vs
+reported_failed last cut [] vs h = sym (ap failed_of h)
+reported_failed last cut (p ∷ ps) vs h =
+    ap (λ (l : List ℕ). l ++ all_reported ps) h.3.reported ∙ ap (λ (l : List ℕ). failed_of h.0 ++ l) (reported_failed last cut ps h.1 h.4) ∙ sym (failed_append h.0 h.1) ∙ ap failed_of (sym h.2)
 
 job_below : (last cut s : ℕ) → 0 < cut → s < last → s / cut < div_ceil last cut
 job_below last cut s some below =
@@ -251,12 +251,12 @@ job_below last cut s some below =
     (λ (le : jobs ≤ s / cut). (let b : jobs * cut ≤ s / cut * cut = mul-le-mul_right cut le in absurd (omega arith)))
     (λ gt. lt_of_not-le gt)
 
--- what is known once all parts are back: each job was taken once, and what was shown was told
+-- what is known once all parts are back: each job was taken once, and what was shown was reported
 pub record AllBack (last cut : ℕ) (ps : List PassRecord) (vs : List Finding) : Type 0 where
   pub some : 0 < cut
   pub done : InPieces (HasDone last cut) ps vs
   pub each : (x : ℕ) → times x (all_taken ps) ≡ once_below x (div_ceil last cut)
-  pub shown_told : All (λ x. Contains (all_told ps) x) (all_shown ps)
+  pub shown_reported : All (λ x. Contains (all_reported ps) x) (all_shown ps)
 
 -- no segment stands at two places
 pub at_most_once : (last cut : ℕ) (ps : List PassRecord) (vs : List Finding) → AllBack last cut ps vs → (j k : ℕ) → j < k → k < length vs → segment_at vs j ≢ segment_at vs k
@@ -268,9 +268,9 @@ at_most_once last cut ps vs b j k before inside same =
     let e = b.each (s / cut) in
     let o = one_small (nat_lt (s / cut) (div_ceil last cut)) in omega arith
 
--- a segment has a verdict, or one that was told lies before it
-pub stands_or_behind : (last cut : ℕ) (ps : List PassRecord) (vs : List Finding) → AllBack last cut ps vs → (s : ℕ) → s < last → StandsBelow vs (length vs) s ⊎ ((x : ℕ) × Contains (all_told ps) x × (x < s))
-stands_or_behind last cut ps vs b s inside =
+-- a segment has a verdict, or one that was reported lies before it
+pub occurs_or_after : (last cut : ℕ) (ps : List PassRecord) (vs : List Finding) → AllBack last cut ps vs → (s : ℕ) → s < last → OccursBelow vs (length vs) s ⊎ ((x : ℕ) × Contains (all_reported ps) x × (x < s))
+occurs_or_after last cut ps vs b s inside =
     let some = b.some in
     let job : ℕ = s / cut in
     let below = job_below last cut s some inside in
@@ -280,31 +280,31 @@ stands_or_behind last cut ps vs b s inside =
     let d = div-add-mod' s cut in
     let small : s % cut < cut = omega arith in
     ⊎_elim
-    (λ (w : (f.piece.front ≡ []) × IsBehind f.shown (job * cut)).
+    (λ (w : (f.piece.front ≡ []) × IsAfterShown f.shown (job * cut)).
     (let x : ℕ = w.1.0 in
-    let c : Contains (all_told ps) x = has (all_shown ps) x b.shown_told (f.in_shown x w.1.1) in
+    let c : Contains (all_reported ps) x = has (all_shown ps) x b.shown_reported (f.in_shown x w.1.1) in
     let h = w.1.2 in inr (x, c, omega arith)))
     (λ (run : IsRun (job * cut) (min (job * cut + cut) last) f.piece.front).
     ⊎_elim
     (λ (c : Contains (segments f.piece.front) s). inl (stands vs s (f.piece.in_segments s c)))
     (λ (w : (x : ℕ) × Contains (failed_of f.piece.front) x × (x < s)).
-    (let c : Contains (all_told ps) w.0 = subst (λ (l : List ℕ). Contains l w.0) (sym (told_failed last cut ps vs b.done)) (f.piece.in_failed w.0 w.1) in inr (w.0, c, w.2)))
+    (let c : Contains (all_reported ps) w.0 = subst (λ (l : List ℕ). Contains l w.0) (sym (reported_failed last cut ps vs b.done)) (f.piece.in_failed w.0 w.1) in inr (w.0, c, w.2)))
     (run_has _ _ s f.piece.front run (omega arith) (omega arith))) f.piece.is_job
   where
-    has : (xs : List ℕ) (x : ℕ) → All (λ y. Contains (all_told ps) y) xs → Contains xs x → Contains (all_told ps) x
-    has xs x all c = subst (λ (y : ℕ). Contains (all_told ps) y) c.2 (all c.0 x c.1)
+    has : (xs : List ℕ) (x : ℕ) → All (λ y. Contains (all_reported ps) y) xs → Contains xs x → Contains (all_reported ps) x
+    has xs x all c = subst (λ (y : ℕ). Contains (all_reported ps) y) c.2 (all c.0 x c.1)
 
--- what was told has a verdict that failed
-pub told_stands : (last cut : ℕ) (ps : List PassRecord) (vs : List Finding) → AllBack last cut ps vs → (x : ℕ) → Contains (all_told ps) x → (k : ℕ) × (k < length vs) × (segment_at vs k ≡ x) × IsSome (part_at vs k)
-told_stands last cut ps vs b x c = failed_stands vs x (subst (λ (l : List ℕ). Contains l x) (told_failed last cut ps vs b.done) c)
+-- what was reported has a verdict that failed
+pub reported_occurs : (last cut : ℕ) (ps : List PassRecord) (vs : List Finding) → AllBack last cut ps vs → (x : ℕ) → Contains (all_reported ps) x → (k : ℕ) × (k < length vs) × (segment_at vs k ≡ x) × IsSome (part_at vs k)
+reported_occurs last cut ps vs b x c = failed_occurs vs x (subst (λ (l : List ℕ). Contains l x) (reported_failed last cut ps vs b.done) c)
 
 -- so the collector finds no fault
 pub no_fault : (r : RecordingParts) (cut : ℕ) (ps : List PassRecord) (vs : List Finding) → AllBack (last_of r) cut ps vs → (f : CollectFault) → IsCollectFault r vs f → ⊥
 no_fault r cut ps vs b (Double s) d =
-    at_most_once (last_of r) cut ps vs b d.stood.0 d.at d.stood.1 d.inside (d.stood.2 ∙ sym d.is)
+    at_most_once (last_of r) cut ps vs b d.occurred.0 d.at d.occurred.1 d.inside (d.occurred.2 ∙ sym d.is)
 no_fault r cut ps vs b (Missing s) (single, m) =
     ⊎_elim
-    (λ (stands : StandsBelow vs (length vs) s). m.missing stands)
-    (λ (w : (x : ℕ) × Contains (all_told ps) x × (x < s)).
-    (let k = told_stands (last_of r) cut ps vs b w.0 w.1 in let h = m.below_failed k.0 k.1 k.3 in let is = k.2 in let before = w.2 in absurd (omega arith)))
-    (stands_or_behind (last_of r) cut ps vs b s m.inside)
+    (λ (stands : OccursBelow vs (length vs) s). m.missing stands)
+    (λ (w : (x : ℕ) × Contains (all_reported ps) x × (x < s)).
+    (let k = reported_occurs (last_of r) cut ps vs b w.0 w.1 in let h = m.below_failed k.0 k.1 k.3 in let is = k.2 in let before = w.2 in absurd (omega arith)))
+    (occurs_or_after (last_of r) cut ps vs b s m.inside)

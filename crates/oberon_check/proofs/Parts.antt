@@ -1,5 +1,5 @@
 -- The parts in which two outcomes are the same, and the first in which they differ.
-use Rattle.std.proofs.Common.{◌≡◌, ◌≢◌, ◌<◌, ◌≤◌, ℕ, Bool, true, false, ◌&&◌, List, [], ◌∷◌, ◌++◌, length, get_or, drop, slice_index, get_or-take, get_or-drop, ◌+◌, ◌*◌, ◌/◌, ◌%◌, Option, None, Some, refl, ap, sym, ◌∙◌, subst, arith, eq-eqb, eqb-true}
+use Rattle.std.proofs.Common.{◌≡◌, ◌≢◌, ◌<◌, ℕ, Bool, true, false, ◌&&◌, List, [], ◌∷◌, ◌++◌, length, get_or, drop, slice_index, get_or-take, get_or-drop, ◌+◌, ◌*◌, ◌/◌, ◌%◌, None, Some, refl, ap, sym, ◌∙◌, subst, arith, eq-eqb, eqb-true}
 use Rattle.std.specs.Prelude.{nat_eq, ◌==◌, All}
 use Rattle.std.specs.Bool.{beq}
 use Rattle.std.specs.Cmp.{booleans_Decides}
@@ -13,7 +13,7 @@ use Rattle.risc_model.specs.MachineState.{CpuState, Flags as FlagsState}
 use Rattle.oberon_format.specs.Defined.{Outcome}
 use Rattle.oberon_format.specs.FirstFault.{Rule, first_broken}
 use Rattle.oberon_check.specs.declared.part.Part.{Part}
-use Rattle.oberon_check.specs.declared.part.Part.TheVariants.{R, H, Pc, Flags, Stop, Timer, Rate, Phase, Switches, Leds, Mouse, Serial, Keys, Sent, Page}
+use Rattle.oberon_check.specs.declared.part.Part.TheVariants.{R, H, Timer, Sent, Page}
 use Rattle.oberon_check.specs.Difference.{same_flags, register_parts, control_parts, cpu_parts, device_parts, page_parts, parts, first_difference, IsFirstDifference}
 use Rattle.oberon_check.proofs.Sizes.{IsSized}
 use Rattle.oberon_check.proofs.Rules.{met_append, broken_append, met_left, met_right, met, unmet, hold, each_met, each_holds, each_unmet, broken_at, broken_from}
@@ -60,8 +60,8 @@ module _ (x y : Outcome) where
   in_page p c d same first =
       after_sent c d same
       ∙ each_unmet (λ k. pointwise nat_eq (page_at x.state.words k) (page_at y.state.words k)) Page 1024 p first.inside
-          (λ k below. (bytes_decides _ _).1 (sym (first.before k below)))
-          (fails _ (λ e. first.differs (sym ((bytes_decides _ _).0 e))))
+      (λ k below. (bytes_decides _ _).1 (sym (first.before k below)))
+      (fails _ (λ e. first.differs (sym ((bytes_decides _ _).0 e))))
 
 -- ---- where no part differs
 

@@ -2,11 +2,11 @@
 use Rattle.std.proofs.Common.{◌≡◌, ℕ, ◌+◌, ◌*◌, ◌<◌, ◌≤◌, min, List, [], ◌∷◌, ◌++◌, length, get_or, false, Option, None, Some, refl, ap, sym, ◌∙◌, subst, arith, true≢false, inl, inr, append_assoc, append-nil}
 use Rattle.std.specs.Prelude.{All, Contains, IsSome, MatchOption, is_some, IfSome, IfNone}
 use Rattle.std.proofs.lemmas.List.Elements.{All-append, Contains-append_left, Contains-append_right}
-use Rattle.oberon_claims.specs.Pass.{PassRecord, BookId, fresh_pass, pass_with_job, pass_with_end, pass_with_told, pass_with_shown}
+use Rattle.oberon_claims.specs.Pass.{PassRecord, BookId, fresh_pass, pass_with_job, pass_with_end, pass_with_reported, pass_with_shown}
 use Rattle.oberon_format.specs.Recording.{RecordingParts, last_of}
 use Rattle.oberon_check.specs.declared.part.Part.{Part}
 use Rattle.oberon_check.specs.Segment.{Finding, IsRun}
-use Rattle.oberon_check.specs.Work.{IsBehind, IsJob, InPieces, one_failed, failed_of, HasDone}
+use Rattle.oberon_check.specs.Work.{IsAfterShown, IsJob, InPieces, one_failed, failed_of, HasDone}
 use Rattle.oberon_check.specs.inner.Progress.{AddsJob, AddsRun, IsLooked}
 use Rattle.std.proofs.lemmas.List.Elements.{All-push}
 
@@ -72,7 +72,7 @@ held_more r first k vs us ws v h now of s p = record {
   held = held_snoc first k h.piece v h.held s (none_or_some v.part p);
 }
 
-pub run_failed : (r : RecordingParts) (first k end : ℕ) (p q : PassRecord) (vs us ws : List Finding) (v : Finding) → HeldPiece r first k vs us → ws ≡ us ++ v ∷ [] → v.recording ≡ r → v.segment ≡ k → IsSome v.part → k < end → q ≡ pass_with_told p k → AddsRun r first end p q vs ws
+pub run_failed : (r : RecordingParts) (first k end : ℕ) (p q : PassRecord) (vs us ws : List Finding) (v : Finding) → HeldPiece r first k vs us → ws ≡ us ++ v ∷ [] → v.recording ≡ r → v.segment ≡ k → IsSome v.part → k < end → q ≡ pass_with_reported p k → AddsRun r first end p q vs ws
 run_failed r first k end p q vs us ws v h now of s some below is =
     let one : failed_of (h.piece ++ v ∷ []) ≡ k ∷ [] = failed_append h.piece (v ∷ []) ∙ ap (λ (l : List ℕ). l ++ failed_of (v ∷ [])) (held_none first k h.piece h.held) ∙ last v some ∙ ap (λ (n : ℕ). n ∷ []) s in record {
       book = ap (λ (x : PassRecord). x.book) is;
@@ -81,7 +81,7 @@ run_failed r first k end p q vs us ws v h now of s some below is =
       shown = ap (λ (x : PassRecord). x.shown) is;
       piece = h.piece ++ v ∷ [];
       verdicts = grown r vs us ws h.piece v h.verdicts now;
-      told = ap (λ (x : PassRecord). x.told) is ∙ ap (λ (l : List ℕ). p.told ++ l) (sym one);
+      reported = ap (λ (x : PassRecord). x.reported) is ∙ ap (λ (l : List ℕ). p.reported ++ l) (sym one);
       recordings = All-push (λ (t : Finding). t.recording ≡ r) h.piece v h.recordings of;
       is_run = failed_run first k end h.piece v h.held below s some;
     }
@@ -101,21 +101,21 @@ run_whole r first end p q vs ws h is = record {
   shown = ap (λ (x : PassRecord). x.shown) is;
   piece = h.piece;
   verdicts = h.verdicts;
-  told = ap (λ (x : PassRecord). x.told) is ∙ sym (append-nil p.told) ∙ ap (λ (l : List ℕ). p.told ++ l) (sym (held_none first end h.piece h.held));
+  reported = ap (λ (x : PassRecord). x.reported) is ∙ sym (append-nil p.reported) ∙ ap (λ (l : List ℕ). p.reported ++ l) (sym (held_none first end h.piece h.held));
   recordings = h.recordings;
   is_run = held_run first end h.piece h.held;
 }
 
 pub looked : (o : Option ℕ) (p q : PassRecord) → IfSome o (λ x. q ≡ pass_with_shown p x) → IfNone o (q ≡ p) → IsLooked p q
-looked None p q some none = subst (IsLooked p) (sym none) (record { book = refl; taken = refl; told = refl; ended = refl; shown = λ x c. c })
-looked (Some x) p q some none = subst (IsLooked p) (sym some) (record { book = refl; taken = refl; told = refl; ended = refl; shown = λ y c. Contains-append_left p.shown (x ∷ []) y c })
+looked None p q some none = subst (IsLooked p) (sym none) (record { book = refl; taken = refl; reported = refl; ended = refl; shown = λ x c. c })
+looked (Some x) p q some none = subst (IsLooked p) (sym some) (record { book = refl; taken = refl; reported = refl; ended = refl; shown = λ y c. Contains-append_left p.shown (x ∷ []) y c })
 
 -- the value that a look shows
-pub shown_behind : (x first : ℕ) (p q : PassRecord) → q ≡ pass_with_shown p x → x < first → IsBehind q.shown first
-shown_behind x first p q is below =
+pub after_shown : (x first : ℕ) (p q : PassRecord) → q ≡ pass_with_shown p x → x < first → IsAfterShown q.shown first
+after_shown x first p q is below =
     (x, subst (λ (h : PassRecord). Contains h.shown x) (sym is) (Contains-append_right p.shown (x ∷ []) x (0, omega arith, refl)), below)
 
-pub job_passed : (r : RecordingParts) (cut job : ℕ) (p q : PassRecord) (vs : List Finding) → IsLooked p q → IsBehind q.shown (job * cut) → AddsJob r cut job p q vs vs
+pub job_passed : (r : RecordingParts) (cut job : ℕ) (p q : PassRecord) (vs : List Finding) → IsLooked p q → IsAfterShown q.shown (job * cut) → AddsJob r cut job p q vs vs
 job_passed r cut job p q vs l behind = record {
   book = l.book;
   taken = l.taken;
@@ -123,7 +123,7 @@ job_passed r cut job p q vs l behind = record {
   shown = l.shown;
   piece = [];
   verdicts = sym (append-nil vs);
-  told = l.told ∙ sym (append-nil p.told);
+  reported = l.reported ∙ sym (append-nil p.reported);
   recordings = λ k d small. absurd (omega arith);
   is_job = inl (refl, behind);
 }
@@ -136,7 +136,7 @@ job_run r cut job first end p m q vs ws l f e run = record {
   shown = λ x c. subst (λ (s : List ℕ). Contains s x) (sym run.shown) (l.shown x c);
   piece = run.piece;
   verdicts = run.verdicts;
-  told = run.told ∙ ap (λ (s : List ℕ). s ++ failed_of run.piece) l.told;
+  reported = run.reported ∙ ap (λ (s : List ℕ). s ++ failed_of run.piece) l.reported;
   recordings = run.recordings;
   is_job = inr (let P : (ℕ × ℕ) → Type 0 = λ x. IsRun x.0 x.1 run.piece in subst P (λ i. (f i, e i)) run.is_run);
 }
@@ -160,7 +160,7 @@ done_more r cut job p q s vs ws done is adds =
     let old = pieces_more (IsJob (last_of r) cut p.shown) (IsJob (last_of r) cut s.shown) (λ j us h. job_more j us h shown) p.taken vs done.jobs in
     let all = pieces_snoc (IsJob (last_of r) cut s.shown) p.taken job vs ws adds.piece old adds.is_job adds.verdicts in record {
       jobs = subst (λ (l : List ℕ). InPieces (IsJob (last_of r) cut s.shown) l ws) (sym taken) all;
-      told = adds.told ∙ ap (λ (l : List ℕ). l ++ failed_of adds.piece) (ap (λ (h : PassRecord). h.told) is ∙ done.told) ∙ sym (failed_append vs adds.piece) ∙ ap failed_of (sym adds.verdicts);
+      reported = adds.reported ∙ ap (λ (l : List ℕ). l ++ failed_of adds.piece) (ap (λ (h : PassRecord). h.reported) is ∙ done.reported) ∙ sym (failed_append vs adds.piece) ∙ ap failed_of (sym adds.verdicts);
     }
   where
     job_more : (j : ℕ) (us : List Finding) → IsJob (last_of r) cut p.shown j us → ((x : ℕ) → Contains p.shown x → Contains s.shown x) → IsJob (last_of r) cut s.shown j us
@@ -171,7 +171,7 @@ adds_recordings r cut job q s vs ws old adds =
     subst (λ (l : List Finding). (k : ℕ) (d : Finding) → k < length l → (get_or l k d).recording ≡ r) (sym adds.verdicts) (All-append (λ (v : Finding). v.recording ≡ r) vs adds.piece old adds.recordings)
 
 pub done_ended : (r : RecordingParts) (cut : ℕ) (p q : PassRecord) (vs : List Finding) → HasDone (last_of r) cut p vs → q ≡ pass_with_end p → HasDone (last_of r) cut q vs
-done_ended r cut p q vs done is = subst (λ (h : PassRecord). HasDone (last_of r) cut h vs) (sym is) (record { jobs = done.jobs; told = done.told })
+done_ended r cut p q vs done is = subst (λ (h : PassRecord). HasDone (last_of r) cut h vs) (sym is) (record { jobs = done.jobs; reported = done.reported })
 
 pub done_fresh : (r : RecordingParts) (cut : ℕ) (p : PassRecord) (b : BookId) → p ≡ fresh_pass b → HasDone (last_of r) cut p []
-done_fresh r cut p b is = subst (λ (h : PassRecord). HasDone (last_of r) cut h []) (sym is) (record { jobs = refl; told = refl })
+done_fresh r cut p b is = subst (λ (h : PassRecord). HasDone (last_of r) cut h []) (sym is) (record { jobs = refl; reported = refl })

@@ -9,7 +9,7 @@ use native.Mathlib.Decide.{dec_le, ℕ_discrete}
 use Rattle.risc_pages.proofs.PoolLemmas.{replicate_anywhere}
 use Rattle.oberon_check.specs.declared.part.Part.{Part}
 use Rattle.oberon_check.specs.Segment.{Finding, IsTrueFinding}
-use Rattle.oberon_check.specs.Collecting.{segment_at, part_at, StandsBelow}
+use Rattle.oberon_check.specs.Collecting.{segment_at, part_at, OccursBelow}
 use Rattle.oberon_check.specs.inner.Tally.{IsTally, IsLeastFailed, IsMarked, lesser_of}
 
 pub segment_here : (vs : List Finding) (k : ℕ) (v : Finding) → k < length vs → v ≡ get_or vs k v → segment_at vs k ≡ v.segment
@@ -20,31 +20,31 @@ part_here vs k v inside is = get_or-map (λ (t : Finding). t.part) vs k v None i
 
 pub tally_none : (vs : List Finding) (n : ℕ) → IsTally vs 0 (replicate n false) None
 tally_none vs n = record {
-  marks = λ s few. ((λ m. absurd (true≢false (sym m ∙ replicate_anywhere n false s))), (λ (stands : StandsBelow vs 0 s). let h = stands.1 in absurd (omega arith)));
+  marks = λ s few. ((λ m. absurd (true≢false (sym m ∙ replicate_anywhere n false s))), (λ (stands : OccursBelow vs 0 s). let h = stands.1 in absurd (omega arith)));
   single = λ k below. absurd (omega arith);
   least_failed = λ k below. absurd (omega arith);
 }
 
 -- one more
-stands_more : (vs : List Finding) (n s : ℕ) → StandsBelow vs (n + 1) s → StandsBelow vs n s ⊎ (segment_at vs n ≡ s)
+stands_more : (vs : List Finding) (n s : ℕ) → OccursBelow vs (n + 1) s → OccursBelow vs n s ⊎ (segment_at vs n ≡ s)
 stands_more vs n s (k, below, is) =
     dite (dec_le n k)
     (λ (at : n ≤ k). inr (let e : n ≡ k = omega arith in ap (λ (i : ℕ). segment_at vs i) e ∙ is))
     (λ before. inl (k, lt_of_not-le before, is))
 
-stands_still : (vs : List Finding) (n s : ℕ) → StandsBelow vs n s → StandsBelow vs (n + 1) s
+stands_still : (vs : List Finding) (n s : ℕ) → OccursBelow vs n s → OccursBelow vs (n + 1) s
 stands_still vs n s (k, below, is) = (k, omega arith, is)
 
 marks_more : (vs : List Finding) (n : ℕ) (seen : List Bool) (new : ℕ) → length seen ≡ 4096 → new < 4096 → segment_at vs n ≡ new
-    → ((s : ℕ) → s < 4096 → IsMarked seen s ↔ StandsBelow vs n s)
-    → (s : ℕ) → s < 4096 → IsMarked (set seen new true) s ↔ StandsBelow vs (n + 1) s
+    → ((s : ℕ) → s < 4096 → IsMarked seen s ↔ OccursBelow vs n s)
+    → (s : ℕ) → s < 4096 → IsMarked (set seen new true) s ↔ OccursBelow vs (n + 1) s
 marks_more vs n seen new whole few here marks s inside =
     dite (ℕ_discrete s new)
     (λ (same : s ≡ new). ((λ _. (n, omega arith, here ∙ sym same)), (λ _. ap (λ (i : ℕ). get_or (set seen new true) i false) same ∙ get_or-set_same seen new true false (omega arith))))
     (λ (other : s ≢ new). (
       (λ m. stands_still vs n s ((marks s inside).0 (sym (get_or-set_other seen new s true false other) ∙ m))),
       (λ stands. get_or-set_other seen new s true false other ∙ (marks s inside).1 (
-          ⊎_elim (λ (old : StandsBelow vs n s). old) (λ (is : segment_at vs n ≡ s). absurd (other (sym is ∙ here))) (stands_more vs n s stands))),
+          ⊎_elim (λ (old : OccursBelow vs n s). old) (λ (is : segment_at vs n ≡ s). absurd (other (sym is ∙ here))) (stands_more vs n s stands))),
     ))
 
 -- where a fact holds below n and at n
@@ -85,14 +85,14 @@ pub tally_more : (vs : List Finding) (n : ℕ) (seen : List Bool) (least : Optio
     → IsTally vs (n + 1) (set seen s true) (lesser_of least s o)
 tally_more vs n seen least s o tally here part whole few unseen = record {
   marks = marks_more vs n seen s whole few here tally.marks;
-  single = below_also (λ k. StandsBelow vs k (segment_at vs k) → ⊥) n tally.single
-      (λ (stands : StandsBelow vs n (segment_at vs n)). true≢false (sym ((tally.marks s few).1 (stands.0, stands.1, stands.2 ∙ here)) ∙ unseen));
+  single = below_also (λ k. OccursBelow vs k (segment_at vs k) → ⊥) n tally.single
+      (λ (stands : OccursBelow vs n (segment_at vs n)). true≢false (sym ((tally.marks s few).1 (stands.0, stands.1, stands.2 ∙ here)) ∙ unseen));
   least_failed = least_more vs n least s o here part tally.least_failed;
 }
 
-pub told_more : (vs : List Finding) (n : ℕ) (v : Finding) → ((k : ℕ) (d : Finding) → k < n → IsTrueFinding (get_or vs k d)) → n < length vs → v ≡ get_or vs n v → IsTrueFinding v
+pub reported_more : (vs : List Finding) (n : ℕ) (v : Finding) → ((k : ℕ) (d : Finding) → k < n → IsTrueFinding (get_or vs k d)) → n < length vs → v ≡ get_or vs n v → IsTrueFinding v
     → (k : ℕ) (d : Finding) → k < n + 1 → IsTrueFinding (get_or vs k d)
-told_more vs n v findings inside is here k d small =
+reported_more vs n v findings inside is here k d small =
     dite (dec_le n k)
     (λ (at : n ≤ k). (let e : n ≡ k = omega arith in
     let w : v ≡ get_or vs k d = is ∙ get_or_default vs n v d inside ∙ ap (λ (i : ℕ). get_or vs i d) e in subst IsTrueFinding w here))

@@ -14,22 +14,22 @@ abbrev pub part_at : List Finding → ℕ → Option Part
 part_at vs k = slice_index_or (map (λ (v : Finding). v.part) vs) k None
 
 -- one of the first n verdicts is of this segment
-abbrev pub StandsBelow : List Finding → ℕ → ℕ → Type 0
-StandsBelow vs n segment = (k : ℕ) × (k < n) × (segment_at vs k ≡ segment)
+abbrev pub OccursBelow : List Finding → ℕ → ℕ → Type 0
+OccursBelow vs n segment = (k : ℕ) × (k < n) × (segment_at vs k ≡ segment)
 
--- the first verdict whose segment stood before it is of this segment
+-- the first verdict whose segment occurred before it is of this segment
 pub record IsFirstDouble (vs : List Finding) (segment : ℕ) : Type 0 where
   pub at : ℕ
   pub inside : at < length vs
   pub is : segment_at vs at ≡ segment
-  pub stood : StandsBelow vs at segment
-  pub before : (k : ℕ) → k < at → ¬ (StandsBelow vs k (segment_at vs k))
+  pub occurred : OccursBelow vs at segment
+  pub before : (k : ℕ) → k < at → ¬ (OccursBelow vs k (segment_at vs k))
 
--- the least segment without a verdict, among those below the least failed one, or among all where none failed
+-- the least segment without a verdict, among those below the least failed one, or among all if none failed
 pub record IsFirstMissing (r : RecordingParts) (vs : List Finding) (segment : ℕ) : Type 0 where
   pub inside : segment < last_of r
-  pub missing : ¬ (StandsBelow vs (length vs) segment)
-  pub before : (s : ℕ) → s < segment → StandsBelow vs (length vs) s
+  pub missing : ¬ (OccursBelow vs (length vs) segment)
+  pub before : (s : ℕ) → s < segment → OccursBelow vs (length vs) s
   pub below_failed : (k : ℕ) → k < length vs → IsSome (part_at vs k) → segment < segment_at vs k
 
 -- the number of such a fault: this project's own choice
@@ -37,7 +37,7 @@ abbrev pub collect_fault_number : CollectFault → ℕ
 collect_fault_number (Double segment) = 1
 collect_fault_number (Missing segment) = 2
 
--- a segment has two verdicts; or, where none has, a segment that is needed has none
+-- a segment has two verdicts; or, if none has, a segment that is needed has none
 abbrev pub IsCollectFault : RecordingParts → List Finding → CollectFault → Type 0
 IsCollectFault r vs (Double segment) = IsFirstDouble vs segment
 IsCollectFault r vs (Missing segment) = ((s : ℕ) → ¬ (IsFirstDouble vs s)) × IsFirstMissing r vs segment

@@ -61,7 +61,7 @@ parts x y =
 unfoldable pub first_difference : Outcome → Outcome → Option Part
 first_difference x y = first_broken (parts x y)
 
--- the first part in which the two differ, none exactly where they are the same outcome
+-- the first part in which the two differ, none exactly if they are the same outcome
 abbrev pub IsDifference : Outcome → Outcome → Option Part → Type 0
 IsDifference x y part = MatchOption part (x ≡ y) (λ p. first_difference x y ≡ Some p)
 

@@ -1,13 +1,13 @@
--- What the shares of all workers hold, beside the answer that they come to.
+-- What the shares of all workers hold, beside the verdict that follows from them.
 use Rattle.std.specs.Prelude.{ℕ, ◌≡◌, ◌-◌, ◌<◌, List, [], ◌∷◌, ◌++◌, map, length, Option, None, Some}
 use Rattle.oberon_claims.specs.Pass.{PassRecord}
-use Rattle.oberon_claims.specs.Ledger.{all_told, IsLeastOf}
+use Rattle.oberon_claims.specs.Ledger.{all_reported, IsLeastOf}
 use Rattle.oberon_format.specs.Recording.{RecordingParts, last_of}
 use Rattle.oberon_check.specs.declared.part.Part.{Part}
 use Rattle.oberon_check.specs.declared.verdict.Verdict.{Verdict}
 use Rattle.oberon_check.specs.declared.verdict.Verdict.TheVariants.{Accepted, FalseAt}
 use Rattle.oberon_check.specs.Segment.{Finding, IsSegmentPart}
-use Rattle.oberon_check.specs.Collecting.{segment_at, part_at, StandsBelow}
+use Rattle.oberon_check.specs.Collecting.{segment_at, part_at, OccursBelow}
 use Rattle.oberon_check.specs.Work.{DoneRecord}
 
 -- the passes of the shares, in their order
@@ -31,7 +31,7 @@ pub record HasFinding (r : RecordingParts) (vs : List Finding) (segment : ℕ) (
   pub part_is : part_at vs at ≡ part
   pub replay : IsSegmentPart r segment part
 
--- the number of segments below the answer's: all of them, where every checkpoint is true
+-- the number of segments below the answer's: all of them, if every checkpoint is true
 abbrev pub below_answer : Verdict → ℕ
 below_answer (Accepted checkpoints steps) = checkpoints
 below_answer (FalseAt checkpoint count part) = checkpoint - 1
@@ -41,9 +41,9 @@ abbrev pub HasAnswer : RecordingParts → List Finding → Verdict → Type 0
 HasAnswer r vs (Accepted checkpoints steps) = Unit {0}
 HasAnswer r vs (FalseAt checkpoint count part) = HasFinding r vs (checkpoint - 1) (Some part)
 
--- the segment lies after the least of those told
+-- the segment is after the least of those reported
 abbrev pub IsAfterLeast : List ℕ → ℕ → Type 0
-IsAfterLeast told segment = (least : ℕ) × IsLeastOf told (Some least) × (least < segment)
+IsAfterLeast reported segment = (least : ℕ) × IsLeastOf reported (Some least) × (least < segment)
 
 -- what the shares hold of a recording whose verdict is this one
 pub record IsGathered (r : RecordingParts) (ds : List DoneRecord) (verdict : Verdict) : Type 0 where
@@ -53,5 +53,5 @@ pub record IsGathered (r : RecordingParts) (ds : List DoneRecord) (verdict : Ver
   pub below : (s : ℕ) → s < below_answer verdict → HasFinding r (all_findings ds) s None
   -- the answer is that of a segment which was replayed
   pub answer : HasAnswer r (all_findings ds) verdict
-  -- a segment that was passed over lies after the least that any worker told
-  pub passed_over : (s : ℕ) → s < last_of r → ¬ (StandsBelow (all_findings ds) (length (all_findings ds)) s) → IsAfterLeast (all_told (passes_of ds)) s
+  -- a segment that was passed over is after the least that any worker reported
+  pub passed_over : (s : ℕ) → s < last_of r → ¬ (OccursBelow (all_findings ds) (length (all_findings ds)) s) → IsAfterLeast (all_reported (passes_of ds)) s

@@ -1,4 +1,4 @@
--- What the check of a byte text prints, and the status that it ends with.
+-- What the check of a recording file prints, and the status that it ends with.
 use Rattle.std.specs.Prelude.{ℕ, ◌≡◌, ◌⊎◌, List, Some}
 use Rattle.oberon_format.specs.declared.fault.Fault.{Fault}
 use Rattle.oberon_format.specs.Recording.{RecordingParts}

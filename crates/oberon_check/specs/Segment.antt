@@ -12,7 +12,7 @@ replayed r i =
     let steps = count_at r (i + 1) - count_at r i in
     record { state = run_of r.inputs (count_at r i) steps (claimed r i).state; sent = sent_of r.inputs (count_at r i) steps (claimed r i).state }
 
--- the first part in which such a run differs from what checkpoint i + 1 claims, none where the segment holds
+-- the first part in which such a run differs from what checkpoint i + 1 claims, none if the segment holds
 abbrev pub IsSegmentPart : RecordingParts → ℕ → Option Part → Type 0
 IsSegmentPart r i part = IsDifference (claimed r (i + 1)) (replayed r i) part
 

@@ -6,21 +6,21 @@ use Rattle.oberon_format.specs.Recording.{RecordingParts, last_of}
 use Rattle.oberon_check.specs.declared.part.Part.{Part}
 use Rattle.oberon_check.specs.Segment.{Finding, IsRun}
 
--- a segment that was shown lies before this one
-abbrev pub IsBehind : List ℕ → ℕ → Type 0
-IsBehind shown first = (x : ℕ) × Contains shown x × (x < first)
+-- a segment that was shown is before this one
+abbrev pub IsAfterShown : List ℕ → ℕ → Type 0
+IsAfterShown shown first = (x : ℕ) × Contains shown x × (x < first)
 
 -- the verdicts of a job of `cut` segments, of fewer at the end: those of its segments in order, to its end or its first
--- failed one; or none, where it begins after a value shown
+-- failed one; or none, if it begins after a value shown
 abbrev pub IsJob : ℕ → ℕ → List ℕ → ℕ → List Finding → Type 0
-IsJob last cut shown job vs = ((vs ≡ []) × IsBehind shown (job * cut)) ⊎ IsRun (job * cut) (min (job * cut + cut) last) vs
+IsJob last cut shown job vs = ((vs ≡ []) × IsAfterShown shown (job * cut)) ⊎ IsRun (job * cut) (min (job * cut + cut) last) vs
 
 -- the list is one piece for each, in order, and nothing else
 abbrev pub InPieces : {A : Type 0} → (A → List Finding → Type 0) → List A → List Finding → Type 0
 InPieces P [] vs = vs ≡ []
 InPieces P (x ∷ xs) vs = (front : List Finding) × (back : List Finding) × (vs ≡ front ++ back) × P x front × InPieces P xs back
 
--- the segment, where it failed
+-- the segment, if it failed
 abbrev pub one_failed : ℕ → Option Part → List ℕ
 one_failed segment None = []
 one_failed segment (Some part) = segment ∷ []
@@ -30,10 +30,10 @@ abbrev pub failed_of : List Finding → List ℕ
 failed_of [] = []
 failed_of (v ∷ vs) = one_failed v.segment v.part ++ failed_of vs
 
--- each job that the pass took has its verdicts, there are no others, and the segments told are the failed ones
+-- each job that the pass took has its verdicts, there are no others, and the segments reported are the failed ones
 pub record HasDone (last cut : ℕ) (p : PassRecord) (vs : List Finding) : Type 0 where
   pub jobs : InPieces (IsJob last cut p.shown) p.taken vs
-  pub told : p.told ≡ failed_of vs
+  pub reported : p.reported ≡ failed_of vs
 
 -- what a contract sees of a worker's share
 pub record DoneRecord : Type 0 where

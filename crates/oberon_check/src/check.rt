@@ -23,7 +23,7 @@ use thiserror::Error;
 /// Why a check has no answer.
 #[derive(Clone, Copy, Debug, PartialEq, Eq, Error)]
 pub enum CheckFault {
-    /// Memory was wanting.
+    /// Memory ran out.
     #[error("there is no memory")]
     Memory,
 }
@@ -34,7 +34,7 @@ impl From<AllocError> for CheckFault {
 
     ghost from_gives = { λ _ fault. fault ≡ CheckFault.Memory };
 
-    fn from(_wanting: AllocError) -> CheckFault {
+    fn from(_error: AllocError) -> CheckFault {
         CheckFault::Memory
     }
 }
@@ -90,7 +90,7 @@ pub(crate) fn shares_of(
     Ok(done)
 }
 
-/// The verdict that the workers' results come to, if memory sufficed for each.
+/// Returns the verdict from the workers' results, if memory sufficed for each.
 fn verdict_of(
     alloc: Global,
     r: &Recording,
@@ -110,8 +110,8 @@ fn verdict_of(
 /// The verdict on a recording, by so many workers that share its jobs, each in a thread of its own. Neither `workers` nor
 /// `cut`, the number of segments in a job, bears on the answer.
 ///
-/// The gate is called once before each job. The call returns when all workers have ended; `Memory` is answered only where
-/// memory was wanting.
+/// The gate is called once before each job. The call returns when all workers have ended; `Memory` is returned only
+/// when memory runs out.
 pub fn check_recording<R: Threads + Wait + Sync, G: Gate + Sync>(
     rt: &R,
     alloc: Global,

@@ -1,4 +1,4 @@
-//! The collector: what segment verdicts, in any order, come to.
+//! The collector: the verdict on a recording from segment verdicts in any order.
 //!
 //! Here live the tally of segment verdicts and the faults of lists that have too many or too few. What one segment's replay
 //! finds lives in `segment`.
@@ -18,11 +18,11 @@ use thiserror::Error;
 /// Why segment verdicts don't come to one verdict.
 #[derive(Clone, Copy, Debug, PartialEq, Eq, Error)]
 pub enum CollectFault {
-    /// This segment has two verdicts: that of the first verdict whose segment stood before it.
+    /// This segment has two verdicts: that of the first verdict whose segment occurred before it.
     #[error("segment {0} has two verdicts")]
     Double(u32),
     /// No segment has two verdicts, and this is the least one without a verdict, among those below the least failed segment
-    /// or among all where none failed.
+    /// or among all if none failed.
     #[error("segment {0} has no verdict")]
     Missing(u32),
 }
@@ -69,7 +69,7 @@ fn end(least: Option<(u32, Part)>, last: u32) -> u32
     }
 }
 
-/// The tally of the verdicts, or the first segment that stood before.
+/// The tally of the verdicts, or the first segment that occurred before.
 fn tally_of(verdicts: &[SegmentVerdict]) -> Result<Tally, u32>
     ensures ok { IfOk result (λ t. IsTally verdicts.now (length verdicts.now) t.seen t.least) }
     ensures findings { IfOk result (λ t. All IsTrueFinding verdicts.now) }
@@ -101,8 +101,8 @@ fn first_unmarked(seen: &[bool; 4096], end: u32) -> Option<u32>
     None
 }
 
-/// The verdict that segment verdicts of a recording come to, in whatever order they come. Those above the least failed
-/// segment may be wanting. It answers a verdict exactly where there is no [`CollectFault`], and takes no memory.
+/// Returns the verdict that follows from segment verdicts of a recording, in any order. Those above the least failed
+/// segment may be missing. It returns a verdict exactly if there is no [`CollectFault`], and takes no memory.
 pub fn collect(r: &Recording, verdicts: &[SegmentVerdict]) -> Result<Verdict, CollectFault>
     requires { All (λ v. v.recording ≡ r.now) verdicts.now }
     ensures verdict { IfOk result (IsVerdict r.now) }

@@ -61,7 +61,7 @@ fn cpu_difference(claimed: &Cpu, cpu: &Cpu) -> Option<Part>
     control_difference(claimed, cpu)
 }
 
-/// The first part in which devices differ, where the processors beside them don't.
+/// Returns the first part in which two devices differ.
 fn device_difference(claimed: &Devices, devices: &Devices) -> Option<Part>
     ensures { result ≡ first_broken (device_parts claimed.now devices.now) }
 {
@@ -92,7 +92,7 @@ fn device_difference(claimed: &Devices, devices: &Devices) -> Option<Part>
     None
 }
 
-/// The first part in which a checkpoint differs from a machine, where `same` says whether the bytes that the machine sent
+/// The first part in which a checkpoint differs from a machine, if `same` says whether the bytes that the machine sent
 /// are the checkpoint's. Takes no memory.
 pub(crate) fn first_difference(
     machine: &Machine<'_>,

@@ -1,4 +1,4 @@
-//! What all workers' shares come to.
+//! The verdict from all workers' shares.
 //!
 //! Here lives the end of a shared check. A single worker's share lives in `worker`.
 ghost use Rattle.std.specs.Prelude.{◌≡◌, ℕ, [], ◌∷◌, ◌++◌, vec_len, All, IfOk, OnOk};
@@ -59,10 +59,10 @@ fn all_verdicts(
     Ok(verdicts)
 }
 
-/// The verdict that the shares of all passes of a book come to, worked over one recording with one cut, on whatever threads.
+/// Returns the verdict from the shares of all passes of a book, worked over one recording with one cut, on whatever threads.
 ///
 /// It rests on the shares alone: no two of their verdicts are of one segment, each segment below the answer's was replayed
-/// and held, and a segment without a verdict lies after the least that any worker told. Want of memory gives all shares up.
+/// and held, and a segment without a verdict lies after the least that any worker reported. If memory runs out, all shares are given up.
 pub fn gather(
     alloc: Global,
     r: &Recording,

@@ -1,6 +1,6 @@
-//! The parts of a state and its output, by which a check says where two of them differ.
+//! The parts of a state and its output, by which a check says in what two of them differ.
 //!
-//! Here live their names. In which order they stand, `specs/Difference.antt` says, and how they are compared lives in
+//! Here live their names. Their order is in `specs/Difference.antt`, and how they are compared lives in
 //! `difference`.
 ghost use Rattle.std.specs.Prelude.{◌≡◌, ◌++◌, Some};
 ghost use Rattle.oberon_check.specs.Line.{part_name};

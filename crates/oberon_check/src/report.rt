@@ -1,6 +1,6 @@
-//! The check of a text: its line, and the exit status.
+//! The check of a recording file: its line, and the exit status.
 //!
-//! Here lives what is printed. How a text is read lives in `oberon_format`, and how a recording is checked in `check`.
+//! This module has what is printed. Reading a file is in `oberon_format`, and checking a recording in `check`.
 ghost use Rattle.std.specs.Prelude.{◌≡◌, ◌≢◌, ◌≤◌, IfOk};
 ghost use Rattle.oberon_check.specs.Headline.{IsLineOf};
 ghost use Rattle.oberon_check.specs.Line.{line_of, status_of};
@@ -24,11 +24,11 @@ pub struct Report {
     pub status: u8,
 }
 
-/// Checks a text, and answers its line with the status: that of its first fault, or that of one uninterrupted replay of its
-/// recording from checkpoint 0. Nothing is asked of the text, and neither `workers` nor `cut` bears on the answer.
+/// Checks the bytes of a recording file, and returns the line to print with the status: that of its first fault, or that of one uninterrupted replay of its
+/// recording from checkpoint 0. The bytes may be any, and neither `workers` nor `cut` bears on the answer.
 ///
-/// A job is `cut` segments that follow each other, and the gate is called before each. `Memory` is answered only where
-/// memory was wanting.
+/// A job is `cut` segments that follow each other, and the gate is called before each. `Memory` is returned only
+/// when memory runs out.
 pub fn check_bytes<R: Threads + Wait + Sync, G: Gate + Sync>(
     rt: &R,
     alloc: Global,
@@ -60,7 +60,7 @@ fn answered(alloc: Global, verdict: &Verdict) -> Result<Report, CheckFault>
     })
 }
 
-/// The report on a text that is refused for this fault, unless the fault is that memory was wanting.
+/// Returns the report on a file that is refused for this fault, or an error if the fault is that memory ran out.
 fn refused(alloc: Global, fault: &Fault) -> Result<Report, CheckFault>
     ensures fault { IfOk result (λ _. fault.now ≢ Fault.Memory) }
     ensures line { IfOk result (λ report. report.line.items ≡ fault_line fault.now) }

@@ -1,6 +1,6 @@
 //! The replay of one segment, and what it found.
 //!
-//! Here live segment verdicts, which can only be made true. What many of them come to lives in `collector`.
+//! Here live segment verdicts, which can only be made true. The verdict from many of them is in `collector`.
 ghost use Rattle.std.specs.Prelude.{◌≡◌, ◌+◌, ◌<◌, IfOk};
 ghost use Rattle.oberon_format.specs.Recording.{last_of};
 ghost use Rattle.oberon_check.specs.Segment.{IsTrueFinding};
@@ -45,7 +45,7 @@ impl SegmentVerdict {
         self.segment
     }
 
-    /// The first part that differs, none where the segment held.
+    /// The first part that differs, none if the segment held.
     pub fn part(&self) -> Option<Part>
         ensures part { result ≡ self.now.part }
         ensures finding { IsTrueFinding self.now }

@@ -1,13 +1,13 @@
 //! The verdict on a recording, with its line and its exit status.
 //!
-//! Here lives how a verdict is printed. How segment verdicts come to it lives in `collector`.
+//! This module has how a verdict is printed. Its making from segment verdicts is in `collector`.
 ghost use Rattle.std.specs.Prelude.{◌≡◌, IfOk};
 ghost use Rattle.oberon_check.specs.Line.{line_of, status_of};
 
 use crate::part::Part;
 use std::alloc::{AllocError, Global};
 
-/// What the check of a recording comes to.
+/// The result of the check of a recording.
 #[derive(Clone, Copy, Debug, PartialEq, Eq)]
 pub enum Verdict {
     /// Every checkpoint is the state and the output of one uninterrupted run from checkpoint 0.

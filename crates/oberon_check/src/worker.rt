@@ -6,7 +6,7 @@ ghost use Rattle.std.specs.Prelude.{◌≡◌, ◌<◌, ◌≤◌, ◌*◌, IfOk
 ghost use Rattle.std.specs.Int.{div_ceil};
 ghost use Rattle.oberon_claims.specs.Pass.{fresh_pass};
 ghost use Rattle.oberon_format.specs.Recording.{last_of};
-ghost use Rattle.oberon_check.specs.Work.{IsBehind};
+ghost use Rattle.oberon_check.specs.Work.{IsAfterShown};
 ghost use Rattle.oberon_check.specs.inner.Progress.{AddsJob, AddsRun, IsLooked};
 
 use crate::gate::Gate;
@@ -21,7 +21,7 @@ use std::snapshot::Snapshot;
 ///
 /// Whoever has it, the pass was answered `None`; each job that it took has the verdicts of its segments, in order, to its
 /// end or to its first failed one, or it has none and begins after a value that the pass was shown; there are no other
-/// verdicts; the pass told the failed segments; and its book has as many jobs as the recording has at the cut. It carries,
+/// verdicts; the pass reported the failed segments; and its book has as many jobs as the recording has at the cut. It carries,
 /// for contracts, the recording and the cut.
 #[derive(Drop)]
 pub struct Done {
@@ -68,7 +68,7 @@ impl Done {
     }
 }
 
-/// Replays the segments from one up to another, or up to the first that fails, which is told.
+/// Replays the segments from one up to another, or up to the first that fails, which is reported.
 fn replay_run(
     alloc: Global,
     r: &Recording,
@@ -98,7 +98,7 @@ fn replay_run(
 fn is_passed_over(claims: &Claims, pass: &mut Pass, first: u32) -> bool
     requires { pass.old.book ≡ claims.now }
     ensures looked { IsLooked pass.old pass.new }
-    ensures shown { IsTrue result → IsBehind pass.new.shown first }
+    ensures shown { IsTrue result → IsAfterShown pass.new.shown first }
 {
     match claims.look(pass) {
         Some(shown) => shown < first,

@@ -9,15 +9,15 @@ use Rattle.oberon_claims.specs.inner.Book.{IsSeat, IsLegal}
 
 -- the book's own seat, and those of A and B
 abbrev pub own : View
-own = record { jobs = 3; workers = 2; taken = []; told = []; shown = []; ends = 0; stands = 0 }
+own = record { jobs = 3; workers = 2; taken = []; reported = []; shown = []; ends = 0; stands = 0 }
 
 abbrev pub a : View
-a = record { jobs = 3; workers = 2; taken = 0 ∷ 2 ∷ []; told = 5 ∷ 9 ∷ []; shown = 5 ∷ 3 ∷ 3 ∷ []; ends = 1; stands = 1 }
+a = record { jobs = 3; workers = 2; taken = 0 ∷ 2 ∷ []; reported = 5 ∷ 9 ∷ []; shown = 5 ∷ 3 ∷ 3 ∷ []; ends = 1; stands = 1 }
 
 abbrev pub b : View
-b = record { jobs = 3; workers = 2; taken = 1 ∷ []; told = 3 ∷ []; shown = []; ends = 1; stands = 1 }
+b = record { jobs = 3; workers = 2; taken = 1 ∷ []; reported = 3 ∷ []; shown = []; ends = 1; stands = 1 }
 
--- at the end of the example the book is legal: five claims were made, and 3 is the least told
+-- at the end of the example the book is legal: five claims were made, and 3 is the least reported
 pub example_is_legal : IsLegal 3 2 5 3 (own ∷ a ∷ b ∷ [])
 example_is_legal = record {
   few_jobs = omega arith;
@@ -26,15 +26,15 @@ example_is_legal = record {
   next_is = refl;
   stands_are = refl;
   seats = each;
-  told_above = λ x there. grind (arith, nat_tests);
-  least_told = inr (omega arith);
-  shown_told = λ x there. grind (arith, nat_tests);
+  reported_above = λ x there. grind (arith, nat_tests);
+  least_reported = inr (omega arith);
+  shown_reported = λ x there. grind (arith, nat_tests);
 }
   where
     each : (id : ℕ) (v : View) → get_elem? (own ∷ a ∷ b ∷ []) id ≡ some v → IsSeat v
-    each zero v e = subst IsSeat (some-injective _ _ e) record { ends_within = omega arith; idle_taken = λ _. refl; idle_told = λ _. refl; idle_shown = λ _. refl }
-    each (suc zero) v e = subst IsSeat (some-injective _ _ e) record { ends_within = omega arith; idle_taken = λ n. absurd (omega arith); idle_told = λ n. absurd (omega arith); idle_shown = λ n. absurd (omega arith) }
-    each (suc (suc zero)) v e = subst IsSeat (some-injective _ _ e) record { ends_within = omega arith; idle_taken = λ n. absurd (omega arith); idle_told = λ n. absurd (omega arith); idle_shown = λ n. absurd (omega arith) }
+    each zero v e = subst IsSeat (some-injective _ _ e) record { ends_within = omega arith; idle_taken = λ _. refl; idle_reported = λ _. refl; idle_shown = λ _. refl }
+    each (suc zero) v e = subst IsSeat (some-injective _ _ e) record { ends_within = omega arith; idle_taken = λ n. absurd (omega arith); idle_reported = λ n. absurd (omega arith); idle_shown = λ n. absurd (omega arith) }
+    each (suc (suc zero)) v e = subst IsSeat (some-injective _ _ e) record { ends_within = omega arith; idle_taken = λ n. absurd (omega arith); idle_reported = λ n. absurd (omega arith); idle_shown = λ n. absurd (omega arith) }
     each (suc (suc (suc id))) v e = absurd (some-ne-none v (sym e))
 
 -- a book in which two seats took one job is not legal, whatever its words are

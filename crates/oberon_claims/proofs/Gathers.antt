@@ -4,8 +4,8 @@ use Rattle.std.specs.Prelude.{All, Contains, MatchOption, HoldsAt}
 use Rattle.oberon_claims.specs.declared.book.View.{View}
 use Rattle.oberon_claims.specs.Counts.{times, once_below}
 use Rattle.oberon_claims.specs.Pass.{BookId, PassRecord}
-use Rattle.oberon_claims.specs.Ledger.{all_taken, all_told, all_shown, SomeEnded, IsLeastOf, IsNotBelow}
-use Rattle.oberon_claims.specs.inner.Book.{nothing, times_told, IsLegal}
+use Rattle.oberon_claims.specs.Ledger.{all_taken, all_reported, all_shown, SomeEnded, IsLeastOf, IsNotBelow}
+use Rattle.oberon_claims.specs.inner.Book.{nothing, times_reported, IsLegal}
 use Rattle.oberon_claims.specs.inner.Steps.{joined_view}
 use Rattle.oberon_claims.proofs.Counting.{number_of_each_once}
 use Rattle.oberon_claims.proofs.Sums.{times_front, times_here, one_is, empty_if}
@@ -15,15 +15,15 @@ marks [] = 0
 marks (p ∷ ps) = cond p.ended 1 0 + marks ps
 
 abbrev pub gathered : BookId → List PassRecord → View
-gathered book ps = record { jobs = book.jobs; workers = book.workers; taken = all_taken ps; told = all_told ps; shown = all_shown ps; ends = marks ps; stands = length ps }
+gathered book ps = record { jobs = book.jobs; workers = book.workers; taken = all_taken ps; reported = all_reported ps; shown = all_shown ps; ends = marks ps; stands = length ps }
 
 taken_more : (ps : List PassRecord) (p : PassRecord) → all_taken ps ++ p.taken ≡ all_taken (ps ++ p ∷ [])
 taken_more [] p = sym (append-nil p.taken)
 taken_more (q ∷ ps) p = append_assoc q.taken (all_taken ps) p.taken ∙ ap (λ (l : List ℕ). q.taken ++ l) (taken_more ps p)
 
-told_more : (ps : List PassRecord) (p : PassRecord) → all_told ps ++ p.told ≡ all_told (ps ++ p ∷ [])
-told_more [] p = sym (append-nil p.told)
-told_more (q ∷ ps) p = append_assoc q.told (all_told ps) p.told ∙ ap (λ (l : List ℕ). q.told ++ l) (told_more ps p)
+reported_more : (ps : List PassRecord) (p : PassRecord) → all_reported ps ++ p.reported ≡ all_reported (ps ++ p ∷ [])
+reported_more [] p = sym (append-nil p.reported)
+reported_more (q ∷ ps) p = append_assoc q.reported (all_reported ps) p.reported ∙ ap (λ (l : List ℕ). q.reported ++ l) (reported_more ps p)
 
 shown_more : (ps : List PassRecord) (p : PassRecord) → all_shown ps ++ p.shown ≡ all_shown (ps ++ p ∷ [])
 shown_more [] p = sym (append-nil p.shown)
@@ -36,7 +36,7 @@ marks_more (q ∷ ps) p = let e = marks_more ps p in omega arith
 -- the seat of a pass
 pub record IsSeatOf (v : View) (p : PassRecord) : Type 0 where
   pub taken : v.taken ≡ p.taken
-  pub told : v.told ≡ p.told
+  pub reported : v.reported ≡ p.reported
   pub shown : v.shown ≡ p.shown
   pub ends : v.ends ≡ cond p.ended 1 0
   pub stands : v.stands ≡ 1
@@ -44,11 +44,11 @@ pub record IsSeatOf (v : View) (p : PassRecord) : Type 0 where
 pub gathers : (book : BookId) (ps : List PassRecord) (p : PassRecord) (v : View) → IsSeatOf v p → joined_view (gathered book ps) v ≡ gathered book (ps ++ p ∷ [])
 gathers book ps p v is =
     let taken = ap (λ (l : List ℕ). all_taken ps ++ l) is.taken ∙ taken_more ps p in
-    let told = ap (λ (l : List ℕ). all_told ps ++ l) is.told ∙ told_more ps p in
+    let reported = ap (λ (l : List ℕ). all_reported ps ++ l) is.reported ∙ reported_more ps p in
     let shown = ap (λ (l : List ℕ). all_shown ps ++ l) is.shown ∙ shown_more ps p in
     let ends = ap (λ (n : ℕ). marks ps + n) is.ends ∙ marks_more ps p in
     let stands : length ps + v.stands ≡ length (ps ++ p ∷ []) = let e = is.stands in let l = length-append ps (p ∷ []) in omega arith in
-    λ i. record { jobs = book.jobs; workers = book.workers; taken = taken i; told = told i; shown = shown i; ends = ends i; stands = stands i }
+    λ i. record { jobs = book.jobs; workers = book.workers; taken = taken i; reported = reported i; shown = shown i; ends = ends i; stands = stands i }
 
 -- what holds of each element of a list holds of the next one
 module _ {A : Type 0} where
@@ -87,38 +87,38 @@ module _ (book : BookId) (jobs next least : ℕ) (ps : List PassRecord) (legal :
   pub all_gone : SomeEnded ps → min next jobs ≡ jobs
   all_gone m = let s = some_marks ps m in let c : length (all_taken ps) + 0 ≡ min next jobs = number_of_each_once (min next jobs) (gathered book ps ∷ []) legal.each_once in let n = legal.next_is in omega arith
 
-  pub none_told : nothing ≤ least → all_told ps ≡ []
-  none_told none = empty_if (all_told ps) (λ x there. let t = legal.told_above x (omega arith) in omega arith)
+  pub none_reported : nothing ≤ least → all_reported ps ≡ []
+  none_reported none = empty_if (all_reported ps) (λ x there. let t = legal.reported_above x (omega arith) in omega arith)
 
-  pub least_is_told : least < nothing → Contains (all_told ps) least
-  least_is_told some_told = found least (all_told ps) (⊎_elim (λ (e : least ≡ nothing). absurd (omega arith)) (λ (t : 0 < times_told least (gathered book ps ∷ [])). omega arith) legal.least_told)
+  pub least_is_reported : least < nothing → Contains (all_reported ps) least
+  least_is_reported some_reported = found least (all_reported ps) (⊎_elim (λ (e : least ≡ nothing). absurd (omega arith)) (λ (t : 0 < times_reported least (gathered book ps ∷ [])). omega arith) legal.least_reported)
 
-  pub told_all_above : All (λ y. least ≤ y) (all_told ps)
-  told_all_above k d in_range =
-      let x = get_or (all_told ps) k d in
-      let here = times_here (all_told ps) k d in_range in
-      (legal.told_above x (omega arith)).0
+  pub reported_all_above : All (λ y. least ≤ y) (all_reported ps)
+  reported_all_above k d in_range =
+      let x = get_or (all_reported ps) k d in
+      let here = times_here (all_reported ps) k d in_range in
+      (legal.reported_above x (omega arith)).0
 
-  pub shown_all_told : All (λ x. Contains (all_told ps) x) (all_shown ps)
-  shown_all_told k d in_range =
+  pub shown_all_reported : All (λ x. Contains (all_reported ps) x) (all_shown ps)
+  shown_all_reported k d in_range =
       let x = get_or (all_shown ps) k d in
       let here = times_here (all_shown ps) k d in_range in
-      let t = legal.shown_told x (omega arith) in
-      found x (all_told ps) (omega arith)
+      let t = legal.shown_reported x (omega arith) in
+      found x (all_reported ps) (omega arith)
 
-  pub least_told_is : (o : Option ℕ) → MatchOption o (nothing ≤ least) (λ x. (x ≡ least) × (least < nothing))
-      → MatchOption o (all_told ps ≡ []) (λ x. Contains (all_told ps) x × All (λ y. x ≤ y) (all_told ps))
-  least_told_is None none = none_told none
-  least_told_is (Some x) is = subst (λ (y : ℕ). Contains (all_told ps) y × All (λ z. y ≤ z) (all_told ps)) (sym is.0) (least_is_told is.1, told_all_above)
+  pub least_reported_is : (o : Option ℕ) → MatchOption o (nothing ≤ least) (λ x. (x ≡ least) × (least < nothing))
+      → MatchOption o (all_reported ps ≡ []) (λ x. Contains (all_reported ps) x × All (λ y. x ≤ y) (all_reported ps))
+  least_reported_is None none = none_reported none
+  least_reported_is (Some x) is = subst (λ (y : ℕ). Contains (all_reported ps) y × All (λ z. y ≤ z) (all_reported ps)) (sym is.0) (least_is_reported is.1, reported_all_above)
 
--- no value shown is below the least segment told
-pub shown_not_below : (told shown : List ℕ) (o : Option ℕ) → IsLeastOf told o → All (λ x. Contains told x) shown → IsNotBelow o shown
-shown_not_below told shown None none all = empty_if_none shown (λ k d in_range. let c = all k d in_range in let e = ap length none in let h = c.1 in absurd (omega arith))
+-- no value shown is below the least segment reported
+pub shown_not_below : (reported shown : List ℕ) (o : Option ℕ) → IsLeastOf reported o → All (λ x. Contains reported x) shown → IsNotBelow o shown
+shown_not_below reported shown None none all = empty_if_none shown (λ k d in_range. let c = all k d in_range in let e = ap length none in let h = c.1 in absurd (omega arith))
   where
     empty_if_none : (xs : List ℕ) → ((k d : ℕ) → k < length xs → ⊥) → xs ≡ []
     empty_if_none [] none = refl
     empty_if_none (x ∷ xs) none = absurd (none 0 x (omega arith))
-shown_not_below told shown (Some x) is all = λ k d in_range. (let c = all k d in_range in subst (λ (y : ℕ). x ≤ y) (c.2) (is.1 c.0 (get_or shown k d) c.1))
+shown_not_below reported shown (Some x) is all = λ k d in_range. (let c = all k d in_range in subst (λ (y : ℕ). x ≤ y) (c.2) (is.1 c.0 (get_or shown k d) c.1))
 
 -- the one view of a list of one
 pub first_of : {v w : View} → v ∷ [] ≡ w ∷ [] → v ≡ w

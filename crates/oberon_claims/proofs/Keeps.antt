@@ -7,8 +7,8 @@ use mathlib.Core.Option.{some}
 use lib.ListN.{get_elem?}
 use Rattle.oberon_claims.specs.declared.book.View.{View}
 use Rattle.oberon_claims.specs.Counts.{times, once_below}
-use Rattle.oberon_claims.specs.inner.Book.{total, nothing, times_told, times_shown, number_taken, IsSeat, IsLegal}
-use Rattle.oberon_claims.specs.inner.Steps.{view_with_job, view_with_end, view_with_told, view_with_shown}
+use Rattle.oberon_claims.specs.inner.Book.{total, nothing, times_reported, times_shown, number_taken, IsSeat, IsLegal}
+use Rattle.oberon_claims.specs.inner.Steps.{view_with_job, view_with_end, view_with_reported, view_with_shown}
 use Rattle.oberon_claims.proofs.Counting.{number_of_each_once}
 use Rattle.oberon_claims.proofs.Sums.{each_set, total_set, total_has, total_le, times_append, times_here, once_more, once_is, one_is, one_same, empty_if}
 
@@ -55,7 +55,7 @@ module _ (jobs workers next least : ℕ) (views : List View) (id : ℕ) (v : Vie
         seats = each_set IsSeat views id w legal.seats record {
           ends_within = mine.ends_within;
           idle_taken = λ none. absurd (omega arith);
-          idle_told = mine.idle_told;
+          idle_reported = mine.idle_reported;
           idle_shown = mine.idle_shown;
         };
         each_once = λ x.
@@ -70,9 +70,9 @@ module _ (jobs workers next least : ℕ) (views : List View) (id : ℕ) (v : Vie
             omega arith;
         next_is = let n = legal.next_is in let e = same (λ u. u.ends) refl in omega arith;
         stands_are = same (λ u. u.stands) refl ∙ legal.stands_are;
-        told_above = λ x there. legal.told_above x (subst (λ (n : ℕ). 0 < n) (same (λ u. times x u.told) refl) there);
-        least_told = ⊎_elim inl (λ (t : 0 < times_told least views). inr (subst (λ (n : ℕ). 0 < n) (sym (same (λ u. times least u.told) refl)) t)) legal.least_told;
-        shown_told = λ x there. subst (λ (n : ℕ). 0 < n) (sym (same (λ u. times x u.told) refl)) (legal.shown_told x (subst (λ (n : ℕ). 0 < n) (same (λ u. times x u.shown) refl) there));
+        reported_above = λ x there. legal.reported_above x (subst (λ (n : ℕ). 0 < n) (same (λ u. times x u.reported) refl) there);
+        least_reported = ⊎_elim inl (λ (t : 0 < times_reported least views). inr (subst (λ (n : ℕ). 0 < n) (sym (same (λ u. times least u.reported) refl)) t)) legal.least_reported;
+        shown_reported = λ x there. subst (λ (n : ℕ). 0 < n) (sym (same (λ u. times x u.reported) refl)) (legal.shown_reported x (subst (λ (n : ℕ). 0 < n) (same (λ u. times x u.shown) refl) there));
       }
 
   pub take_end : jobs ≤ next → v.ends ≡ 0 → 0 < v.stands → IsLegal jobs workers (next + 1) least (set views id (view_with_end v))
@@ -86,101 +86,101 @@ module _ (jobs workers next least : ℕ) (views : List View) (id : ℕ) (v : Vie
         seats = each_set IsSeat views id w legal.seats record {
           ends_within = omega arith;
           idle_taken = mine.idle_taken;
-          idle_told = mine.idle_told;
+          idle_reported = mine.idle_reported;
           idle_shown = mine.idle_shown;
         };
         each_once = λ x. same (λ u. times x u.taken) refl ∙ legal.each_once x ∙ ap (once_below x) (sym m);
         next_is = let n = legal.next_is in let c = same (λ u. length u.taken) refl in let s = total_set (λ u. u.ends) views id v w at in omega arith;
         stands_are = same (λ u. u.stands) refl ∙ legal.stands_are;
-        told_above = λ x there. legal.told_above x (subst (λ (n : ℕ). 0 < n) (same (λ u. times x u.told) refl) there);
-        least_told = ⊎_elim inl (λ (t : 0 < times_told least views). inr (subst (λ (n : ℕ). 0 < n) (sym (same (λ u. times least u.told) refl)) t)) legal.least_told;
-        shown_told = λ x there. subst (λ (n : ℕ). 0 < n) (sym (same (λ u. times x u.told) refl)) (legal.shown_told x (subst (λ (n : ℕ). 0 < n) (same (λ u. times x u.shown) refl) there));
+        reported_above = λ x there. legal.reported_above x (subst (λ (n : ℕ). 0 < n) (same (λ u. times x u.reported) refl) there);
+        least_reported = ⊎_elim inl (λ (t : 0 < times_reported least views). inr (subst (λ (n : ℕ). 0 < n) (sym (same (λ u. times least u.reported) refl)) t)) legal.least_reported;
+        shown_reported = λ x there. subst (λ (n : ℕ). 0 < n) (sym (same (λ u. times x u.reported) refl)) (legal.shown_reported x (subst (λ (n : ℕ). 0 < n) (same (λ u. times x u.shown) refl) there));
       }
 
-  -- what the seat told or was shown was told, so it is at least `least`
-  pub told_least : (k d : ℕ) → k < length v.told → least ≤ get_or v.told k d
-  told_least k d in_range =
-      let x = get_or v.told k d in
-      let here = times_here v.told k d in_range in
-      let has = total_has (λ u. times x u.told) views id v at in
-      (legal.told_above x (omega arith)).0
+  -- what the seat reported or was shown was reported, so it is at least `least`
+  pub reported_least : (k d : ℕ) → k < length v.reported → least ≤ get_or v.reported k d
+  reported_least k d in_range =
+      let x = get_or v.reported k d in
+      let here = times_here v.reported k d in_range in
+      let has = total_has (λ u. times x u.reported) views id v at in
+      (legal.reported_above x (omega arith)).0
 
   pub shown_least : (k d : ℕ) → k < length v.shown → least ≤ get_or v.shown k d
   shown_least k d in_range =
       let x = get_or v.shown k d in
       let here = times_here v.shown k d in_range in
       let has = total_has (λ u. times x u.shown) views id v at in
-      (legal.told_above x (legal.shown_told x (omega arith))).0
+      (legal.reported_above x (legal.shown_reported x (omega arith))).0
 
-  -- while nothing is told, the seat told nothing and was shown nothing
-  pub told_none : nothing ≤ least → v.told ≡ []
-  told_none none = empty_if v.told (λ x there. let has = total_has (λ u. times x u.told) views id v at in let t = legal.told_above x (omega arith) in omega arith)
+  -- while nothing is reported, the seat reported nothing and was shown nothing
+  pub reported_none : nothing ≤ least → v.reported ≡ []
+  reported_none none = empty_if v.reported (λ x there. let has = total_has (λ u. times x u.reported) views id v at in let t = legal.reported_above x (omega arith) in omega arith)
 
   pub shown_none : nothing ≤ least → v.shown ≡ []
-  shown_none none = empty_if v.shown (λ x there. let has = total_has (λ u. times x u.shown) views id v at in let t = legal.told_above x (legal.shown_told x (omega arith)) in omega arith)
+  shown_none none = empty_if v.shown (λ x there. let has = total_has (λ u. times x u.shown) views id v at in let t = legal.reported_above x (legal.shown_reported x (omega arith)) in omega arith)
 
   pub see : least < nothing → 0 < v.stands → IsLegal jobs workers next least (set views id (view_with_shown v least))
-  see some_told stands =
+  see some_reported stands =
       let w = view_with_shown v least in
       let same : (f : View → ℕ) → f w ≡ f v → total f (set views id w) ≡ total f views = λ f e. (let s = total_set f views id v w at in omega arith) in
-      let told : 0 < times_told least views = ⊎_elim (λ (e : least ≡ nothing). absurd (omega arith)) (λ (t : 0 < times_told least views). t) legal.least_told in
+      let reported : 0 < times_reported least views = ⊎_elim (λ (e : least ≡ nothing). absurd (omega arith)) (λ (t : 0 < times_reported least views). t) legal.least_reported in
       record {
         few_jobs = legal.few_jobs;
         few_workers = legal.few_workers;
         seats = each_set IsSeat views id w legal.seats record {
           ends_within = mine.ends_within;
           idle_taken = mine.idle_taken;
-          idle_told = mine.idle_told;
+          idle_reported = mine.idle_reported;
           idle_shown = λ none. absurd (omega arith);
         };
         each_once = λ x. same (λ u. times x u.taken) refl ∙ legal.each_once x;
         next_is = let n = legal.next_is in let c = same (λ u. length u.taken) refl in let e = same (λ u. u.ends) refl in omega arith;
         stands_are = same (λ u. u.stands) refl ∙ legal.stands_are;
-        told_above = λ x there. legal.told_above x (subst (λ (n : ℕ). 0 < n) (same (λ u. times x u.told) refl) there);
-        least_told = inr (subst (λ (n : ℕ). 0 < n) (sym (same (λ u. times least u.told) refl)) told);
-        shown_told = λ x there. subst (λ (n : ℕ). 0 < n) (sym (same (λ u. times x u.told) refl))
+        reported_above = λ x there. legal.reported_above x (subst (λ (n : ℕ). 0 < n) (same (λ u. times x u.reported) refl) there);
+        least_reported = inr (subst (λ (n : ℕ). 0 < n) (sym (same (λ u. times least u.reported) refl)) reported);
+        shown_reported = λ x there. subst (λ (n : ℕ). 0 < n) (sym (same (λ u. times x u.reported) refl))
             (let s = total_set (λ u. times x u.shown) views id v w at in
             let a = times_append x v.shown (least ∷ []) in
             dite (dec_le 1 (times_shown x views))
-            (λ (old : 1 ≤ times_shown x views). legal.shown_told x (omega arith))
-            (λ new. subst (λ (y : ℕ). 0 < times_told y views) (one_is least x (omega arith)) told));
+            (λ (old : 1 ≤ times_shown x views). legal.shown_reported x (omega arith))
+            (λ new. subst (λ (y : ℕ). 0 < times_reported y views) (one_is least x (omega arith)) reported));
       }
 
-  pub say : (x : ℕ) → x < nothing → 0 < v.stands → IsLegal jobs workers next (min least x) (set views id (view_with_told v x))
+  pub say : (x : ℕ) → x < nothing → 0 < v.stands → IsLegal jobs workers next (min least x) (set views id (view_with_reported v x))
   say x small stands =
-      let w = view_with_told v x in
+      let w = view_with_reported v x in
       let same : (f : View → ℕ) → f w ≡ f v → total f (set views id w) ≡ total f views = λ f e. (let s = total_set f views id v w at in omega arith) in
-      let more : (y : ℕ) → times_told y (set views id w) ≡ times_told y views + cond (eqb x y) 1 0 =
-      λ y. (let s = total_set (λ u. times y u.told) views id v w at in let a = times_append y v.told (x ∷ []) in omega arith) in
+      let more : (y : ℕ) → times_reported y (set views id w) ≡ times_reported y views + cond (eqb x y) 1 0 =
+      λ y. (let s = total_set (λ u. times y u.reported) views id v w at in let a = times_append y v.reported (x ∷ []) in omega arith) in
       record {
         few_jobs = legal.few_jobs;
         few_workers = legal.few_workers;
         seats = each_set IsSeat views id w legal.seats record {
           ends_within = mine.ends_within;
           idle_taken = mine.idle_taken;
-          idle_told = λ none. absurd (omega arith);
+          idle_reported = λ none. absurd (omega arith);
           idle_shown = mine.idle_shown;
         };
         each_once = λ y. same (λ u. times y u.taken) refl ∙ legal.each_once y;
         next_is = let n = legal.next_is in let c = same (λ u. length u.taken) refl in let e = same (λ u. u.ends) refl in omega arith;
         stands_are = same (λ u. u.stands) refl ∙ legal.stands_are;
-        told_above = λ y there.
+        reported_above = λ y there.
             let m = more y in
-            dite (dec_le 1 (times_told y views))
-            (λ (old : 1 ≤ times_told y views). let t = legal.told_above y (omega arith) in (omega arith, t.1))
+            dite (dec_le 1 (times_reported y views))
+            (λ (old : 1 ≤ times_reported y views). let t = legal.reported_above y (omega arith) in (omega arith, t.1))
             (λ new. let e = one_is x y (omega arith) in (omega arith, omega arith));
-        least_told =
+        least_reported =
             dite (dec_le least x)
             (λ (le : least ≤ x).
             let m : least ≡ min least x = omega arith in
-            subst (λ (n : ℕ). (n ≡ nothing) ⊎ (0 < times_told n (set views id w))) m
-            (⊎_elim inl (λ (t : 0 < times_told least views). let r = more least in inr (omega arith)) legal.least_told))
+            subst (λ (n : ℕ). (n ≡ nothing) ⊎ (0 < times_reported n (set views id w))) m
+            (⊎_elim inl (λ (t : 0 < times_reported least views). let r = more least in inr (omega arith)) legal.least_reported))
             (λ gt.
             let m : x ≡ min least x = omega arith in
-            subst (λ (n : ℕ). (n ≡ nothing) ⊎ (0 < times_told n (set views id w))) m
+            subst (λ (n : ℕ). (n ≡ nothing) ⊎ (0 < times_reported n (set views id w))) m
             (let r = more x in let o = one_same x x refl in inr (omega arith)));
-        shown_told = λ y there.
+        shown_reported = λ y there.
             let r = more y in
-            let t = legal.shown_told y (subst (λ (n : ℕ). 0 < n) (same (λ u. times y u.shown) refl) there) in
+            let t = legal.shown_reported y (subst (λ (n : ℕ). 0 < n) (same (λ u. times y u.shown) refl) there) in
             omega arith;
       }

@@ -8,7 +8,7 @@ use Rattle.atomic_table.proofs.Lists.{at_set}
 use Rattle.oberon_claims.specs.declared.book.View.{View}
 use Rattle.oberon_claims.specs.declared.book.Plan.{Plan}
 use Rattle.oberon_claims.specs.Counts.{times, once_below}
-use Rattle.oberon_claims.specs.inner.Book.{total, nothing, times_told, IsSeat, IsLegal, Kept, own_seat, own_view}
+use Rattle.oberon_claims.specs.inner.Book.{total, nothing, times_reported, IsSeat, IsLegal, Kept, own_seat, own_view}
 use Rattle.oberon_claims.specs.inner.Steps.{view_with_one_less, fresh_view, joined_view, spent_view}
 use Rattle.oberon_claims.proofs.Sums.{Each, each_set, each_snoc, total_set, total_snoc, total_only, times_append, none_below}
 
@@ -18,7 +18,7 @@ record AreSums (f : (View → ℕ) → Type 0) : Type 0 where
   count : f (λ v. length v.taken)
   ends : f (λ v. v.ends)
   stands : f (λ v. v.stands)
-  told : (x : ℕ) → f (λ v. times x v.told)
+  reported : (x : ℕ) → f (λ v. times x v.reported)
   shown : (x : ℕ) → f (λ v. times x v.shown)
 
 resum : (jobs workers next least : ℕ) (views views' : List View) → AreSums (λ f. total f views' ≡ total f views) → Each IsSeat views'
@@ -30,9 +30,9 @@ resum jobs workers next least views views' same seats legal = record {
   each_once = λ x. same.taken x ∙ legal.each_once x;
   next_is = let n = legal.next_is in let c = same.count in let e = same.ends in omega arith;
   stands_are = same.stands ∙ legal.stands_are;
-  told_above = λ x there. legal.told_above x (subst (λ (n : ℕ). 0 < n) (same.told x) there);
-  least_told = ⊎_elim inl (λ (t : 0 < times_told least views). inr (subst (λ (n : ℕ). 0 < n) (sym (same.told least)) t)) legal.least_told;
-  shown_told = λ x there. subst (λ (n : ℕ). 0 < n) (sym (same.told x)) (legal.shown_told x (subst (λ (n : ℕ). 0 < n) (same.shown x) there));
+  reported_above = λ x there. legal.reported_above x (subst (λ (n : ℕ). 0 < n) (same.reported x) there);
+  least_reported = ⊎_elim inl (λ (t : 0 < times_reported least views). inr (subst (λ (n : ℕ). 0 < n) (sym (same.reported least)) t)) legal.least_reported;
+  shown_reported = λ x there. subst (λ (n : ℕ). 0 < n) (sym (same.reported x)) (legal.shown_reported x (subst (λ (n : ℕ). 0 < n) (same.shown x) there));
 }
 
 -- an empty book
@@ -46,14 +46,14 @@ begins plan few_jobs few_workers = (
     each_once = λ x. sym (none_below x) ∙ ap (once_below x) (let m : 0 ≡ min 0 plan.jobs = omega arith in m);
     next_is = omega arith;
     stands_are = omega arith;
-    told_above = λ x there. absurd (omega arith);
-    least_told = inl refl;
-    shown_told = λ x there. absurd (omega arith);
+    reported_above = λ x there. absurd (omega arith);
+    least_reported = inl refl;
+    shown_reported = λ x there. absurd (omega arith);
   },
 )
   where
     one : Each IsSeat (own_seat plan ∷ [])
-    one zero v e = subst IsSeat (some-injective _ _ e) record { ends_within = omega arith; idle_taken = λ _. refl; idle_told = λ _. refl; idle_shown = λ _. refl }
+    one zero v e = subst IsSeat (some-injective _ _ e) record { ends_within = omega arith; idle_taken = λ _. refl; idle_reported = λ _. refl; idle_shown = λ _. refl }
     one (suc id) v e = absurd (some-ne-none v (sym e))
 
 pub may_hand_out : (plan : Plan) (id n : ℕ) → 0 < n → Splits (Kept plan) id (own_view plan n) (view_with_one_less (own_view plan n)) (fresh_view (own_view plan n))
@@ -70,12 +70,12 @@ may_hand_out plan id n some_left s book at =
             count = same _ refl;
             ends = same _ refl;
             stands = same _ (omega arith);
-            told = λ x. same _ refl;
+            reported = λ x. same _ refl;
             shown = λ x. same _ refl;
           }
           (each_snoc IsSeat (set s.views id l) r
-          (each_set IsSeat s.views id l book.1.seats record { ends_within = omega arith; idle_taken = λ _. refl; idle_told = λ _. refl; idle_shown = λ _. refl })
-          record { ends_within = omega arith; idle_taken = λ _. refl; idle_told = λ _. refl; idle_shown = λ _. refl })
+          (each_set IsSeat s.views id l book.1.seats record { ends_within = omega arith; idle_taken = λ _. refl; idle_reported = λ _. refl; idle_shown = λ _. refl })
+          record { ends_within = omega arith; idle_taken = λ _. refl; idle_reported = λ _. refl; idle_shown = λ _. refl })
           book.1,
     )
 
@@ -97,7 +97,7 @@ may_take_in plan id v other w s book at apart there =
             count = same _ (length-append v.taken w.taken) refl;
             ends = same _ refl refl;
             stands = same _ refl refl;
-            told = λ x. same _ (times_append x v.told w.told) refl;
+            reported = λ x. same _ (times_append x v.reported w.reported) refl;
             shown = λ x. same _ (times_append x v.shown w.shown) refl;
           }
           (each_set IsSeat (set s.views id b) other spent_view
@@ -105,10 +105,10 @@ may_take_in plan id v other w s book at apart there =
           (let p = one.ends_within in let q = two.ends_within in record {
             ends_within = omega arith;
             idle_taken = λ none. nil_both _ _ (one.idle_taken (omega arith)) (two.idle_taken (omega arith));
-            idle_told = λ none. nil_both _ _ (one.idle_told (omega arith)) (two.idle_told (omega arith));
+            idle_reported = λ none. nil_both _ _ (one.idle_reported (omega arith)) (two.idle_reported (omega arith));
             idle_shown = λ none. nil_both _ _ (one.idle_shown (omega arith)) (two.idle_shown (omega arith));
           }))
-          record { ends_within = omega arith; idle_taken = λ _. refl; idle_told = λ _. refl; idle_shown = λ _. refl })
+          record { ends_within = omega arith; idle_taken = λ _. refl; idle_reported = λ _. refl; idle_shown = λ _. refl })
           book.1,
     )
 
@@ -124,7 +124,7 @@ alone jobs workers next least views id v at whole legal =
       count = same _ (λ j u there none. ap length ((legal.seats j u there).idle_taken none));
       ends = same _ (λ j u there none. (let p = (legal.seats j u there).ends_within in omega arith));
       stands = same _ (λ j u there none. none);
-      told = λ x. same _ (λ j u there none. ap (times x) ((legal.seats j u there).idle_told none));
+      reported = λ x. same _ (λ j u there none. ap (times x) ((legal.seats j u there).idle_reported none));
       shown = λ x. same _ (λ j u there none. ap (times x) ((legal.seats j u there).idle_shown none));
     }
     (one (legal.seats id v at))

@@ -9,8 +9,8 @@ use Rattle.atomic_table.proofs.Lists.{set_again}
 use Rattle.oberon_claims.specs.declared.book.View.{View}
 use Rattle.oberon_claims.specs.declared.book.Plan.{Plan}
 use Rattle.oberon_claims.specs.inner.Book.{nothing, IsLegal, Kept}
-use Rattle.oberon_claims.specs.inner.Steps.{view_with_job, view_with_end, view_with_told, view_with_shown, Takes, Looks, Tells}
-use Rattle.oberon_claims.proofs.Keeps.{set_next, set_least, next_small, taken_below, take_job, take_end, told_least, shown_least, told_none, shown_none, see, say}
+use Rattle.oberon_claims.specs.inner.Steps.{view_with_job, view_with_end, view_with_reported, view_with_shown, Takes, Looks, Tells}
+use Rattle.oberon_claims.proofs.Keeps.{set_next, set_least, next_small, taken_below, take_job, take_end, reported_least, shown_least, reported_none, shown_none, see, say}
 
 kept : (plan : Plan) (words : List ℕ) (homes : List (Option ℕ)) (views : List View) (next least : ℕ) → length words ≡ 2 → slice_index words 0 ≡ next → slice_index words 1 ≡ least
     → IsLegal plan.jobs plan.workers next least views → Kept plan record { words = words; homes = homes; views = views }
@@ -54,17 +54,17 @@ may_look plan slots id me stands s book long at fits =
       keeps,
       tt,
       kept plan _ s.homes _ next least ws.0 ws.1 ws.2 (subst (IsLegal plan.jobs plan.workers next least) (sym (set_again s.views id v at)) book.1),
-      (refl, (λ some_told. absurd (omega arith)), (λ _. (refl, told_none plan.jobs plan.workers next least s.views id v at book.1 none, shown_none plan.jobs plan.workers next least s.views id v at book.1 none))),
+      (refl, (λ some_reported. absurd (omega arith)), (λ _. (refl, reported_none plan.jobs plan.workers next least s.views id v at book.1 none, shown_none plan.jobs plan.workers next least s.views id v at book.1 none))),
     ))
-    (λ some_told. (
+    (λ some_reported. (
       view_with_shown v least,
       keeps,
       tt,
-      kept plan _ s.homes _ next least ws.0 ws.1 ws.2 (see plan.jobs plan.workers next least s.views id v at book.1 (lt_of_not-le some_told) stands),
+      kept plan _ s.homes _ next least ws.0 ws.1 ws.2 (see plan.jobs plan.workers next least s.views id v at book.1 (lt_of_not-le some_reported) stands),
       (
         refl,
-        (λ _. (refl, (λ k d in_range. told_least plan.jobs plan.workers next least s.views id v at book.1 k d in_range), (λ k d in_range. shown_least plan.jobs plan.workers next least s.views id v at book.1 k d in_range))),
-        (λ none. absurd (some_told none)),
+        (λ _. (refl, (λ k d in_range. reported_least plan.jobs plan.workers next least s.views id v at book.1 k d in_range), (λ k d in_range. shown_least plan.jobs plan.workers next least s.views id v at book.1 k d in_range))),
+        (λ none. absurd (some_reported none)),
       ),
     ))
 
@@ -75,7 +75,7 @@ may_tell plan slots id me x small stands s book long at fits =
     let next = slice_index s.words 0 in
     let least = slice_index s.words 1 in
     let ws = set_least s.words (min least x) book.0 in (
-      view_with_told v x,
+      view_with_reported v x,
       keeps,
       tt,
       kept plan _ s.homes _ next (min least x) ws.0 ws.1 ws.2 (say plan.jobs plan.workers next least s.views id v at book.1 x small stands),

@@ -1,7 +1,7 @@
--- How often a number stands in a list.
+-- How often a number occurs in a list.
 use Rattle.std.specs.Prelude.{◌≡◌, ℕ, List, count_by, nat_eq, nat_lt, if◌then◌else◌}
 
--- how often x stands in the list
+-- how often x occurs in the list
 abbrev pub times : ℕ → List ℕ → ℕ
 times x xs = count_by (λ y. nat_eq y x) xs
 

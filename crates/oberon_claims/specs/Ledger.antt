@@ -1,4 +1,4 @@
--- What a book comes to, once all its passes are back.
+-- The result of a book, once all its passes are back.
 use Rattle.std.specs.Prelude.{◌≡◌, ℕ, ◌<◌, ◌≤◌, List, [], ◌∷◌, ◌++◌, length, true, Option, MatchOption, All, Contains, HoldsAt}
 use Rattle.oberon_claims.specs.Pass.{PassRecord}
 
@@ -7,10 +7,10 @@ abbrev pub all_taken : List PassRecord → List ℕ
 all_taken [] = []
 all_taken (p ∷ ps) = p.taken ++ all_taken ps
 
--- the segments that they told
-abbrev pub all_told : List PassRecord → List ℕ
-all_told [] = []
-all_told (p ∷ ps) = p.told ++ all_told ps
+-- the segments that they reported
+abbrev pub all_reported : List PassRecord → List ℕ
+all_reported [] = []
+all_reported (p ∷ ps) = p.reported ++ all_reported ps
 
 -- the values that they were shown
 abbrev pub all_shown : List PassRecord → List ℕ
@@ -21,10 +21,10 @@ all_shown (p ∷ ps) = p.shown ++ all_shown ps
 abbrev pub SomeEnded : List PassRecord → Type 0
 SomeEnded ps = (k : ℕ) × (k < length ps) × HoldsAt (λ (p : PassRecord). p.ended ≡ true) ps k
 
--- the least number of the list, and None where the list is empty
+-- the least number of the list, and None if the list is empty
 abbrev pub IsLeastOf : List ℕ → Option ℕ → Type 0
 IsLeastOf xs least = MatchOption least (xs ≡ []) (λ x. Contains xs x × All (λ y. x ≤ y) xs)
 
--- no number of the list is below the least; and where there is no least, the list is empty
+-- no number of the list is below the least; and if there is no least, the list is empty
 abbrev pub IsNotBelow : Option ℕ → List ℕ → Type 0
 IsNotBelow least xs = MatchOption least (xs ≡ []) (λ x. All (λ y. x ≤ y) xs)

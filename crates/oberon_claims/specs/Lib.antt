@@ -1,4 +1,4 @@
--- What passes of a claim book come to. Read it in this order:
+-- The passes of a claim book and their result. Read it in this order:
 pub mod Pass
 pub mod Counts
 pub mod Ledger

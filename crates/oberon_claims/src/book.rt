@@ -9,10 +9,10 @@ use std::collections::LinkedList;
 /// The place of the word `next`: the number of claims made so far, and so the next job while there is one.
 pub const NEXT: usize = 0;
 
-/// The place of the word `least`: the least segment told, or [`NOTHING`].
+/// The place of the word `least`: the least segment reported, or [`NOTHING`].
 pub const LEAST: usize = 1;
 
-/// What `least` holds while no segment was told: 2^32, which is above every segment.
+/// What `least` holds while no segment was reported: 2^32, which is above every segment.
 pub const NOTHING: u64 = 1 << 32;
 
 /// What a seat knows. It exists in the proofs alone: no value of it is ever made.
@@ -23,8 +23,8 @@ pub struct View {
     pub workers: u32,
     /// The jobs that the seat took.
     pub taken: LinkedList<u32>,
-    /// The segments that it told.
-    pub told: LinkedList<u32>,
+    /// The segments that it reported.
+    pub reported: LinkedList<u32>,
     /// The values that it was shown.
     pub shown: LinkedList<u32>,
     /// The number of its claims that came past the end.
@@ -62,7 +62,7 @@ impl Play<u8, View> for Take {
     ghost then = { Takes };
 }
 
-/// A load of `least`: the least segment told so far is shown.
+/// A load of `least`: the least segment reported so far is shown.
 pub struct Look;
 
 impl Play<u8, View> for Look {
@@ -71,7 +71,7 @@ impl Play<u8, View> for Look {
     ghost then = { Looks };
 }
 
-/// A fetch_min on `least`: a segment is told.
+/// A fetch_min on `least`: a segment is reported.
 pub struct Tell;
 
 impl Play<u8, View> for Tell {

@@ -4,8 +4,8 @@
 //! word. The rule that the steps keep lives in `book`, what the closed words say in `ledger`.
 ghost use Rattle.std.specs.Prelude.{◌≡◌, ◌<◌, ◌≤◌, false, true, [], None, IfSome, IfNone, IfOk, All, Contains, replicate, vec_len};
 ghost use Rattle.oberon_claims.specs.Counts.{IsEachOnceBelow};
-ghost use Rattle.oberon_claims.specs.Pass.{fresh_pass, pass_with_job, pass_with_end, pass_with_told, pass_with_shown};
-ghost use Rattle.oberon_claims.specs.Ledger.{all_taken, all_told, all_shown, SomeEnded, IsLeastOf, IsNotBelow};
+ghost use Rattle.oberon_claims.specs.Pass.{fresh_pass, pass_with_job, pass_with_end, pass_with_reported, pass_with_shown};
+ghost use Rattle.oberon_claims.specs.Ledger.{all_taken, all_reported, all_shown, SomeEnded, IsLeastOf, IsNotBelow};
 
 use crate::book::{HandOut, LEAST, Legal, Look, NEXT, NOTHING, Plan, Take, TakeIn, Tell, View};
 use crate::ledger::{Ledger, jobs_taken, segment_of};
@@ -40,7 +40,7 @@ impl Model for Claims {
 impl Claims {
     /// A new book of `jobs` jobs, at most 4,096, and `workers` fresh passes of it, 1 to 64.
     ///
-    /// It fails only for want of memory.
+    /// It fails only when memory runs out.
     pub fn new(alloc: Global, jobs: u32, workers: u32) -> Result<(Claims, Vec<Pass>), AllocError>
         requires jobs { jobs ≤ 4096 }
         requires workers { (1 ≤ workers) × (workers ≤ 64) }
@@ -62,7 +62,7 @@ impl Claims {
         Ok((Claims { table, own, jobs }, passes))
     }
 
-    /// Takes the next job, which no pass has taken before, or answers `None` where all jobs are taken.
+    /// Takes the next job, which no pass has taken before, or returns `None` if all jobs are taken.
     ///
     /// It is one fetch_add on `next`, takes no memory and waits for nobody. A pass that was once answered `None` is
     /// answered `None` from then on, without a step. That no other pass has the job is what `finish` says of all
@@ -87,34 +87,34 @@ impl Claims {
         }
     }
 
-    /// The least segment told so far by any pass, or `None` where none was told.
+    /// The least segment reported so far by any pass, or `None` if none was reported.
     ///
-    /// It is one load of `least`, takes no memory and waits for nobody. That the value was told by some pass is what
-    /// `finish` says of all passes; that a look sees what another pass told before it is not promised by a contract.
+    /// It is one load of `least`, takes no memory and waits for nobody. That the value was reported by some pass is what
+    /// `finish` says of all passes; that a look sees what another pass reported before it is not promised by a contract.
     pub fn look(&self, pass: &mut Pass) -> Option<u32>
         requires book { pass.old.book ≡ self.now }
-        ensures told { IfSome result (λ x. All (λ y. x ≤ y) pass.old.told) }
+        ensures reported { IfSome result (λ x. All (λ y. x ≤ y) pass.old.reported) }
         ensures shown { IfSome result (λ x. All (λ y. x ≤ y) pass.old.shown) }
         ensures joins { IfSome result (λ x. pass.new ≡ pass_with_shown pass.old x) }
-        ensures none { IfNone result ((pass.old.told ≡ []) × (pass.old.shown ≡ [])) }
+        ensures none { IfNone result ((pass.old.reported ≡ []) × (pass.old.shown ≡ [])) }
         ensures stays { IfNone result (pass.new ≡ pass.old) }
     {
         segment_of(self.table.shared.load::<Look>(&mut pass.seat, LEAST))
     }
 
-    /// Tells a segment, so that later looks show none above it.
+    /// Reports a segment, so that later looks show none above it.
     ///
     /// It is one fetch_min on `least`, takes no memory and waits for nobody.
     pub fn tell(&self, pass: &mut Pass, segment: u32)
         requires book { pass.old.book ≡ self.now }
-        ensures { pass.new ≡ pass_with_told pass.old segment }
+        ensures { pass.new ≡ pass_with_reported pass.old segment }
     {
         self.table
             .shared
             .fetch_min::<Tell>(&mut pass.seat, LEAST, u64::from(segment));
     }
 
-    /// Closes the book on all its passes: how many jobs they took, and the least segment that any told.
+    /// Closes the book on all its passes: how many jobs they took, and the least segment that any reported.
     ///
     /// It takes no memory and always answers.
     pub fn finish(self, passes: Vec<Pass>) -> Ledger
@@ -124,8 +124,8 @@ impl Claims {
         // The jobs taken are together the numbers below `taken`, each once.
         ensures taken { IsEachOnceBelow result.taken (all_taken passes.items) }
         ensures whole { SomeEnded passes.items → result.taken ≡ self.jobs }
-        ensures least { IsLeastOf (all_told passes.items) result.least }
-        ensures shown { All (λ x. Contains (all_told passes.items) x) (all_shown passes.items) }
+        ensures least { IsLeastOf (all_reported passes.items) result.least }
+        ensures shown { All (λ x. Contains (all_reported passes.items) x) (all_shown passes.items) }
         ensures not_below { IsNotBelow result.least (all_shown passes.items) }
         // Which the book's type keeps: so who has all passes back has one, and needn't test for it.
         ensures workers { (1 ≤ self.workers) × (self.workers ≤ 64) }

@@ -43,7 +43,7 @@ impl Model for OwnSeat {
 }
 
 impl OwnSeat {
-    /// Puts the seat away. It fails only for want of memory, and then the seat is gone.
+    /// Puts the seat away. It fails only when memory runs out, and then the seat is gone.
     pub fn new(alloc: Global, seat: Seat<u8, View>) -> Result<OwnSeat, AllocError>
         requires { seat.me.1 ≡ [] }
         ensures table { IfOk result (λ o. o.table ≡ seat.table_id) }

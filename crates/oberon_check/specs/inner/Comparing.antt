@@ -5,7 +5,7 @@ use Rattle.oberon_format.specs.Defined.{Outcome}
 use Rattle.oberon_check.specs.declared.part.Part.{Part}
 use Rattle.oberon_check.specs.Difference.{IsDifference}
 
--- the first part in which a state differs from a claim, where it is known whether the bytes sent are the claim's
+-- the first part in which a state differs from a claim, when it is known whether the bytes sent are the claim's
 abbrev pub IsDifferenceBy : Bool → Outcome → State → Option Part → Type 0
 IsDifferenceBy same claim state found =
     (sent : List ℕ) → (IsTrue same ↔ (sent ≡ claim.sent)) → IsDifference claim (record { state = state; sent = sent }) found

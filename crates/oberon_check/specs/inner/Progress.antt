@@ -20,7 +20,7 @@ pub record AddsJob (r : RecordingParts) (cut job : ℕ) (p q : PassRecord) (vs w
   pub shown : (x : ℕ) → Contains p.shown x → Contains q.shown x
   pub piece : List Finding
   pub verdicts : ws ≡ vs ++ piece
-  pub told : q.told ≡ p.told ++ failed_of piece
+  pub reported : q.reported ≡ p.reported ++ failed_of piece
   pub recordings : All (λ v. v.recording ≡ r) piece
   pub is_job : IsJob (last_of r) cut q.shown job piece
 
@@ -32,7 +32,7 @@ pub record AddsRun (r : RecordingParts) (first end : ℕ) (p q : PassRecord) (vs
   pub shown : q.shown ≡ p.shown
   pub piece : List Finding
   pub verdicts : ws ≡ vs ++ piece
-  pub told : q.told ≡ p.told ++ failed_of piece
+  pub reported : q.reported ≡ p.reported ++ failed_of piece
   pub recordings : All (λ v. v.recording ≡ r) piece
   pub is_run : IsRun first end piece
 
@@ -40,7 +40,7 @@ pub record AddsRun (r : RecordingParts) (first end : ℕ) (p q : PassRecord) (vs
 pub record IsLooked (p q : PassRecord) : Type 0 where
   pub book : q.book ≡ p.book
   pub taken : q.taken ≡ p.taken
-  pub told : q.told ≡ p.told
+  pub reported : q.reported ≡ p.reported
   pub ended : q.ended ≡ p.ended
   pub shown : (x : ℕ) → Contains p.shown x → Contains q.shown x
 

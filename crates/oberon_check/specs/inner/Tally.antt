@@ -1,8 +1,8 @@
--- What the first n segment verdicts come to.
+-- The tally of the first n segment verdicts.
 use Rattle.std.specs.Prelude.{ℕ, ◌≡◌, ◌<◌, ◌≤◌, ◌↔◌, List, Bool, true, false, Option, None, Some, IsSome, MatchOption, slice_index_or, nat_lt, if◌then◌else◌}
 use Rattle.oberon_check.specs.declared.part.Part.{Part}
 use Rattle.oberon_check.specs.Segment.{Finding}
-use Rattle.oberon_check.specs.Collecting.{segment_at, part_at, StandsBelow}
+use Rattle.oberon_check.specs.Collecting.{segment_at, part_at, OccursBelow}
 
 -- the least failed segment with its part, once one verdict more is taken in
 abbrev pub lesser_of : Option (ℕ × Part) → ℕ → Option Part → Option (ℕ × Part)
@@ -27,8 +27,8 @@ IsLeastFailed vs n least = MatchOption least
 
 -- which segments the first n verdicts are of, each of them once, and the least that failed
 pub record IsTally (vs : List Finding) (n : ℕ) (seen : List Bool) (least : Option (ℕ × Part)) : Type 0 where
-  pub marks : (s : ℕ) → s < 4096 → IsMarked seen s ↔ StandsBelow vs n s
-  pub single : (k : ℕ) → k < n → ¬ (StandsBelow vs k (segment_at vs k))
+  pub marks : (s : ℕ) → s < 4096 → IsMarked seen s ↔ OccursBelow vs n s
+  pub single : (k : ℕ) → k < n → ¬ (OccursBelow vs k (segment_at vs k))
   pub least_failed : IsLeastFailed vs n least
 
 -- the first segment below an end that has no mark

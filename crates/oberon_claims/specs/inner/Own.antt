@@ -1,4 +1,4 @@
--- The book's own seat, while it lies in the book.
+-- The book's own seat, while it is kept in the book.
 use Rattle.std.specs.Prelude.{◌≡◌, ℕ, List, [], ◌∷◌}
 use mathlib.Core.Option.{some}
 use Rattle.atomic_table.specs.Table.{State}

@@ -2,7 +2,7 @@ use Rattle.std.proofs.Common.{◌<◌, ◌+◌, ℕ, length, false, sym, ◌∙�
 use Rattle.std.proofs.lemmas.List.{length-replicate, length-set}
 use Rattle.oberon_check.specs.Segment.{Finding}
 use Rattle.oberon_check.specs.inner.Tally.{IsTally}
-use Rattle.oberon_check.proofs.Tallying.{tally_none, tally_more, segment_here, part_here, told_more}
+use Rattle.oberon_check.proofs.Tallying.{tally_none, tally_more, segment_here, part_here, reported_more}
 use Rattle.oberon_check.proofs.collector.tally_of.Goals as goal
 
 pub loop-verdict-init : goal.loop-verdict-init
@@ -27,7 +27,7 @@ loop-verdict-preserved c =
     (part_here vs n v inside c.verdict-item.is ∙ sym c.part.ensures.part) i.room (omega arith) c.if-seen-segment.false in record {
       room = length-set c.loop-verdict.seen c.segment-segment.result _ ∙ i.room;
       tally = subst (IsTally vs (n + 1) _) (sym c.lesser-least.ensures) more;
-      findings = told_more vs n v i.findings inside c.verdict-item.is findings;
+      findings = reported_more vs n v i.findings inside c.verdict-item.is findings;
     }
 
 pub returns-clause-ok : goal.returns-clause-ok

@@ -1,4 +1,4 @@
-use Rattle.std.proofs.Common.{◌≡◌, ◌≢◌, ℕ, List, None, true≢false, ap, sym, ◌∙◌, subst}
+use Rattle.std.proofs.Common.{◌≡◌, ℕ, List, None, true≢false, ap, sym, ◌∙◌, subst}
 use Rattle.risc_pages.specs.Tables.{table_words}
 use Rattle.risc_pages.specs.Delta.{IsFirstDifferentPage}
 use Rattle.risc_devices.specs.DeviceState.{DeviceState}

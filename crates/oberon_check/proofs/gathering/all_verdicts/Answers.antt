@@ -3,7 +3,7 @@ use Rattle.std.specs.Prelude.{All, Contains}
 use Rattle.std.proofs.lemmas.List.{map-append, length-map}
 use Rattle.oberon_claims.specs.Counts.{times, once_below}
 use Rattle.oberon_claims.specs.Pass.{PassRecord}
-use Rattle.oberon_claims.specs.Ledger.{all_taken, all_told, all_shown, SomeEnded, IsLeastOf}
+use Rattle.oberon_claims.specs.Ledger.{all_taken, all_reported, all_shown, SomeEnded, IsLeastOf}
 use Rattle.oberon_format.specs.Recording.{last_of}
 use Rattle.oberon_check.specs.Segment.{Finding, IsTrueFinding}
 use Rattle.oberon_check.specs.Collecting.{IsCollectFault}
@@ -74,7 +74,7 @@ back c =
       some = first.cut_some;
       done = pieces c.args.r.now cut c.args.claims ds done parts;
       each = λ x. subst (λ (ps : List PassRecord). times x (all_taken ps) ≡ once_below x c.finish-ledger.result.taken) passes (f.taken x) ∙ ap (once_below x) taken;
-      shown_told = subst (λ (ps : List PassRecord). All (λ x. Contains (all_told ps) x) (all_shown ps)) passes f.shown;
+      shown_reported = subst (λ (ps : List PassRecord). All (λ x. Contains (all_reported ps) x) (all_shown ps)) passes f.shown;
     }
 
 pub returns-clause-findings : goal.returns-clause-findings
@@ -91,6 +91,6 @@ returns-clause-whole c fault is =
 
 pub returns-clause-gathered : goal.returns-clause-gathered
 returns-clause-gathered c lawful findings verdict is =
-    let least = subst (λ (ps : List PassRecord). IsLeastOf (all_told ps) c.finish-ledger.result.least) (passes_are c.before) c.finish-ledger.ensures.least in
+    let least = subst (λ (ps : List PassRecord). IsLeastOf (all_reported ps) c.finish-ledger.result.least) (passes_are c.before) c.finish-ledger.ensures.least in
     answered c.args.r.now c.requires.parts.0 c.args.done.items (back c) (all_of c.before) c.finish-ledger.result.least least lawful
     (subst (λ (vs : List Finding). All IsTrueFinding vs) (verdicts_are c.before) findings) verdict is

@@ -1,7 +1,7 @@
 use Rattle.std.proofs.Common.{◌≡◌, ℕ, refl, ap, sym, ◌∙◌, subst, arith}
 use Rattle.std.specs.Prelude.{is_some}
 use Rattle.oberon_check.proofs.Runs.{HeldPiece, held_first, held_more, run_failed, run_whole}
-use Rattle.oberon_claims.specs.Pass.{PassRecord, pass_with_told}
+use Rattle.oberon_claims.specs.Pass.{PassRecord, pass_with_reported}
 use Rattle.oberon_check.proofs.worker.replay_run.Goals as goal
 
 pub loop-segment-init : goal.loop-segment-init
@@ -22,7 +22,7 @@ returns-then-failed c =
     let v = c.in_ok-verdict.ensures in
     run_failed c.args.r.now c.args.from c.loop-segment.segment c.args.to _ _ _ _ _ c.in_ok-verdict.verdict i.held c.in_ok-push.ensures.items v.recording v.segment
     (ap is_some (sym c.part.ensures.part) ∙ sym c.is_some-failed.ensures ∙ c.if-failed.true) c.loop-segment-test.true
-    (c.tell.ensures ∙ ap (λ (h : PassRecord). pass_with_told h c.loop-segment.segment) i.pass)
+    (c.tell.ensures ∙ ap (λ (h : PassRecord). pass_with_reported h c.loop-segment.segment) i.pass)
 
 pub returns : goal.returns
 returns c =

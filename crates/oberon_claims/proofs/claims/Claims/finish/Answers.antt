@@ -8,7 +8,7 @@ use Rattle.oberon_claims.specs.Counts.{once_below}
 use Rattle.oberon_claims.specs.inner.Steps.{joined_view}
 use Rattle.oberon_claims.specs.inner.Book.{own_view, IsLegal}
 use Rattle.oberon_claims.proofs.Shares.{may_take_in, closes}
-use Rattle.oberon_claims.proofs.Gathers.{gathered, gathers, first_of, next_of, taken_once, all_gone, least_told_is, shown_all_told, shown_not_below}
+use Rattle.oberon_claims.proofs.Gathers.{gathered, gathers, first_of, next_of, taken_once, all_gone, least_reported_is, shown_all_reported, shown_not_below}
 use Rattle.oberon_claims.proofs.claims.Claims.finish.Goals as goal
 
 pub loop-pass-init : goal.loop-pass-init
@@ -44,7 +44,7 @@ loop-pass-preserved c =
       ap (λ (m : Me ℕ View). m.0) j.2 ∙ ap (λ (v : View). joined_view v c.pass.inside.seat.me.0) i.1
           ∙ gathers c.args.self c.loop-pass.yielded c.in-Some.pass c.pass.inside.seat.me.0 record {
             taken = ap (λ (h : PassRecord). h.taken) is;
-            told = ap (λ (h : PassRecord). h.told) is;
+            reported = ap (λ (h : PassRecord). h.reported) is;
             shown = ap (λ (h : PassRecord). h.shown) is;
             ends = p.2 ∙ ap (λ (h : PassRecord). cond h.ended 1 0) is;
             stands = p.1;
@@ -83,10 +83,10 @@ pub returns-clause-whole : goal.returns-clause-whole
 returns-clause-whole c = λ ended. capped_is c ∙ all_gone c.args.self _ _ _ _ (whole c) ended ∙ c.self.invariant.0 ∙ ap (λ (b : BookId). b.jobs) c.self.view_is
 
 pub returns-clause-least : goal.returns-clause-least
-returns-clause-least c = least_told_is c.args.self _ _ _ _ (whole c) _ c.segment_of.ensures
+returns-clause-least c = least_reported_is c.args.self _ _ _ _ (whole c) _ c.segment_of.ensures
 
 pub returns-clause-shown : goal.returns-clause-shown
-returns-clause-shown c = shown_all_told c.args.self _ _ _ _ (whole c)
+returns-clause-shown c = shown_all_reported c.args.self _ _ _ _ (whole c)
 
 pub returns-clause-not_below : goal.returns-clause-not_below
 returns-clause-not_below c = shown_not_below _ _ _ (returns-clause-least c) (returns-clause-shown c)

@@ -11,7 +11,7 @@ use Rattle.oberon_claims.specs.inner.Book.{own_view}
 use Rattle.oberon_claims.proofs.claims.Claims.new.Goals as goal
 
 abbrev hand_of : TableId → View → PassRecord
-hand_of table v = record { book = record { table = table; jobs = v.jobs; workers = v.workers }; taken = v.taken; told = v.told; shown = v.shown; ended = false }
+hand_of table v = record { book = record { table = table; jobs = v.jobs; workers = v.workers }; taken = v.taken; reported = v.reported; shown = v.shown; ended = false }
 
 pub loop-worker-init : goal.loop-worker-init
 loop-worker-init c =
