@@ -1,4 +1,4 @@
--- A text that is laid out of parts has their fields, and so their first fault.
+-- A file that encodes parts has their fields, and so their first fault.
 use Rattle.std.proofs.Common.{◌≡◌, ◌<◌, ◌≤◌, ◌+◌, ◌∙◌, ℕ, zero, suc, true, List, get_or, length, refl, sym, ap, subst, inl, inr, arith}
 use Rattle.std.specs.Prelude.{slice_index, slice_index_or}
 use Rattle.std.proofs.lemmas.List.{get_or-map}
@@ -24,7 +24,7 @@ use Rattle.oberon_format.proofs.RuleLemmas.{version_cases}
 use Rattle.oberon_format.proofs.SameFields.{SameFields, same_rules}
 use Rattle.oberon_format.proofs.TextLemmas.{later_second, number_second, numbers_none}
 
--- an event that stands at a place has its fields there
+-- an event at an offset has its fields there
 event_agrees : (text : List ℕ) (offset : ℕ) (e : Event) → IsEvent text offset e → event_of text offset ≡ event_fields e
 event_agrees text offset e is = λ i. record { count = is.count i; kind = is.kind i; value = is.value i }
 
@@ -34,7 +34,7 @@ events_agree v text r is i lt =
     let e = member r.inputs i lt in
     event_agrees text (event_offset text i) (get_or r.inputs i e) (is.events_stand i e lt) ∙ sym (get_or-map event_fields r.inputs i e no_event lt)
 
--- the rate and the phase of a checkpoint that stands at a place
+-- the rate and the phase of a checkpoint at an offset
 rate_agrees : (v : ℕ) (text : List ℕ) (offset : ℕ) (before : List ℕ) (c : CheckpointParts)
     → is_version v ≡ true → version text ≡ v → IsCheckpoint v text offset before c → later_word text (offset + RATE_AT) ≡ c.devices.rate
 rate_agrees v text offset before c known of is =
@@ -51,7 +51,7 @@ phase_agrees v text offset before c known of is =
       | inr second ↦ let phase = (is.in_second second).phase in rw (of, second) phase
     ]
 
--- a checkpoint that stands at a place has its fields there
+-- a checkpoint at an offset has its fields there
 checkpoint_agrees : (v : ℕ) (text : List ℕ) (offset : ℕ) (before : List ℕ) (c : CheckpointParts)
     → is_version v ≡ true → version text ≡ v → IsCheckpoint v text offset before c → checkpoint_of text offset ≡ checkpoint_fields v before c
 checkpoint_agrees v text offset before c known of is =
@@ -75,7 +75,7 @@ checkpoint_agrees v text offset before c known of is =
       changes = count i;
     }
 
--- a change that stands at a place
+-- a change at an offset
 change_agrees : (text : List ℕ) (at : ℕ) (change : Change) → IsChange text at change → change_at text at ≡ change
 change_agrees text at change is = λ i. record { place = is.place i; number = is.number i }
 
@@ -84,7 +84,7 @@ changes_stand : (text : List ℕ) (offset : ℕ) (before : List ℕ) (c : Checkp
     → change_of text offset i ≡ change_in before c.table i
 changes_stand text offset before c is i lt = change_agrees text (change_offset offset i) (change_in before c.table i) (is.changes i no_change lt)
 
--- of checkpoints that stand in a text of version 2, the table before each has the numbers that the text tells
+-- for the checkpoints in a file of version 2, the table before each has the page ids that the file determines
 pub tables_stand : (text : List ℕ) (cs : List CheckpointParts) (k : ℕ) → version text ≡ VERSION → StandIn text cs → k ≤ length cs → HasNumbers (table_before cs k) (number_before text k)
 unfolding number_before
 tables_stand text cs zero is stand le p lt = numbers_none text p lt
@@ -100,7 +100,7 @@ tables_stand text cs (suc k) is stand le p lt =
     (changes_stand text offset before c changed) (sym (tables_stand text cs k is stand (omega arith) p lt)))
     ∙ ap (λ (n : ℕ). number_after (change_of text offset) (number_before text k) n p) (sym many)
 
--- the page numbers of a text of either version
+-- the page ids of a file of either version
 pages_agree : (v : ℕ) (text : List ℕ) (r : RecordingParts) → AreFormed r.checkpoints → IsLaidOut v text r → (k p : ℕ) → k < length r.checkpoints → p < PLACES
     → page_number_of text k p ≡ slice_index (checkpoint_at r k).table p
 pages_agree v text r formed is k p lt less =
@@ -128,7 +128,7 @@ change_laid v before c i second lt =
     let all : changes_laid v before c ≡ length (changes before c.table) = rw second refl in
     omega arith
 
--- the changes of a text of either version: in version 1 there are none
+-- the changes of a file of either version: in version 1 there are none
 changes_agree : (v : ℕ) (text : List ℕ) (r : RecordingParts) → IsLaidOut v text r → (k i : ℕ) → k < length r.checkpoints
     → i < changes_laid v (table_before r.checkpoints k) (checkpoint_at r k)
     → change_of text (start text k) i ≡ change_in (table_before r.checkpoints k) (checkpoint_at r k).table i

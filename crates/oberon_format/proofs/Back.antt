@@ -42,7 +42,7 @@ all_bytes text bytes i =
       | inr more ↦ rw (get_or_past text i 0 more) (omega arith)
     ]
 
--- the n bytes from a place on
+-- the n bytes from an offset on
 pub record Holds (text : List ℕ) (offset n : ℕ) (bytes : List ℕ) : Type 0 where
   pub is : slice_range text offset (offset + n) ≡ bytes
   pub room : offset + n ≤ length text
@@ -89,7 +89,7 @@ holds_none text p room = let n : p + 0 - p ≡ 0 = omega arith in record { is = 
 holds_at : (text : List ℕ) (p q n : ℕ) (xs : List ℕ) → p ≡ q → Holds text p n xs → Holds text q n xs
 holds_at text p q n xs e h = subst (λ (k : ℕ). Holds text k n xs) e h
 
--- what stands from one place of a part to another
+-- the bytes from one offset of a part to another
 abbrev Spans : List ℕ → ℕ → ℕ → ℕ → List ℕ → Type 0
 Spans text p from to bytes = Holds text (p + from) (to - from) bytes
 
@@ -168,7 +168,7 @@ device_back text p d h room is =
     let s5 = spans_join text p TIMER_AT WAITING_AT KEYS_AT _ _ (omega arith) (omega arith) s4 w in
     spans_join text p TIMER_AT KEYS_AT SENT_AT _ _ (omega arith) (omega arith) s5 k
 
--- what a checkpoint begins with
+-- the fields that begin a checkpoint
 front_back : (text : List ℕ) (p : ℕ) (pool : List (List ℕ)) (c : CheckpointParts) → IsBytes text → p + FRONT_LEN ≤ length text → IsFront text p c → IsFit pool c → Holds text p FRONT_LEN (front_bytes c)
 unfolding front_bytes
 front_back text p pool c h room is proper =
@@ -188,14 +188,14 @@ change_back text p change h room is =
     let b = spans_word text p NUMBER_AT CHANGE_LEN change.number h (omega arith) refl is.number in
     spans_begin text p NUMBER_AT CHANGE_LEN _ _ (omega arith) a b
 
--- what follows in version 1
+-- the rest in version 1
 whole_back : (text : List ℕ) (p : ℕ) (c : CheckpointParts) → IsBytes text → p + CHECKPOINT_LEN ≤ length text → IsTable c.table → AreWords text (p + TABLE_AT) c.table
     → Spans text p TABLE_AT CHECKPOINT_LEN (words_bytes c.table)
 whole_back text p c h room proper is =
     let len = proper.count in
     spans text p TABLE_AT CHECKPOINT_LEN (4 * length c.table) (words_bytes c.table) (omega arith) (holds_words text (p + TABLE_AT) c.table h (omega arith) is)
 
--- what follows in version 2
+-- the rest in version 2
 changed_back : (text : List ℕ) (p : ℕ) (before : List ℕ) (c : CheckpointParts) → IsBytes text → p + (CHANGES_AT + CHANGE_LEN * length (changes before c.table)) ≤ length text
     → IsChanged text p before c → Spans text p RATE_AT (CHANGES_AT + CHANGE_LEN * length (changes before c.table)) (changed_bytes before c)
 unfolding changed_bytes changes_bytes
@@ -211,7 +211,7 @@ changed_back text p before c h room is =
     let s2 = spans_join text p CHANGE_COUNT_AT CHANGES_AT end _ _ (omega arith) (omega arith) n m in
     spans_join text p RATE_AT CHANGE_COUNT_AT end _ _ (omega arith) (omega arith) s1 s2
 
--- a checkpoint of a version, as long as it is there
+-- a checkpoint of a version, with the length that it has there
 abbrev IsBack : List ℕ → ℕ → List ℕ → CheckpointParts → ℕ → Type 0
 IsBack text p before c v =
     p + checkpoint_size v (changes_laid v before c) ≤ length text → IsCheckpoint v text p before c → Holds text p (checkpoint_size v (changes_laid v before c)) (checkpoint_bytes v before c)
@@ -233,7 +233,7 @@ second_back text p pool before c h proper room is =
     let t = changed_back text p before c h room (is.in_second refl) in
     spans_begin text p FRONT_LEN (CHANGES_AT + CHANGE_LEN * n) _ _ (omega arith) a t
 
--- so in each version that is known
+-- so in each known version
 checkpoint_back : (v : ℕ) (text : List ℕ) (p : ℕ) (pool : List (List ℕ)) (before : List ℕ) (c : CheckpointParts) → is_version v ≡ true → IsBytes text → IsFit pool c → IsBack text p before c v
 checkpoint_back v text p pool before c known h proper =
     elim (version_cases v known) [
@@ -241,13 +241,13 @@ checkpoint_back v text p pool before c known h proper =
       | inr later ↦ subst (IsBack text p before c) (sym later) (second_back text p pool before c h proper)
     ]
 
--- the bytes between two places
+-- the bytes between two offsets
 record Between (text : List ℕ) (from to : ℕ) (bytes : List ℕ) : Type 0 where
   count : ℕ
   reach : to ≡ from + count
   holds : Holds text from count bytes
 
--- checkpoints, each of its own length, where places tell these lengths
+-- checkpoints, each of its own length, if offsets determine these lengths
 blocks_back : (v : ℕ) (text : List ℕ) (offset size : ℕ → ℕ) (before : List ℕ) (cs : List CheckpointParts) → ((k : ℕ) → k < length cs → offset (suc k) ≡ offset k + size k)
     → ((k : ℕ) → k < length cs → Holds text (offset k) (size k) (bytes_at v before cs k)) → offset 0 ≤ length text → Between text (offset 0) (offset (length cs)) (checkpoints_bytes v before cs)
 unfolding checkpoints_bytes
@@ -321,7 +321,7 @@ is_encoding v text r h p is =
     let back : drop (offset (length cs)) text ≡ out = ap (λ (k : ℕ). drop k text) (sym end) ∙ is.output in
     sym (take-append-drop (offset (length cs)) text) ∙ ap (λ (l : List ℕ). l ++ drop (offset (length cs)) text) front ∙ ap (λ (l : List ℕ). head ++ l) back
 
--- in version 1 the timers of such a recording don't count
+-- in version 1 the timers of such a recording have rate and phase 0
 unclocked_in : (v : ℕ) (text : List ℕ) (r : RecordingParts) → IsLaidOut v text r → v ≡ FIRST_VERSION → All IsUnclocked r.checkpoints
 unclocked_in v text r is first k d lt = let whole = (is.checkpoints_stand k d lt).in_first first in record { rate = whole.rate; phase = whole.phase }
 

@@ -1,4 +1,4 @@
--- The changes between two tables: they are lawful, they make the second table of the first, and no other lawful changes do.
+-- The changes between two tables: they are lawful, they make the second table from the first, and no other lawful changes do.
 use Rattle.std.proofs.Common.{◌≡◌, ◌≢◌, ◌<◌, ◌≤◌, ◌+◌, ◌∙◌, ℕ, zero, suc, List, [], ◌∷◌, ◌++◌, length, append-nil, refl, sym, ap, subst, ⊎_elim, arith, add-one, eq-eqb, length-append}
 use Rattle.std.specs.Prelude.{slice_index, slice_index_or, ◌==◌, if◌then◌else◌}
 use Rattle.std.proofs.lemmas.Bool.{cases_eq, cases_lt, cond-true, cond-false, ne_eqb}
@@ -9,13 +9,13 @@ use Rattle.oberon_format.specs.declared.layout.TheConstants.{PLACES}
 use Rattle.oberon_format.specs.Changes.{changes, changes_below, no_change, number_after}
 use Rattle.oberon_format.specs.Rules.{place_floor}
 
--- each rises, is in the table, and differs from what stood there
+-- each rises, is in the table, and differs from what was there
 pub record AreLawful (change : ℕ → Change) (stood : ℕ → ℕ) (n : ℕ) : Type 0 where
   pub rises : (i : ℕ) → i < n → place_floor change i ≤ (change i).place
   pub inside : (i : ℕ) → i < n → (change i).place < PLACES
   pub differs : (i : ℕ) → i < n → (change i).number ≢ stood (change i).place
 
--- the members of a list of changes, by their numbers
+-- the members of a list of changes, by their indices
 abbrev pub member_of : List Change → ℕ → Change
 member_of cs i = slice_index_or cs i no_change
 
@@ -23,7 +23,7 @@ member_of cs i = slice_index_or cs i no_change
 abbrev pub change_in : List ℕ → List ℕ → ℕ → Change
 change_in before table = member_of (changes before table)
 
--- what a table has after one change, at the change's place and elsewhere
+-- the page id of a table after one change, in the change's slot and elsewhere
 pub after_here : (change : ℕ → Change) (stood : ℕ → ℕ) (n p : ℕ) → (change n).place ≡ p → number_after change stood (suc n) p ≡ (change n).number
 unfolding number_after
 after_here change stood n p e = cond-true ((change n).place == p) _ _ (eq-eqb _ _ e)
@@ -40,7 +40,7 @@ pub after_none : (change : ℕ → Change) (stood : ℕ → ℕ) (p : ℕ) → n
 unfolding number_after
 after_none change stood p = refl
 
--- a number after changes is one that stood or one of theirs
+-- a page id after changes is one that was there or one of theirs
 pub after-bounded : (change : ℕ → Change) (stood : ℕ → ℕ) (n p most : ℕ) → ((i : ℕ) → i < n → (change i).number ≤ most) → stood p ≤ most
     → number_after change stood n p ≤ most
 after-bounded change stood zero p most new old = subst (λ (x : ℕ). x ≤ most) (sym (after_none change stood p)) old
@@ -49,7 +49,7 @@ after-bounded change stood (suc n) p most new old =
     (λ (ne : (change n).place ≢ p). subst (λ (x : ℕ). x ≤ most) (sym (after_other change stood n p ne)) (after-bounded change stood n p most (λ i lt. new i (omega arith)) old))
     (cases_eq (change n).place p)
 
--- changes that agree give the same numbers
+-- changes that agree lead to the same page ids
 pub after-same : (a b : ℕ → Change) (s t : ℕ → ℕ) (n p : ℕ) → ((i : ℕ) → i < n → a i ≡ b i) → s p ≡ t p → number_after a s n p ≡ number_after b t n p
 unfolding number_after
 after-same a b s t zero p same old = old
@@ -57,13 +57,13 @@ after-same a b s t (suc n) p same old =
     ap (λ (c : Change). if c.place == p then c.number else number_after a s n p) (same n (omega arith))
     ∙ ap (λ (x : ℕ). if (b n).place == p then (b n).number else x) (after-same a b s t n p (λ i lt. same i (omega arith)) old)
 
--- a place that no change names has what stood there
+-- a slot that no change names has the page id that was there
 pub after_untouched : (change : ℕ → Change) (stood : ℕ → ℕ) (n p : ℕ) → ((i : ℕ) → i < n → (change i).place ≢ p) → number_after change stood n p ≡ stood p
 after_untouched change stood zero p away = after_none change stood p
 after_untouched change stood (suc n) p away =
     after_other change stood n p (away n (omega arith)) ∙ after_untouched change stood n p (λ i lt. away i (omega arith))
 
--- a place has the number of the last change that names it
+-- a slot has the page id of the last change that names it
 pub after_touched : (change : ℕ → Change) (stood : ℕ → ℕ) (n j p : ℕ) → j < n → (change j).place ≡ p
     → ((i : ℕ) → j < i → i < n → (change i).place ≢ p) → number_after change stood n p ≡ (change j).number
 after_touched change stood zero j p lt here away = absurd (omega arith)
@@ -75,11 +75,11 @@ after_touched change stood (suc n) j p lt here away =
     after_here change stood n p same ∙ ap (λ (i : ℕ). (change i).number) e)
     (cases_lt j n)
 
--- the floor of each change but the first is behind the change before it
+-- the floor of each change but the first is after the change before it
 pub floor_above : (change : ℕ → Change) (i : ℕ) → place_floor change (i + 1) ≡ (change i).place + 1
 floor_above change i = grind (arith, nat_tests)
 
--- the places of lawful changes rise
+-- the slots of lawful changes rise
 pub places_rise : (change : ℕ → Change) (stood : ℕ → ℕ) (n i j : ℕ) → AreLawful change stood n → i < j → j < n → (change i).place < (change j).place
 places_rise change stood n i zero lawful less lt = absurd (omega arith)
 places_rise change stood n i (suc j) lawful less lt =
@@ -90,7 +90,7 @@ places_rise change stood n i (suc j) lawful less lt =
     (λ (at : j ≤ i). let e : i ≡ j = omega arith in subst (λ (k : ℕ). (change k).place < (change (suc j)).place) (sym e) next)
     (cases_lt i j)
 
--- changes of places below n of a table, which has their numbers
+-- changes of slots below n of a table, which has their page ids
 pub record AreBelow (before table : List ℕ) (n : ℕ) (cs : List Change) : Type 0 where
   pub few : length cs ≤ n
   pub below : (i : ℕ) → i < length cs → (member_of cs i).place < n
@@ -98,11 +98,11 @@ pub record AreBelow (before table : List ℕ) (n : ℕ) (cs : List Change) : Typ
   pub differs : (i : ℕ) → i < length cs → slice_index table (member_of cs i).place ≢ slice_index before (member_of cs i).place
   pub new : (i : ℕ) → i < length cs → (member_of cs i).number ≡ slice_index table (member_of cs i).place
 
--- the change of a place
+-- the change of a slot
 abbrev pub change_to : List ℕ → ℕ → Change
 change_to table p = record { place = p; number = slice_index table p }
 
--- the changes of one place more, where the tables agree in it and where they don't
+-- the changes of one slot more, if the tables agree in it and if they differ
 pub below_same : (p : ℕ) (before table : List ℕ) → slice_index before p ≡ slice_index table p
     → changes_below (suc p) before table ≡ changes_below p before table
 unfolding changes_below
@@ -126,13 +126,13 @@ push_each P cs c each last i lt =
     subst (P i) (sym (get_or_push cs c no_change i e)) (subst (λ (j : ℕ). P j c) e last))
     (cases_lt i (length cs))
 
--- the floor of a change looks at the changes before it alone
+-- the floor of a change depends on the changes before it alone
 pub floor_same : (a b : ℕ → Change) (i : ℕ) → ((j : ℕ) → j < i → a j ≡ b j) → place_floor a i ≡ place_floor b i
 floor_same a b zero same = refl
 floor_same a b (suc i) same =
     ap (place_floor a) (sym (add-one i)) ∙ floor_above a i ∙ ap (λ (c : Change). c.place + 1) (same i (omega arith)) ∙ sym (floor_above b i) ∙ ap (place_floor b) (add-one i)
 
--- the first members of a list that was made longer
+-- the first members of a list that was extended
 left_same : (cs : List Change) (c : Change) (i : ℕ) → i ≤ length cs → (j : ℕ) → j < i → member_of cs j ≡ member_of (cs ++ c ∷ []) j
 left_same cs c i le j lt = let less : j < length cs = omega arith in sym (get_or_append_left cs (c ∷ []) no_change j less)
 
@@ -200,7 +200,7 @@ changes-lawful before table =
     let are = are_below before table PLACES in
     record { rises = are.rises; inside = are.below; differs = λ i lt e. are.differs i lt (sym (are.new i lt) ∙ e) }
 
--- applying the changes of places below n gives the second table below n, and leaves the first from there on
+-- applying the changes of slots below n gives the second table below n, and leaves the first from there on
 pub record AreMade (before table : List ℕ) (n : ℕ) (cs : List Change) : Type 0 where
   pub made : (p : ℕ) → p < n → number_after (member_of cs) (slice_index before) (length cs) p ≡ slice_index table p
   pub left : (p : ℕ) → n ≤ p → number_after (member_of cs) (slice_index before) (length cs) p ≡ slice_index before p
@@ -264,14 +264,14 @@ pub changes-make : (before table : List ℕ) (p : ℕ) → p < PLACES
     → number_after (change_in before table) (slice_index before) (length (changes before table)) p ≡ slice_index table p
 changes-make before table p lt = (are_made before table PLACES).made p lt
 
--- the changes of places below n are the first of some changes, of which all others have places from n on
+-- the changes of slots below n are the first of some changes, of which all others have slots from n on
 pub record AreFirst (change : ℕ → Change) (count n : ℕ) (cs : List Change) : Type 0 where
   pub few : length cs ≤ count
   pub same : (i : ℕ) → i < length cs → member_of cs i ≡ change i
   pub below : (i : ℕ) → i < length cs → (change i).place < n
   pub above : (i : ℕ) → length cs ≤ i → i < count → n ≤ (change i).place
 
--- where the next change is that of place n
+-- if the next change is that of slot n
 first_more : (change : ℕ → Change) (stood : ℕ → ℕ) (count n : ℕ) (table : List ℕ) (cs : List Change) → AreLawful change stood count
     → slice_index table n ≡ number_after change stood count n
     → length cs < count → (change (length cs)).place ≡ n → AreFirst change count n cs → AreFirst change count (suc n) (cs ++ change_to table n ∷ [])
@@ -291,7 +291,7 @@ first_more change stood count n table cs lawful is lt here are =
           omega arith;
     }
 
--- where no change is that of place n
+-- if no change is that of slot n
 first_next : (change : ℕ → Change) (count n : ℕ) (cs : List Change) → ((i : ℕ) → i < count → (change i).place ≢ n) → AreFirst change count n cs
     → AreFirst change count (suc n) cs
 first_next change count n cs away are = record {
@@ -301,7 +301,7 @@ first_next change count n cs away are = record {
   above = λ i le lt. let a = are.above i le lt in let ne = away i lt in omega arith;
 }
 
--- no change is that of place n, where the next one isn't
+-- no change is that of slot n, if the next one is not
 first_away : (change : ℕ → Change) (stood : ℕ → ℕ) (count n : ℕ) (cs : List Change) → AreLawful change stood count → AreFirst change count n cs
     → (length cs < count → (change (length cs)).place ≢ n)
     → (i : ℕ) → i < count → (change i).place ≢ n

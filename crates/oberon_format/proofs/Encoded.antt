@@ -148,7 +148,7 @@ pub length-cpu_bytes : (cpu : CpuState) → length cpu.r ≡ 16 → REGISTERS_AT
 unfolding cpu_bytes
 length-cpu_bytes cpu len = simp (length-append, length-word_bytes, length-words_bytes) (omega arith)
 
--- what a checkpoint begins with
+-- the fields that begin a checkpoint
 front_stands : (text : List ℕ) (offset : ℕ) (c : CheckpointParts) → IsWritable c → Stands text offset (front_bytes c) → IsFront text offset c
 unfolding front_bytes
 front_stands text offset c p s =
@@ -173,7 +173,7 @@ front_stands text offset c p s =
       sent = word_stands text (offset + SENT_AT) (length c.sent) (stands_right text offset SENT_AT (a ++ b ++ d) e s l3) (omega arith);
     }
 
--- which is as long in each version
+-- they are as long in each version
 length-front_bytes : (c : CheckpointParts) → IsWritable c → length (front_bytes c) ≡ FRONT_LEN
 unfolding front_bytes
 length-front_bytes c p =
@@ -197,7 +197,7 @@ length-change_bytes : (change : Change) → length (change_bytes change) ≡ CHA
 unfolding change_bytes
 length-change_bytes change = simp (length-append, length-word_bytes)
 
--- the numbers of a change between tables are of four bytes each
+-- the slot and the page id of a change between tables fit in four bytes each
 change_low : (before table : List ℕ) (i : ℕ) (d : Change) → i < length (changes before table) → (get_or (changes before table) i d).place < 2 ^ 32
 change_low before table i d lt =
     let inside = (changes-lawful before table).inside i lt in
@@ -212,7 +212,7 @@ change_small before table fits i d lt =
     let small : slice_index table p < 2 ^ 32 = fits.fit p 0 (omega arith) in
     rw (get_or_default (changes before table) i d no_change lt) (omega arith)
 
--- what follows in version 2
+-- the rest in version 2
 changed_stands : (text : List ℕ) (offset : ℕ) (before : List ℕ) (c : CheckpointParts) → IsDeviceState c.devices → IsTable c.table → Stands text (offset + RATE_AT) (changed_bytes before c)
     → IsChanged text offset before c
 unfolding changed_bytes changes_bytes
@@ -267,7 +267,7 @@ first_stands text offset before c p none s =
       in_second = λ is. absurd (omega arith);
     }
 
--- so in each version that is known
+-- so in each known version
 checkpoint_stands_in : (v : ℕ) (text : List ℕ) (offset : ℕ) (before : List ℕ) (c : CheckpointParts) → is_version v ≡ true → IsWritable c → (v ≡ FIRST_VERSION → IsUnclocked c)
     → Stands text offset (checkpoint_bytes v before c) → IsCheckpoint v text offset before c
 checkpoint_stands_in v text offset before c known p unclocked s =
@@ -277,7 +277,7 @@ checkpoint_stands_in v text offset before c known p unclocked s =
       | inr second ↦ subst P (sym second) (checkpoint_stands text offset before c p) s
     ]
 
--- whose length its changes tell
+-- its length depends on its changes
 length-checkpoint_bytes : (before : List ℕ) (c : CheckpointParts) → IsWritable c → length (checkpoint_bytes VERSION before c) ≡ checkpoint_size VERSION (changes_laid VERSION before c)
 unfolding checkpoint_bytes tail_bytes changed_bytes changes_bytes
 length-checkpoint_bytes before c p =
@@ -302,9 +302,9 @@ length-checkpoint_in v before c known p =
       | inr second ↦ subst P (sym second) (length-checkpoint_bytes before c p)
     ]
 
--- a version that is known fits four bytes
+-- a known version fits in four bytes
 version_fits : (v : ℕ) → is_version v ≡ true → v < 2 ^ 32
-version_fits v known = elim (version_cases v known) [ | inl first ↦ omega arith | inr second ↦ omega arith ]
+version_fits v known = elim (version_cases v known) [ inl first ↦ omega arith | inr second ↦ omega arith ]
 
 pub length-page_bytes : (page : List ℕ) → IsPage page → length (words_bytes page) ≡ PAGE_LEN
 length-page_bytes page h = let l = h.whole in omega (arith, length-words_bytes page)
@@ -351,7 +351,7 @@ header_stands v text r small p s =
       z = word_stands text LAST_AT 0 (stands_from text LAST_AT (a ++ b ++ d ++ e ++ f) g s l5) (omega arith);
     }
 
--- of parts whose numbers fit, lawful or not
+-- the encoding of parts whose numbers fit, lawful or not
 pub laid_out : (v : ℕ) (r : RecordingParts) → is_version v ≡ true → (v ≡ FIRST_VERSION → All IsUnclocked r.checkpoints) → AreWritable r → IsLaidOut v (encoding v r) r
 unfolding encoding start_laid
 laid_out v r known unclocked p =
@@ -440,6 +440,6 @@ writable r p =
 pub laid : (v : ℕ) (text : List ℕ) (r : RecordingParts) → TextIn v text r → IsLaidOut v text r
 laid v text r is = subst (λ (bytes : List ℕ). IsLaidOut v bytes r) (sym is.is) (laid_out v r is.known is.unclocked (writable r is.lawful))
 
--- a lawful recording has an encoding in the version that is written
+-- a lawful recording has an encoding in the current version
 pub encoded : (r : RecordingParts) → IsLawful r → TextIn VERSION (encoding VERSION r) r
 encoded r lawful = record { lawful = lawful; known = refl; unclocked = λ first. absurd (omega arith); is = refl }

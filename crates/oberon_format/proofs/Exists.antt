@@ -1,4 +1,4 @@
--- A text without fault is that of a recording, which is built here of the text alone.
+-- A file without a fault is that of a recording, which is built here from the file alone.
 use Rattle.std.proofs.Common.{◌≡◌, Option, Some, None, ◌<◌, ◌≤◌, ◌+◌, ◌-◌, ◌*◌, ◌/◌, ◌%◌, ◌^◌, ◌∙◌, ℕ, zero, suc, Bool, true, false, cond, List, [], ◌∷◌, ◌++◌, length, map, drop, get_or, refl, sym, ap, subst, inl, inr, arith, length-append}
 use Rattle.std.specs.Prelude.{All, MatchOption, slice_index, slice_range, ◌==◌}
 use Rattle.std.specs.List.{range_with_len}
@@ -67,7 +67,7 @@ numbers_fit number n each i d lt =
     let len = numbers_length number n in
     subst (λ (x : ℕ). x < 2 ^ 32) (sym (numbers_are number n i d (omega arith))) (each i)
 
--- the words from a place on
+-- the words from an offset on
 abbrev words_from : List ℕ → ℕ → ℕ → List ℕ
 words_from text offset n = numbers_of (λ i. word_at text (offset + 4 * i)) n
 
@@ -82,7 +82,7 @@ words_stand text offset n i d lt =
 words_fit : (text : List ℕ) (offset n : ℕ) → AreBytes text → All (λ x. x < 2 ^ 32) (words_from text offset n)
 words_fit text offset n bytes = numbers_fit (λ i. word_at text (offset + 4 * i)) n (λ i. word_fits text (offset + 4 * i) bytes)
 
--- the words that only version 2 has fit, and so do page numbers of either version
+-- the words that only version 2 has fit, and so do page ids of either version
 later_fits : (text : List ℕ) (offset : ℕ) → AreBytes text → later_word text offset < 2 ^ 32
 later_fits text offset bytes = go (version text == FIRST_VERSION)
   where
@@ -114,7 +114,7 @@ table_length text k = numbers_length (page_number_of text k) PLACES
 table_has : (text : List ℕ) (k : ℕ) → HasNumbers (table_of text k) (page_number_of text k)
 table_has text k p lt = numbers_are (page_number_of text k) PLACES p 0 lt
 
--- so many pages
+-- the first n pages
 record Pages (text : List ℕ) (n : ℕ) : Type 0 where
   pool : List (List ℕ)
   count : length pool ≡ n
@@ -135,7 +135,7 @@ pages_of text (suc n) bytes =
       whole = All-push IsPage so_far.pool page so_far.whole is;
     }
 
--- so many events
+-- the first n events
 record Events (text : List ℕ) (n : ℕ) : Type 0 where
   list : List Event
   count : length list ≡ n
@@ -163,7 +163,7 @@ events_of text (suc n) bytes meets le =
       stand = each_push (IsEventAt text) so_far.list n made.0 so_far.count so_far.stand made.1;
     }
 
--- the processor at a place
+-- the processor at an offset
 cpu_at : List ℕ → ℕ → CpuState
 cpu_at text offset = record {
   r = words_from text (offset + REGISTERS_AT) 16;
@@ -183,7 +183,7 @@ cpu_stands text offset few = record {
   stop = refl;
 }
 
--- the devices at a place
+-- the devices at an offset
 devices_at : List ℕ → ℕ → DeviceState
 devices_at text offset =
     let serial = word_at text (offset + SERIAL_AT) in
@@ -228,7 +228,7 @@ small text offset ranges keys =
       keys = leb-true _ _ (and_left _ _ keys);
     }
 
--- as many key codes as wait
+-- the first n waiting key codes
 codes_length : (text : List ℕ) (offset : ℕ) → offset + CHANGES_AT ≤ length text → word_at text (offset + WAITING_AT) ≤ MAX_KEYS
     → length (slice_range text (offset + KEYS_AT) (offset + KEYS_AT + word_at text (offset + WAITING_AT))) ≡ word_at text (offset + WAITING_AT)
 codes_length text offset room few =
@@ -271,7 +271,7 @@ devices_fit text offset room bytes fits =
           (All-drop (λ code. code < 2 ^ 8) (offset + KEYS_AT) text bytes);
     }
 
--- so many checkpoints, and their output up to there
+-- the first n checkpoints, and their output up to there
 record Checkpoints (text : List ℕ) (n : ℕ) : Type 0 where
   list : List CheckpointParts
   count : length list ≡ n
@@ -279,7 +279,7 @@ record Checkpoints (text : List ℕ) (n : ℕ) : Type 0 where
   formed : AreFormed list
   output : slice_range text (output_offset text) (output_offset text + output_below text n) ≡ output_of list
 
--- checkpoint k, whose output is told from a place on
+-- checkpoint k, whose output begins at an offset
 checkpoint_made : (text : List ℕ) (k from : ℕ) → CheckpointParts
 checkpoint_made text k from = record {
   count = long_at text (start text k);
@@ -289,7 +289,7 @@ checkpoint_made text k from = record {
   table = table_of text k;
 }
 
--- its front stands
+-- its common fields are there
 front_stands : (text : List ℕ) (k from : ℕ) → start text k + CHANGES_AT ≤ length text → from + word_at text (start text k + SENT_AT) ≤ length text
     → Small text (start text k) → are_keys (checkpoint_of text (start text k)) ≡ true → IsFront text (start text k) (checkpoint_made text k from)
 unfolding checkpoint_made
@@ -302,7 +302,7 @@ front_stands text k from room fits few keys =
       sent = omega (arith, length-range text from (from + word_at text (offset + SENT_AT)) (omega arith) fits);
     }
 
--- what the checkpoint has of the text
+-- what the checkpoint has from the file
 rate_is : (text : List ℕ) (k from : ℕ) → (checkpoint_made text k from).devices.rate ≡ later_word text (start text k + RATE_AT)
 unfolding checkpoint_made devices_at
 rate_is text k from = refl
@@ -319,7 +319,7 @@ sent_is : (text : List ℕ) (k from : ℕ) → (checkpoint_made text k from).sen
 unfolding checkpoint_made
 sent_is text k from = refl
 
--- it stands behind those before it
+-- it is after those before it
 checkpoint_stands : (text : List ℕ) (k from : ℕ) (cs : List CheckpointParts) → Meets text → k < checkpoints text
     → from + word_at text (start text k + SENT_AT) ≤ length text → length cs ≡ k → StandIn text cs → StandIn text (cs ++ checkpoint_made text k from ∷ [])
 checkpoint_stands text k from cs meets lt fits count stand =
@@ -385,7 +385,7 @@ checkpoints_of text (suc n) bytes meets le =
       output = ap (slice_range text (output_offset text)) end ∙ output_more text n from so_far.list made meets lt refl so_far.output (sent_is text n from);
     }
 
--- a text without fault has a recording
+-- a file without a fault has a recording
 has_recording : (text : List ℕ) → AreBytes text → Meets text → (r : RecordingParts) × Text text r
 has_recording text bytes meets =
     let ps = pages_of text (pages text) bytes in
@@ -397,7 +397,7 @@ has_recording text bytes meets =
     let ordered = events_ordered text es.list meets es.count es.stand in
     (r, record { version = version text; is = text_of_laid (version text) text r bytes (read_lawful text r meets ps.whole ordered cs.formed facts) facts })
 
--- a text has a recording or a first fault
+-- a file has a recording or a first fault
 by_fault : (text : List ℕ) (o : Option Fault) → AreBytes text → first_fault_of text ≡ o
     → MatchOption o ((r : RecordingParts) × Text text r) (λ fault. (r : RecordingParts) → ¬ (Text text r))
 by_fault text None bytes e = has_recording text bytes (none_meets text e)

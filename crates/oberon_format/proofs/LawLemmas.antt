@@ -1,4 +1,4 @@
--- The laws of texts and recordings.
+-- The laws of recordings and their files.
 use Rattle.std.proofs.Common.{◌≡◌, refl, ◌<◌, ◌-◌, ◌^◌, ℕ, zero, suc, List, [], ◌∷◌, ◌++◌, length, get_or, subst, arith}
 use Rattle.std.specs.List.{flat_map}
 use Rattle.std.specs.Int.{byte_at, bytes_low_first}
@@ -110,19 +110,19 @@ pub fault_of_encoding : (r : RecordingParts) → AreWritable r → first_fault_o
 fault_of_encoding r fits =
     text_agrees VERSION (encoding VERSION r) r (λ i d lt. (fits.checkpoints i d lt).formed) (laid_out VERSION r refl (λ first. absurd (omega arith)) fits)
 
--- a lawful recording has a text of the version that is written
+-- a lawful recording has a file in the current version
 pub one_text : (r : RecordingParts) → IsLawful r → (text : List ℕ) × AreBytes text × TextIn VERSION text r
 one_text r lawful = (encoding VERSION r, text_of_parts r (writable r lawful), encoded r lawful)
 
--- what is read of the text that is written is what was written
+-- reading what is written returns what was written
 pub read_back : (r s : RecordingParts) (text : List ℕ) → TextIn VERSION text r → Text text s → s ≡ r
 read_back r s text written read = same_recording text s r read (record { version = VERSION; is = written })
 
--- and what is written of what was read of a text of that version is the text
+-- and writing what was read from a file of that version returns the file
 pub written_back : (text other : List ℕ) (r : RecordingParts) → version text ≡ VERSION → Text text r → TextIn VERSION other r → other ≡ text
 written_back text other r is read written = same_text VERSION r text other (in_version VERSION text r is read) written
 
--- a text that was migrated is its own migration
+-- a migrated file is its own migration
 pub migrated_again : (text migrated again : List ℕ) → IsMigrated text migrated → IsMigrated migrated again → again ≡ migrated
 migrated_again text migrated again first second =
     let one : second.recording ≡ first.recording = read_back first.recording second.recording migrated first.written second.read in

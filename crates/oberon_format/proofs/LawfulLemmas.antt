@@ -1,4 +1,4 @@
--- Parts are lawful exactly where the text laid out of them has no fault, in either version.
+-- Parts are lawful if and only if the file that encodes them has no fault, in either version.
 use Rattle.std.proofs.Common.{◌≡◌, ◌<◌, ◌≤◌, ◌+◌, ◌-◌, ◌∙◌, ℕ, zero, suc, Bool, true, ◌&&◌, eqb, List, [], ◌∷◌, ◌++◌, map, get_or, length, None, refl, sym, ap, subst, arith, add-one, eq-eqb, false, Option, Some, inl, inr}
 use Rattle.std.specs.Prelude.{slice_index, replicate, nat_le, nat_lt, if◌then◌else◌, ◌==◌}
 use Rattle.std.specs.List.{list_all}
@@ -55,7 +55,7 @@ keys_met v before c formed =
     let few : nat_le (length c.devices.keys) MAX_KEYS ≡ true = le-leb _ _ formed.devices.keys in
     rw (few, drop_at c.devices.keys (replicate (MAX_KEYS - length c.devices.keys) 0) (length c.devices.keys) refl, zeros_met (MAX_KEYS - length c.devices.keys)) refl
 
--- the ranges of formed parts are met where the program counter and the stop are in theirs
+-- the ranges of formed parts are met if the program counter and the stop are in theirs
 all_nine : (pc flags stop phase switches leds mouse serial changes : Bool) → pc ≡ true → flags ≡ true → stop ≡ true → phase ≡ true → switches ≡ true
     → leds ≡ true → mouse ≡ true → serial ≡ true → changes ≡ true
     → (pc && flags && stop && phase && switches && leds && mouse && serial && changes) ≡ true
@@ -85,7 +85,7 @@ header_within f h = record {
   few = grind (arith, nat_tests);
 }
 
--- rules that hold behind others
+-- rules that hold, after others
 end_met : (xs rest : List (Rule Fault)) → first_broken rest ≡ None → first_broken (xs ++ rest) ≡ first_broken xs
 end_met [] rest h = h
 end_met ((true, f) ∷ xs) rest h = end_met xs rest h
@@ -169,7 +169,7 @@ checkpoint_met v r k known h =
       | inr later ↦ fields_met v r k (changed_met (fields_laid v r) k later h).fields
     ]
 
--- the page numbers of a table of version 2 are those that stood before, or those of lawful changes
+-- the page ids of a table of version 2 are those before, or those of lawful changes
 changed_numbers : (v : ℕ) (r : RecordingParts) (k p : ℕ) → v ≡ VERSION → ChangedMet (fields_laid v r) k → p < PLACES
     → slice_index (table_before r.checkpoints k) p ≤ length r.pool
     → slice_index (checkpoint_at r k).table p ≤ length r.pool
@@ -182,7 +182,7 @@ changed_numbers v r k p later met lt old =
     subst (λ (n : ℕ). n ≤ length r.pool) (changes-make before table p lt)
     (after-bounded (change_in before table) (slice_index before) (length (changes before table)) p (length r.pool) new old)
 
--- and so the numbers of all tables name pages
+-- so the page ids of all tables name pages
 all_numbers : (v : ℕ) (r : RecordingParts) (n : ℕ) → v ≡ VERSION → ((k : ℕ) → k < n → ChangedMet (fields_laid v r) k) → (k p : ℕ) → k ≤ n → p < PLACES
     → slice_index (table_before r.checkpoints k) p ≤ length r.pool
 all_numbers v r n later met zero p le lt = let none = zero_number p in omega arith
@@ -301,7 +301,7 @@ output_met v r (suc k) lawful lt =
     let met : is_output (k + 1) (sent_below f (k + 1)) (length (checkpoint_at r (k + 1)).sent) ≡ true = next_output k _ _ fits in
     subst (λ (m : ℕ). is_output m (sent_below f m) (length (checkpoint_at r m).sent) ≡ true) (sym next) met
 
--- the page numbers of a lawful recording
+-- the page ids of a lawful recording
 numbers_met : (r : RecordingParts) (k p : ℕ) → IsLawful r → k < length r.checkpoints → p < PLACES → slice_index (checkpoint_at r k).table p ≤ length r.pool
 numbers_met r k p lawful lt less =
     let fit = lawful.fit k lt in
@@ -373,7 +373,7 @@ lawful_formed r lawful = λ k d lt.
     } in
     subst IsFormed (get_or_default r.checkpoints k no_checkpoint d lt) here
 
--- parts are lawful exactly where their text has no fault, in each version
+-- parts are lawful if and only if their file has no fault, in each version
 pub faultless_lawful : (v : ℕ) (r : RecordingParts) → is_version v ≡ true → ArePages r.pool → AreOrdered r.inputs → AreFormed r.checkpoints
     → first_broken (rules (fields_laid v r)) ≡ None → IsLawful r
 faultless_lawful v r known pages ordered formed h = met_lawful v r known pages ordered formed (met_parts (fields_laid v r) h)
@@ -381,7 +381,7 @@ faultless_lawful v r known pages ordered formed h = met_lawful v r known pages o
 pub lawful_faultless : (v : ℕ) (r : RecordingParts) → is_version v ≡ true → IsLawful r → first_broken (rules (fields_laid v r)) ≡ None
 lawful_faultless v r known lawful = parts_met (fields_laid v r) (lawful_met v r known (lawful_formed r lawful) lawful)
 
--- the first fault of parts in order is that of their checkpoints, where their numbers are within limits
+-- the first fault of parts in order is that of their checkpoints, if their counts are within limits
 pub parts_rest : (r : RecordingParts) (n : ℕ) (o : Option Fault) → n ≡ length r.checkpoints → AreOrdered r.inputs
     → first_broken (header_rules (fields_laid VERSION r)) ≡ None
     → first_broken (each n (checkpoint_rules (fields_laid VERSION r))) ≡ o → fault_of_parts r ≡ o

@@ -1,4 +1,4 @@
--- No rule is broken with want of memory.
+-- No rule is broken with an allocation failure.
 use Rattle.std.proofs.Common.{ℕ, zero, suc, Bool, true, false, List, [], ◌∷◌, ◌++◌}
 use Rattle.std.specs.Prelude.{IfSome, ◌==◌, if◌then◌else◌}
 use Rattle.oberon_format.specs.declared.fault.Fault.{Fault}

@@ -1,4 +1,4 @@
--- The fields of parts, member by member, where their checkpoints are laid out, and the sums of their outputs.
+-- The fields of parts, member by member, at the offsets of their checkpoints, and the sums of their outputs.
 use Rattle.std.proofs.Common.{◌≡◌, ◌<◌, ◌≤◌, ◌+◌, ◌-◌, ◌*◌, ◌∙◌, ℕ, Bool, true, false, List, [], ◌∷◌, get_or, length, refl, sym, ap, arith, add-one, zero, suc, inl, inr, eq-eqb, length-append}
 use Rattle.std.specs.Prelude.{None, slice_index, slice_index_or, nat_le, ◌==◌, if◌then◌else◌}
 use Rattle.std.proofs.lemmas.List.{get_or-map}
@@ -17,7 +17,7 @@ use Rattle.oberon_format.specs.Recording.{RecordingParts, checkpoint_at, table_b
 use Rattle.oberon_format.specs.Rules.{event_floor, count_before, stood, end_rules, whole}
 use Rattle.oberon_format.proofs.ChangeLemmas.{changes-few}
 
--- a member at its number
+-- a member at its index
 pub member : {X : Type 0} (xs : List X) (i : ℕ) → i < length xs → X
 member [] i lt = absurd (omega arith)
 member (x ∷ xs) zero lt = x
@@ -44,13 +44,13 @@ table_next cs k =
     let back : suc k - 1 ≡ k = omega arith in
     rw (later, back) refl
 
--- the numbers that stood before a checkpoint of parts are those of the table before it
+-- the page ids before a checkpoint of parts are those of the table before it
 pub stood_laid : (v : ℕ) (r : RecordingParts) (k p : ℕ) → p < PLACES → stood (fields_laid v r) k p ≡ slice_index (table_before r.checkpoints k) p
 stood_laid v r zero p lt = sym (zero_number p)
 stood_laid v r (suc k) p lt =
     stood_more (fields_laid v r) k p ∙ ap (λ (table : List ℕ). slice_index table p) (sym (table_next r.checkpoints k))
 
--- what is sent before a checkpoint
+-- the output before a checkpoint
 pub sent_none : (f : Fields) → sent_below f 0 ≡ 0
 unfolding total
 sent_none f = refl
@@ -69,7 +69,7 @@ total_rises f k (suc n) le =
       | inr more ↦ let e : k ≡ suc n = omega arith in rw e (omega arith)
     ]
 
--- a checkpoint has at most as many changes as a table has places
+-- a checkpoint has at most as many changes as a table has slots
 pub laid_few : (v : ℕ) (before : List ℕ) (c : CheckpointParts) → changes_laid v before c ≤ PLACES
 laid_few v before c = go (v == FIRST_VERSION) where
   go : (b : Bool) → (if b then 0 else length (changes before c.table)) ≤ PLACES
@@ -83,7 +83,7 @@ size_few v changes few = go (v == FIRST_VERSION) where
   go true = omega arith
   go false = omega arith
 
--- where checkpoint 0 is laid out, and where the one after each
+-- the offset of checkpoint 0 of parts, and of the one after each
 pub laid_first : (v : ℕ) (r : RecordingParts) → start_laid v r 0 ≡ event_start (length r.pool) (length r.inputs)
 unfolding start_laid
 laid_first v r = refl
@@ -93,7 +93,7 @@ pub laid_next : (v : ℕ) (r : RecordingParts) (k : ℕ)
 unfolding start_laid
 laid_next v r k = refl
 
--- the places of checkpoints rise
+-- the offsets of checkpoints rise
 pub laid_rises : (v : ℕ) (r : RecordingParts) (k n : ℕ) → k ≤ n → start_laid v r k ≤ start_laid v r n
 laid_rises v r k zero le = let e : k ≡ 0 = omega arith in rw e (omega arith)
 laid_rises v r k (suc n) le =
@@ -106,7 +106,7 @@ laid_rises v r k (suc n) le =
 pub changed_room : (r : RecordingParts) (k : ℕ) → start_laid VERSION r k + CHANGES_AT ≤ start_laid VERSION r (suc k)
 changed_room r k = let next = laid_next VERSION r k in omega arith
 
--- no further than so many of the longest checkpoints reach
+-- no further than as many of the longest checkpoints reach
 pub laid_within : (v : ℕ) (r : RecordingParts) (k : ℕ)
     → start_laid v r k ≤ event_start (length r.pool) (length r.inputs) + (CHANGES_AT + CHANGE_LEN * PLACES) * k
 laid_within v r zero = let first = laid_first v r in omega arith
@@ -134,7 +134,7 @@ output_total (c ∷ cs) =
 pub sent_all : (v : ℕ) (r : RecordingParts) → sent_below (fields_laid v r) (length r.checkpoints) ≡ length (output_of r.checkpoints)
 sent_all v r = output_total r.checkpoints
 
--- the length of the parts' text is right
+-- the length of the parts' file is right
 pub ends_met : (v : ℕ) (r : RecordingParts) → first_broken (end_rules (fields_laid v r)) ≡ None
 ends_met v r =
     let f = fields_laid v r in

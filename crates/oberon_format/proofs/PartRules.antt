@@ -24,7 +24,7 @@ use Rattle.oberon_format.proofs.PartLemmas.{laid_rises, laid_next, laid_within, 
 use Rattle.oberon_format.proofs.RuleLemmas.{rule_met, rules_changed}
 use Rattle.oberon_format.proofs.SameFields.{same_append, changes_same}
 
--- the rules of fields at a place, and of the changes from a table to another
+-- the rules of fields at an offset, and of the changes from one table to another
 abbrev pub laid_rules : ℕ → ℕ → ℕ → ℕ → ℕ → CheckpointFields → List ℕ → List ℕ → List (Rule Fault)
 laid_rules pages offset k before sent fields old new =
     field_rules offset k before sent fields ++ each (length (changes old new)) (change_rules pages offset (slice_index old) (change_in old new))
@@ -84,7 +84,7 @@ rules_here r k pages offset before sent fields old new lt are =
     ∙ ap (λ (t : List ℕ). first_broken (laid_rules (length r.pool) at k floor below c t new)) are.old_is
     ∙ ap (λ (t : List ℕ). first_broken (laid_rules (length r.pool) at k floor below c was t)) are.new_is)
 
--- it is known of the checkpoint that Rust has at this number
+-- it is known of the checkpoint that Rust has at this index
 pub stands_at : (pool : List (List ℕ)) (inputs : List Event) (checkpoints : List Checkpoint) (k : ℕ) (x : Checkpoint)
     (pages offset before sent : ℕ) (fields : CheckpointFields) (old : List ℕ)
     → k < length checkpoints → x ≡ get_or checkpoints k x → pages ≡ length pool
@@ -109,7 +109,7 @@ stands_at pool inputs checkpoints k x pages offset before sent fields old lt is 
       new_is = ap (λ (y : CheckpointParts). y.table) (sym here);
     }
 
--- where the next checkpoint begins
+-- the offset of the next checkpoint
 pub next_offset : (r : RecordingParts) (k offset size : ℕ) (fields : CheckpointFields) → offset ≡ start_laid VERSION r k
     → fields ≡ (fields_laid VERSION r).checkpoint k → size ≡ checkpoint_size VERSION fields.changes
     → offset + size ≡ start_laid VERSION r (k + 1)
@@ -119,7 +119,7 @@ next_offset r k offset size fields at are long =
     ∙ sym (laid_next VERSION r k)
     ∙ ap (start_laid VERSION r) (sym (add-one k))
 
--- no checkpoint within the limits begins behind the longest text
+-- no checkpoint within the limits begins after the longest file
 pub place_small : (r : RecordingParts) (k : ℕ) → length r.pool ≤ MAX_PAGES → length r.inputs ≤ MAX_EVENTS → k ≤ MAX_CHECKPOINTS
     → start_laid VERSION r k ≤ LONGEST_TEXT
 place_small r k pages events few = let within = laid_within VERSION r k in omega arith

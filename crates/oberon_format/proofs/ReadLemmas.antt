@@ -1,4 +1,4 @@
--- What is read of a text without fault is lawful, and the text is laid out of it.
+-- What is read from a file without a fault is lawful, and the file encodes it.
 use Rattle.std.proofs.Common.{◌≡◌, ◌<◌, ◌≤◌, ◌+◌, ◌-◌, ◌∙◌, ℕ, zero, suc, List, [], ◌∷◌, ◌++◌, length, drop, refl, sym, ap, subst, arith, length-append}
 use Rattle.std.specs.Prelude.{slice_index, slice_index_or, nat_le, ◌==◌, if◌then◌else◌}
 use Rattle.std.proofs.lemmas.List.{get_or-map, get_or_append_left, get_or_default, length-drop}
@@ -30,7 +30,7 @@ use Rattle.oberon_format.proofs.RuleLemmas.{each_holds, rule_holds, and_left, an
 use Rattle.oberon_format.proofs.Tables.{change_rises, change_inside, change_differs}
 use Rattle.oberon_format.proofs.TextLemmas.{later_first, later_second, number_first, number_second, stood_is, checkpoint_changed}
 
--- the events of a text without fault are in order
+-- the events of a file without a fault are in order
 count_stands : (text : List ℕ) (es : List Event) (i : ℕ) → EachAt (IsEventAt text) es → i < length es → count_at es i ≡ long_at text (event_offset text i)
 count_stands text es i each lt =
     let d = member es i lt in
@@ -50,7 +50,7 @@ events_ordered text es meets len each offset lt =
     let high = leb-true count MAX_COUNT (and_right (nat_le (event_floor f offset) count) (nat_le count MAX_COUNT) counts) in
     (omega arith, omega arith)
 
--- the tables before are the same as checkpoints come
+-- the tables before are the same as checkpoints are added
 before_pushed : (cs : List CheckpointParts) (c : CheckpointParts) (k : ℕ) → k ≤ length cs → table_before (cs ++ c ∷ []) k ≡ table_before cs k
 before_pushed cs c zero le = refl
 before_pushed cs c (suc k) le =
@@ -73,7 +73,7 @@ changes_lawful text k before meets lt is has =
           change_differs (pages text) (place_floor change i) (stood (fields_of text) k) (change i) (met.each_change i few) same;
     }
 
--- what a checkpoint of version 1 has behind its front
+-- the rest of a checkpoint of version 1, after its common fields
 whole_stands : (text : List ℕ) (k : ℕ) (c : CheckpointParts) → version text ≡ FIRST_VERSION → c.devices.rate ≡ later_word text (start text k + RATE_AT)
     → c.devices.phase ≡ later_word text (start text k + PHASE_AT) → length c.table ≡ PLACES → HasNumbers c.table (page_number_of text k) → IsWhole text (start text k) c
 whole_stands text k c is rate phase len has = record {
@@ -104,7 +104,7 @@ changed_stands text k before c meets lt is stood rate phase has =
           record { place = ap (λ (x : Change). x.place) (sym same); number = ap (λ (x : Change). x.number) (sym same) };
     }
 
--- one more checkpoint stands in a text behind those before it
+-- one more checkpoint is in a file, after those before it
 pub stand_next : (text : List ℕ) (cs : List CheckpointParts) (c : CheckpointParts) (k : ℕ) → Meets text → k < checkpoints text → length cs ≡ k → StandIn text cs
     → IsFront text (start text k) c → c.devices.rate ≡ later_word text (start text k + RATE_AT) → c.devices.phase ≡ later_word text (start text k + PHASE_AT)
     → length c.table ≡ PLACES → HasNumbers c.table (page_number_of text k) → StandIn text (cs ++ c ∷ [])
@@ -118,7 +118,7 @@ stand_next text cs c k meets lt count stand front rate phase len has i d less =
     let le : i ≤ length cs = omega (arith, length-append cs (c ∷ [])) in
     subst (λ (t : List ℕ). IsCheckpoint (version text) text (start text i) t (slice_index_or (cs ++ c ∷ []) i d)) (sym (before_pushed cs c i le)) (all i d less)
 
--- the parts that were read are those of the text
+-- the parts that were read are those of the file
 pub text_read : (text : List ℕ) (pool : List (List ℕ)) (inputs : List Event) (cs : List CheckpointParts) → Meets text
     → length pool ≡ pages text → EachAt (IsPageAt text) pool → length inputs ≡ events text → EachAt (IsEventAt text) inputs
     → length cs ≡ checkpoints text → StandIn text cs → drop (output_offset text) text ≡ output_of cs

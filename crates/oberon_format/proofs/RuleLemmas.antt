@@ -1,4 +1,4 @@
--- The first broken rule of lists of rules, and what a text has of which some rules are met.
+-- The first broken rule of lists of rules, and what a file has if some of its rules are met.
 use Rattle.std.proofs.Common.{◌≡◌, ◌<◌, ◌≤◌, ◌+◌, ◌-◌, ℕ, zero, suc, Bool, true, false, ◌&&◌, List, [], ◌∷◌, ◌++◌, length, Some, None, refl, ap, sym, ◌∙◌, arith, add-suc, add-zero, add-one, inl, inr, ◌⊎◌, eq-eqb}
 use Rattle.std.specs.Prelude.{nat_le, ◌==◌}
 use Rattle.std.proofs.lemmas.Bool.{cases_lt, or_cases, leb-true, le-leb, eqb-true}
@@ -45,14 +45,14 @@ each_broken rules i n g lt h e =
     let one : first_broken (each (suc i) rules) ≡ Some g = met-append (each i rules) (rules i) h ∙ e in
     ap (λ (m : ℕ). first_broken (each m rules)) k ∙ each_stays rules (suc i) (n - suc i) g one
 
--- one rule at each number
+-- one rule at each index
 pub each_met : (holds : ℕ → Bool) (fault : ℕ → Fault) (i : ℕ) → first_broken (each i (λ k. (holds k, fault k) ∷ [])) ≡ None → holds i ≡ true → first_broken (each (i + 1) (λ k. (holds k, fault k) ∷ [])) ≡ None
 each_met holds fault i h e = each_more (λ k. (holds k, fault k) ∷ []) i h (rw e refl)
 
 pub each_unmet : (holds : ℕ → Bool) (fault : ℕ → Fault) (i n : ℕ) → i < n → first_broken (each i (λ k. (holds k, fault k) ∷ [])) ≡ None → holds i ≡ false → first_broken (each n (λ k. (holds k, fault k) ∷ [])) ≡ Some (fault i)
 each_unmet holds fault i n lt h e = each_broken (λ k. (holds k, fault k) ∷ []) i n (fault i) lt h (rw e refl)
 
--- the length of the output of the checkpoints of a text before checkpoint k
+-- the length of the output of the checkpoints of a file before checkpoint k
 abbrev pub output_below : List ℕ → ℕ → ℕ
 output_below text k = sent_below (fields_of text) k
 
@@ -97,7 +97,7 @@ any_in_end x h e k =
     let b = met-append (header_rules x ++ each x.events (event_rules x)) (each x.checkpoints (checkpoint_rules x)) a ∙ k in
     met-append (header_rules x ++ each x.events (event_rules x) ++ each x.checkpoints (checkpoint_rules x)) (end_rules x) b
 
--- those for a text, whose variables `grind` can see
+-- those for a file, whose variables `grind` can see
 pub in_header : (text : List ℕ) (g : Fault) → first_broken (header_rules (fields_of text)) ≡ Some g → first_fault_of text ≡ Some g
 in_header text = any_in_header (fields_of text)
 
@@ -214,7 +214,7 @@ event_input text i meets lt =
     let holds = rule_holds (is_event (event_floor (fields_of text) i) (event_of text (event_offset text i))) (fault.Event (event_offset text i)) [] one in
     and_right _ _ holds.0
 
--- which versions there are
+-- the known versions
 pub version_cases : (v : ℕ) → is_version v ≡ true → (v ≡ FIRST_VERSION) ⊎ (v ≡ VERSION)
 version_cases v known =
     elim (or_cases (v == FIRST_VERSION) (v == VERSION) known) [
@@ -312,7 +312,7 @@ changed_meets f k is met =
     ∙ rule_met (nat_le (f.start (suc k)) f.long) (fault.Short f.long) (each n changes) (le-leb _ _ met.ends)
     ∙ each_all changes n (λ i lt. rule_met (is_change f.pages (place_floor (f.change k) i) (stood f k) (f.change k i)) (fault.Page (change_offset (f.start k) i)) [] (met.each_change i lt))
 
--- the fields of a checkpoint of a text that breaks no rule are in their ranges
+-- the fields of a checkpoint of a file that breaks no rule are in their ranges
 pub checkpoint_holds : (text : List ℕ) (k : ℕ) → Meets text → k < checkpoints text → is_checkpoint k (count_before (fields_of text) k) (output_below text k) (checkpoint_of text (start text k)) ≡ true
 checkpoint_holds text k meets lt =
     let one = each_holds (checkpoint_rules (fields_of text)) (checkpoints text) k lt meets.checkpoints_meet in

@@ -1,4 +1,4 @@
--- Texts and parts with the same fields have the same first fault.
+-- Files and parts with the same fields have the same first fault.
 use Rattle.std.proofs.Common.{◌≡◌, ◌<◌, ◌≤◌, ◌+◌, ◌∙◌, ℕ, zero, suc, Bool, true, false, eqb, List, [], ◌∷◌, ◌++◌, sym, ap, arith, add-one, refl}
 use Rattle.std.specs.Prelude.{nat_le, ◌==◌, if◌then◌else◌}
 use Rattle.oberon_format.specs.declared.change.Change.{Change}
@@ -68,7 +68,7 @@ total_same a b (suc n) h =
 pub sent_same : (f g : Fields) (k : ℕ) → ((i : ℕ) → i < k → f.checkpoint i ≡ g.checkpoint i) → sent_below f k ≡ sent_below g k
 sent_same f g k h = total_same _ _ k (λ i less. ap (λ (x : CheckpointFields). x.output) (h i less))
 
--- the page numbers of a checkpoint of version 1
+-- the page ids of a checkpoint of version 1
 pub numbers_same : (pages offset : ℕ) (m n : ℕ → ℕ) → ((j : ℕ) → j < PLACES → m j ≡ n j)
     → first_broken (each PLACES (page_number_rules pages offset m)) ≡ first_broken (each PLACES (page_number_rules pages offset n))
 numbers_same pages offset m n h =
@@ -91,7 +91,7 @@ changes_same pages offset n s t a b stands same =
 mixed : Fields → Fields → Fields
 mixed f g = record g { event = f.event; start = f.start; checkpoint = f.checkpoint; change = f.change; page_number = f.page_number }
 
--- the header looks at two places
+-- the header looks at two fields
 header_at : Fields → ℕ → List (Rule Fault)
 header_at g long =
     ((nat_le HEADER_LEN g.long, fault.Short g.long)

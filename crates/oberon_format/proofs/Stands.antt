@@ -1,4 +1,4 @@
--- Bytes that stand in a text from a place on.
+-- Bytes at an offset of a file.
 use Rattle.std.proofs.Common.{◌≡◌, ◌<◌, ◌+◌, ◌-◌, ◌*◌, ◌^◌, ◌∙◌, ℕ, zero, suc, List, [], ◌∷◌, ◌++◌, length, drop, get_or, refl, sym, ap, subst, arith, add-zero, zero-add, append_assoc, length-append}
 use Rattle.std.specs.Prelude.{All, slice_range}
 use Rattle.std.specs.List.{flat_map}
@@ -16,7 +16,7 @@ use Rattle.oberon_format.specs.inner.Offsets.{AreWords, EachAt}
 abbrev pub AreWide : List ℕ → Type 0
 AreWide xs = All (λ x. x < 2 ^ 32) xs
 
--- these bytes stand in the text at a place
+-- these bytes are in the file at an offset
 pub record Stands (text : List ℕ) (offset : ℕ) (bytes : List ℕ) : Type 0 where
   pub front : List ℕ
   pub back : List ℕ
@@ -42,7 +42,7 @@ stands_right text offset n xs ys s e = record {
   here = omega (arith, length-append s.front xs, s.here, e);
 }
 
--- from one place of a part to another
+-- from one offset of a part to another
 pub stands_behind : (text : List ℕ) (offset from to : ℕ) (xs ys : List ℕ) → Stands text (offset + from) (xs ++ ys) → from + length xs ≡ to → Stands text (offset + to) ys
 stands_behind text offset from to xs ys s e =
     let at : offset + from + length xs ≡ offset + to = omega arith in
@@ -108,11 +108,11 @@ words_stand text offset xs wide s i d h =
 pub length-words_bytes : (xs : List ℕ) → length (words_bytes xs) ≡ 4 * length xs
 length-words_bytes xs = length-flat_map word_bytes 4 xs (λ k e lt. length-word_bytes (get_or xs k e))
 
--- each place is as far behind the one before as these checkpoints are long
+-- each offset is the one before plus the length of that checkpoint
 abbrev pub AreSpaced : (ℕ → ℕ) → ℕ → List ℕ → List CheckpointParts → Type 0
 AreSpaced offset v before cs = (k : ℕ) → k < length cs → offset (suc k) ≡ offset k + length (bytes_at v before cs k)
 
--- so are the places of all but the first
+-- so are the offsets of all but the first
 spaced_on : (offset : ℕ → ℕ) (v : ℕ) (before : List ℕ) (c : CheckpointParts) (cs : List CheckpointParts) → AreSpaced offset v before (c ∷ cs) → AreSpaced (λ i. offset (suc i)) v c.table cs
 spaced_on offset v before c cs next i lt = next (suc i) (omega arith) ∙ ap (λ (l : List ℕ). offset (suc i) + length l) (bytes_at-next v before c cs i)
 

@@ -1,4 +1,4 @@
--- Tables as their changes are made in place.
+-- A table while its changes are made in place.
 use Rattle.std.proofs.Common.{◌≡◌, ◌≢◌, ◌<◌, ◌≤◌, ◌+◌, ◌∙◌, ℕ, Bool, true, false, ◌&&◌, List, length, refl, sym, ap, arith, get_or, set, get_or-set_same, get_or-set_other, eq-eqb}
 use Rattle.std.specs.Prelude.{◌==◌, nat_le, nat_lt, not, slice_index, slice_set}
 use Rattle.std.proofs.lemmas.Bool.{eqb-true, leb-true, ltb-true}
@@ -29,7 +29,7 @@ pub change_made : (change : ℕ → Change) (stood : ℕ → ℕ) (n : ℕ) (tab
     → HasNumbers (slice_set table (change n).place (change n).number) (number_after change stood (n + 1))
 change_made change stood n table len inside was p lt = change_made_at change stood n table p len inside (was p lt) ((change n).place == p) refl
 
--- a change is lawful or not by what stands at its place, if that is one that it may have
+-- whether a change is lawful depends on the page id in its slot, if that is a slot that it may have
 by_place : (a b x y : Bool) → (a ≡ true → x ≡ y) → (a && b && x) ≡ (a && b && y)
 by_place true b x y same = ap (λ (z : Bool). b && z) (same refl)
 by_place false b x y same = refl
@@ -39,7 +39,7 @@ change_same pages floor s t change same =
     by_place (nat_le floor change.place && nat_lt change.place PLACES) (nat_le change.number pages) (not (change.number == s change.place)) (not (change.number == t change.place))
     (λ here. ap (λ (n : ℕ). not (change.number == n)) (same change.place (leb-true _ _ (and_left _ _ here)) (ltb-true _ _ (and_right _ _ here))))
 
--- as it is tested in a table in which the changes before it are made
+-- it is tested in a table in which the changes before it are made
 pub change_tested : (pages floor i : ℕ) (stood now : ℕ → ℕ) (change : ℕ → Change) (read : Change) → read ≡ change i → floor ≡ place_floor change i
     → ((p : ℕ) → floor ≤ p → p < PLACES → now p ≡ stood p) → is_change pages floor now read ≡ is_change pages (place_floor change i) stood (change i)
 change_tested pages floor i stood now change read same at rest =
@@ -47,14 +47,14 @@ change_tested pages floor i stood now change read same at rest =
     ∙ change_same pages floor now stood (change i) rest
     ∙ ap (λ (n : ℕ). is_change pages n stood (change i)) at
 
--- the place of a lawful change rises, and is one of the table's
+-- the slot of a lawful change rises, and is one of the table's
 pub change_rises : (pages floor : ℕ) (stood : ℕ → ℕ) (change : Change) → is_change pages floor stood change ≡ true → floor ≤ change.place
 change_rises pages floor stood change is = leb-true _ _ (and_left _ _ (and_left _ _ (and_left _ _ is)))
 
 pub change_inside : (pages floor : ℕ) (stood : ℕ → ℕ) (change : Change) → is_change pages floor stood change ≡ true → change.place < PLACES
 change_inside pages floor stood change is = ltb-true _ _ (and_right _ _ (and_left _ _ (and_left _ _ is)))
 
--- its number is that of a page, and another one stood there
+-- its page id is that of a page, and another one was there
 pub change_named : (pages floor : ℕ) (stood : ℕ → ℕ) (change : Change) → is_change pages floor stood change ≡ true → change.number ≤ pages
 change_named pages floor stood change is = leb-true _ _ (and_right _ _ (and_left _ _ is))
 

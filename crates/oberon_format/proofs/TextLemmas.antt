@@ -1,4 +1,4 @@
--- The rules of a checkpoint of a text, over its fields and its table as they are read.
+-- The rules of a checkpoint of a file, over its fields and its table as they are read.
 use Rattle.std.proofs.Common.{◌≡◌, ◌<◌, ◌≤◌, ◌+◌, ◌∙◌, ℕ, zero, suc, Bool, true, false, List, ◌∷◌, ◌++◌, length, Some, None, refl, sym, ap}
 use Rattle.std.specs.Prelude.{nat_le, slice_index, ◌==◌, if◌then◌else◌}
 use Rattle.std.proofs.lemmas.Bool.{le-leb, lt-leb}
@@ -21,7 +21,7 @@ use Rattle.oberon_format.proofs.RuleLemmas.{ChangedMet, met-append, broken-appen
 use Rattle.oberon_format.proofs.SameFields.{changes_same}
 use Rattle.oberon_format.proofs.Tables.{change_inside}
 
--- the rules of the fields of checkpoint k of a text
+-- the rules of the fields of checkpoint k of a file
 abbrev pub rules_of_fields : List ℕ → ℕ → List (Rule Fault)
 rules_of_fields text k = field_rules (start text k) k (count_before (fields_of text) k) (sent_below (fields_of text) k) (checkpoint_of text (start text k))
 
@@ -34,7 +34,7 @@ fields_read text k offset before sent c at b s same =
     ∙ ap (λ (x : ℕ). first_broken (field_rules (start text k) k x sent (checkpoint_of text (start text k)))) b
     ∙ ap (λ (x : ℕ). first_broken (field_rules (start text k) k (count_before (fields_of text) k) x (checkpoint_of text (start text k)))) s
 
--- a checkpoint of version 1: a fault of its fields, and else the first of its page numbers
+-- a checkpoint of version 1: a fault of its fields, and else the first of its page ids
 pub whole_fields : (text : List ℕ) (k : ℕ) (g : Fault) → version text ≡ FIRST_VERSION → first_broken (rules_of_fields text k) ≡ Some g → first_broken (checkpoint_rules (fields_of text) k) ≡ Some g
 whole_fields text k g is broken =
     ap (λ (xs : List (Rule Fault)). first_broken xs) (rules_whole (fields_of text) k is)
@@ -50,14 +50,14 @@ whole_numbers text k number offset is count at met =
     ∙ ap (λ (p : ℕ). first_broken (each PLACES (page_number_rules (pages text) p (λ j. word_at text (page_number_offset p j))))) (sym at)
     ∙ ap (λ (n : ℕ). first_broken (each PLACES (page_number_rules n offset (λ j. word_at text (page_number_offset offset j))))) (sym count)
 
--- a word behind the front of a checkpoint, by the version
+-- a word after the common fields of a checkpoint, by the version
 pub later_first : (text : List ℕ) (offset : ℕ) → version text ≡ FIRST_VERSION → later_word text offset ≡ 0
 later_first text offset is = rw (is_first (version text) is) refl
 
 pub later_second : (text : List ℕ) (offset : ℕ) → version text ≡ VERSION → later_word text offset ≡ word_at text offset
 later_second text offset is = rw (is_later (version text) is) refl
 
--- the page numbers of a checkpoint, by the test of the version
+-- the page ids of a checkpoint, by the test of the version
 pub number_where : (text : List ℕ) (k p : ℕ) → (version text == FIRST_VERSION) ≡ true → page_number_of text k p ≡ word_at text (page_number_offset (start text k) p)
 number_where text k p test = rw test refl
 
@@ -76,17 +76,17 @@ pub numbers_none : (text : List ℕ) → HasNumbers zero_numbers (number_before 
 unfolding number_before
 numbers_none text p lt = zero_number p
 
--- what stood before checkpoint 0
+-- the table before checkpoint 0
 pub stood_none : (f : Fields) → HasNumbers zero_numbers (stood f 0)
 stood_none f p lt = zero_number p
 
--- what stood before checkpoint k of version 2
+-- the table before checkpoint k of version 2
 pub stood_is : (text : List ℕ) (k p : ℕ) → version text ≡ VERSION → stood (fields_of text) k p ≡ number_before text k p
 unfolding number_before
 stood_is text zero p is = refl
 stood_is text (suc k) p is = stood_more (fields_of text) k p ∙ number_second text k p is
 
--- the changes of a checkpoint of version 2 of a text
+-- the changes of a checkpoint of version 2 of a file
 abbrev pub rules_of_changes : List ℕ → ℕ → List (Rule Fault)
 rules_of_changes text k = each (change_count text (start text k)) (change_rules (pages text) (start text k) (stood (fields_of text) k) (change_of text (start text k)))
 

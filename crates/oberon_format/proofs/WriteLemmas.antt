@@ -1,4 +1,4 @@
--- What is written of a list, member by member.
+-- What is written for a list, member by member.
 use Rattle.std.proofs.Common.{◌≡◌, ◌≢◌, ◌<◌, ◌≤◌, ◌+◌, ◌∙◌, ℕ, zero, suc, List, [], ◌∷◌, ◌++◌, length, map, take, get_or, sym, ap, arith, add-one, append-nil, append_assoc, length-append}
 use Rattle.std.specs.Prelude.{slice_index}
 use Rattle.std.specs.List.{flat_map}
@@ -39,7 +39,7 @@ checkpoints_more v before (c ∷ cs) (suc k) lt =
     ∙ sym (append_assoc first so_far (bytes_at v c.table cs k))
     ∙ ap (λ (l : List ℕ). first ++ so_far ++ l) (sym (bytes_at-next v before c cs k))
 
--- the bytes of the changes of one place more, where the tables agree in it and where they don't
+-- the bytes of the changes of one slot more, if the tables agree in it and if they differ
 pub changes_skipped : (before table start out : List ℕ) (p : ℕ) → slice_index before p ≡ slice_index table p → out ≡ start ++ flat_map change_bytes (changes_below p before table)
     → out ≡ start ++ flat_map change_bytes (changes_below (p + 1) before table)
 changes_skipped before table start out p same so_far =
@@ -53,7 +53,7 @@ changes_next before table start out more p other so_far now =
     now ∙ ap (λ (l : List ℕ). l ++ change_bytes here) so_far ∙ flat_map_more change_bytes start below here
     ∙ ap (λ (cs : List Change). start ++ flat_map change_bytes cs) (sym (below_grows p before table other))
 
--- checkpoint k, as Rust has it and as parts
+-- checkpoint k, as a Rust value and as parts
 written_at : (r : RecordingParts) (cs : List Checkpoint) (k : ℕ) (c : Checkpoint) → map checkpoint_parts cs ≡ r.checkpoints → k < length cs → c ≡ get_or cs k c → checkpoint_parts c ≡ checkpoint_at r k
 written_at r cs k c same lt is = sym (checkpoint_at-is cs k c lt is) ∙ ap (λ (l : List CheckpointParts). get_or l k no_checkpoint) same
 
@@ -68,7 +68,7 @@ written_laid r cs k c before same lt is b =
     ∙ ap (λ (t : List ℕ). start_laid VERSION r k + checkpoint_size VERSION (length (changes t (checkpoint_at r k).table))) (sym before_is)
     ∙ ap (λ (t : List ℕ). start_laid VERSION r k + checkpoint_size VERSION (length (changes before t))) (sym table)
 
--- page number p + 1 is page p of the pool
+-- page id p + 1 is that of page p of the pool
 pub next_page : (pool : List (List ℕ)) (p : ℕ) → page_of pool (p + 1) ≡ get_or pool p zero_page
 unfolding page_of
 next_page pool p = grind (arith, nat_tests)

@@ -8,7 +8,7 @@ use Rattle.oberon_format.specs.Recording.{parts_of}
 use Rattle.oberon_format.specs.Rules.{checkpoint_rules, count_before}
 use Rattle.oberon_format.proofs.parts.checkpoints_fault.Given as goal
 
--- the checkpoints so far meet their rules, and what the next one is tested with is that of the parts
+-- the checkpoints so far meet their rules, and the next one is tested with the parts' own numbers
 abbrev pub invariant-loop-k : goal.invariant-loop-k
 invariant-loop-k l = record {
   met : first_broken (each l.k (checkpoint_rules (fields_laid VERSION (parts_of l.pool l.inputs l.checkpoints)))) ≡ None;
