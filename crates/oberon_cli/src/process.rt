@@ -24,7 +24,7 @@ pub fn process_words<H: AllocGlobal + Env>(rt: &H) -> Result<Vec<String>, Failur
     )
 }
 
-/// Why the process has no arguments: an allocation failed; or anything else, for example an argument that is not UTF-8, which
+/// Returns why the process has no arguments: an allocation failed; or anything else, for example an argument that is not UTF-8, which
 /// refuses the arguments.
 fn failure_of(kind: ErrorKind) -> Failure
     ensures memory { kind ≡ ErrorKind.OutOfMemory → result ≡ Failure.Memory }

@@ -14,7 +14,7 @@ use std::thread::Threads;
 /// The line of the stored run.
 const LINE: &[u8] = b"accepted 1 checkpoints 100 steps\n";
 
-/// Returns its bytes, at most a thousand a call. The call after a number of calls fails, and no other.
+/// A reader that returns at most a thousand bytes a call. The call after a number of calls fails, and no other.
 #[derive(Drop)]
 struct Failing<'a> {
     rest: &'a [u8],
@@ -34,7 +34,7 @@ impl Read for Failing<'_> {
     }
 }
 
-/// Returns its bytes, one a call.
+/// A reader that returns one byte a call.
 #[derive(Drop)]
 struct Dripping<'a> {
     rest: &'a [u8],
@@ -47,7 +47,7 @@ impl Read for Dripping<'_> {
     }
 }
 
-/// Returns zeros without end, and counts them.
+/// A reader that returns zeros without end, and counts them.
 #[derive(Drop)]
 struct Endless {
     given: u64,
@@ -90,7 +90,7 @@ impl Refusal {
     }
 }
 
-/// Takes one byte a call. The call after a number of calls is refused, and no other; each flush is refused if it is to be.
+/// A writer that takes one byte a call. The call after a number of calls is refused, and no other; each flush is refused if it is to be.
 #[derive(Drop)]
 struct Narrow {
     taken: Vec<u8>,
