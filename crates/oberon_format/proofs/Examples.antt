@@ -13,7 +13,7 @@ use Rattle.oberon_format.specs.CheckpointParts.{no_checkpoint}
 use Rattle.oberon_format.specs.Fields.{Fields, total}
 use Rattle.oberon_format.specs.FirstFault.{first_broken, each}
 use Rattle.oberon_format.specs.Layout.{word_at, long_at, event_start, page_number_offset, change_offset, checkpoint_size, start}
-use Rattle.oberon_format.specs.PartFields.{checkpoint_fields, no_event, start_laid, fault_of_parts}
+use Rattle.oberon_format.specs.PartFields.{checkpoint_fields, no_event, start_in, fault_of_parts}
 use Rattle.oberon_format.specs.Ranges.{is_count, is_output, is_event, are_keys}
 use Rattle.oberon_format.specs.Rules.{rules, checkpoint_rules, page_number_rules, change_rules, end_rules}
 use Rattle.oberon_format.specs.Encoding.{word_bytes, long_bytes}
@@ -221,7 +221,7 @@ changes-between = refl
 
 -- parts without a checkpoint, and with a first one at count 7
 no-parts : fault_of_parts (record { pool = []; inputs = []; checkpoints = [] }) ≡ Some (fault.Limit 16)
-unfolding rules start_laid
+unfolding rules start_in
 no-parts = refl
 
 parts-at-seven :
@@ -230,7 +230,7 @@ parts-at-seven :
       inputs = [];
       checkpoints = record { count = 7; cpu = no_checkpoint.cpu; devices = no_checkpoint.devices; sent = []; table = replicate 1024 0 } ∷ [];
     }) ≡ Some (fault.Checkpoint 24)
-unfolding rules start_laid each total checkpoint_rules changes_below zero_numbers is_phase
+unfolding rules start_in each total checkpoint_rules changes_below zero_numbers is_phase
 parts-at-seven = refl
 
 -- ranges

@@ -20,7 +20,7 @@ pub mod Agree
 pub mod LawfulLemmas
 pub mod ReadLemmas
 pub mod WriteLemmas
-pub mod Stands
+pub mod HasBytes
 pub mod Encoded
 pub mod Back
 pub mod One

@@ -15,10 +15,10 @@ use Rattle.oberon_format.specs.Fields.{EventFields, Fields, sent_below, total}
 use Rattle.oberon_format.specs.FirstFault.{Rule, each, first_broken}
 use Rattle.oberon_format.specs.Layout.{event_start, page_number_offset, change_offset}
 use Rattle.oberon_format.specs.Ranges.{is_change, is_checkpoint, is_event, is_version}
-use Rattle.oberon_format.specs.Rules.{change_rules, changed_rules, checkpoint_rules, count_before, end_rules, event_floor, event_rules, header_rules, named_len, page_number_rules, place_floor, offset_of_event, rules, stood, whole, whole_rules}
+use Rattle.oberon_format.specs.Rules.{change_rules, changed_rules, checkpoint_rules, count_before, end_rules, event_floor, event_rules, header_rules, named_len, page_number_rules, place_floor, offset_of_event, rules, prior_number, whole, whole_rules}
 use Rattle.oberon_format.proofs.RuleLemmas.{and_left, and_right, met_left, met_right, rule_holds}
-use Rattle.oberon_format.proofs.SameFields.{before_same, sent_same, stood_same}
-use Rattle.oberon_format.proofs.SameRules.{both_pass, each_same, same_after, same_behind, same_rule, too_long}
+use Rattle.oberon_format.proofs.SameFields.{before_same, sent_same, prior_same}
+use Rattle.oberon_format.proofs.SameRules.{both_pass, each_same, same_after, same_after_prefix, same_rule, too_long}
 use Rattle.oberon_format.proofs.Tables.{change_same}
 
 -- counts of pages, events and checkpoints within their limits
@@ -103,19 +103,19 @@ module _ (first version pages events checkpoints last : ℕ) where
 
     -- the rules of the changes of one of version 2
     changes_same : (k : ℕ) → AgreeBelow k → AgreeAt k → (checkpoint k).changes ≤ PLACES
-        → each (checkpoint k).changes (change_rules pages (start k) (stood f k) (change k))
-        ≡ each (checkpoint' k).changes (change_rules pages (start' k) (stood g k) (change' k))
+        → each (checkpoint k).changes (change_rules pages (start k) (prior_number f k) (change k))
+        ≡ each (checkpoint' k).changes (change_rules pages (start' k) (prior_number g k) (change' k))
     changes_same k below here few =
-        each_same (checkpoint k).changes (change_rules pages (start k) (stood f k) (change k)) (change_rules pages (start' k) (stood g k) (change' k))
+        each_same (checkpoint k).changes (change_rules pages (start k) (prior_number f k) (change k)) (change_rules pages (start' k) (prior_number g k) (change' k))
         (λ i less.
         let one : change k i ≡ change' k i = here.of_changes few i less in
         let floor : place_floor (change k) i ≡ place_floor (change' k) i =
         ap (λ (c : Change). if i == 0 then 0 else c.place + 1) (here.of_changes few (i - 1) (omega arith)) in
-        let lawful : is_change pages (place_floor (change k) i) (stood f k) (change k i) ≡ is_change pages (place_floor (change' k) i) (stood g k) (change' k i) =
-        change_same pages (place_floor (change k) i) (stood f k) (stood g k) (change k i) (λ p low inside. stood_same f g k p (λ j under. below.of_numbers j p under inside))
-        ∙ ap₂ (λ (n : ℕ) (c : Change). is_change pages n (stood g k) c) floor one in
+        let lawful : is_change pages (place_floor (change k) i) (prior_number f k) (change k i) ≡ is_change pages (place_floor (change' k) i) (prior_number g k) (change' k i) =
+        change_same pages (place_floor (change k) i) (prior_number f k) (prior_number g k) (change k i) (λ p low inside. prior_same f g k p (λ j under. below.of_numbers j p under inside))
+        ∙ ap₂ (λ (n : ℕ) (c : Change). is_change pages n (prior_number g k) c) floor one in
         ap₂ (λ (holds : Bool) (offset : ℕ). (holds, fault.Page (change_offset offset i)) ∷ []) lawful below.place)
-        ∙ ap (λ (c : CheckpointFields). each c.changes (change_rules pages (start' k) (stood g k) (change' k))) here.of_checkpoint
+        ∙ ap (λ (c : CheckpointFields). each c.changes (change_rules pages (start' k) (prior_number g k) (change' k))) here.of_checkpoint
 
     module _ (few : AreFew pages events checkpoints) (over : LONGEST_TEXT < long) (over' : LONGEST_TEXT < long') where
       -- the rules of a checkpoint of version 2
@@ -126,8 +126,8 @@ module _ (first version pages events checkpoints last : ℕ) where
           let few_checkpoints = few.of_checkpoints in
           let offset = below.place in
           let near = below.near in
-          let rows = each (checkpoint k).changes (change_rules pages (start k) (stood f k) (change k)) in
-          let rows' = each (checkpoint' k).changes (change_rules pages (start' k) (stood g k) (change' k)) in
+          let rows = each (checkpoint k).changes (change_rules pages (start k) (prior_number f k) (change k)) in
+          let rows' = each (checkpoint' k).changes (change_rules pages (start' k) (prior_number g k) (change' k)) in
           let ends = (nat_le (start (suc k)) long, fault.Short long) ∷ rows in
           let ends' = (nat_le (start' (suc k)) long', fault.Short long') ∷ rows' in
           let holds = is_checkpoint k (count_before f k) (sent_below f k) (checkpoint k) in
@@ -166,7 +166,7 @@ module _ (first version pages events checkpoints last : ℕ) where
               let numbers = each PLACES (page_number_rules pages (start k) (number k)) in
               (rule_holds (is_checkpoint k (count_before f k) (sent_below f k) (checkpoint k)) (fault.Checkpoint (start k)) numbers met).0
           go false met =
-              let ends = (nat_le (start (suc k)) long, fault.Short long) ∷ each (checkpoint k).changes (change_rules pages (start k) (stood f k) (change k)) in
+              let ends = (nat_le (start (suc k)) long, fault.Short long) ∷ each (checkpoint k).changes (change_rules pages (start k) (prior_number f k) (change k)) in
               let ranges = (is_checkpoint k (count_before f k) (sent_below f k) (checkpoint k), fault.Checkpoint (start k)) ∷ ends in
               (rule_holds (is_checkpoint k (count_before f k) (sent_below f k) (checkpoint k)) (fault.Checkpoint (start k)) ends
               (rule_holds (nat_le (start k + CHANGES_AT) long) (fault.Short long) ranges met).1).0
@@ -213,7 +213,7 @@ module _ (first version pages events checkpoints last : ℕ) where
         unfolding each
         checkpoints_same zero le = refl
         checkpoints_same (suc k) le =
-            same_behind (each k (checkpoint_rules f)) (each k (checkpoint_rules g)) (checkpoint_rules f k) (checkpoint_rules g k)
+            same_after_prefix (each k (checkpoint_rules f)) (each k (checkpoint_rules g)) (checkpoint_rules f k) (checkpoint_rules g k)
             (checkpoints_same k (omega arith)) (λ met.
             let below = met_agree k (omega arith) met in
             checkpoint_same k (omega arith) below (each_here k (omega arith) below))
@@ -241,10 +241,10 @@ module _ (first version pages events checkpoints last : ℕ) where
             ≡ first_broken (each events (event_rules g) ++ (each checkpoints (checkpoint_rules g) ++ end_rules g))
         tail_same same =
             let events_same = each_same events (event_rules f) (event_rules g) (λ i below. event_same i below same) in
-            same_behind (each events (event_rules f)) (each events (event_rules g))
+            same_after_prefix (each events (event_rules f)) (each events (event_rules g))
             (each checkpoints (checkpoint_rules f) ++ end_rules f) (each checkpoints (checkpoint_rules g) ++ end_rules g)
             (ap first_broken events_same) (λ _.
-            same_behind (each checkpoints (checkpoint_rules f)) (each checkpoints (checkpoint_rules g)) (end_rules f) (end_rules g)
+            same_after_prefix (each checkpoints (checkpoint_rules f)) (each checkpoints (checkpoint_rules g)) (end_rules f) (end_rules g)
             (checkpoints_same checkpoints (omega arith)) (λ met. end_same (met_agree checkpoints (omega arith) met)))
 
     -- what agrees if the header has counts within the limits

@@ -23,8 +23,8 @@ use Rattle.oberon_format.specs.Layout.{version, page_offset, event_offset, chang
 use Rattle.oberon_format.specs.Ranges.{is_version}
 use Rattle.oberon_format.specs.Recording.{RecordingParts, IsFit, checkpoint_at, table_before, output_of}
 use Rattle.oberon_format.specs.Text.{TextIn, Text}
-use Rattle.oberon_format.specs.inner.Offsets.{AreWords, IsEvent, IsCpu, IsDevices, IsWhole, IsChange, IsChanged, IsCheckpoint, IsLaidOut}
-use Rattle.oberon_format.proofs.Encoded.{laid}
+use Rattle.oberon_format.specs.inner.Offsets.{AreWords, IsEvent, IsCpu, IsDevices, IsWhole, IsChange, IsChanged, IsCheckpoint, HasFieldsOf}
+use Rattle.oberon_format.proofs.Encoded.{encoded_fields}
 use Rattle.oberon_format.proofs.ChangeLemmas.{changes-make}
 use Rattle.oberon_format.proofs.RuleLemmas.{version_cases}
 
@@ -153,11 +153,11 @@ table_before-next cs k =
 checkpoint_same : (v : ℕ) (text : List ℕ) (r s : RecordingParts) → TextIn v text r → TextIn v text s
     → ((i : ℕ) → i < length r.checkpoints → (checkpoint_at r i).sent ≡ (checkpoint_at s i).sent) → (i : ℕ) → i < length r.checkpoints → checkpoint_at r i ≡ checkpoint_at s i
 checkpoint_same v text r s a b sent i lt = go i lt where
-  x : IsLaidOut v text r
-  x = laid v text r a
+  x : HasFieldsOf v text r
+  x = encoded_fields v text r a
 
-  y : IsLaidOut v text s
-  y = laid v text s b
+  y : HasFieldsOf v text s
+  y = encoded_fields v text s b
 
   len : length r.checkpoints ≡ length s.checkpoints
   len = sym x.checkpoint_count ∙ y.checkpoint_count
@@ -166,7 +166,7 @@ checkpoint_same v text r s a b sent i lt = go i lt where
   after_one k less before =
       let here = len in
       same_checkpoint v text (start text k) (table_before s.checkpoints k) r.pool s.pool (checkpoint_at r k) (checkpoint_at s k) x.known (a.lawful.fit k less) (b.lawful.fit k (omega arith)) (sent k less)
-      (subst (λ (t : List ℕ). IsCheckpoint v text (start text k) t (checkpoint_at r k)) before (x.checkpoints_stand k no_checkpoint less)) (y.checkpoints_stand k no_checkpoint (omega arith))
+      (subst (λ (t : List ℕ). IsCheckpoint v text (start text k) t (checkpoint_at r k)) before (x.checkpoints_are_at k no_checkpoint less)) (y.checkpoints_are_at k no_checkpoint (omega arith))
 
   go : (k : ℕ) → k < length r.checkpoints → checkpoint_at r k ≡ checkpoint_at s k
   go zero less = after_one zero less refl
@@ -177,13 +177,13 @@ checkpoint_same v text r s a b sent i lt = go i lt where
 -- so all checkpoints are equal
 checkpoints_same : (v : ℕ) (text : List ℕ) (r s : RecordingParts) → TextIn v text r → TextIn v text s → r.checkpoints ≡ s.checkpoints
 checkpoints_same v text r s a b =
-    let x = laid v text r a in
-    let y = laid v text s b in
+    let x = encoded_fields v text r a in
+    let y = encoded_fields v text s b in
     let len : length r.checkpoints ≡ length s.checkpoints = sym x.checkpoint_count ∙ y.checkpoint_count in
-    let stands_r = x.checkpoints_stand in
-    let stands_s = y.checkpoints_stand in
+    let at_r = x.checkpoints_are_at in
+    let at_s = y.checkpoints_are_at in
     let lengths : (i : ℕ) → i < length r.checkpoints → length (checkpoint_at r i).sent ≡ length (checkpoint_at s i).sent =
-    λ i lt. sym (stands_r i no_checkpoint lt).front.sent ∙ (stands_s i no_checkpoint (omega arith)).front.sent in
+    λ i lt. sym (at_r i no_checkpoint lt).front.sent ∙ (at_s i no_checkpoint (omega arith)).front.sent in
     let sent = same_sent r.checkpoints s.checkpoints len lengths (sym x.output ∙ y.output) in
     let each = checkpoint_same v text r s a b sent in
     same_lists r.checkpoints s.checkpoints len (λ i d lt. get_or_default r.checkpoints i d no_checkpoint lt ∙ each i lt ∙ get_or_default s.checkpoints i no_checkpoint d (omega arith))
@@ -191,20 +191,20 @@ checkpoints_same v text r s a b =
 -- a file is that of one recording in a version
 same_in : (v : ℕ) (text : List ℕ) (r s : RecordingParts) → TextIn v text r → TextIn v text s → r ≡ s
 same_in v text r s a b =
-    let x = laid v text r a in
-    let y = laid v text s b in
+    let x = encoded_fields v text r a in
+    let y = encoded_fields v text s b in
     let pages_len : length r.pool ≡ length s.pool = sym x.page_count ∙ y.page_count in
     let pool : r.pool ≡ s.pool = same_lists r.pool s.pool pages_len (λ i d lt.
-    same_words text (page_offset i) (get_or r.pool i d) (get_or s.pool i d) ((a.lawful.pool i d lt).whole ∙ sym (b.lawful.pool i d (omega arith)).whole) (x.pages_stand i d lt) (y.pages_stand i d (omega arith))) in
+    same_words text (page_offset i) (get_or r.pool i d) (get_or s.pool i d) ((a.lawful.pool i d lt).whole ∙ sym (b.lawful.pool i d (omega arith)).whole) (x.pages_are_at i d lt) (y.pages_are_at i d (omega arith))) in
     let events_len : length r.inputs ≡ length s.inputs = sym x.event_count ∙ y.event_count in
     let inputs : r.inputs ≡ s.inputs = same_lists r.inputs s.inputs events_len (λ i d lt.
-    same_event_at text (event_offset text i) (get_or r.inputs i d) (get_or s.inputs i d) (x.events_stand i d lt) (y.events_stand i d (omega arith))) in
+    same_event_at text (event_offset text i) (get_or r.inputs i d) (get_or s.inputs i d) (x.events_are_at i d lt) (y.events_are_at i d (omega arith))) in
     let checkpoints = checkpoints_same v text r s a b in
     λ i. record { pool = pool i; inputs = inputs i; checkpoints = checkpoints i }
 
 -- the version of a file is its own
 pub in_version : (v : ℕ) (text : List ℕ) (r : RecordingParts) → version text ≡ v → Text text r → TextIn v text r
-in_version v text r is some = subst (λ (w : ℕ). TextIn w text r) (sym (laid some.version text r some.is).version ∙ is) some.is
+in_version v text r is some = subst (λ (w : ℕ). TextIn w text r) (sym (encoded_fields some.version text r some.is).version ∙ is) some.is
 
 -- a file is that of one recording
 pub same_recording : (text : List ℕ) (r s : RecordingParts) → Text text r → Text text s → r ≡ s

@@ -104,8 +104,8 @@ checkpoint_there text k meets lt =
     let all = output_there text meets in
     omega arith
 
-pub front_there : (text : List ℕ) (k : ℕ) → Meets text → k < checkpoints text → start text k + CHANGES_AT ≤ length text
-front_there text k meets lt =
+pub common_there : (text : List ℕ) (k : ℕ) → Meets text → k < checkpoints text → start text k + CHANGES_AT ≤ length text
+common_there text k meets lt =
     let all = checkpoint_there text k meets lt in
     let least = size_least (version text) (change_count text (start text k)) in
     omega arith

@@ -20,9 +20,9 @@ same_rule holds holds' fault fault' p q is names same =
     same_after holds fault p q same ∙ ap₂ (λ (b : Bool) (f : Fault). first_broken ((b, f) ∷ q)) is names
 
 -- the rules after some that have one first fault
-pub same_behind : (front front' p q : List (Rule Fault)) → first_broken front ≡ first_broken front' → (first_broken front ≡ None → first_broken p ≡ first_broken q)
+pub same_after_prefix : (front front' p q : List (Rule Fault)) → first_broken front ≡ first_broken front' → (first_broken front ≡ None → first_broken p ≡ first_broken q)
     → first_broken (front ++ p) ≡ first_broken (front' ++ q)
-same_behind front front' p q same rest = go (first_broken front) refl (sym same)
+same_after_prefix front front' p q same rest = go (first_broken front) refl (sym same)
   where
     go : (o : Option Fault) → first_broken front ≡ o → first_broken front' ≡ first_broken front → first_broken (front ++ p) ≡ first_broken (front' ++ q)
     go None a b = met-append front p a ∙ rest a ∙ sym (met-append front' q (b ∙ a))

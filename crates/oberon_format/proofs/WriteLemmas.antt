@@ -11,11 +11,11 @@ use Rattle.oberon_format.specs.declared.layout.TheConstants.{VERSION}
 use Rattle.oberon_format.specs.Changes.{changes, changes_below}
 use Rattle.oberon_format.specs.CheckpointParts.{CheckpointParts, checkpoint_parts, no_checkpoint}
 use Rattle.oberon_format.specs.Layout.{checkpoint_size}
-use Rattle.oberon_format.specs.PartFields.{start_laid}
+use Rattle.oberon_format.specs.PartFields.{start_in}
 use Rattle.oberon_format.specs.Recording.{RecordingParts, checkpoint_at, table_before, output_of}
 use Rattle.oberon_format.specs.Encoding.{change_bytes, checkpoint_bytes, checkpoints_bytes}
 use Rattle.oberon_format.proofs.CheckpointLemmas.{checkpoint_at-is}
-use Rattle.oberon_format.proofs.PartLemmas.{laid_next}
+use Rattle.oberon_format.proofs.PartLemmas.{start_in_next}
 use Rattle.oberon_format.proofs.Places.{bytes_at, bytes_at-next}
 use Rattle.oberon_format.proofs.Walk.{below_stays, below_grows}
 
@@ -58,15 +58,15 @@ written_at : (r : RecordingParts) (cs : List Checkpoint) (k : ℕ) (c : Checkpoi
 written_at r cs k c same lt is = sym (checkpoint_at-is cs k c lt is) ∙ ap (λ (l : List CheckpointParts). get_or l k no_checkpoint) same
 
 -- the length of one checkpoint more
-pub written_laid : (r : RecordingParts) (cs : List Checkpoint) (k : ℕ) (c : Checkpoint) (before : List ℕ) → map checkpoint_parts cs ≡ r.checkpoints → k < length cs → c ≡ get_or cs k c
-    → before ≡ table_before (map checkpoint_parts cs) k → start_laid VERSION r (k + 1) ≡ start_laid VERSION r k + checkpoint_size VERSION (length (changes before c.table))
-written_laid r cs k c before same lt is b =
+pub written_encoded : (r : RecordingParts) (cs : List Checkpoint) (k : ℕ) (c : Checkpoint) (before : List ℕ) → map checkpoint_parts cs ≡ r.checkpoints → k < length cs → c ≡ get_or cs k c
+    → before ≡ table_before (map checkpoint_parts cs) k → start_in VERSION r (k + 1) ≡ start_in VERSION r k + checkpoint_size VERSION (length (changes before c.table))
+written_encoded r cs k c before same lt is b =
     let at : checkpoint_parts c ≡ checkpoint_at r k = written_at r cs k c same lt is in
     let table : c.table ≡ (checkpoint_at r k).table = ap (λ (x : CheckpointParts). x.table) at in
     let before_is : before ≡ table_before r.checkpoints k = b ∙ ap (λ (l : List CheckpointParts). table_before l k) same in
-    ap (start_laid VERSION r) (add-one k) ∙ laid_next VERSION r k
-    ∙ ap (λ (t : List ℕ). start_laid VERSION r k + checkpoint_size VERSION (length (changes t (checkpoint_at r k).table))) (sym before_is)
-    ∙ ap (λ (t : List ℕ). start_laid VERSION r k + checkpoint_size VERSION (length (changes before t))) (sym table)
+    ap (start_in VERSION r) (add-one k) ∙ start_in_next VERSION r k
+    ∙ ap (λ (t : List ℕ). start_in VERSION r k + checkpoint_size VERSION (length (changes t (checkpoint_at r k).table))) (sym before_is)
+    ∙ ap (λ (t : List ℕ). start_in VERSION r k + checkpoint_size VERSION (length (changes before t))) (sym table)
 
 -- page id p + 1 is that of page p of the pool
 pub next_page : (pool : List (List ℕ)) (p : ℕ) → page_of pool (p + 1) ≡ get_or pool p zero_page

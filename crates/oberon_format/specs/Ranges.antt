@@ -53,5 +53,5 @@ is_checkpoint k before sent c = is_count k before c.count && in_ranges c && are_
 -- a change is lawful if its slot is at least `floor` and one of the table's, and its page id is that of a page and differs from
 -- the one in the slot before
 abbrev pub is_change : ℕ → ℕ → (ℕ → ℕ) → Change → Bool
-is_change pages floor stood change =
-    nat_le floor change.place && nat_lt change.place PLACES && nat_le change.number pages && not (change.number == stood change.place)
+is_change pages floor prior_number change =
+    nat_le floor change.place && nat_lt change.place PLACES && nat_le change.number pages && not (change.number == prior_number change.place)

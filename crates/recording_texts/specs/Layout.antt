@@ -24,8 +24,8 @@ pages_bytes version sketch =
     ++ flat_map (λ page. page_bytes page.now) sketch.pages.now
 
 -- with the numbers of pages replaced, and the events
-abbrev pub front_bytes : ℕ → Sketch → List (Spot × ℕ) → List ℕ
-front_bytes version sketch turned = turned_pages turned (pages_bytes version sketch) ++ flat_map event_bytes sketch.events.now
+abbrev pub prefix_bytes : ℕ → Sketch → List (Spot × ℕ) → List ℕ
+prefix_bytes version sketch turned = turned_pages turned (pages_bytes version sketch) ++ flat_map event_bytes sketch.events.now
 
 -- the checkpoints from number k on
 abbrev pub first_claims : List (Spot × ℕ) → ℕ → List Claim → List ℕ
@@ -43,7 +43,7 @@ abbrev pub output_bytes : List Claim → List ℕ
 output_bytes claims = flat_map (λ (claim : Claim). claim.sent.now) claims
 
 unfoldable pub first_text : Sketch → List (Spot × ℕ) → List ℕ
-first_text sketch turned = front_bytes 1 sketch turned ++ first_claims turned 0 sketch.claims.now ++ output_bytes sketch.claims.now
+first_text sketch turned = prefix_bytes 1 sketch turned ++ first_claims turned 0 sketch.claims.now ++ output_bytes sketch.claims.now
 
 unfoldable pub second_text : Sketch → List (Spot × ℕ) → List ℕ
-second_text sketch turned = front_bytes 2 sketch turned ++ second_claims turned 0 (replicate 1024 0) sketch.claims.now ++ output_bytes sketch.claims.now
+second_text sketch turned = prefix_bytes 2 sketch turned ++ second_claims turned 0 (replicate 1024 0) sketch.claims.now ++ output_bytes sketch.claims.now

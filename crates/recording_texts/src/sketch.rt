@@ -5,7 +5,7 @@ ghost use Rattle.std.specs.List.{flat_map};
 ghost use Rattle.recording_texts.specs.Claims.{first_bytes, second_bytes};
 ghost use Rattle.recording_texts.specs.Header.{header_bytes};
 ghost use Rattle.recording_texts.specs.Spots.{turned_first, turned_second};
-ghost use Rattle.recording_texts.specs.Layout.{event_bytes, first_claims, first_text, front_bytes, output_bytes, page_bytes, pages_bytes, second_claims, second_text};
+ghost use Rattle.recording_texts.specs.Layout.{event_bytes, first_claims, first_text, prefix_bytes, output_bytes, page_bytes, pages_bytes, second_claims, second_text};
 
 use crate::bytes::{number_of, push_long, push_word, push_words};
 use crate::claim::Claim;
@@ -74,7 +74,7 @@ impl<'a> Sketch<'a> {
         version: u32,
         turned: &[(Spot, u32)],
     ) -> Result<Vec<u8>, AllocError>
-        ensures { IfOk result (λ text. text.items ≡ front_bytes version self.now turned.now) }
+        ensures { IfOk result (λ text. text.items ≡ prefix_bytes version self.now turned.now) }
     {
         let mut text = self.with_pages(alloc, version)?;
         turn_pages(&mut text, turned);

@@ -9,7 +9,8 @@ const LENGTH: usize = 5_292;
 /// The length of such a file of version 2, whose checkpoint has one change.
 const CHANGED_LENGTH: usize = 1_216;
 
-/// Returns a file of version 1 with a page of zeros, a timer's event at count 0 and a checkpoint that is all zeros, and one byte more.
+/// Returns a file of version 1 with a page of zeros, a timer's event at count 0 and a checkpoint that is all zeros, and one byte
+/// more.
 fn sound_text() -> [u8; LENGTH + 1] {
     let mut text = [0; LENGTH + 1];
     text[0] = b'O';
