@@ -19,7 +19,7 @@ use Rattle.oberon_format.specs.inner.Offsets.{EachAt, IsEvent, IsChange, IsChang
 use Rattle.oberon_format.specs.TextFields.{fields_of, event_of, checkpoint_of, change_at, change_of, number_before, page_number_of, first_fault_of}
 use Rattle.oberon_format.proofs.ChangeLemmas.{change_in, changes-make, after-same}
 use Rattle.oberon_format.proofs.PartLemmas.{member, table_next}
-use Rattle.oberon_format.proofs.Places.{count_encoded, start-encoded}
+use Rattle.oberon_format.proofs.Starts.{count_encoded, start-encoded}
 use Rattle.oberon_format.proofs.RuleLemmas.{version_cases}
 use Rattle.oberon_format.proofs.SameFields.{SameFields, same_rules}
 use Rattle.oberon_format.proofs.TextLemmas.{later_second, number_second, numbers_none}

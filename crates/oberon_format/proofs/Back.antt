@@ -19,7 +19,7 @@ use Rattle.oberon_format.specs.declared.layout.TheConstants.{MAGIC, FIRST_VERSIO
 use Rattle.oberon_format.specs.Changes.{changes}
 use Rattle.oberon_format.specs.CheckpointParts.{CheckpointParts, key_bytes, no_checkpoint}
 use Rattle.oberon_format.proofs.PartLemmas.{start_in_rises}
-use Rattle.oberon_format.proofs.Places.{bytes_at, bytes_at-next, start-encoded}
+use Rattle.oberon_format.proofs.Starts.{bytes_at, bytes_at-next, start-encoded}
 use Rattle.oberon_format.specs.Layout.{word_at, long_at, page_offset, event_start, event_offset, change_offset, checkpoint_size, start, output_offset}
 use Rattle.oberon_format.specs.PartFields.{changes_in, start_in}
 use Rattle.oberon_format.specs.Ranges.{is_version}

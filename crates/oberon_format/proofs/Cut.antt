@@ -16,7 +16,7 @@ use Rattle.oberon_format.specs.Text.{Text}
 use Rattle.oberon_format.proofs.ChangeLemmas.{after-same}
 use Rattle.oberon_format.proofs.PartLemmas.{start_in_within, size_few}
 use Rattle.oberon_format.proofs.Encoded.{encoded_fields}
-use Rattle.oberon_format.proofs.Places.{start-encoded}
+use Rattle.oberon_format.proofs.Starts.{start-encoded}
 use Rattle.oberon_format.proofs.Room.{start_none, named_first}
 use Rattle.oberon_format.proofs.TextLemmas.{number_where, number_else}
 use Rattle.oberon_format.proofs.LongFields.{AreFew, AgreeBelow, AgreeAt, Agree, most, faults_same, fields}

@@ -27,9 +27,9 @@ use Rattle.oberon_format.specs.Text.{IsUnclocked, TextIn}
 use Rattle.oberon_format.specs.inner.Offsets.{IsEvent, IsCpu, IsDevices, HasCommonFields, IsChange, IsChanged, IsCheckpoint, HasFieldsOf}
 use Rattle.oberon_format.proofs.ChangeLemmas.{change_in, changes-few, changes-lawful, changes-new}
 use Rattle.oberon_format.proofs.LawfulLemmas.{flags_fit, serial_fits}
-use Rattle.oberon_format.proofs.Places.{start-found}
+use Rattle.oberon_format.proofs.Starts.{start-found}
 use Rattle.oberon_format.proofs.RuleLemmas.{version_cases}
-use Rattle.oberon_format.proofs.HasBytes.{AreWide, HasBytes, AreSpaced, bytes_whole, bytes_left, bytes_right, bytes_after, bytes_from, bytes_slice, word_is_at, long_is_at, words_are_at, each_is_at, blocks_are_at, length-blocks, length-word_bytes, length-long_bytes, length-words_bytes, length-flat_map}
+use Rattle.oberon_format.proofs.BytesAt.{AreWide, HasBytes, AreSpaced, bytes_whole, bytes_left, bytes_right, bytes_after, bytes_from, bytes_slice, word_is_at, long_is_at, words_are_at, each_is_at, blocks_are_at, length-blocks, length-word_bytes, length-long_bytes, length-words_bytes, length-flat_map}
 use Rattle.oberon_format.proofs.WriteLemmas.{sent_le}
 
 -- words are numbers of four bytes

@@ -16,7 +16,7 @@ use Rattle.oberon_format.specs.Recording.{RecordingParts, checkpoint_at, table_b
 use Rattle.oberon_format.specs.Encoding.{change_bytes, checkpoint_bytes, checkpoints_bytes}
 use Rattle.oberon_format.proofs.CheckpointLemmas.{checkpoint_at-is}
 use Rattle.oberon_format.proofs.PartLemmas.{start_in_next}
-use Rattle.oberon_format.proofs.Places.{bytes_at, bytes_at-next}
+use Rattle.oberon_format.proofs.Starts.{bytes_at, bytes_at-next}
 use Rattle.oberon_format.proofs.Walk.{below_stays, below_grows}
 
 -- the bytes of one member more

@@ -6,7 +6,7 @@ use Rattle.std.proofs.lemmas.List.{drop_at, take_at, append-nil}
 use Rattle.byteorder.specs.Endian.{little_from, little_bytes}
 use Rattle.byteorder.specs.Numbers.{little_number-reads_back, length-bytes_low_first}
 use Rattle.oberon_format.proofs.Numbers.{little_from-drop}
-use Rattle.oberon_format.proofs.Places.{bytes_at, bytes_at-next}
+use Rattle.oberon_format.proofs.Starts.{bytes_at, bytes_at-next}
 use Rattle.oberon_format.specs.CheckpointParts.{CheckpointParts}
 use Rattle.oberon_format.specs.Layout.{long_at, word_at}
 use Rattle.oberon_format.specs.Encoding.{long_bytes, word_bytes, words_bytes, checkpoint_bytes, checkpoints_bytes}
