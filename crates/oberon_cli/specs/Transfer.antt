@@ -8,11 +8,11 @@ pub record Known : Type 0 where
   pub bytes : Option (List ℕ)
   pub failed : Bool
 
--- no call failed between the first and the second
+-- no call failed between the two states
 abbrev pub Goes : Known → Known → Type 0
 Goes old new = new.failed ≡ old.failed
 
--- a call failed between the first and the second
+-- a call has failed, up to this state
 abbrev pub Fails : Known → Type 0
 Fails new = IsTrue new.failed
 
