@@ -4,7 +4,7 @@ use Rattle.std.specs.Io.KnownBytes.{Appends}
 use Rattle.clap.specs.Walk.{Text}
 use Rattle.oberon_cli.specs.Answer.{IsAnswer, limit_of}
 use Rattle.oberon_cli.specs.Asked.{IsHelp, IsRefused, request_in}
-use Rattle.oberon_cli.specs.Transfer.{Known, Fails, GainsFront, GainsWhole, Goes, IsReadUpTo}
+use Rattle.oberon_cli.specs.Transfer.{Known, Fails, GainsPrefix, GainsWhole, Goes, IsReadUpTo}
 use Rattle.oberon_cli.specs.declared.words.Request.{Request}
 use Rattle.oberon_cli.specs.declared.failure.Failure.{Failure}
 use Rattle.oberon_cli.specs.declared.failure.Failure.TheVariants.{Words, Read, Memory}
@@ -54,7 +54,7 @@ IsReplyTo words old new (failure why) = MayFail words old new why
 
 -- all of the bytes were written and the status is their own; or a write failed after a prefix of them, and the status is 3
 abbrev pub IsSentText : List ℕ → ℕ → Known → Known → ℕ → Type 0
-IsSentText text own old new status = (GainsWhole text old new × (status ≡ own)) ⊎ (GainsFront text old new × (status ≡ 3))
+IsSentText text own old new status = (GainsWhole text old new × (status ≡ own)) ⊎ (GainsPrefix text old new × (status ≡ 3))
 
 abbrev pub IsSent : Outcome → Known → Known → ℕ → Type 0
 IsSent outcome = IsSentText (outcome_text outcome) (outcome_status outcome)

@@ -8,11 +8,11 @@ pub record Known : Type 0 where
   pub bytes : Option (List ℕ)
   pub failed : Bool
 
--- no call failed between the first and the second
+-- no call failed between the two states
 abbrev pub Goes : Known → Known → Type 0
 Goes old new = new.failed ≡ old.failed
 
--- a call failed between the first and the second
+-- a call has failed, up to this state
 abbrev pub Fails : Known → Type 0
 Fails new = IsTrue new.failed
 
@@ -32,5 +32,5 @@ abbrev pub GainsWhole : List ℕ → Known → Known → Type 0
 GainsWhole text old new = Appends old.bytes new.bytes text × Goes old new
 
 -- a write failed after a prefix of the bytes, and the writer got nothing else
-abbrev pub GainsFront : List ℕ → Known → Known → Type 0
-GainsFront text old new = (n : ℕ) × (n ≤ length text) × Appends old.bytes new.bytes (take n text) × Fails new
+abbrev pub GainsPrefix : List ℕ → Known → Known → Type 0
+GainsPrefix text old new = (n : ℕ) × (n ≤ length text) × Appends old.bytes new.bytes (take n text) × Fails new

@@ -24,8 +24,8 @@ pub fn process_words<H: AllocGlobal + Env>(rt: &H) -> Result<Vec<String>, Failur
     )
 }
 
-/// Why the process has no arguments: an allocation failed; or anything else, for example an argument that is not UTF-8, which
-/// refuses the arguments.
+/// Returns why the process has no arguments: an allocation failed; or anything else, for example an argument that is not UTF-8,
+/// which refuses the arguments.
 fn failure_of(kind: ErrorKind) -> Failure
     ensures memory { kind ≡ ErrorKind.OutOfMemory → result ≡ Failure.Memory }
     ensures words { kind ≢ ErrorKind.OutOfMemory → result ≡ Failure.Words }
@@ -62,11 +62,11 @@ pub fn run<'a, H: Threads + Wait + Sync, R: Source, W: Sink>(
     ensures three { IsThreeForFaults (R.known input.old) (R.known input.new) (W.known output.old) (W.known output.new)
         (exit_status result) }
 {
-    ExitCode::from(serve(rt, alloc, behind_name(words), input, output))
+    ExitCode::from(serve(rt, alloc, after_name(words), input, output))
 }
 
 /// Returns the arguments after the first.
-fn behind_name<'a>(words: &'a [&'a str]) -> &'a [&'a str]
+fn after_name<'a>(words: &'a [&'a str]) -> &'a [&'a str]
     ensures { result.now ≡ drop 1 words.now }
 {
     &words[words.len().min(1)..]

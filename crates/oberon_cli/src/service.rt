@@ -20,12 +20,12 @@ use std::thread::Threads;
 
 /// Does the command of the arguments, and returns the exit status.
 ///
-/// | words | what is written | status |
+/// | arguments | what is written | status |
 /// |---|---|---|
 /// | none, or `check` with its options | the line of the check | 0 accepted, 1 false, 2 refused |
-/// | `record` | the text of the session's recording; the line of a fault of the session; or the line of the recorder's fault | 0; 2; 2 |
+/// | `record` | the file of the session's recording; the line of a fault of the session; or the line of the recorder's fault | 0; 2; 2 |
 /// | `screen --at k` | the picture of the screen that checkpoint k claims; the line of a fault; or `no checkpoint k` | 0; 2; 2 |
-/// | `migrate` | the text of the same recording in the version that is written; or the line of a fault | 0; 2 |
+/// | `migrate` | the file of the same recording in the current version; or the line of a fault | 0; 2 |
 /// | a request for help | `clap`'s text | 0 |
 /// | others | `words refused` | 4 |
 ///

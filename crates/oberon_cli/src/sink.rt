@@ -9,7 +9,7 @@ use std::io::Write;
 #[derive(Clone, Copy, Debug, PartialEq, Eq)]
 pub struct WriteFault;
 
-/// Takes bytes in their order.
+/// A writer that takes bytes in their order.
 pub trait Sink {
     // the bytes that it was given, and whether a write or a flush has failed
     ghost known: { Self → Known };

@@ -6,7 +6,7 @@ ghost use Rattle.oberon_cli.specs.Transfer.{Known, Fails, Goes};
 
 use std::io::{self, Read};
 
-/// Gives bytes in their order.
+/// A reader that returns bytes in their order.
 pub trait Source {
     // the bytes that are left, and whether a read has failed
     ghost known: { Self → Known };

@@ -1,6 +1,6 @@
 //! Writing all bytes, by a loop that counts its turns. What the bytes mean is not known here.
 ghost use Rattle.std.specs.Prelude.{OnErr, OnOk};
-ghost use Rattle.oberon_cli.specs.Transfer.{GainsFront, GainsWhole};
+ghost use Rattle.oberon_cli.specs.Transfer.{GainsPrefix, GainsWhole};
 
 use crate::sink::{Sink, WriteFault};
 
@@ -9,7 +9,7 @@ use crate::sink::{Sink, WriteFault};
 /// The first call that fails ends it; then a prefix of the bytes was written, and nothing else.
 pub fn write_whole<W: Sink>(output: &mut W, text: &[u8]) -> Result<(), WriteFault>
     ensures whole { OnOk result (GainsWhole text.now (W.known output.old) (W.known output.new)) }
-    ensures front { OnErr result (GainsFront text.now (W.known output.old) (W.known output.new)) }
+    ensures front { OnErr result (GainsPrefix text.now (W.known output.old) (W.known output.new)) }
 {
     let mut done = 0;
     for _turn in 0..text.len() + 1 {

@@ -15,18 +15,18 @@ use Rattle.risc_model.specs.MachineState.{CpuState, IsCpuState}
 use Rattle.risc_pages.specs.Pages.{IsPage}
 use Rattle.risc_pages.specs.Tables.{zero_numbers, IsTable}
 use Rattle.oberon_format.specs.declared.change.Change.{Change}
-use Rattle.oberon_format.specs.declared.layout.TheConstants.{MAGIC, FIRST_VERSION, VERSION, HEADER_LEN, PAGE_LEN, EVENT_LEN, CHECKPOINT_LEN, CHANGE_LEN, FRONT_LEN, MAGIC_AT, VERSION_AT, PAGES_AT, EVENTS_AT, CHECKPOINTS_AT, LAST_AT, KIND_AT, VALUE_AT, REGISTERS_AT, AUXILIARY_AT, COUNTER_AT, FLAGS_AT, STOP_AT, TIMER_AT, SWITCHES_AT, LEDS_AT, MOUSE_AT, SERIAL_AT, WAITING_AT, KEYS_AT, SENT_AT, TABLE_AT, RATE_AT, PHASE_AT, CHANGE_COUNT_AT, CHANGES_AT, NUMBER_AT}
+use Rattle.oberon_format.specs.declared.layout.TheConstants.{MAGIC, FIRST_VERSION, VERSION, HEADER_LEN, PAGE_LEN, EVENT_LEN, CHECKPOINT_LEN, CHANGE_LEN, COMMON_LEN, MAGIC_AT, VERSION_AT, PAGES_AT, EVENTS_AT, CHECKPOINTS_AT, LAST_AT, KIND_AT, VALUE_AT, REGISTERS_AT, AUXILIARY_AT, COUNTER_AT, FLAGS_AT, STOP_AT, TIMER_AT, SWITCHES_AT, LEDS_AT, MOUSE_AT, SERIAL_AT, WAITING_AT, KEYS_AT, SENT_AT, TABLE_AT, RATE_AT, PHASE_AT, CHANGE_COUNT_AT, CHANGES_AT, NUMBER_AT}
 use Rattle.oberon_format.specs.Changes.{changes}
 use Rattle.oberon_format.specs.CheckpointParts.{CheckpointParts, key_bytes, no_checkpoint}
-use Rattle.oberon_format.proofs.PartLemmas.{laid_rises}
-use Rattle.oberon_format.proofs.Places.{bytes_at, bytes_at-next, start-laid}
+use Rattle.oberon_format.proofs.PartLemmas.{start_in_rises}
+use Rattle.oberon_format.proofs.Starts.{bytes_at, bytes_at-next, start-encoded}
 use Rattle.oberon_format.specs.Layout.{word_at, long_at, page_offset, event_start, event_offset, change_offset, checkpoint_size, start, output_offset}
-use Rattle.oberon_format.specs.PartFields.{changes_laid, start_laid}
+use Rattle.oberon_format.specs.PartFields.{changes_in, start_in}
 use Rattle.oberon_format.specs.Ranges.{is_version}
 use Rattle.oberon_format.specs.Recording.{RecordingParts, IsLawful, IsFit, checkpoint_at, table_before, output_of}
-use Rattle.oberon_format.specs.Encoding.{word_bytes, long_bytes, words_bytes, event_bytes, cpu_bytes, device_bytes, front_bytes, change_bytes, changes_bytes, changed_bytes, tail_bytes, checkpoint_bytes, checkpoints_bytes, header_bytes, encoding}
+use Rattle.oberon_format.specs.Encoding.{word_bytes, long_bytes, words_bytes, event_bytes, cpu_bytes, device_bytes, common_bytes, change_bytes, changes_bytes, changed_bytes, tail_bytes, checkpoint_bytes, checkpoints_bytes, header_bytes, encoding}
 use Rattle.oberon_format.specs.Text.{AreBytes, IsUnclocked, TextIn}
-use Rattle.oberon_format.specs.inner.Offsets.{EachAt, AreWords, IsEvent, IsCpu, IsDevices, IsFront, IsChange, IsChanged, IsCheckpoint, IsLaidOut}
+use Rattle.oberon_format.specs.inner.Offsets.{EachAt, AreWords, IsEvent, IsCpu, IsDevices, HasCommonFields, IsChange, IsChanged, IsCheckpoint, HasFieldsOf}
 use Rattle.oberon_format.proofs.Numbers.{little_from-drop}
 use Rattle.oberon_format.proofs.Keys.{range-split}
 use Rattle.oberon_format.proofs.RuleLemmas.{version_cases}
@@ -42,7 +42,7 @@ all_bytes text bytes i =
       | inr more ↦ rw (get_or_past text i 0 more) (omega arith)
     ]
 
--- the n bytes from a place on
+-- the n bytes from an offset on
 pub record Holds (text : List ℕ) (offset n : ℕ) (bytes : List ℕ) : Type 0 where
   pub is : slice_range text offset (offset + n) ≡ bytes
   pub room : offset + n ≤ length text
@@ -89,7 +89,7 @@ holds_none text p room = let n : p + 0 - p ≡ 0 = omega arith in record { is = 
 holds_at : (text : List ℕ) (p q n : ℕ) (xs : List ℕ) → p ≡ q → Holds text p n xs → Holds text q n xs
 holds_at text p q n xs e h = subst (λ (k : ℕ). Holds text k n xs) e h
 
--- what stands from one place of a part to another
+-- the bytes from one offset of a part to another
 abbrev Spans : List ℕ → ℕ → ℕ → ℕ → List ℕ → Type 0
 Spans text p from to bytes = Holds text (p + from) (to - from) bytes
 
@@ -136,7 +136,7 @@ page_back text p page h room is proper =
     let n : 4 * length page ≡ PAGE_LEN = omega arith in
     subst (λ (k : ℕ). Holds text p k (words_bytes page)) n (holds_words text p page h (omega arith) is)
 
-cpu_back : (text : List ℕ) (p : ℕ) (cpu : CpuState) → IsBytes text → p + FRONT_LEN ≤ length text → IsCpu text p cpu → IsCpuState cpu → Spans text p REGISTERS_AT TIMER_AT (cpu_bytes cpu)
+cpu_back : (text : List ℕ) (p : ℕ) (cpu : CpuState) → IsBytes text → p + COMMON_LEN ≤ length text → IsCpu text p cpu → IsCpuState cpu → Spans text p REGISTERS_AT TIMER_AT (cpu_bytes cpu)
 unfolding cpu_bytes
 cpu_back text p cpu h room is proper =
     let len = proper.count in
@@ -150,7 +150,7 @@ cpu_back text p cpu h room is proper =
     let s3 = spans_join text p REGISTERS_AT FLAGS_AT STOP_AT _ _ (omega arith) (omega arith) s2 c in
     spans_join text p REGISTERS_AT STOP_AT TIMER_AT _ _ (omega arith) (omega arith) s3 d
 
-device_back : (text : List ℕ) (p : ℕ) (d : DeviceState) → IsBytes text → p + FRONT_LEN ≤ length text → IsDevices text p d → Spans text p TIMER_AT SENT_AT (device_bytes d)
+device_back : (text : List ℕ) (p : ℕ) (d : DeviceState) → IsBytes text → p + COMMON_LEN ≤ length text → IsDevices text p d → Spans text p TIMER_AT SENT_AT (device_bytes d)
 unfolding device_bytes
 device_back text p d h room is =
     let a = spans_word text p TIMER_AT SWITCHES_AT d.timer h (omega arith) refl is.timer in
@@ -168,17 +168,17 @@ device_back text p d h room is =
     let s5 = spans_join text p TIMER_AT WAITING_AT KEYS_AT _ _ (omega arith) (omega arith) s4 w in
     spans_join text p TIMER_AT KEYS_AT SENT_AT _ _ (omega arith) (omega arith) s5 k
 
--- what a checkpoint begins with
-front_back : (text : List ℕ) (p : ℕ) (pool : List (List ℕ)) (c : CheckpointParts) → IsBytes text → p + FRONT_LEN ≤ length text → IsFront text p c → IsFit pool c → Holds text p FRONT_LEN (front_bytes c)
-unfolding front_bytes
-front_back text p pool c h room is proper =
+-- the fields that begin a checkpoint
+common_back : (text : List ℕ) (p : ℕ) (pool : List (List ℕ)) (c : CheckpointParts) → IsBytes text → p + COMMON_LEN ≤ length text → HasCommonFields text p c → IsFit pool c → Holds text p COMMON_LEN (common_bytes c)
+unfolding common_bytes
+common_back text p pool c h room is proper =
     let a = holds_long text p c.count h (omega arith) is.count in
     let b = cpu_back text p c.cpu h room is.cpu proper.cpu in
     let d = device_back text p c.devices h room is.devices in
-    let e = spans_word text p SENT_AT FRONT_LEN (length c.sent) h (omega arith) refl is.sent in
+    let e = spans_word text p SENT_AT COMMON_LEN (length c.sent) h (omega arith) refl is.sent in
     let s1 = spans_begin text p REGISTERS_AT TIMER_AT _ _ (omega arith) a b in
     let s2 = spans_begin text p TIMER_AT SENT_AT _ _ (omega arith) s1 d in
-    spans_begin text p SENT_AT FRONT_LEN _ _ (omega arith) s2 e
+    spans_begin text p SENT_AT COMMON_LEN _ _ (omega arith) s2 e
 
 -- a change
 change_back : (text : List ℕ) (p : ℕ) (change : Change) → IsBytes text → p + CHANGE_LEN ≤ length text → IsChange text p change → Holds text p CHANGE_LEN (change_bytes change)
@@ -188,14 +188,14 @@ change_back text p change h room is =
     let b = spans_word text p NUMBER_AT CHANGE_LEN change.number h (omega arith) refl is.number in
     spans_begin text p NUMBER_AT CHANGE_LEN _ _ (omega arith) a b
 
--- what follows in version 1
+-- the rest in version 1
 whole_back : (text : List ℕ) (p : ℕ) (c : CheckpointParts) → IsBytes text → p + CHECKPOINT_LEN ≤ length text → IsTable c.table → AreWords text (p + TABLE_AT) c.table
     → Spans text p TABLE_AT CHECKPOINT_LEN (words_bytes c.table)
 whole_back text p c h room proper is =
     let len = proper.count in
     spans text p TABLE_AT CHECKPOINT_LEN (4 * length c.table) (words_bytes c.table) (omega arith) (holds_words text (p + TABLE_AT) c.table h (omega arith) is)
 
--- what follows in version 2
+-- the rest in version 2
 changed_back : (text : List ℕ) (p : ℕ) (before : List ℕ) (c : CheckpointParts) → IsBytes text → p + (CHANGES_AT + CHANGE_LEN * length (changes before c.table)) ≤ length text
     → IsChanged text p before c → Spans text p RATE_AT (CHANGES_AT + CHANGE_LEN * length (changes before c.table)) (changed_bytes before c)
 unfolding changed_bytes changes_bytes
@@ -211,29 +211,29 @@ changed_back text p before c h room is =
     let s2 = spans_join text p CHANGE_COUNT_AT CHANGES_AT end _ _ (omega arith) (omega arith) n m in
     spans_join text p RATE_AT CHANGE_COUNT_AT end _ _ (omega arith) (omega arith) s1 s2
 
--- a checkpoint of a version, as long as it is there
+-- a checkpoint of a version, with the length that it has there
 abbrev IsBack : List ℕ → ℕ → List ℕ → CheckpointParts → ℕ → Type 0
 IsBack text p before c v =
-    p + checkpoint_size v (changes_laid v before c) ≤ length text → IsCheckpoint v text p before c → Holds text p (checkpoint_size v (changes_laid v before c)) (checkpoint_bytes v before c)
+    p + checkpoint_size v (changes_in v before c) ≤ length text → IsCheckpoint v text p before c → Holds text p (checkpoint_size v (changes_in v before c)) (checkpoint_bytes v before c)
 
 -- it is so in version 1
 first_back : (text : List ℕ) (p : ℕ) (pool : List (List ℕ)) (before : List ℕ) (c : CheckpointParts) → IsBytes text → IsFit pool c → IsBack text p before c FIRST_VERSION
 unfolding checkpoint_bytes tail_bytes
 first_back text p pool before c h proper room is =
-    let a = front_back text p pool c h (omega arith) is.front proper in
+    let a = common_back text p pool c h (omega arith) is.front proper in
     let t = whole_back text p c h room proper.table (is.in_first refl).table in
-    spans_begin text p FRONT_LEN CHECKPOINT_LEN _ _ (omega arith) a t
+    spans_begin text p COMMON_LEN CHECKPOINT_LEN _ _ (omega arith) a t
 
 -- and in version 2
 second_back : (text : List ℕ) (p : ℕ) (pool : List (List ℕ)) (before : List ℕ) (c : CheckpointParts) → IsBytes text → IsFit pool c → IsBack text p before c VERSION
 unfolding checkpoint_bytes tail_bytes
 second_back text p pool before c h proper room is =
     let n = length (changes before c.table) in
-    let a = front_back text p pool c h (omega arith) is.front proper in
+    let a = common_back text p pool c h (omega arith) is.front proper in
     let t = changed_back text p before c h room (is.in_second refl) in
-    spans_begin text p FRONT_LEN (CHANGES_AT + CHANGE_LEN * n) _ _ (omega arith) a t
+    spans_begin text p COMMON_LEN (CHANGES_AT + CHANGE_LEN * n) _ _ (omega arith) a t
 
--- so in each version that is known
+-- so in each known version
 checkpoint_back : (v : ℕ) (text : List ℕ) (p : ℕ) (pool : List (List ℕ)) (before : List ℕ) (c : CheckpointParts) → is_version v ≡ true → IsBytes text → IsFit pool c → IsBack text p before c v
 checkpoint_back v text p pool before c known h proper =
     elim (version_cases v known) [
@@ -241,13 +241,13 @@ checkpoint_back v text p pool before c known h proper =
       | inr later ↦ subst (IsBack text p before c) (sym later) (second_back text p pool before c h proper)
     ]
 
--- the bytes between two places
+-- the bytes between two offsets
 record Between (text : List ℕ) (from to : ℕ) (bytes : List ℕ) : Type 0 where
   count : ℕ
   reach : to ≡ from + count
   holds : Holds text from count bytes
 
--- checkpoints, each of its own length, where places tell these lengths
+-- checkpoints, each of its own length, if offsets determine these lengths
 blocks_back : (v : ℕ) (text : List ℕ) (offset size : ℕ → ℕ) (before : List ℕ) (cs : List CheckpointParts) → ((k : ℕ) → k < length cs → offset (suc k) ≡ offset k + size k)
     → ((k : ℕ) → k < length cs → Holds text (offset k) (size k) (bytes_at v before cs k)) → offset 0 ≤ length text → Between text (offset 0) (offset (length cs)) (checkpoints_bytes v before cs)
 unfolding checkpoints_bytes
@@ -266,7 +266,7 @@ blocks_back v text offset size before (c ∷ cs) next each room =
       holds = holds_join text (offset 0) (offset 1) (size 0) rest.count (size 0 + rest.count) _ _ first rest.holds step refl;
     }
 
-header_back : (v : ℕ) (text : List ℕ) (r : RecordingParts) → IsBytes text → HEADER_LEN ≤ length text → IsLaidOut v text r → Holds text 0 HEADER_LEN (header_bytes v r)
+header_back : (v : ℕ) (text : List ℕ) (r : RecordingParts) → IsBytes text → HEADER_LEN ≤ length text → HasFieldsOf v text r → Holds text 0 HEADER_LEN (header_bytes v r)
 unfolding header_bytes
 header_back v text r h room is =
     let a = holds_word text MAGIC_AT MAGIC h (omega arith) is.magic in
@@ -281,35 +281,35 @@ header_back v text r h room is =
     let s4 = spans_begin text 0 CHECKPOINTS_AT LAST_AT _ _ (omega arith) s3 e in
     spans_begin text 0 LAST_AT HEADER_LEN _ _ (omega arith) s4 f
 
-holds_front : (text : List ℕ) (n : ℕ) (xs : List ℕ) → Holds text 0 n xs → take n text ≡ xs
-holds_front text n xs h = let e : n ≡ 0 + n - 0 = omega arith in ap (λ (k : ℕ). take k text) e ∙ h.is
+holds_prefix : (text : List ℕ) (n : ℕ) (xs : List ℕ) → Holds text 0 n xs → take n text ≡ xs
+holds_prefix text n xs h = let e : n ≡ 0 + n - 0 = omega arith in ap (λ (k : ℕ). take k text) e ∙ h.is
 
 -- as a whole
-is_encoding : (v : ℕ) (text : List ℕ) (r : RecordingParts) → IsBytes text → IsLawful r → IsLaidOut v text r → text ≡ encoding v r
-unfolding encoding start_laid
+is_encoding : (v : ℕ) (text : List ℕ) (r : RecordingParts) → IsBytes text → IsLawful r → HasFieldsOf v text r → text ≡ encoding v r
+unfolding encoding start_in
 is_encoding v text r h p is =
     let cs = r.checkpoints in
     let np = length r.pool in
     let ne = length r.inputs in
     let out = output_of cs in
-    let offset = start_laid v r in
-    let size : ℕ → ℕ = λ k. checkpoint_size v (changes_laid v (table_before cs k) (checkpoint_at r k)) in
+    let offset = start_in v r in
+    let size : ℕ → ℕ = λ k. checkpoint_size v (changes_in v (table_before cs k) (checkpoint_at r k)) in
     let long = is.long in
     let cp = is.page_count in
     let ce = is.event_count in
-    let starts : (k : ℕ) → k ≤ length cs → start text k ≡ offset k = start-laid v text r is in
+    let starts : (k : ℕ) → k ≤ length cs → start text k ≡ offset k = start-encoded v text r is in
     let end : output_offset text ≡ offset (length cs) = ap (start text) is.checkpoint_count ∙ starts (length cs) (omega arith) in
     let first : offset 0 ≡ event_start np ne = refl in
-    let rise : offset 0 ≤ offset (length cs) = laid_rises v r 0 (length cs) (omega arith) in
+    let rise : offset 0 ≤ offset (length cs) = start_in_rises v r 0 (length cs) (omega arith) in
     let stand : (k : ℕ) → k < length cs → IsCheckpoint v text (offset k) (table_before cs k) (checkpoint_at r k) =
-    λ k lt. subst (λ (n : ℕ). IsCheckpoint v text n (table_before cs k) (checkpoint_at r k)) (starts k (omega arith)) (is.checkpoints_stand k no_checkpoint lt) in
-    let within : (k : ℕ) → k < length cs → offset k + size k ≤ length text = λ k lt. let more : offset (suc k) ≤ offset (length cs) = laid_rises v r (suc k) (length cs) (omega arith) in omega arith in
+    λ k lt. subst (λ (n : ℕ). IsCheckpoint v text n (table_before cs k) (checkpoint_at r k)) (starts k (omega arith)) (is.checkpoints_are_at k no_checkpoint lt) in
+    let within : (k : ℕ) → k < length cs → offset k + size k ≤ length text = λ k lt. let more : offset (suc k) ≤ offset (length cs) = start_in_rises v r (suc k) (length cs) (omega arith) in omega arith in
     let each : (k : ℕ) → k < length cs → Holds text (offset k) (size k) (bytes_at v zero_numbers cs k) =
     λ k lt. checkpoint_back v text (offset k) r.pool (table_before cs k) (checkpoint_at r k) is.known h (p.fit k lt) (within k lt) (stand k lt) in
     let s0 = header_back v text r h (omega arith) is in
-    let s1 = holds_all words_bytes PAGE_LEN text HEADER_LEN r.pool (omega arith) (λ i d lt. page_back text (page_offset i) (get_or r.pool i d) h (omega arith) (is.pages_stand i d lt) (p.pool i d lt)) in
+    let s1 = holds_all words_bytes PAGE_LEN text HEADER_LEN r.pool (omega arith) (λ i d lt. page_back text (page_offset i) (get_or r.pool i d) h (omega arith) (is.pages_are_at i d lt) (p.pool i d lt)) in
     let s2 = holds_all event_bytes EVENT_LEN text (page_offset np) r.inputs (omega arith)
-    (λ i d lt. holds_at text (event_offset text i) (event_start np i) EVENT_LEN _ (omega arith) (event_back text (event_offset text i) (get_or r.inputs i d) h (omega arith) (is.events_stand i d lt))) in
+    (λ i d lt. holds_at text (event_offset text i) (event_start np i) EVENT_LEN _ (omega arith) (event_back text (event_offset text i) (get_or r.inputs i d) h (omega arith) (is.events_are_at i d lt))) in
     let s3 = blocks_back v text offset size zero_numbers cs (λ k lt. refl) each (omega arith) in
     let n = s3.count in
     let reach = s3.reach in
@@ -317,17 +317,17 @@ is_encoding v text r h p is =
     let j2 = holds_join text 0 (page_offset np) (page_offset np) (EVENT_LEN * ne) (offset 0) _ _ j1 s2 (omega arith) refl in
     let j3 = holds_join text 0 (offset 0) (offset 0) n (offset (length cs)) _ _ j2 s3.holds (omega arith) reach in
     let head = header_bytes v r ++ flat_map words_bytes r.pool ++ flat_map event_bytes r.inputs ++ checkpoints_bytes v zero_numbers cs in
-    let front : take (offset (length cs)) text ≡ head = holds_front text (offset (length cs)) _ j3 in
+    let front : take (offset (length cs)) text ≡ head = holds_prefix text (offset (length cs)) _ j3 in
     let back : drop (offset (length cs)) text ≡ out = ap (λ (k : ℕ). drop k text) (sym end) ∙ is.output in
     sym (take-append-drop (offset (length cs)) text) ∙ ap (λ (l : List ℕ). l ++ drop (offset (length cs)) text) front ∙ ap (λ (l : List ℕ). head ++ l) back
 
--- in version 1 the timers of such a recording don't count
-unclocked_in : (v : ℕ) (text : List ℕ) (r : RecordingParts) → IsLaidOut v text r → v ≡ FIRST_VERSION → All IsUnclocked r.checkpoints
-unclocked_in v text r is first k d lt = let whole = (is.checkpoints_stand k d lt).in_first first in record { rate = whole.rate; phase = whole.phase }
+-- in version 1 the timers of such a recording have rate and phase 0
+unclocked_in : (v : ℕ) (text : List ℕ) (r : RecordingParts) → HasFieldsOf v text r → v ≡ FIRST_VERSION → All IsUnclocked r.checkpoints
+unclocked_in v text r is first k d lt = let whole = (is.checkpoints_are_at k d lt).in_first first in record { rate = whole.rate; phase = whole.phase }
 
 -- so the bytes are the file of the recording
-pub text_of_laid : (v : ℕ) (text : List ℕ) (r : RecordingParts) → AreBytes text → IsLawful r → IsLaidOut v text r → TextIn v text r
-text_of_laid v text r bytes lawful is = record {
+pub text_of_fields : (v : ℕ) (text : List ℕ) (r : RecordingParts) → AreBytes text → IsLawful r → HasFieldsOf v text r → TextIn v text r
+text_of_fields v text r bytes lawful is = record {
   lawful = lawful;
   known = is.known;
   unclocked = unclocked_in v text r is;

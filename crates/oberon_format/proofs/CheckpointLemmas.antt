@@ -1,4 +1,4 @@
--- The checkpoints of a recording, as Rust has them and as parts.
+-- The checkpoints of a recording, as Rust values and as parts.
 use Rattle.std.proofs.Common.{◌≡◌, ◌<◌, ◌∙◌, ℕ, List, map, get_or, length, sym, ap, subst, arith}
 use Rattle.std.proofs.lemmas.List.{get_or-map, length-map}
 use Rattle.risc_model.specs.declared.event.Event.{Event}

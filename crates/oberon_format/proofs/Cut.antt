@@ -1,4 +1,4 @@
--- How long the text of a recording can be, and that a text that is cut off behind so many bytes has the first fault of the whole.
+-- How long the file of a recording can be, and that a file that is cut after that many bytes has the first fault of the whole.
 use Rattle.std.proofs.Common.{◌≡◌, ◌≤◌, ◌<◌, ◌+◌, ◌-◌, ◌*◌, ◌==◌, ◌∙◌, ℕ, zero, suc, if◌then◌else◌, sym, subst, Bool, true, false, List, arith, refl, ap, ap₂, drop, length, take}
 use Rattle.std.proofs.lemmas.Bool.{eqb-true, leb-true, leb-false}
 use Rattle.std.proofs.lemmas.List.{drop-take, get_or-take, length-take, take-take}
@@ -14,14 +14,14 @@ use Rattle.oberon_format.specs.TextFields.{change_at, change_of, checkpoint_of, 
 use Rattle.oberon_format.specs.Recording.{RecordingParts}
 use Rattle.oberon_format.specs.Text.{Text}
 use Rattle.oberon_format.proofs.ChangeLemmas.{after-same}
-use Rattle.oberon_format.proofs.PartLemmas.{laid_within, size_few}
-use Rattle.oberon_format.proofs.Encoded.{laid}
-use Rattle.oberon_format.proofs.Places.{start-laid}
+use Rattle.oberon_format.proofs.PartLemmas.{start_in_within, size_few}
+use Rattle.oberon_format.proofs.Encoded.{encoded_fields}
+use Rattle.oberon_format.proofs.Starts.{start-encoded}
 use Rattle.oberon_format.proofs.Room.{start_none, named_first}
 use Rattle.oberon_format.proofs.TextLemmas.{number_where, number_else}
 use Rattle.oberon_format.proofs.LongFields.{AreFew, AgreeBelow, AgreeAt, Agree, most, faults_same, fields}
 
--- numbers in bytes that were not cut off
+-- numbers in bytes before the cut
 word_at-take : (n : ℕ) (text : List ℕ) (offset : ℕ) → offset + 4 ≤ n → word_at (take n text) offset ≡ word_at text offset
 unfolding word_at
 word_at-take n text offset within =
@@ -66,7 +66,7 @@ slice_range-take n text from to within = go (nat_le from n) refl
         let none : to - from ≡ 0 = omega arith in
         rw none refl
 
--- a text that is cut off behind the header has the version of the whole
+-- a file that is cut after the header has the version of the whole
 version-take : (n : ℕ) (text : List ℕ) → LONGEST_TEXT < n → version (take n text) ≡ version text
 version-take n text over = word_at-take n text VERSION_AT (omega arith)
 
@@ -113,7 +113,7 @@ change_at-take n text offset within =
     let number = word_at-take n text (offset + NUMBER_AT) (omega arith) in
     λ i. record { place = at i; number = number i }
 
--- how long a text is to be by its header
+-- the length that the header asks for
 named_most : (text : List ℕ) → AreFew (pages text) (events text) (checkpoints text) → named_len (fields_of text) ≤ LONGEST_TEXT
 named_most text few = go (version text == FIRST_VERSION) refl
   where
@@ -132,12 +132,12 @@ named_most text few = go (version text == FIRST_VERSION) refl
         let named : named_len (fields_of text) ≡ start text 0 = rw is refl in
         omega arith
 
--- a text that is cut off, and the whole, by the numbers of the header of the whole
+-- a cut file, and the whole, by the numbers of the header of the whole
 module _ (n : ℕ) (text : List ℕ) (over : LONGEST_TEXT < n) where
   abbrev cut : List ℕ
   cut = take n text
 
-  -- the texts agree up to checkpoint k, or in checkpoint k
+  -- the files agree up to checkpoint k, or in checkpoint k
   abbrev Below : ℕ → Type 0
   Below k = AgreeBelow (word_at text MAGIC_AT) (version text) (pages text) (events text) (checkpoints text) (word_at text LAST_AT)
       (length cut) (length text) (λ i. event_of cut (event_offset cut i)) (λ i. event_of text (event_offset text i)) (start cut) (start text)
@@ -150,7 +150,7 @@ module _ (n : ℕ) (text : List ℕ) (over : LONGEST_TEXT < n) where
       (λ k. checkpoint_of cut (start cut k)) (λ k. checkpoint_of text (start text k)) (λ k. change_of cut (start cut k)) (λ k. change_of text (start text k))
       (page_number_of cut) (page_number_of text) k
 
-  -- where the checkpoints begin
+  -- offsets of checkpoints
   events_begin : event_offset cut (events cut) ≡ event_offset text (events text)
   events_begin = ap₂ event_start (word_at-take n text PAGES_AT (omega arith)) (word_at-take n text EVENTS_AT (omega arith))
 
@@ -174,7 +174,7 @@ module _ (n : ℕ) (text : List ℕ) (over : LONGEST_TEXT < n) where
   later_cut : (version text == FIRST_VERSION) ≡ false → (version cut == FIRST_VERSION) ≡ false
   later_cut later = ap (λ (v : ℕ). v == FIRST_VERSION) (version-take n text over) ∙ later
 
-  -- the numbers before checkpoint k of version 2
+  -- the page ids before checkpoint k of version 2
   numbers_below : (k : ℕ) → Below k → (version text == FIRST_VERSION) ≡ false → (p : ℕ) → p < PLACES → number_before cut k p ≡ number_before text k p
   unfolding number_before
   numbers_below zero below later p inside = refl
@@ -191,7 +191,7 @@ module _ (n : ℕ) (text : List ℕ) (over : LONGEST_TEXT < n) where
         let near = below.near in
         omega arith
 
-    -- what stands in checkpoint k
+    -- what is in checkpoint k
     fields_here : checkpoint_of cut (start cut k) ≡ checkpoint_of text (start text k)
     fields_here =
         let space = room in
@@ -205,7 +205,7 @@ module _ (n : ℕ) (text : List ℕ) (over : LONGEST_TEXT < n) where
         let space = room in
         ap (λ (offset : ℕ). change_of cut offset i) below.place ∙ change_at-take n text (change_offset (start text k) i) (omega arith)
 
-    -- where the next checkpoint begins
+    -- the offset of the next checkpoint
     offset_next : start cut (suc k) ≡ start text (suc k)
     unfolding start
     offset_next = ap₂ (λ (offset size : ℕ). offset + size) below.place (ap₂ checkpoint_size (version-take n text over) count_here)
@@ -217,7 +217,7 @@ module _ (n : ℕ) (text : List ℕ) (over : LONGEST_TEXT < n) where
         let size = size_few (version cut) (change_count cut (start cut k)) few_changes in
         omega arith
 
-    -- its page numbers
+    -- its page ids
     number_first : (version text == FIRST_VERSION) ≡ true → (p : ℕ) → p < PLACES → page_number_of cut k p ≡ page_number_of text k p
     number_first first p inside =
         let space = room in
@@ -253,7 +253,7 @@ module _ (n : ℕ) (text : List ℕ) (over : LONGEST_TEXT < n) where
       of_numbers = number_here;
     }
 
-  -- the fields of the text that is cut off, with the header of the whole
+  -- the fields of the cut file, with the header of the whole
   fields_cut : fields_of cut ≡ fields (word_at text MAGIC_AT) (version text) (pages text) (events text) (checkpoints text) (word_at text LAST_AT)
       (length cut) (λ i. event_of cut (event_offset cut i)) (start cut) (λ k. checkpoint_of cut (start cut k))
       (λ k. change_of cut (start cut k)) (page_number_of cut)
@@ -279,7 +279,7 @@ module _ (n : ℕ) (text : List ℕ) (over : LONGEST_TEXT < n) where
         page_number = page_number_of cut;
       }
 
-  -- both name few enough parts
+  -- both have counts within the limits
   few_cut : AreFew (pages text) (events text) (checkpoints text) → AreFew (pages cut) (events cut) (checkpoints cut)
   few_cut few =
       let of_pages = word_at-take n text PAGES_AT (omega arith) in
@@ -299,7 +299,7 @@ module _ (n : ℕ) (text : List ℕ) (over : LONGEST_TEXT < n) where
       let few_events = few.of_events in
       event_of-take n text (event_offset cut i) (omega arith) ∙ ap (λ (p : ℕ). event_of text (event_start p i)) of_pages
 
-  -- what rules look at was not cut off
+  -- what rules look at is before the cut
   agree_cut : AreFew (pages text) (events text) (checkpoints text)
       → Agree (word_at text MAGIC_AT) (version text) (pages text) (events text) (checkpoints text) (word_at text LAST_AT)
       (length cut) (length text) (λ i. event_of cut (event_offset cut i)) (λ i. event_of text (event_offset text i)) (start cut) (start text)
@@ -313,7 +313,7 @@ module _ (n : ℕ) (text : List ℕ) (over : LONGEST_TEXT < n) where
     each_here = here few;
   }
 
--- a text that is cut off there has the first fault of the whole
+-- a file that is cut there has the first fault of the whole
 pub first_fault_of-take : (n : ℕ) (text : List ℕ) → LONGEST_TEXT < n → n ≤ length text → first_fault_of (take n text) ≡ first_fault_of text
 first_fault_of-take n text over within =
     let cut : List ℕ = take n text in
@@ -324,24 +324,24 @@ first_fault_of-take n text over within =
     (page_number_of cut) (page_number_of text) (agree_cut n text over)
     (simp length-take (omega arith)) (omega arith)
 
--- the longest text has 118,310,056 bytes: 24 of the header, 65,536 pages, 1,000,000 events, 4,097 checkpoints that change each place
--- of the table, and the output
+-- the longest file has 118,310,056 bytes: 24 of the header, 65,536 pages, 1,000,000 events, 4,097 checkpoints that change each
+-- slot of the table, and the output
 pub text_within : (text : List ℕ) (r : RecordingParts) → Text text r → length text ≤ LONGEST_TEXT
 text_within text r some =
-    let facts = laid some.version text r some.is in
+    let facts = encoded_fields some.version text r some.is in
     let lawful = some.is.lawful in
     let long = facts.long in
     let count = facts.checkpoint_count in
-    let end = start-laid some.version text r facts (length r.checkpoints) (omega arith) in
+    let end = start-encoded some.version text r facts (length r.checkpoints) (omega arith) in
     let same : start text (checkpoints text) ≡ start text (length r.checkpoints) = ap (start text) count in
-    let near = laid_within some.version r (length r.checkpoints) in
+    let near = start_in_within some.version r (length r.checkpoints) in
     let few_pages = lawful.pages in
     let few_events = lawful.events in
     let few_checkpoints = lawful.few in
     let output = lawful.output in
     omega arith
 
--- so no text of a recording is cut off there
+-- so no file of a recording is cut there
 pub cut_is_no_text : (n : ℕ) (text : List ℕ) (r : RecordingParts) → LONGEST_TEXT < n → n ≤ length text → Text (take n text) r → ⊥
 cut_is_no_text n text r over within is =
     let short : length (take n text) ≤ LONGEST_TEXT = text_within (take n text) r is in

@@ -1,4 +1,4 @@
--- What holds of each member of a list at its number, as a list is filled.
+-- What holds for each member of a list at its index, as a list is filled.
 use Rattle.std.proofs.Common.{◌≡◌, ◌≢◌, ◌<◌, ◌+◌, ℕ, List, [], ◌∷◌, ◌++◌, sym, subst, inl, inr, arith, length, get_or, set, get_or-set_other, get_or-set_same, length-append}
 use Rattle.std.proofs.lemmas.Bool.{cases_lt}
 use Rattle.std.proofs.lemmas.List.{get_or_append_left, get_or_push}

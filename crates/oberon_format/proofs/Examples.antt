@@ -1,4 +1,4 @@
--- Worked examples of the definitions: each computes to the value that the format gives.
+-- Worked examples of the definitions: each computes to the value that the format asks for.
 use Rattle.std.proofs.Common.{◌≡◌, ℕ, zero, suc, true, false, List, [], ◌∷◌, ◌+◌, ◌*◌, ◌++◌, length, take, replicate, None, Some, refl}
 use Rattle.std.specs.Prelude.{slice_index}
 use Rattle.risc_devices.specs.DeviceState.{is_phase}
@@ -7,19 +7,19 @@ use Rattle.risc_pages.specs.Tables.{zero_numbers}
 use Rattle.oberon_format.specs.declared.fault.Fault.TheVariants as fault
 use Rattle.oberon_format.specs.declared.change.Change.{Change}
 use Rattle.oberon_format.specs.declared.fields.CheckpointFields.{CheckpointFields}
-use Rattle.oberon_format.specs.declared.layout.TheConstants.{MAGIC, VERSION, FRONT_LEN, COUNTER_AT, LONGEST_TEXT}
+use Rattle.oberon_format.specs.declared.layout.TheConstants.{MAGIC, VERSION, COMMON_LEN, COUNTER_AT, LONGEST_TEXT}
 use Rattle.oberon_format.specs.Changes.{changes_below, no_change, number_after}
 use Rattle.oberon_format.specs.CheckpointParts.{CheckpointParts, no_checkpoint}
 use Rattle.oberon_format.specs.Fields.{Fields, total}
 use Rattle.oberon_format.specs.FirstFault.{first_broken, each}
 use Rattle.oberon_format.specs.Layout.{word_at, long_at, event_start, page_number_offset, change_offset, checkpoint_size, start}
-use Rattle.oberon_format.specs.PartFields.{checkpoint_fields, no_event, start_laid, fault_of_parts}
+use Rattle.oberon_format.specs.PartFields.{checkpoint_fields, no_event, start_in, fault_of_parts}
 use Rattle.oberon_format.specs.Ranges.{is_count, is_output, is_event, are_keys}
 use Rattle.oberon_format.specs.Rules.{rules, checkpoint_rules, page_number_rules, change_rules, end_rules}
-use Rattle.oberon_format.specs.Encoding.{word_bytes, long_bytes, cpu_bytes, device_bytes, front_bytes, change_bytes, header_bytes}
+use Rattle.oberon_format.specs.Encoding.{word_bytes, long_bytes, cpu_bytes, device_bytes, common_bytes, change_bytes, header_bytes}
 use Rattle.oberon_format.specs.TextFields.{first_fault_of, number_before}
 
--- the text of a header: its magic is right, its numbers are given by their bytes
+-- the bytes of a header: its magic is right, and its numbers are those of its bytes
 abbrev header : List ℕ → List ℕ → List ℕ → List ℕ → List ℕ → List ℕ
 header version pages events checkpoints last = 0x4F ∷ 0x52 ∷ 0x53 ∷ 0x52 ∷ (version ++ pages ++ events ++ checkpoints ++ last)
 
@@ -29,7 +29,7 @@ zero_word = 0 ∷ 0 ∷ 0 ∷ 0 ∷ []
 abbrev one_word : List ℕ
 one_word = 1 ∷ 0 ∷ 0 ∷ 0 ∷ []
 
--- first faults of texts
+-- first faults of files
 empty-text : first_fault_of [] ≡ Some (fault.Short 0)
 unfolding rules
 empty-text = refl
@@ -72,7 +72,7 @@ begins-at-one : first_fault_of (header one_word zero_word zero_word one_word zer
 unfolding rules word_at long_at start each total checkpoint_rules
 begins-at-one = refl
 
--- in version 2 they take 168 where no place of the table is changed
+-- in version 2 they take 168 if no slot of the table is changed
 abbrev two_word : List ℕ
 two_word = 2 ∷ 0 ∷ 0 ∷ 0 ∷ []
 
@@ -92,7 +92,7 @@ byte-after-version-two : first_fault_of (header two_word zero_word zero_word one
 unfolding rules word_at long_at start each total checkpoint_rules is_phase input.is_mouse
 byte-after-version-two = refl
 
--- a checkpoint of version 2 with this rate and phase, this number of changes, and these changes, in a text without pages
+-- a checkpoint of version 2 with this rate and phase, this number of changes, and these changes, in a file without pages
 abbrev with_changes : List ℕ → List ℕ → List ℕ → List ℕ → List ℕ
 with_changes rate phase count behind = header two_word zero_word zero_word one_word zero_word ++ replicate 132 0 ++ rate ++ phase ++ count ++ behind
 
@@ -116,7 +116,7 @@ changes-cut : first_fault_of (with_changes zero_word zero_word one_word zero_wor
 unfolding rules word_at long_at start each total checkpoint_rules is_phase input.is_mouse
 changes-cut = refl
 
--- place 0 is changed to page 0, which stood there, and to page 1, which isn't there
+-- slot 0 is changed to page id 0, which was there, and to page id 1, which has no page
 change-to-the-same : first_fault_of (with_changes zero_word zero_word one_word (zero_word ++ zero_word)) ≡ Some (fault.Page 168)
 unfolding rules word_at long_at start each total checkpoint_rules is_phase input.is_mouse
 change-to-the-same = refl
@@ -129,7 +129,7 @@ change-to-no-page = refl
 abbrev no_fields : CheckpointFields
 no_fields = checkpoint_fields 1 [] no_checkpoint
 
--- a text of version 1 of a checkpoint and no more, of this length
+-- a file of version 1 of a checkpoint and no more, of this length
 abbrev of_length : ℕ → Fields
 of_length n = record {
   long = n;
@@ -154,12 +154,12 @@ byte-after-the-end : first_broken (end_rules (of_length 4253)) ≡ Some (fault.T
 unfolding total
 byte-after-the-end = refl
 
--- page numbers over a pool of one page: the second place names page 2
+-- page ids over a pool of one page: the second slot names page 2
 unknown-page : first_broken (each 3 (page_number_rules 1 5276 (slice_index (1 ∷ 2 ∷ 0 ∷ [])))) ≡ Some (fault.Page 5412)
 unfolding each
 unknown-page = refl
 
--- the page numbers that a checkpoint of version 2 leaves: page 7 at place 3
+-- the page ids after a checkpoint of version 2: page 7 in slot 3
 number-that-was-changed : number_before (with_changes zero_word zero_word one_word (3 ∷ 0 ∷ 0 ∷ 0 ∷ 7 ∷ 0 ∷ 0 ∷ 0 ∷ [])) 1 3 ≡ 7
 unfolding number_before number_after start word_at
 number-that-was-changed = refl
@@ -168,8 +168,8 @@ number-that-was-left : number_before (with_changes zero_word zero_word one_word 
 unfolding number_before number_after start word_at
 number-that-was-left = refl
 
--- changes over a pool of one page, where places 3 and 4 have pages 0 and 1: place 3 after place 4, a place that no table has, a page
--- that isn't there, and the page that stood there
+-- changes over a pool of one page, after slots 3 and 4 have pages 0 and 1: slot 3 after slot 4, a slot that no table has, a page
+-- that is not there, and the page that was there
 abbrev had : ℕ → ℕ
 had = slice_index (0 ∷ 0 ∷ 0 ∷ 0 ∷ 1 ∷ [])
 
@@ -205,7 +205,7 @@ changed-to-the-same : first_broken (each 1 (change_rules 1 1048 had (two_of (pai
 unfolding each
 changed-to-the-same = refl
 
--- what they leave
+-- the page ids after them
 changed-place : number_after (two_of (pair 3 1) (pair 4 0)) had 2 3 ≡ 1
 unfolding number_after
 changed-place = refl
@@ -214,14 +214,14 @@ place-left : number_after (two_of (pair 3 1) (pair 4 0)) had 2 5 ≡ 0
 unfolding number_after
 place-left = refl
 
--- and the changes between two tables, up to place 2
+-- and the changes between two tables, up to slot 2
 changes-between : changes_below 3 (5 ∷ 6 ∷ 7 ∷ 8 ∷ []) (5 ∷ 9 ∷ 0 ∷ 1 ∷ []) ≡ pair 1 9 ∷ pair 2 0 ∷ []
 unfolding changes_below
 changes-between = refl
 
 -- parts without a checkpoint, and with a first one at count 7
 no-parts : fault_of_parts (record { pool = []; inputs = []; checkpoints = [] }) ≡ Some (fault.Limit 16)
-unfolding rules start_laid
+unfolding rules start_in
 no-parts = refl
 
 parts-at-seven :
@@ -230,7 +230,7 @@ parts-at-seven :
       inputs = [];
       checkpoints = record { count = 7; cpu = no_checkpoint.cpu; devices = no_checkpoint.devices; sent = []; table = replicate 1024 0 } ∷ [];
     }) ≡ Some (fault.Checkpoint 24)
-unfolding rules start_laid each total checkpoint_rules changes_below zero_numbers is_phase
+unfolding rules start_in each total checkpoint_rules changes_below zero_numbers is_phase
 parts-at-seven = refl
 
 -- ranges
@@ -273,7 +273,7 @@ no-sixth-kind = refl
 sixteen-keys : are_keys (record no_fields { waiting = 16; keys = replicate 16 1 }) ≡ true
 sixteen-keys = refl
 
--- where fields stand
+-- offsets of fields
 second-checkpoint : event_start 1 0 + checkpoint_size 1 0 ≡ 5276
 second-checkpoint = refl
 
@@ -320,14 +320,14 @@ claim = record no_checkpoint {
   cpu = record no_checkpoint.cpu { r = 5 ∷ 0 ∷ 0 ∷ 0 ∷ 0 ∷ 0 ∷ 0 ∷ 0 ∷ 0 ∷ 0 ∷ 0 ∷ 0 ∷ 0 ∷ 0 ∷ 0 ∷ 0 ∷ []; pc = 100 };
 }
 
-front-has-its-length : length (front_bytes claim) ≡ FRONT_LEN
-unfolding front_bytes cpu_bytes device_bytes word_bytes long_bytes
-front-has-its-length = refl
+fields-have-their-length : length (common_bytes claim) ≡ COMMON_LEN
+unfolding common_bytes cpu_bytes device_bytes word_bytes long_bytes
+fields-have-their-length = refl
 
-front-begins : take 12 (front_bytes claim) ≡ 100 ∷ 0 ∷ 0 ∷ 0 ∷ 0 ∷ 0 ∷ 0 ∷ 0 ∷ 5 ∷ 0 ∷ 0 ∷ 0 ∷ []
-unfolding front_bytes cpu_bytes device_bytes word_bytes long_bytes
-front-begins = refl
+fields-begin : take 12 (common_bytes claim) ≡ 100 ∷ 0 ∷ 0 ∷ 0 ∷ 0 ∷ 0 ∷ 0 ∷ 0 ∷ 5 ∷ 0 ∷ 0 ∷ 0 ∷ []
+unfolding common_bytes cpu_bytes device_bytes word_bytes long_bytes
+fields-begin = refl
 
-front-has-its-counter : word_at (front_bytes claim) COUNTER_AT ≡ 100
-unfolding front_bytes cpu_bytes device_bytes word_bytes long_bytes word_at
-front-has-its-counter = refl
+fields-have-the-counter : word_at (common_bytes claim) COUNTER_AT ≡ 100
+unfolding common_bytes cpu_bytes device_bytes word_bytes long_bytes word_at
+fields-have-the-counter = refl

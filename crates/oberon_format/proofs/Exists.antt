@@ -1,4 +1,4 @@
--- A text without fault is that of a recording, which is built here of the text alone.
+-- A file without a fault is that of a recording, which is built here from the file alone.
 use Rattle.std.proofs.Common.{◌≡◌, Option, Some, None, ◌<◌, ◌≤◌, ◌+◌, ◌-◌, ◌*◌, ◌/◌, ◌%◌, ◌^◌, ◌∙◌, ℕ, zero, suc, Bool, true, false, cond, List, [], ◌∷◌, ◌++◌, length, map, drop, get_or, refl, sym, ap, subst, inl, inr, arith, length-append}
 use Rattle.std.specs.Prelude.{All, MatchOption, slice_index, slice_range, ◌==◌}
 use Rattle.std.specs.List.{range_with_len}
@@ -23,22 +23,22 @@ use Rattle.oberon_format.specs.Layout.{word_at, long_at, version, pages, events,
 use Rattle.oberon_format.specs.Ranges.{in_ranges, are_keys}
 use Rattle.oberon_format.specs.Recording.{RecordingParts, output_of}
 use Rattle.oberon_format.specs.Formed.{IsFormed, AreFormed}
-use Rattle.oberon_format.specs.inner.Tested.{HasNumbers, Meets, StandIn}
+use Rattle.oberon_format.specs.inner.Tested.{HasNumbers, Meets, AreIn}
 use Rattle.oberon_format.specs.Text.{AreBytes, Text}
-use Rattle.oberon_format.proofs.Back.{text_of_laid}
-use Rattle.oberon_format.proofs.Encoded.{laid}
-use Rattle.oberon_format.specs.inner.Offsets.{EachAt, AreWords, IsPageAt, IsEventAt, IsCpu, IsDevices, IsFront, IsLaidOut}
+use Rattle.oberon_format.proofs.Back.{text_of_fields}
+use Rattle.oberon_format.proofs.Encoded.{encoded_fields}
+use Rattle.oberon_format.specs.inner.Offsets.{EachAt, AreWords, IsPageAt, IsEventAt, IsCpu, IsDevices, HasCommonFields, HasFieldsOf}
 use Rattle.oberon_format.specs.TextFields.{change_of, checkpoint_of, first_fault_of, number_before, page_number_of}
 use Rattle.oberon_format.proofs.Agree.{text_agrees}
 use Rattle.oberon_format.proofs.Back.{all_bytes}
 use Rattle.oberon_format.proofs.ChangeLemmas.{after-bounded}
 use Rattle.oberon_format.proofs.Each.{each_push}
-use Rattle.oberon_format.proofs.Keys.{keys-stand, length-range}
+use Rattle.oberon_format.proofs.Keys.{keys-are_at, length-range}
 use Rattle.oberon_format.proofs.LawfulLemmas.{lawful_formed, lawful_faultless}
 use Rattle.oberon_format.proofs.Numbers.{serial_whole}
 use Rattle.oberon_format.proofs.Output.{ranges_hold, keys_hold, output_fits, output_more, output_all, range-none}
-use Rattle.oberon_format.proofs.ReadLemmas.{events_ordered, stand_next, text_read, read_lawful}
-use Rattle.oberon_format.proofs.Room.{front_there}
+use Rattle.oberon_format.proofs.ReadLemmas.{events_ordered, next_is_at, text_read, read_lawful}
+use Rattle.oberon_format.proofs.Room.{common_there}
 use Rattle.oberon_format.proofs.RuleLemmas.{none_meets, event_input, output_below, output_below_none, output_below_more, and_left, and_right}
 
 -- numbers of bytes fit
@@ -67,22 +67,22 @@ numbers_fit number n each i d lt =
     let len = numbers_length number n in
     subst (λ (x : ℕ). x < 2 ^ 32) (sym (numbers_are number n i d (omega arith))) (each i)
 
--- the words from a place on
+-- the words from an offset on
 abbrev words_from : List ℕ → ℕ → ℕ → List ℕ
 words_from text offset n = numbers_of (λ i. word_at text (offset + 4 * i)) n
 
 words_length : (text : List ℕ) (offset n : ℕ) → length (words_from text offset n) ≡ n
 words_length text offset n = numbers_length (λ i. word_at text (offset + 4 * i)) n
 
-words_stand : (text : List ℕ) (offset n : ℕ) → AreWords text offset (words_from text offset n)
-words_stand text offset n i d lt =
+words_are_at : (text : List ℕ) (offset n : ℕ) → AreWords text offset (words_from text offset n)
+words_are_at text offset n i d lt =
     let len = words_length text offset n in
     sym (numbers_are (λ k. word_at text (offset + 4 * k)) n i d (omega arith))
 
 words_fit : (text : List ℕ) (offset n : ℕ) → AreBytes text → All (λ x. x < 2 ^ 32) (words_from text offset n)
 words_fit text offset n bytes = numbers_fit (λ i. word_at text (offset + 4 * i)) n (λ i. word_fits text (offset + 4 * i) bytes)
 
--- the words that only version 2 has fit, and so do page numbers of either version
+-- the words that only version 2 has fit, and so do page ids of either version
 later_fits : (text : List ℕ) (offset : ℕ) → AreBytes text → later_word text offset < 2 ^ 32
 later_fits text offset bytes = go (version text == FIRST_VERSION)
   where
@@ -114,7 +114,7 @@ table_length text k = numbers_length (page_number_of text k) PLACES
 table_has : (text : List ℕ) (k : ℕ) → HasNumbers (table_of text k) (page_number_of text k)
 table_has text k p lt = numbers_are (page_number_of text k) PLACES p 0 lt
 
--- so many pages
+-- the first n pages
 record Pages (text : List ℕ) (n : ℕ) : Type 0 where
   pool : List (List ℕ)
   count : length pool ≡ n
@@ -131,11 +131,11 @@ pages_of text (suc n) bytes =
     record {
       pool = so_far.pool ++ page ∷ [];
       count = omega (arith, length-append so_far.pool (page ∷ []));
-      stand = each_push (IsPageAt text) so_far.pool n page so_far.count so_far.stand (words_stand text (page_offset n) 256);
+      stand = each_push (IsPageAt text) so_far.pool n page so_far.count so_far.stand (words_are_at text (page_offset n) 256);
       whole = All-push IsPage so_far.pool page so_far.whole is;
     }
 
--- so many events
+-- the first n events
 record Events (text : List ℕ) (n : ℕ) : Type 0 where
   list : List Event
   count : length list ≡ n
@@ -163,7 +163,7 @@ events_of text (suc n) bytes meets le =
       stand = each_push (IsEventAt text) so_far.list n made.0 so_far.count so_far.stand made.1;
     }
 
--- the processor at a place
+-- the processor at an offset
 cpu_at : List ℕ → ℕ → CpuState
 cpu_at text offset = record {
   r = words_from text (offset + REGISTERS_AT) 16;
@@ -173,17 +173,17 @@ cpu_at text offset = record {
   stop = word_at text (offset + STOP_AT);
 }
 
-cpu_stands : (text : List ℕ) (offset : ℕ) → word_at text (offset + FLAGS_AT) < FLAGS_END → IsCpu text offset (cpu_at text offset)
+cpu_is_at : (text : List ℕ) (offset : ℕ) → word_at text (offset + FLAGS_AT) < FLAGS_END → IsCpu text offset (cpu_at text offset)
 unfolding cpu_at
-cpu_stands text offset few = record {
-  registers = words_stand text (offset + REGISTERS_AT) 16;
+cpu_is_at text offset few = record {
+  registers = words_are_at text (offset + REGISTERS_AT) 16;
   h = refl;
   pc = refl;
   flags = sym (number_back (word_at text (offset + FLAGS_AT)) few);
   stop = refl;
 }
 
--- the devices at a place
+-- the devices at an offset
 devices_at : List ℕ → ℕ → DeviceState
 devices_at text offset =
     let serial = word_at text (offset + SERIAL_AT) in
@@ -228,17 +228,17 @@ small text offset ranges keys =
       keys = leb-true _ _ (and_left _ _ keys);
     }
 
--- as many key codes as wait
+-- the first n waiting key codes
 codes_length : (text : List ℕ) (offset : ℕ) → offset + CHANGES_AT ≤ length text → word_at text (offset + WAITING_AT) ≤ MAX_KEYS
     → length (slice_range text (offset + KEYS_AT) (offset + KEYS_AT + word_at text (offset + WAITING_AT))) ≡ word_at text (offset + WAITING_AT)
 codes_length text offset room few =
     let end = offset + KEYS_AT + word_at text (offset + WAITING_AT) in
     omega (arith, length-range text (offset + KEYS_AT) end (omega arith) (omega arith))
 
-devices_stand : (text : List ℕ) (offset : ℕ) → offset + CHANGES_AT ≤ length text → Small text offset → are_keys (checkpoint_of text offset) ≡ true
+devices_are_at : (text : List ℕ) (offset : ℕ) → offset + CHANGES_AT ≤ length text → Small text offset → are_keys (checkpoint_of text offset) ≡ true
     → IsDevices text offset (devices_at text offset)
 unfolding devices_at
-devices_stand text offset room fits keys =
+devices_are_at text offset room fits keys =
     let n = word_at text (offset + WAITING_AT) in
     let few = fits.keys in
     let len = codes_length text offset room few in
@@ -249,7 +249,7 @@ devices_stand text offset room fits keys =
       mouse = refl;
       serial = sym (serial_whole (word_at text (offset + SERIAL_AT)) fits.serial);
       waiting = sym len;
-      keys = rw len (keys-stand text offset room keys);
+      keys = rw len (keys-are_at text offset room keys);
     }
 
 devices_fit : (text : List ℕ) (offset : ℕ) → offset + CHANGES_AT ≤ length text → AreBytes text → Small text offset → IsDeviceState (devices_at text offset)
@@ -271,15 +271,15 @@ devices_fit text offset room bytes fits =
           (All-drop (λ code. code < 2 ^ 8) (offset + KEYS_AT) text bytes);
     }
 
--- so many checkpoints, and their output up to there
+-- the first n checkpoints, and their output up to there
 record Checkpoints (text : List ℕ) (n : ℕ) : Type 0 where
   list : List CheckpointParts
   count : length list ≡ n
-  stand : StandIn text list
+  stand : AreIn text list
   formed : AreFormed list
   output : slice_range text (output_offset text) (output_offset text + output_below text n) ≡ output_of list
 
--- checkpoint k, whose output is told from a place on
+-- checkpoint k, whose output begins at an offset
 checkpoint_made : (text : List ℕ) (k from : ℕ) → CheckpointParts
 checkpoint_made text k from = record {
   count = long_at text (start text k);
@@ -289,20 +289,20 @@ checkpoint_made text k from = record {
   table = table_of text k;
 }
 
--- its front stands
-front_stands : (text : List ℕ) (k from : ℕ) → start text k + CHANGES_AT ≤ length text → from + word_at text (start text k + SENT_AT) ≤ length text
-    → Small text (start text k) → are_keys (checkpoint_of text (start text k)) ≡ true → IsFront text (start text k) (checkpoint_made text k from)
+-- its common fields are there
+common_is_at : (text : List ℕ) (k from : ℕ) → start text k + CHANGES_AT ≤ length text → from + word_at text (start text k + SENT_AT) ≤ length text
+    → Small text (start text k) → are_keys (checkpoint_of text (start text k)) ≡ true → HasCommonFields text (start text k) (checkpoint_made text k from)
 unfolding checkpoint_made
-front_stands text k from room fits few keys =
+common_is_at text k from room fits few keys =
     let offset = start text k in
     record {
       count = refl;
-      cpu = cpu_stands text offset few.flags;
-      devices = devices_stand text offset room few keys;
+      cpu = cpu_is_at text offset few.flags;
+      devices = devices_are_at text offset room few keys;
       sent = omega (arith, length-range text from (from + word_at text (offset + SENT_AT)) (omega arith) fits);
     }
 
--- what the checkpoint has of the text
+-- what the checkpoint has from the file
 rate_is : (text : List ℕ) (k from : ℕ) → (checkpoint_made text k from).devices.rate ≡ later_word text (start text k + RATE_AT)
 unfolding checkpoint_made devices_at
 rate_is text k from = refl
@@ -319,14 +319,14 @@ sent_is : (text : List ℕ) (k from : ℕ) → (checkpoint_made text k from).sen
 unfolding checkpoint_made
 sent_is text k from = refl
 
--- it stands behind those before it
-checkpoint_stands : (text : List ℕ) (k from : ℕ) (cs : List CheckpointParts) → Meets text → k < checkpoints text
-    → from + word_at text (start text k + SENT_AT) ≤ length text → length cs ≡ k → StandIn text cs → StandIn text (cs ++ checkpoint_made text k from ∷ [])
-checkpoint_stands text k from cs meets lt fits count stand =
+-- it is after those before it
+checkpoint_is_at : (text : List ℕ) (k from : ℕ) (cs : List CheckpointParts) → Meets text → k < checkpoints text
+    → from + word_at text (start text k + SENT_AT) ≤ length text → length cs ≡ k → AreIn text cs → AreIn text (cs ++ checkpoint_made text k from ∷ [])
+checkpoint_is_at text k from cs meets lt fits count stand =
     let made = checkpoint_made text k from in
     let keys = keys_hold text k meets lt in
-    let front = front_stands text k from (front_there text k meets lt) fits (small text (start text k) (ranges_hold text k meets lt) keys) keys in
-    stand_next text cs made k meets lt count stand front (rate_is text k from) (phase_is text k from)
+    let front = common_is_at text k from (common_there text k meets lt) fits (small text (start text k) (ranges_hold text k meets lt) keys) keys in
+    next_is_at text cs made k meets lt count stand front (rate_is text k from) (phase_is text k from)
     (ap (λ (t : List ℕ). length t) (table_is text k from) ∙ table_length text k)
     (λ p less. ap (λ (t : List ℕ). slice_index t p) (table_is text k from) ∙ table_has text k p less)
 
@@ -368,7 +368,7 @@ checkpoints_of text (suc n) bytes meets le =
     let lt : n < checkpoints text = omega arith in
     let offset = start text n in
     let from = output_offset text + output_below text n in
-    let room = front_there text n meets lt in
+    let room = common_there text n meets lt in
     let fits = output_fits text n meets lt in
     let few = small text offset (ranges_hold text n meets lt) (keys_hold text n meets lt) in
     let made = checkpoint_made text n from in
@@ -380,12 +380,12 @@ checkpoints_of text (suc n) bytes meets le =
     record {
       list = so_far.list ++ made ∷ [];
       count = omega (arith, length-append so_far.list (made ∷ []));
-      stand = checkpoint_stands text n from so_far.list meets lt fits so_far.count so_far.stand;
+      stand = checkpoint_is_at text n from so_far.list meets lt fits so_far.count so_far.stand;
       formed = All-push IsFormed so_far.list made so_far.formed (checkpoint_formed text n from room bytes few);
       output = ap (slice_range text (output_offset text)) end ∙ output_more text n from so_far.list made meets lt refl so_far.output (sent_is text n from);
     }
 
--- a text without fault has a recording
+-- a file without a fault has a recording
 has_recording : (text : List ℕ) → AreBytes text → Meets text → (r : RecordingParts) × Text text r
 has_recording text bytes meets =
     let ps = pages_of text (pages text) bytes in
@@ -393,17 +393,17 @@ has_recording text bytes meets =
     let cs = checkpoints_of text (checkpoints text) bytes meets (omega arith) in
     let output = output_all text (checkpoints text) (output_offset text + output_below text (checkpoints text)) cs.list meets refl refl cs.output in
     let r : RecordingParts = record { pool = ps.pool; inputs = es.list; checkpoints = cs.list } in
-    let facts : IsLaidOut (version text) text r = text_read text ps.pool es.list cs.list meets ps.count ps.stand es.count es.stand cs.count cs.stand output in
+    let facts : HasFieldsOf (version text) text r = text_read text ps.pool es.list cs.list meets ps.count ps.stand es.count es.stand cs.count cs.stand output in
     let ordered = events_ordered text es.list meets es.count es.stand in
-    (r, record { version = version text; is = text_of_laid (version text) text r bytes (read_lawful text r meets ps.whole ordered cs.formed facts) facts })
+    (r, record { version = version text; is = text_of_fields (version text) text r bytes (read_lawful text r meets ps.whole ordered cs.formed facts) facts })
 
--- a text has a recording or a first fault
+-- a file has a recording or a first fault
 by_fault : (text : List ℕ) (o : Option Fault) → AreBytes text → first_fault_of text ≡ o
     → MatchOption o ((r : RecordingParts) × Text text r) (λ fault. (r : RecordingParts) → ¬ (Text text r))
 by_fault text None bytes e = has_recording text bytes (none_meets text e)
 by_fault text (Some f) bytes e = λ r is.
     let v = is.version in
-    let facts = laid v text r is.is in
+    let facts = encoded_fields v text r is.is in
     let lawful = is.is.lawful in
     let none : first_fault_of text ≡ None = text_agrees v text r (lawful_formed r lawful) facts ∙ lawful_faultless v r facts.known lawful in
     absurd cc

@@ -40,9 +40,9 @@ range-drop xs a n c le =
 pub length-range : (xs : List ℕ) (a b : ℕ) → a ≤ b → b ≤ length xs → length (slice_range xs a b) ≡ b - a
 length-range xs a b ab fits = omega (arith, length-take (b - a) (drop a xs), length-drop a xs)
 
-pub keys-stand : (text : List ℕ) (offset : ℕ) → offset + CHANGES_AT ≤ length text → are_keys (checkpoint_of text offset) ≡ true
+pub keys-are_at : (text : List ℕ) (offset : ℕ) → offset + CHANGES_AT ≤ length text → are_keys (checkpoint_of text offset) ≡ true
     → slice_range text (offset + KEYS_AT) (offset + SENT_AT) ≡ slice_range text (offset + KEYS_AT) (offset + KEYS_AT + word_at text (offset + WAITING_AT)) ++ replicate (MAX_KEYS - word_at text (offset + WAITING_AT)) 0
-keys-stand text offset room h =
+keys-are_at text offset room h =
     let n = word_at text (offset + WAITING_AT) in
     let few : n ≤ MAX_KEYS = leb-true n MAX_KEYS (and_left _ _ h) in
     let rest : drop n (slice_range text (offset + KEYS_AT) (offset + SENT_AT)) ≡ slice_range text (offset + KEYS_AT + n) (offset + SENT_AT) = range-drop text (offset + KEYS_AT) n (offset + SENT_AT) (omega arith) in

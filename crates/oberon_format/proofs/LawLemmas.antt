@@ -1,4 +1,4 @@
--- The laws of texts and recordings.
+-- The laws of recordings and their files.
 use Rattle.std.proofs.Common.{◌≡◌, refl, ◌<◌, ◌-◌, ◌^◌, ℕ, zero, suc, List, [], ◌∷◌, ◌++◌, length, get_or, subst, arith}
 use Rattle.std.specs.List.{flat_map}
 use Rattle.std.specs.Int.{byte_at, bytes_low_first}
@@ -15,13 +15,13 @@ use Rattle.oberon_format.specs.Layout.{version}
 use Rattle.oberon_format.specs.Migration.{IsMigrated}
 use Rattle.oberon_format.specs.Formed.{IsFormed, AreFormed, AreWritable}
 use Rattle.oberon_format.specs.Recording.{RecordingParts, IsLawful, output_of}
-use Rattle.oberon_format.specs.Encoding.{word_bytes, long_bytes, words_bytes, event_bytes, cpu_bytes, device_bytes, front_bytes, change_bytes, changes_bytes, changed_bytes, tail_bytes, checkpoint_bytes, checkpoints_bytes, header_bytes, encoding}
+use Rattle.oberon_format.specs.Encoding.{word_bytes, long_bytes, words_bytes, event_bytes, cpu_bytes, device_bytes, common_bytes, change_bytes, changes_bytes, changed_bytes, tail_bytes, checkpoint_bytes, checkpoints_bytes, header_bytes, encoding}
 use Rattle.oberon_format.specs.Text.{AreBytes, TextIn, Text}
 use Rattle.oberon_format.specs.PartFields.{fault_of_parts}
 use Rattle.oberon_format.specs.TextFields.{first_fault_of}
 use Rattle.oberon_format.proofs.Agree.{text_agrees}
 use Rattle.oberon_format.proofs.One.{in_version, same_recording, same_text}
-use Rattle.oberon_format.proofs.Encoded.{laid_out, encoded, writable}
+use Rattle.oberon_format.proofs.Encoded.{encoding_has_fields, encoded, writable}
 
 -- the bytes of numbers are bytes
 byte_small : (i n : ℕ) → byte_at i n < 2 ^ 8
@@ -64,9 +64,9 @@ device_are d fits =
     join _ _ (join _ _ (join _ _ (join _ _ (join _ _ (join _ _ (word_are _) (word_are _)) (word_are _)) (word_are _)) (word_are _)) (word_are _))
     (join _ _ fits.codes (All-replicate (λ byte. byte < 2 ^ 8) (16 - length d.keys) 0 (omega arith)))
 
-front_are : (c : CheckpointParts) → IsFormed c → AreBytes (front_bytes c)
-unfolding front_bytes
-front_are c fits = join _ _ (join _ _ (join _ _ (long_are _) (cpu_are c.cpu)) (device_are c.devices fits.devices)) (word_are _)
+common_are : (c : CheckpointParts) → IsFormed c → AreBytes (common_bytes c)
+unfolding common_bytes
+common_are c fits = join _ _ (join _ _ (join _ _ (long_are _) (cpu_are c.cpu)) (device_are c.devices fits.devices)) (word_are _)
 
 change_are : (change : Change) → AreBytes (change_bytes change)
 unfolding change_bytes
@@ -80,7 +80,7 @@ changed_are before c =
 
 checkpoint_are : (before : List ℕ) (c : CheckpointParts) → IsFormed c → AreBytes (checkpoint_bytes VERSION before c)
 unfolding checkpoint_bytes tail_bytes
-checkpoint_are before c fits = join _ _ (front_are c fits) (changed_are before c)
+checkpoint_are before c fits = join _ _ (common_are c fits) (changed_are before c)
 
 checkpoints_are : (before : List ℕ) (cs : List CheckpointParts) → ((i : ℕ) → i < length cs → IsFormed (get_or cs i no_checkpoint)) → AreBytes (checkpoints_bytes VERSION before cs)
 unfolding checkpoints_bytes
@@ -108,21 +108,21 @@ text_of_parts r fits = encoding_are r (λ i d lt. (fits.checkpoints i d lt).form
 -- and their encoding has their first fault
 pub fault_of_encoding : (r : RecordingParts) → AreWritable r → first_fault_of (encoding VERSION r) ≡ fault_of_parts r
 fault_of_encoding r fits =
-    text_agrees VERSION (encoding VERSION r) r (λ i d lt. (fits.checkpoints i d lt).formed) (laid_out VERSION r refl (λ first. absurd (omega arith)) fits)
+    text_agrees VERSION (encoding VERSION r) r (λ i d lt. (fits.checkpoints i d lt).formed) (encoding_has_fields VERSION r refl (λ first. absurd (omega arith)) fits)
 
--- a lawful recording has a text of the version that is written
+-- a lawful recording has a file in the current version
 pub one_text : (r : RecordingParts) → IsLawful r → (text : List ℕ) × AreBytes text × TextIn VERSION text r
 one_text r lawful = (encoding VERSION r, text_of_parts r (writable r lawful), encoded r lawful)
 
--- what is read of the text that is written is what was written
+-- reading what is written returns what was written
 pub read_back : (r s : RecordingParts) (text : List ℕ) → TextIn VERSION text r → Text text s → s ≡ r
 read_back r s text written read = same_recording text s r read (record { version = VERSION; is = written })
 
--- and what is written of what was read of a text of that version is the text
+-- and writing what was read from a file of that version returns the file
 pub written_back : (text other : List ℕ) (r : RecordingParts) → version text ≡ VERSION → Text text r → TextIn VERSION other r → other ≡ text
 written_back text other r is read written = same_text VERSION r text other (in_version VERSION text r is read) written
 
--- a text that was migrated is its own migration
+-- a migrated file is its own migration
 pub migrated_again : (text migrated again : List ℕ) → IsMigrated text migrated → IsMigrated migrated again → again ≡ migrated
 migrated_again text migrated again first second =
     let one : second.recording ≡ first.recording = read_back first.recording second.recording migrated first.written second.read in

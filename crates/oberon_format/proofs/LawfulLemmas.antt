@@ -1,4 +1,4 @@
--- Parts are lawful exactly where the text laid out of them has no fault, in either version.
+-- Parts are lawful if and only if the file that encodes them has no fault, in either version.
 use Rattle.std.proofs.Common.{◌≡◌, ◌<◌, ◌≤◌, ◌+◌, ◌-◌, ◌∙◌, ℕ, zero, suc, Bool, true, ◌&&◌, eqb, List, [], ◌∷◌, ◌++◌, map, get_or, length, None, refl, sym, ap, subst, arith, add-one, eq-eqb, false, Option, Some, inl, inr}
 use Rattle.std.specs.Prelude.{slice_index, replicate, nat_le, nat_lt, if◌then◌else◌, ◌==◌}
 use Rattle.std.specs.List.{list_all}
@@ -28,12 +28,12 @@ use Rattle.oberon_format.specs.CheckpointParts.{CheckpointParts, no_checkpoint}
 use Rattle.oberon_format.specs.Fields.{Fields, sent_below}
 use Rattle.oberon_format.specs.FirstFault.{Rule, first_broken, each}
 use Rattle.oberon_format.specs.Formed.{IsFormed, AreFormed}
-use Rattle.oberon_format.specs.PartFields.{fields_laid, fault_of_parts, start_laid, changes_laid, event_fields, no_event, checkpoint_fields}
+use Rattle.oberon_format.specs.PartFields.{fields_in, fault_of_parts, start_in, changes_in, event_fields, no_event, checkpoint_fields}
 use Rattle.oberon_format.specs.Ranges.{is_version, is_count, is_output, in_ranges, are_keys, is_change, is_checkpoint}
 use Rattle.oberon_format.specs.Recording.{RecordingParts, IsLawful, checkpoint_at, count_at, table_before, output_of}
-use Rattle.oberon_format.specs.Rules.{header_rules, limit_rules, named_len, event_rules, event_floor, place_floor, stood, count_before, checkpoint_rules, rules}
+use Rattle.oberon_format.specs.Rules.{header_rules, limit_rules, named_len, event_rules, event_floor, place_floor, prior_number, count_before, checkpoint_rules, rules}
 use Rattle.oberon_format.proofs.ChangeLemmas.{change_in, after-bounded, changes-lawful, changes-make, changes-new}
-use Rattle.oberon_format.proofs.PartLemmas.{member, event_here, before_more, sent_none, sent_more, sent_all, stood_laid, table_next, total_rises, laid_few, laid_first, laid_rises, changed_room, ends_met}
+use Rattle.oberon_format.proofs.PartLemmas.{member, event_here, before_more, sent_none, sent_more, sent_all, prior_encoded, table_next, total_rises, changes_in_few, start_in_first, start_in_rises, changed_room, ends_met}
 use Rattle.oberon_format.proofs.RuleLemmas.{any_in_end, any_in_checkpoints, AreMet, met_parts, parts_met, each_holds, each_all, and_left, and_right, version_cases, ChangedMet, whole_met, whole_meets, changed_met, changed_meets}
 use Rattle.oberon_format.proofs.Tables.{change_named, change_same}
 use Rattle.oberon_format.proofs.Walk.{number_tested}
@@ -55,7 +55,7 @@ keys_met v before c formed =
     let few : nat_le (length c.devices.keys) MAX_KEYS ≡ true = le-leb _ _ formed.devices.keys in
     rw (few, drop_at c.devices.keys (replicate (MAX_KEYS - length c.devices.keys) 0) (length c.devices.keys) refl, zeros_met (MAX_KEYS - length c.devices.keys)) refl
 
--- the ranges of formed parts are met where the program counter and the stop are in theirs
+-- the ranges of formed parts are met if the program counter and the stop are in theirs
 all_nine : (pc flags stop phase switches leds mouse serial changes : Bool) → pc ≡ true → flags ≡ true → stop ≡ true → phase ≡ true → switches ≡ true
     → leds ≡ true → mouse ≡ true → serial ≡ true → changes ≡ true
     → (pc && flags && stop && phase && switches && leds && mouse && serial && changes) ≡ true
@@ -66,9 +66,9 @@ pub ranges_met : (v : ℕ) (before : List ℕ) (c : CheckpointParts) → IsForme
 ranges_met v before c formed pc stop =
     all_nine (nat_lt c.cpu.pc COUNTER_END) (nat_lt (flags_number c.cpu.flags) FLAGS_END) (nat_le c.cpu.stop MAX_STOP)
     (is_phase c.devices.rate c.devices.phase) (nat_lt c.devices.switches SWITCHES_END)
-    (nat_lt c.devices.leds LEDS_END) (is_mouse c.devices.mouse) (nat_lt (serial_number c.devices) SERIAL_END) (nat_le (changes_laid v before c) PLACES)
+    (nat_lt c.devices.leds LEDS_END) (is_mouse c.devices.mouse) (nat_lt (serial_number c.devices) SERIAL_END) (nat_le (changes_in v before c) PLACES)
     pc (lt-ltb _ _ (flags_fit c.cpu)) stop formed.devices.phase (lt-ltb _ _ formed.devices.switches) (lt-ltb _ _ formed.devices.leds) formed.devices.mouse
-    (lt-ltb _ _ (serial_fits c.devices formed.devices)) (le-leb _ _ (laid_few v before c))
+    (lt-ltb _ _ (serial_fits c.devices formed.devices)) (le-leb _ _ (changes_in_few v before c))
 
 -- what the header's rules say of the numbers
 pub record IsWithin (f : Fields) : Type 0 where
@@ -85,26 +85,26 @@ header_within f h = record {
   few = grind (arith, nat_tests);
 }
 
--- rules that hold behind others
+-- rules that hold, after others
 end_met : (xs rest : List (Rule Fault)) → first_broken rest ≡ None → first_broken (xs ++ rest) ≡ first_broken xs
 end_met [] rest h = h
 end_met ((true, f) ∷ xs) rest h = end_met xs rest h
 end_met ((false, f) ∷ xs) rest h = refl
 
 -- what the header asks for is there
-named_there : (v : ℕ) (r : RecordingParts) → nat_le (named_len (fields_laid v r)) (fields_laid v r).long ≡ true
+named_there : (v : ℕ) (r : RecordingParts) → nat_le (named_len (fields_in v r)) (fields_in v r).long ≡ true
 named_there v r = le-leb _ _ (go (v == FIRST_VERSION)) where
-  go : (b : Bool) → (if b then start_laid v r (length r.checkpoints) else start_laid v r 0) ≤ start_laid v r (length r.checkpoints) + length (output_of r.checkpoints)
+  go : (b : Bool) → (if b then start_in v r (length r.checkpoints) else start_in v r 0) ≤ start_in v r (length r.checkpoints) + length (output_of r.checkpoints)
   go true = omega arith
-  go false = let up = laid_rises v r 0 (length r.checkpoints) (omega arith) in omega arith
+  go false = let up = start_in_rises v r 0 (length r.checkpoints) (omega arith) in omega arith
 
 -- the header of parts has the fault of its limits
 pub parts_limits : (v : ℕ) (r : RecordingParts) → is_version v ≡ true
-    → first_broken (header_rules (fields_laid v r)) ≡ first_broken (limit_rules (length r.pool) (length r.inputs) (length r.checkpoints))
+    → first_broken (header_rules (fields_in v r)) ≡ first_broken (limit_rules (length r.pool) (length r.inputs) (length r.checkpoints))
 parts_limits v r known =
-    let f = fields_laid v r in
-    let first = laid_first v r in
-    let up = laid_rises v r 0 (length r.checkpoints) (omega arith) in
+    let f = fields_in v r in
+    let first = start_in_first v r in
+    let up = start_in_rises v r 0 (length r.checkpoints) (omega arith) in
     let a : nat_le HEADER_LEN f.long ≡ true = le-leb _ _ (omega arith) in
     let b : nat_le (named_len f) f.long ≡ true = named_there v r in
     let limits = limit_rules (length r.pool) (length r.inputs) (length r.checkpoints) in
@@ -112,7 +112,7 @@ parts_limits v r known =
     let ends : first_broken (rest (nat_le (named_len f) f.long)) ≡ None = ap (λ (holds : Bool). first_broken (rest holds)) b in
     rw (a, known) (end_met limits (rest (nat_le (named_len f) f.long)) ends)
 
-parts_header : (v : ℕ) (r : RecordingParts) → is_version v ≡ true → IsWithin (fields_laid v r) → first_broken (header_rules (fields_laid v r)) ≡ None
+parts_header : (v : ℕ) (r : RecordingParts) → is_version v ≡ true → IsWithin (fields_in v r) → first_broken (header_rules (fields_in v r)) ≡ None
 parts_header v r known within =
     let a : nat_le (length r.pool) MAX_PAGES ≡ true = le-leb _ _ within.pages in
     let b : nat_le (length r.inputs) MAX_EVENTS ≡ true = le-leb _ _ within.events in
@@ -141,15 +141,15 @@ next_output k sent own h = grind (arith, nat_tests)
 
 -- a checkpoint whose fields are in their ranges
 record FieldsMet (v : ℕ) (r : RecordingParts) (k : ℕ) : Type 0 where
-  count : is_count k (count_before (fields_laid v r) k) (count_at r k) ≡ true
+  count : is_count k (count_before (fields_in v r) k) (count_at r k) ≡ true
   pc : nat_lt (checkpoint_at r k).cpu.pc COUNTER_END ≡ true
   stop : nat_le (checkpoint_at r k).cpu.stop MAX_STOP ≡ true
-  output : is_output k (sent_below (fields_laid v r) k) (length (checkpoint_at r k).sent) ≡ true
+  output : is_output k (sent_below (fields_in v r) k) (length (checkpoint_at r k).sent) ≡ true
 
 fields_met : (v : ℕ) (r : RecordingParts) (k : ℕ)
-    → is_checkpoint k (count_before (fields_laid v r) k) (sent_below (fields_laid v r) k) ((fields_laid v r).checkpoint k) ≡ true → FieldsMet v r k
+    → is_checkpoint k (count_before (fields_in v r) k) (sent_below (fields_in v r) k) ((fields_in v r).checkpoint k) ≡ true → FieldsMet v r k
 fields_met v r k met =
-    let f = fields_laid v r in
+    let f = fields_in v r in
     let c = f.checkpoint k in
     let keyed = and_left (is_count k (count_before f k) c.count && in_ranges c && are_keys c) (is_output k (sent_below f k) c.output) met in
     let ranged = and_left (is_count k (count_before f k) c.count && in_ranges c) (are_keys c) keyed in
@@ -162,28 +162,28 @@ fields_met v r k met =
       output = and_right (is_count k (count_before f k) c.count && in_ranges c && are_keys c) (is_output k (sent_below f k) c.output) met;
     }
 
-checkpoint_met : (v : ℕ) (r : RecordingParts) (k : ℕ) → is_version v ≡ true → first_broken (checkpoint_rules (fields_laid v r) k) ≡ None → FieldsMet v r k
+checkpoint_met : (v : ℕ) (r : RecordingParts) (k : ℕ) → is_version v ≡ true → first_broken (checkpoint_rules (fields_in v r) k) ≡ None → FieldsMet v r k
 checkpoint_met v r k known h =
     elim (version_cases v known) [
-      | inl first ↦ fields_met v r k (whole_met (fields_laid v r) k first h).fields
-      | inr later ↦ fields_met v r k (changed_met (fields_laid v r) k later h).fields
+      | inl first ↦ fields_met v r k (whole_met (fields_in v r) k first h).fields
+      | inr later ↦ fields_met v r k (changed_met (fields_in v r) k later h).fields
     ]
 
--- the page numbers of a table of version 2 are those that stood before, or those of lawful changes
-changed_numbers : (v : ℕ) (r : RecordingParts) (k p : ℕ) → v ≡ VERSION → ChangedMet (fields_laid v r) k → p < PLACES
+-- the page ids of a table of version 2 are those before, or those of lawful changes
+changed_numbers : (v : ℕ) (r : RecordingParts) (k p : ℕ) → v ≡ VERSION → ChangedMet (fields_in v r) k → p < PLACES
     → slice_index (table_before r.checkpoints k) p ≤ length r.pool
     → slice_index (checkpoint_at r k).table p ≤ length r.pool
 changed_numbers v r k p later met lt old =
     let before = table_before r.checkpoints k in
     let table = (checkpoint_at r k).table in
-    let few : changes_laid v before (checkpoint_at r k) ≡ length (changes before table) = rw later refl in
+    let few : changes_in v before (checkpoint_at r k) ≡ length (changes before table) = rw later refl in
     let new : (i : ℕ) → i < length (changes before table) → (change_in before table i).number ≤ length r.pool = λ i less.
-    change_named (length r.pool) (place_floor (change_in before table) i) (stood (fields_laid v r) k) (change_in before table i) (met.each_change i (omega arith)) in
+    change_named (length r.pool) (place_floor (change_in before table) i) (prior_number (fields_in v r) k) (change_in before table i) (met.each_change i (omega arith)) in
     subst (λ (n : ℕ). n ≤ length r.pool) (changes-make before table p lt)
     (after-bounded (change_in before table) (slice_index before) (length (changes before table)) p (length r.pool) new old)
 
--- and so the numbers of all tables name pages
-all_numbers : (v : ℕ) (r : RecordingParts) (n : ℕ) → v ≡ VERSION → ((k : ℕ) → k < n → ChangedMet (fields_laid v r) k) → (k p : ℕ) → k ≤ n → p < PLACES
+-- so the page ids of all tables name pages
+all_numbers : (v : ℕ) (r : RecordingParts) (n : ℕ) → v ≡ VERSION → ((k : ℕ) → k < n → ChangedMet (fields_in v r) k) → (k p : ℕ) → k ≤ n → p < PLACES
     → slice_index (table_before r.checkpoints k) p ≤ length r.pool
 all_numbers v r n later met zero p le lt = let none = zero_number p in omega arith
 all_numbers v r n later met (suc k) p le lt =
@@ -192,10 +192,10 @@ all_numbers v r n later met (suc k) p le lt =
     (changed_numbers v r k p later (met k (omega arith)) lt so_far)
 
 numbers_are : (v : ℕ) (r : RecordingParts) (k p : ℕ) → is_version v ≡ true → k < length r.checkpoints → p < PLACES
-    → first_broken (each (length r.checkpoints) (checkpoint_rules (fields_laid v r))) ≡ None
+    → first_broken (each (length r.checkpoints) (checkpoint_rules (fields_in v r))) ≡ None
     → slice_index (checkpoint_at r k).table p ≤ length r.pool
 numbers_are v r k p known lt less h =
-    let f = fields_laid v r in
+    let f = fields_in v r in
     let n = length r.checkpoints in
     elim (version_cases v known) [
       | inl first ↦ (whole_met f k first (each_holds (checkpoint_rules f) n k lt h)).numbers p less
@@ -205,9 +205,9 @@ numbers_are v r k p known lt less h =
     ]
 
 met_lawful : (v : ℕ) (r : RecordingParts) → is_version v ≡ true → ArePages r.pool → AreOrdered r.inputs → AreFormed r.checkpoints
-    → AreMet (fields_laid v r) → IsLawful r
+    → AreMet (fields_in v r) → IsLawful r
 met_lawful v r known pages ordered formed met =
-    let f = fields_laid v r in
+    let f = fields_in v r in
     let n = length r.checkpoints in
     let within = header_within f met.header in
     let some = within.some in
@@ -252,9 +252,9 @@ event_count [] i = refl
 event_count (e ∷ es) zero = refl
 event_count (e ∷ es) (suc i) = event_count es i
 
-event_met : (v : ℕ) (r : RecordingParts) (i : ℕ) → AreOrdered r.inputs → i < length r.inputs → first_broken (event_rules (fields_laid v r) i) ≡ None
+event_met : (v : ℕ) (r : RecordingParts) (i : ℕ) → AreOrdered r.inputs → i < length r.inputs → first_broken (event_rules (fields_in v r) i) ≡ None
 event_met v r i ordered lt =
-    let f = fields_laid v r in
+    let f = fields_in v r in
     let right = ordered i lt in
     let count = event_count r.inputs i in
     let floor : event_floor f i ≡ before_count r.inputs i = ap (λ (n : ℕ). if i == 0 then 0 else n) (event_count r.inputs (i - 1)) in
@@ -266,13 +266,13 @@ event_met v r i ordered lt =
     rw (a, b, c) refl
 
 -- all rules of the events of parts are met
-pub events_met : (v : ℕ) (r : RecordingParts) → AreOrdered r.inputs → first_broken (each (length r.inputs) (event_rules (fields_laid v r))) ≡ None
-events_met v r ordered = each_all (event_rules (fields_laid v r)) (length r.inputs) (λ i lt. event_met v r i ordered lt)
+pub events_met : (v : ℕ) (r : RecordingParts) → AreOrdered r.inputs → first_broken (each (length r.inputs) (event_rules (fields_in v r))) ≡ None
+events_met v r ordered = each_all (event_rules (fields_in v r)) (length r.inputs) (λ i lt. event_met v r i ordered lt)
 
-count_met : (v : ℕ) (r : RecordingParts) (k : ℕ) → IsLawful r → k < length r.checkpoints → is_count k (count_before (fields_laid v r) k) (count_at r k) ≡ true
+count_met : (v : ℕ) (r : RecordingParts) (k : ℕ) → IsLawful r → k < length r.checkpoints → is_count k (count_before (fields_in v r) k) (count_at r k) ≡ true
 count_met v r zero lawful lt = eq-eqb _ _ lawful.begins
 count_met v r (suc k) lawful lt =
-    let f = fields_laid v r in
+    let f = fields_in v r in
     let next : suc k ≡ k + 1 = sym (add-one k) in
     let rise : count_at r k < count_at r (k + 1) = lawful.rises k (omega arith) in
     let before : count_before f (k + 1) ≡ count_at r k = before_more f k in
@@ -282,15 +282,15 @@ count_met v r (suc k) lawful lt =
     subst (λ (m : ℕ). is_count m (count_before f m) (count_at r m) ≡ true) (sym next) both
 
 output_met : (v : ℕ) (r : RecordingParts) (k : ℕ) → IsLawful r → k < length r.checkpoints
-    → is_output k (sent_below (fields_laid v r) k) (length (checkpoint_at r k).sent) ≡ true
+    → is_output k (sent_below (fields_in v r) k) (length (checkpoint_at r k).sent) ≡ true
 output_met v r zero lawful lt =
     let own : length (checkpoint_at r 0).sent ≡ 0 = ap (λ (l : List ℕ). length l) lawful.silent in
-    let none = sent_none (fields_laid v r) in
+    let none = sent_none (fields_in v r) in
     let a : eqb (length (checkpoint_at r 0).sent) 0 ≡ true = eq-eqb _ _ own in
-    let b : nat_le (sent_below (fields_laid v r) 0 + length (checkpoint_at r 0).sent) MAX_OUTPUT ≡ true = le-leb _ _ (omega arith) in
+    let b : nat_le (sent_below (fields_in v r) 0 + length (checkpoint_at r 0).sent) MAX_OUTPUT ≡ true = le-leb _ _ (omega arith) in
     rw (a, b) refl
 output_met v r (suc k) lawful lt =
-    let f = fields_laid v r in
+    let f = fields_in v r in
     let n = length r.checkpoints in
     let next : suc k ≡ k + 1 = sym (add-one k) in
     let more = sent_more f (k + 1) in
@@ -301,7 +301,7 @@ output_met v r (suc k) lawful lt =
     let met : is_output (k + 1) (sent_below f (k + 1)) (length (checkpoint_at r (k + 1)).sent) ≡ true = next_output k _ _ fits in
     subst (λ (m : ℕ). is_output m (sent_below f m) (length (checkpoint_at r m).sent) ≡ true) (sym next) met
 
--- the page numbers of a lawful recording
+-- the page ids of a lawful recording
 numbers_met : (r : RecordingParts) (k p : ℕ) → IsLawful r → k < length r.checkpoints → p < PLACES → slice_index (checkpoint_at r k).table p ≤ length r.pool
 numbers_met r k p lawful lt less =
     let fit = lawful.fit k lt in
@@ -311,27 +311,27 @@ numbers_met r k p lawful lt less =
 change_met : (v : ℕ) (r : RecordingParts) (k i : ℕ) → IsLawful r → k < length r.checkpoints
     → i < length (changes (table_before r.checkpoints k) (checkpoint_at r k).table)
     → is_change (length r.pool) (place_floor (change_in (table_before r.checkpoints k) (checkpoint_at r k).table) i)
-    (stood (fields_laid v r) k) (change_in (table_before r.checkpoints k) (checkpoint_at r k).table i) ≡ true
+    (prior_number (fields_in v r) k) (change_in (table_before r.checkpoints k) (checkpoint_at r k).table i) ≡ true
 change_met v r k i lawful lt less =
     let before = table_before r.checkpoints k in
     let table = (checkpoint_at r k).table in
     let c = change_in before table i in
     let inside : c.place < PLACES = (changes-lawful before table).inside i less in
     let named : c.number ≤ length r.pool = subst (λ (n : ℕ). n ≤ length r.pool) (sym (changes-new before table i less)) (numbers_met r k c.place lawful lt inside) in
-    change_same (length r.pool) (place_floor (change_in before table) i) (stood (fields_laid v r) k) (slice_index before) c (λ p above lt. stood_laid v r k p lt)
+    change_same (length r.pool) (place_floor (change_in before table) i) (prior_number (fields_in v r) k) (slice_index before) c (λ p above lt. prior_encoded v r k p lt)
     ∙ number_tested (length r.pool) i before table less ∙ le-leb _ _ named
 
 -- each checkpoint is there
-laid_there : (v : ℕ) (r : RecordingParts) (k : ℕ) → k < length r.checkpoints → start_laid v r (suc k) ≤ (fields_laid v r).long
-laid_there v r k lt = let up = laid_rises v r (suc k) (length r.checkpoints) (omega arith) in omega arith
+encoded_there : (v : ℕ) (r : RecordingParts) (k : ℕ) → k < length r.checkpoints → start_in v r (suc k) ≤ (fields_in v r).long
+encoded_there v r k lt = let up = start_in_rises v r (suc k) (length r.checkpoints) (omega arith) in omega arith
 
 all_four : (a b c d : Bool) → a ≡ true → b ≡ true → c ≡ true → d ≡ true → (a && b && c && d) ≡ true
 all_four a b c d ha hb hc hd = rw (ha, hb, hc, hd) refl
 
 checkpoint_rules_met : (v : ℕ) (r : RecordingParts) (k : ℕ) → is_version v ≡ true → AreFormed r.checkpoints → IsLawful r → k < length r.checkpoints
-    → first_broken (checkpoint_rules (fields_laid v r) k) ≡ None
+    → first_broken (checkpoint_rules (fields_in v r) k) ≡ None
 checkpoint_rules_met v r k known formed lawful lt =
-    let f = fields_laid v r in
+    let f = fields_in v r in
     let before = table_before r.checkpoints k in
     let c = checkpoint_at r k in
     let own = formed k no_checkpoint lt in
@@ -342,20 +342,20 @@ checkpoint_rules_met v r k known formed lawful lt =
     elim (version_cases v known) [
       | inl first ↦ whole_meets f k first (record { fields = test; numbers = λ j less. numbers_met r k j lawful lt less })
       | inr later ↦
-          let few : changes_laid v before c ≡ length (changes before c.table) = rw later refl in
-          let room : start_laid v r k + CHANGES_AT ≤ start_laid v r (suc k) =
-          subst (λ (n : ℕ). start_laid n r k + CHANGES_AT ≤ start_laid n r (suc k)) (sym later) (changed_room r k) in
-          let there = laid_there v r k lt in
+          let few : changes_in v before c ≡ length (changes before c.table) = rw later refl in
+          let room : start_in v r k + CHANGES_AT ≤ start_in v r (suc k) =
+          subst (λ (n : ℕ). start_in n r k + CHANGES_AT ≤ start_in n r (suc k)) (sym later) (changed_room r k) in
+          let there = encoded_there v r k lt in
           changed_meets f k later (record { room = omega arith; fields = test; ends = there; each_change = λ i less. change_met v r k i lawful lt (omega arith) })
     ]
 
-lawful_met : (v : ℕ) (r : RecordingParts) → is_version v ≡ true → AreFormed r.checkpoints → IsLawful r → AreMet (fields_laid v r)
+lawful_met : (v : ℕ) (r : RecordingParts) → is_version v ≡ true → AreFormed r.checkpoints → IsLawful r → AreMet (fields_in v r)
 lawful_met v r known formed lawful =
     let some = lawful.some in
     record {
       header = parts_header v r known (record { pages = lawful.pages; events = lawful.events; some = omega arith; few = lawful.few });
       events = events_met v r lawful.ordered;
-      checkpoints = each_all (checkpoint_rules (fields_laid v r)) (length r.checkpoints) (λ k lt. checkpoint_rules_met v r k known formed lawful lt);
+      checkpoints = each_all (checkpoint_rules (fields_in v r)) (length r.checkpoints) (λ k lt. checkpoint_rules_met v r k known formed lawful lt);
       ends = ends_met v r;
     }
 
@@ -373,23 +373,23 @@ lawful_formed r lawful = λ k d lt.
     } in
     subst IsFormed (get_or_default r.checkpoints k no_checkpoint d lt) here
 
--- parts are lawful exactly where their text has no fault, in each version
+-- parts are lawful if and only if their file has no fault, in each version
 pub faultless_lawful : (v : ℕ) (r : RecordingParts) → is_version v ≡ true → ArePages r.pool → AreOrdered r.inputs → AreFormed r.checkpoints
-    → first_broken (rules (fields_laid v r)) ≡ None → IsLawful r
-faultless_lawful v r known pages ordered formed h = met_lawful v r known pages ordered formed (met_parts (fields_laid v r) h)
+    → first_broken (rules (fields_in v r)) ≡ None → IsLawful r
+faultless_lawful v r known pages ordered formed h = met_lawful v r known pages ordered formed (met_parts (fields_in v r) h)
 
-pub lawful_faultless : (v : ℕ) (r : RecordingParts) → is_version v ≡ true → IsLawful r → first_broken (rules (fields_laid v r)) ≡ None
-lawful_faultless v r known lawful = parts_met (fields_laid v r) (lawful_met v r known (lawful_formed r lawful) lawful)
+pub lawful_faultless : (v : ℕ) (r : RecordingParts) → is_version v ≡ true → IsLawful r → first_broken (rules (fields_in v r)) ≡ None
+lawful_faultless v r known lawful = parts_met (fields_in v r) (lawful_met v r known (lawful_formed r lawful) lawful)
 
--- the first fault of parts in order is that of their checkpoints, where their numbers are within limits
+-- the first fault of parts in order is that of their checkpoints, if their counts are within limits
 pub parts_rest : (r : RecordingParts) (n : ℕ) (o : Option Fault) → n ≡ length r.checkpoints → AreOrdered r.inputs
-    → first_broken (header_rules (fields_laid VERSION r)) ≡ None
-    → first_broken (each n (checkpoint_rules (fields_laid VERSION r))) ≡ o → fault_of_parts r ≡ o
+    → first_broken (header_rules (fields_in VERSION r)) ≡ None
+    → first_broken (each n (checkpoint_rules (fields_in VERSION r))) ≡ o → fault_of_parts r ≡ o
 parts_rest r n None len ordered h e =
-    let f = fields_laid VERSION r in
+    let f = fields_in VERSION r in
     any_in_end f h (events_met VERSION r ordered) (ap (λ (m : ℕ). first_broken (each m (checkpoint_rules f))) (sym len) ∙ e) ∙ ends_met VERSION r
 parts_rest r n (Some g) len ordered h e =
-    let f = fields_laid VERSION r in
+    let f = fields_in VERSION r in
     any_in_checkpoints f g h (events_met VERSION r ordered) (ap (λ (m : ℕ). first_broken (each m (checkpoint_rules f))) (sym len) ∙ e)
 
 pub if_none : (o : Option Fault) (P : Type 0) → (o ≡ None → P) → IfNone o P

@@ -12,7 +12,7 @@ pub mod TextLemmas
 pub mod PartLemmas
 pub mod SameFields
 pub mod PartRules
-pub mod Places
+pub mod Starts
 mod SameRules
 mod LongFields
 pub mod Cut
@@ -20,7 +20,7 @@ pub mod Agree
 pub mod LawfulLemmas
 pub mod ReadLemmas
 pub mod WriteLemmas
-pub mod Stands
+pub mod BytesAt
 pub mod Encoded
 pub mod Back
 pub mod One

@@ -1,6 +1,6 @@
--- Two texts with one header that are both longer than any text of a recording have one first fault, where their fields agree as far
--- as rules look. In version 2 where a checkpoint begins is told by the checkpoints before it: so what agrees from checkpoint to
--- checkpoint rests on the rules of those before.
+-- Two files with one header that are both longer than any file of a recording have one first fault, if their fields agree as far
+-- as rules look. In version 2 the offset of a checkpoint depends on the checkpoints before it: so the agreement from checkpoint
+-- to checkpoint depends on the rules of those before.
 use Rattle.std.proofs.Common.{◌≡◌, ◌≤◌, ◌<◌, ◌+◌, ◌-◌, ◌*◌, ◌==◌, ◌&&◌, ◌∙◌, ℕ, zero, suc, Bool, true, false, List, [], ◌∷◌, ◌++◌, Some, None, arith, refl, sym, ap, ap₂, cond, inl, inr, if◌then◌else◌, append_assoc}
 use Rattle.std.specs.Prelude.{nat_le}
 use Rattle.std.proofs.lemmas.Bool.{and_parts, cases_lt, le-leb, leb-true}
@@ -15,19 +15,19 @@ use Rattle.oberon_format.specs.Fields.{EventFields, Fields, sent_below, total}
 use Rattle.oberon_format.specs.FirstFault.{Rule, each, first_broken}
 use Rattle.oberon_format.specs.Layout.{event_start, page_number_offset, change_offset}
 use Rattle.oberon_format.specs.Ranges.{is_change, is_checkpoint, is_event, is_version}
-use Rattle.oberon_format.specs.Rules.{change_rules, changed_rules, checkpoint_rules, count_before, end_rules, event_floor, event_rules, header_rules, named_len, page_number_rules, place_floor, offset_of_event, rules, stood, whole, whole_rules}
+use Rattle.oberon_format.specs.Rules.{change_rules, changed_rules, checkpoint_rules, count_before, end_rules, event_floor, event_rules, header_rules, named_len, page_number_rules, place_floor, offset_of_event, rules, prior_number, whole, whole_rules}
 use Rattle.oberon_format.proofs.RuleLemmas.{and_left, and_right, met_left, met_right, rule_holds}
-use Rattle.oberon_format.proofs.SameFields.{before_same, sent_same, stood_same}
-use Rattle.oberon_format.proofs.SameRules.{both_pass, each_same, same_after, same_behind, same_rule, too_long}
+use Rattle.oberon_format.proofs.SameFields.{before_same, sent_same, prior_same}
+use Rattle.oberon_format.proofs.SameRules.{both_pass, each_same, same_after, same_after_prefix, same_rule, too_long}
 use Rattle.oberon_format.proofs.Tables.{change_same}
 
--- few enough pages, events and checkpoints
+-- counts of pages, events and checkpoints within their limits
 pub record AreFew (pages events checkpoints : ℕ) : Type 0 where
   pub of_pages : pages ≤ MAX_PAGES
   pub of_events : events ≤ MAX_EVENTS
   pub of_checkpoints : checkpoints ≤ MAX_CHECKPOINTS
 
--- how far a text reaches at most up to checkpoint k: no checkpoint is longer than one of version 2 that changes each place
+-- how far a file reaches at most up to checkpoint k: no checkpoint is longer than one of version 2 that changes each slot
 abbrev pub most : ℕ → ℕ → ℕ → ℕ
 most pages events k = event_start pages events + (CHANGES_AT + CHANGE_LEN * PLACES) * k
 
@@ -43,7 +43,7 @@ changes_within : (k before sent : ℕ) (c : CheckpointFields) → is_checkpoint 
 changes_within k before sent c is = leb-true c.changes PLACES (and_right _ _ (and_right _ _ (and_left _ _ (and_left _ _ is))))
 
 module _ (first version pages events checkpoints last : ℕ) where
-  -- the fields of a text with this header
+  -- the fields of a file with this header
   abbrev pub fields : ℕ → (ℕ → EventFields) → (ℕ → ℕ) → (ℕ → CheckpointFields) → (ℕ → ℕ → Change) → (ℕ → ℕ → ℕ) → Fields
   fields long event start checkpoint change number =
       record {
@@ -63,7 +63,7 @@ module _ (first version pages events checkpoints last : ℕ) where
 
   module _ (long long' : ℕ) (event event' : ℕ → EventFields) (start start' : ℕ → ℕ) (checkpoint checkpoint' : ℕ → CheckpointFields)
       (change change' : ℕ → ℕ → Change) (number number' : ℕ → ℕ → ℕ) where
-    -- those of the two texts
+    -- those of the two files
     abbrev pub f : Fields
     f = fields long event start checkpoint change number
 
@@ -78,7 +78,7 @@ module _ (first version pages events checkpoints last : ℕ) where
       pub of_numbers : (j p : ℕ) → j < k → p < PLACES → number j p ≡ number' j p
       pub sent : sent_below f k ≤ MAX_OUTPUT
 
-    -- checkpoint k agrees, and with few enough changes these and all up to its end do
+    -- checkpoint k agrees, and with changes within their limit these and all up to its end do
     pub record AgreeAt (k : ℕ) : Type 0 where
       pub of_checkpoint : checkpoint k ≡ checkpoint' k
       pub place : (checkpoint k).changes ≤ PLACES → start (suc k) ≡ start' (suc k)
@@ -103,19 +103,19 @@ module _ (first version pages events checkpoints last : ℕ) where
 
     -- the rules of the changes of one of version 2
     changes_same : (k : ℕ) → AgreeBelow k → AgreeAt k → (checkpoint k).changes ≤ PLACES
-        → each (checkpoint k).changes (change_rules pages (start k) (stood f k) (change k))
-        ≡ each (checkpoint' k).changes (change_rules pages (start' k) (stood g k) (change' k))
+        → each (checkpoint k).changes (change_rules pages (start k) (prior_number f k) (change k))
+        ≡ each (checkpoint' k).changes (change_rules pages (start' k) (prior_number g k) (change' k))
     changes_same k below here few =
-        each_same (checkpoint k).changes (change_rules pages (start k) (stood f k) (change k)) (change_rules pages (start' k) (stood g k) (change' k))
+        each_same (checkpoint k).changes (change_rules pages (start k) (prior_number f k) (change k)) (change_rules pages (start' k) (prior_number g k) (change' k))
         (λ i less.
         let one : change k i ≡ change' k i = here.of_changes few i less in
         let floor : place_floor (change k) i ≡ place_floor (change' k) i =
         ap (λ (c : Change). if i == 0 then 0 else c.place + 1) (here.of_changes few (i - 1) (omega arith)) in
-        let lawful : is_change pages (place_floor (change k) i) (stood f k) (change k i) ≡ is_change pages (place_floor (change' k) i) (stood g k) (change' k i) =
-        change_same pages (place_floor (change k) i) (stood f k) (stood g k) (change k i) (λ p low inside. stood_same f g k p (λ j under. below.of_numbers j p under inside))
-        ∙ ap₂ (λ (n : ℕ) (c : Change). is_change pages n (stood g k) c) floor one in
+        let lawful : is_change pages (place_floor (change k) i) (prior_number f k) (change k i) ≡ is_change pages (place_floor (change' k) i) (prior_number g k) (change' k i) =
+        change_same pages (place_floor (change k) i) (prior_number f k) (prior_number g k) (change k i) (λ p low inside. prior_same f g k p (λ j under. below.of_numbers j p under inside))
+        ∙ ap₂ (λ (n : ℕ) (c : Change). is_change pages n (prior_number g k) c) floor one in
         ap₂ (λ (holds : Bool) (offset : ℕ). (holds, fault.Page (change_offset offset i)) ∷ []) lawful below.place)
-        ∙ ap (λ (c : CheckpointFields). each c.changes (change_rules pages (start' k) (stood g k) (change' k))) here.of_checkpoint
+        ∙ ap (λ (c : CheckpointFields). each c.changes (change_rules pages (start' k) (prior_number g k) (change' k))) here.of_checkpoint
 
     module _ (few : AreFew pages events checkpoints) (over : LONGEST_TEXT < long) (over' : LONGEST_TEXT < long') where
       -- the rules of a checkpoint of version 2
@@ -126,8 +126,8 @@ module _ (first version pages events checkpoints last : ℕ) where
           let few_checkpoints = few.of_checkpoints in
           let offset = below.place in
           let near = below.near in
-          let rows = each (checkpoint k).changes (change_rules pages (start k) (stood f k) (change k)) in
-          let rows' = each (checkpoint' k).changes (change_rules pages (start' k) (stood g k) (change' k)) in
+          let rows = each (checkpoint k).changes (change_rules pages (start k) (prior_number f k) (change k)) in
+          let rows' = each (checkpoint' k).changes (change_rules pages (start' k) (prior_number g k) (change' k)) in
           let ends = (nat_le (start (suc k)) long, fault.Short long) ∷ rows in
           let ends' = (nat_le (start' (suc k)) long', fault.Short long') ∷ rows' in
           let holds = is_checkpoint k (count_before f k) (sent_below f k) (checkpoint k) in
@@ -155,7 +155,7 @@ module _ (first version pages events checkpoints last : ℕ) where
           go true = whole_same k below here
           go false = changed_same k less below here
 
-      -- its fields are in their ranges where they are met
+      -- its fields are in their ranges if their rules are met
       fields_met : (k : ℕ) → first_broken (checkpoint_rules f k) ≡ None → is_checkpoint k (count_before f k) (sent_below f k) (checkpoint k) ≡ true
       unfolding checkpoint_rules
       fields_met k = go (version == FIRST_VERSION)
@@ -166,7 +166,7 @@ module _ (first version pages events checkpoints last : ℕ) where
               let numbers = each PLACES (page_number_rules pages (start k) (number k)) in
               (rule_holds (is_checkpoint k (count_before f k) (sent_below f k) (checkpoint k)) (fault.Checkpoint (start k)) numbers met).0
           go false met =
-              let ends = (nat_le (start (suc k)) long, fault.Short long) ∷ each (checkpoint k).changes (change_rules pages (start k) (stood f k) (change k)) in
+              let ends = (nat_le (start (suc k)) long, fault.Short long) ∷ each (checkpoint k).changes (change_rules pages (start k) (prior_number f k) (change k)) in
               let ranges = (is_checkpoint k (count_before f k) (sent_below f k) (checkpoint k), fault.Checkpoint (start k)) ∷ ends in
               (rule_holds (is_checkpoint k (count_before f k) (sent_below f k) (checkpoint k)) (fault.Checkpoint (start k)) ends
               (rule_holds (nat_le (start k + CHANGES_AT) long) (fault.Short long) ranges met).1).0
@@ -200,7 +200,7 @@ module _ (first version pages events checkpoints last : ℕ) where
               ]
 
       module _ (begin : AgreeBelow 0) (each_here : (k : ℕ) → k < checkpoints → AgreeBelow k → AgreeAt k) where
-        -- where the rules of the first checkpoints are met, all up to there agrees
+        -- if the rules of the first checkpoints are met, all up to there agrees
         met_agree : (k : ℕ) → k ≤ checkpoints → first_broken (each k (checkpoint_rules f)) ≡ None → AgreeBelow k
         unfolding each
         met_agree zero le met = begin
@@ -213,12 +213,12 @@ module _ (first version pages events checkpoints last : ℕ) where
         unfolding each
         checkpoints_same zero le = refl
         checkpoints_same (suc k) le =
-            same_behind (each k (checkpoint_rules f)) (each k (checkpoint_rules g)) (checkpoint_rules f k) (checkpoint_rules g k)
+            same_after_prefix (each k (checkpoint_rules f)) (each k (checkpoint_rules g)) (checkpoint_rules f k) (checkpoint_rules g k)
             (checkpoints_same k (omega arith)) (λ met.
             let below = met_agree k (omega arith) met in
             checkpoint_same k (omega arith) below (each_here k (omega arith) below))
 
-        -- the rules at the end, where the output is within its limit: both texts have bytes after it
+        -- the rules at the end, if the output is within its limit: both files have bytes after it
         end_same : AgreeBelow checkpoints → first_broken (end_rules f) ≡ first_broken (end_rules g)
         end_same below =
             let few_pages = few.of_pages in
@@ -241,13 +241,13 @@ module _ (first version pages events checkpoints last : ℕ) where
             ≡ first_broken (each events (event_rules g) ++ (each checkpoints (checkpoint_rules g) ++ end_rules g))
         tail_same same =
             let events_same = each_same events (event_rules f) (event_rules g) (λ i below. event_same i below same) in
-            same_behind (each events (event_rules f)) (each events (event_rules g))
+            same_after_prefix (each events (event_rules f)) (each events (event_rules g))
             (each checkpoints (checkpoint_rules f) ++ end_rules f) (each checkpoints (checkpoint_rules g) ++ end_rules g)
             (ap first_broken events_same) (λ _.
-            same_behind (each checkpoints (checkpoint_rules f)) (each checkpoints (checkpoint_rules g)) (end_rules f) (end_rules g)
+            same_after_prefix (each checkpoints (checkpoint_rules f)) (each checkpoints (checkpoint_rules g)) (end_rules f) (end_rules g)
             (checkpoints_same checkpoints (omega arith)) (λ met. end_same (met_agree checkpoints (omega arith) met)))
 
-    -- what agrees where the header names few enough parts
+    -- what agrees if the header has counts within the limits
     pub record Agree : Type 0 where
       pub named : named_len f ≤ LONGEST_TEXT
       pub named' : named_len g ≤ LONGEST_TEXT
@@ -278,7 +278,7 @@ module _ (first version pages events checkpoints last : ℕ) where
       abbrev from_magic : ℕ → ℕ → List (Rule Fault) → List (Rule Fault)
       from_magic named n rest = (first == MAGIC, fault.Magic MAGIC_AT) ∷ from_version named n rest
 
-      -- rules behind the header, which speak only of texts that name few enough parts
+      -- rules after the header, which apply only to files whose counts are within the limits
       header_same : (p q : List (Rule Fault)) → (AreFew pages events checkpoints → first_broken p ≡ first_broken q)
           → first_broken (header_rules f ++ p) ≡ first_broken (header_rules g ++ q)
       header_same p q same =

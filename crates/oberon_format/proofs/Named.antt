@@ -1,4 +1,4 @@
--- No rule is broken with want of memory.
+-- No rule is broken with an allocation failure.
 use Rattle.std.proofs.Common.{ℕ, zero, suc, Bool, true, false, List, [], ◌∷◌, ◌++◌}
 use Rattle.std.specs.Prelude.{IfSome, ◌==◌, if◌then◌else◌}
 use Rattle.oberon_format.specs.declared.fault.Fault.{Fault}
@@ -6,7 +6,7 @@ use Rattle.oberon_format.specs.declared.layout.TheConstants.{FIRST_VERSION, VERS
 use Rattle.oberon_format.specs.Fields.{Fields}
 use Rattle.oberon_format.specs.FirstFault.{Rule, each, first_broken}
 use Rattle.oberon_format.specs.Line.{IsNamedFault}
-use Rattle.oberon_format.specs.PartFields.{fields_laid, fault_of_parts}
+use Rattle.oberon_format.specs.PartFields.{fields_in, fault_of_parts}
 use Rattle.oberon_format.specs.Recording.{RecordingParts}
 use Rattle.oberon_format.specs.Rules.{changed_rules, checkpoint_rules, end_rules, event_rules, header_rules, rules, whole_rules}
 use Rattle.oberon_format.specs.TextFields.{fields_of, first_fault_of}
@@ -76,4 +76,4 @@ text_named text = rules_named (fields_of text)
 
 pub parts_named : (r : RecordingParts) → IfSome (fault_of_parts r) IsNamedFault
 unfolding AreNamed
-parts_named r = rules_named (fields_laid VERSION r)
+parts_named r = rules_named (fields_in VERSION r)

@@ -1,4 +1,4 @@
--- The numbers at places of a text.
+-- The numbers at offsets of a file.
 use Rattle.std.proofs.Common.{◌≡◌, ◌<◌, ◌≤◌, ◌+◌, ◌-◌, ◌/◌, ◌%◌, ◌^◌, ℕ, zero, suc, List, ◌++◌, length, take, drop, refl, ap, ◌∙◌, arith, add-zero}
 use Rattle.std.specs.Prelude.{◌==◌, if◌then◌else◌}
 use Rattle.std.proofs.lemmas.Bool.Decides.{nat_tests}
@@ -7,7 +7,7 @@ use Rattle.byteorder.specs.Endian.{little_from}
 use Rattle.oberon_format.specs.declared.ranges.TheConstants.{SERIAL_END}
 use Rattle.oberon_format.specs.Layout.{long_at, word_at}
 
--- the number at a place of what follows a place
+-- the number at an offset in what follows an offset
 pub little_from-drop : (n k offset : ℕ) (text : List ℕ) → little_from k n (drop offset text) ≡ little_from (offset + k) n text
 little_from-drop zero k offset text = refl
 little_from-drop (suc n) k offset text =
@@ -24,7 +24,7 @@ pub long_at-drop : (offset : ℕ) (text : List ℕ) → little_from 0 8 (take (l
 unfolding long_at
 long_at-drop offset text = ap (little_from 0 8) (take_rest text offset) ∙ little_from-drop 8 0 offset text ∙ ap (λ (k : ℕ). little_from k 8 text) (add-zero offset)
 
--- a number stays when a text grows
+-- a number stays when a file grows
 pub little_from-append : (n k : ℕ) (xs ys : List ℕ) → k + n ≤ length xs → little_from k n (xs ++ ys) ≡ little_from k n xs
 little_from-append zero k xs ys h = refl
 little_from-append (suc n) k xs ys h =

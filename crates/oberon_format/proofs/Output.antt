@@ -57,7 +57,7 @@ output_more text k from cs c meets lt is so_far sent =
 pub range-none : (xs : List ℕ) (a b : ℕ) → b ≡ a → slice_range xs a b ≡ []
 range-none xs a b e = let none : b - a ≡ 0 = omega arith in rw none refl
 
--- all output, once every checkpoint is read
+-- all output, after every checkpoint is read
 pub output_all : (text : List ℕ) (k from : ℕ) (cs : List CheckpointParts) → Meets text → k ≡ checkpoints text → from ≡ output_offset text + output_below text k
     → slice_range text (output_offset text) from ≡ output_of cs → drop (output_offset text) text ≡ output_of cs
 output_all text k from cs meets is at so_far =

@@ -1,4 +1,4 @@
--- The fields of parts, member by member, where their checkpoints are laid out, and the sums of their outputs.
+-- The fields of parts, member by member, at the offsets of their checkpoints, and the sums of their outputs.
 use Rattle.std.proofs.Common.{◌≡◌, ◌<◌, ◌≤◌, ◌+◌, ◌-◌, ◌*◌, ◌∙◌, ℕ, Bool, true, false, List, [], ◌∷◌, get_or, length, refl, sym, ap, arith, add-one, zero, suc, inl, inr, eq-eqb, length-append}
 use Rattle.std.specs.Prelude.{None, slice_index, slice_index_or, nat_le, ◌==◌, if◌then◌else◌}
 use Rattle.std.proofs.lemmas.List.{get_or-map}
@@ -12,19 +12,19 @@ use Rattle.oberon_format.specs.CheckpointParts.{CheckpointParts, no_checkpoint}
 use Rattle.oberon_format.specs.Fields.{Fields, total, sent_below}
 use Rattle.oberon_format.specs.FirstFault.{first_broken}
 use Rattle.oberon_format.specs.Layout.{event_start, checkpoint_size}
-use Rattle.oberon_format.specs.PartFields.{fields_laid, start_laid, changes_laid, event_fields, no_event}
+use Rattle.oberon_format.specs.PartFields.{fields_in, start_in, changes_in, event_fields, no_event}
 use Rattle.oberon_format.specs.Recording.{RecordingParts, checkpoint_at, table_before, output_of}
-use Rattle.oberon_format.specs.Rules.{event_floor, count_before, stood, end_rules, whole}
+use Rattle.oberon_format.specs.Rules.{event_floor, count_before, prior_number, end_rules, whole}
 use Rattle.oberon_format.proofs.ChangeLemmas.{changes-few}
 
--- a member at its number
+-- a member at its index
 pub member : {X : Type 0} (xs : List X) (i : ℕ) → i < length xs → X
 member [] i lt = absurd (omega arith)
 member (x ∷ xs) zero lt = x
 member (x ∷ xs) (suc i) lt = member xs i (omega arith)
 
 -- an event of parts has its fields
-pub event_here : (v : ℕ) (r : RecordingParts) (i : ℕ) (e : Event) → i < length r.inputs → (fields_laid v r).event i ≡ event_fields (get_or r.inputs i e)
+pub event_here : (v : ℕ) (r : RecordingParts) (i : ℕ) (e : Event) → i < length r.inputs → (fields_in v r).event i ≡ event_fields (get_or r.inputs i e)
 event_here v r i e lt = get_or-map event_fields r.inputs i e no_event lt
 
 -- what comes before each event and each checkpoint but the first
@@ -34,8 +34,8 @@ floor_more f i = grind (arith, nat_tests)
 pub before_more : (f : Fields) (k : ℕ) → count_before f (k + 1) ≡ (f.checkpoint k).count
 before_more f k = grind (arith, nat_tests)
 
-pub stood_more : (f : Fields) (k p : ℕ) → stood f (suc k) p ≡ f.page_number k p
-stood_more f k p = grind (arith, nat_tests)
+pub prior_more : (f : Fields) (k p : ℕ) → prior_number f (suc k) p ≡ f.page_number k p
+prior_more f k p = grind (arith, nat_tests)
 
 -- the table before each checkpoint but the first is that of the one before
 pub table_next : (cs : List CheckpointParts) (k : ℕ) → table_before cs (suc k) ≡ (slice_index_or cs k no_checkpoint).table
@@ -44,13 +44,13 @@ table_next cs k =
     let back : suc k - 1 ≡ k = omega arith in
     rw (later, back) refl
 
--- the numbers that stood before a checkpoint of parts are those of the table before it
-pub stood_laid : (v : ℕ) (r : RecordingParts) (k p : ℕ) → p < PLACES → stood (fields_laid v r) k p ≡ slice_index (table_before r.checkpoints k) p
-stood_laid v r zero p lt = sym (zero_number p)
-stood_laid v r (suc k) p lt =
-    stood_more (fields_laid v r) k p ∙ ap (λ (table : List ℕ). slice_index table p) (sym (table_next r.checkpoints k))
+-- the page ids before a checkpoint of parts are those of the table before it
+pub prior_encoded : (v : ℕ) (r : RecordingParts) (k p : ℕ) → p < PLACES → prior_number (fields_in v r) k p ≡ slice_index (table_before r.checkpoints k) p
+prior_encoded v r zero p lt = sym (zero_number p)
+prior_encoded v r (suc k) p lt =
+    prior_more (fields_in v r) k p ∙ ap (λ (table : List ℕ). slice_index table p) (sym (table_next r.checkpoints k))
 
--- what is sent before a checkpoint
+-- the output before a checkpoint
 pub sent_none : (f : Fields) → sent_below f 0 ≡ 0
 unfolding total
 sent_none f = refl
@@ -69,9 +69,9 @@ total_rises f k (suc n) le =
       | inr more ↦ let e : k ≡ suc n = omega arith in rw e (omega arith)
     ]
 
--- a checkpoint has at most as many changes as a table has places
-pub laid_few : (v : ℕ) (before : List ℕ) (c : CheckpointParts) → changes_laid v before c ≤ PLACES
-laid_few v before c = go (v == FIRST_VERSION) where
+-- a checkpoint has at most as many changes as a table has slots
+pub changes_in_few : (v : ℕ) (before : List ℕ) (c : CheckpointParts) → changes_in v before c ≤ PLACES
+changes_in_few v before c = go (v == FIRST_VERSION) where
   go : (b : Bool) → (if b then 0 else length (changes before c.table)) ≤ PLACES
   go true = omega arith
   go false = changes-few before c.table
@@ -83,38 +83,38 @@ size_few v changes few = go (v == FIRST_VERSION) where
   go true = omega arith
   go false = omega arith
 
--- where checkpoint 0 is laid out, and where the one after each
-pub laid_first : (v : ℕ) (r : RecordingParts) → start_laid v r 0 ≡ event_start (length r.pool) (length r.inputs)
-unfolding start_laid
-laid_first v r = refl
+-- the offset of checkpoint 0 of parts, and of the one after each
+pub start_in_first : (v : ℕ) (r : RecordingParts) → start_in v r 0 ≡ event_start (length r.pool) (length r.inputs)
+unfolding start_in
+start_in_first v r = refl
 
-pub laid_next : (v : ℕ) (r : RecordingParts) (k : ℕ)
-    → start_laid v r (suc k) ≡ start_laid v r k + checkpoint_size v (changes_laid v (table_before r.checkpoints k) (checkpoint_at r k))
-unfolding start_laid
-laid_next v r k = refl
+pub start_in_next : (v : ℕ) (r : RecordingParts) (k : ℕ)
+    → start_in v r (suc k) ≡ start_in v r k + checkpoint_size v (changes_in v (table_before r.checkpoints k) (checkpoint_at r k))
+unfolding start_in
+start_in_next v r k = refl
 
--- the places of checkpoints rise
-pub laid_rises : (v : ℕ) (r : RecordingParts) (k n : ℕ) → k ≤ n → start_laid v r k ≤ start_laid v r n
-laid_rises v r k zero le = let e : k ≡ 0 = omega arith in rw e (omega arith)
-laid_rises v r k (suc n) le =
+-- the offsets of checkpoints rise
+pub start_in_rises : (v : ℕ) (r : RecordingParts) (k n : ℕ) → k ≤ n → start_in v r k ≤ start_in v r n
+start_in_rises v r k zero le = let e : k ≡ 0 = omega arith in rw e (omega arith)
+start_in_rises v r k (suc n) le =
     elim (cases_lt k (suc n)) [
-      | inl less ↦ let ih = laid_rises v r k n (omega arith) in let next = laid_next v r n in omega arith
+      | inl less ↦ let ih = start_in_rises v r k n (omega arith) in let next = start_in_next v r n in omega arith
       | inr more ↦ let e : k ≡ suc n = omega arith in rw e (omega arith)
     ]
 
 -- each checkpoint of version 2 has its room
-pub changed_room : (r : RecordingParts) (k : ℕ) → start_laid VERSION r k + CHANGES_AT ≤ start_laid VERSION r (suc k)
-changed_room r k = let next = laid_next VERSION r k in omega arith
+pub changed_room : (r : RecordingParts) (k : ℕ) → start_in VERSION r k + CHANGES_AT ≤ start_in VERSION r (suc k)
+changed_room r k = let next = start_in_next VERSION r k in omega arith
 
--- no further than so many of the longest checkpoints reach
-pub laid_within : (v : ℕ) (r : RecordingParts) (k : ℕ)
-    → start_laid v r k ≤ event_start (length r.pool) (length r.inputs) + (CHANGES_AT + CHANGE_LEN * PLACES) * k
-laid_within v r zero = let first = laid_first v r in omega arith
-laid_within v r (suc k) =
-    let ih = laid_within v r k in
-    let next = laid_next v r k in
-    let changes = changes_laid v (table_before r.checkpoints k) (checkpoint_at r k) in
-    let few = size_few v changes (laid_few v (table_before r.checkpoints k) (checkpoint_at r k)) in
+-- no further than as many of the longest checkpoints reach
+pub start_in_within : (v : ℕ) (r : RecordingParts) (k : ℕ)
+    → start_in v r k ≤ event_start (length r.pool) (length r.inputs) + (CHANGES_AT + CHANGE_LEN * PLACES) * k
+start_in_within v r zero = let first = start_in_first v r in omega arith
+start_in_within v r (suc k) =
+    let ih = start_in_within v r k in
+    let next = start_in_next v r k in
+    let changes = changes_in v (table_before r.checkpoints k) (checkpoint_at r k) in
+    let few = size_few v changes (changes_in_few v (table_before r.checkpoints k) (checkpoint_at r k)) in
     omega arith
 
 -- the length of all output is the sum of the checkpoints' outputs
@@ -131,14 +131,14 @@ output_total (c ∷ cs) =
     ∙ ap (λ (n : ℕ). length c.sent + n) (output_total cs)
     ∙ sym (length-append c.sent (output_of cs))
 
-pub sent_all : (v : ℕ) (r : RecordingParts) → sent_below (fields_laid v r) (length r.checkpoints) ≡ length (output_of r.checkpoints)
+pub sent_all : (v : ℕ) (r : RecordingParts) → sent_below (fields_in v r) (length r.checkpoints) ≡ length (output_of r.checkpoints)
 sent_all v r = output_total r.checkpoints
 
--- the length of the parts' text is right
-pub ends_met : (v : ℕ) (r : RecordingParts) → first_broken (end_rules (fields_laid v r)) ≡ None
+-- the length of the parts' file is right
+pub ends_met : (v : ℕ) (r : RecordingParts) → first_broken (end_rules (fields_in v r)) ≡ None
 ends_met v r =
-    let f = fields_laid v r in
-    let same : whole f ≡ f.long = ap (λ (n : ℕ). start_laid v r (length r.checkpoints) + n) (sent_all v r) in
+    let f = fields_in v r in
+    let same : whole f ≡ f.long = ap (λ (n : ℕ). start_in v r (length r.checkpoints) + n) (sent_all v r) in
     let a : nat_le (whole f) f.long ≡ true = le-leb _ _ (omega arith) in
     let b : (f.long == whole f) ≡ true = eq-eqb _ _ (sym same) in
     rw (a, b) refl

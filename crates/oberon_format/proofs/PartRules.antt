@@ -15,86 +15,86 @@ use Rattle.oberon_format.specs.CheckpointParts.{CheckpointParts, checkpoint_part
 use Rattle.oberon_format.specs.Fields.{sent_below}
 use Rattle.oberon_format.specs.FirstFault.{Rule, first_broken, each}
 use Rattle.oberon_format.specs.Layout.{checkpoint_size}
-use Rattle.oberon_format.specs.PartFields.{fields_laid, start_laid, checkpoint_fields}
+use Rattle.oberon_format.specs.PartFields.{fields_in, start_in, checkpoint_fields}
 use Rattle.oberon_format.specs.Recording.{parts_of, RecordingParts, checkpoint_at, table_before}
-use Rattle.oberon_format.specs.Rules.{field_rules, change_rules, stood, count_before, checkpoint_rules}
+use Rattle.oberon_format.specs.Rules.{field_rules, change_rules, prior_number, count_before, checkpoint_rules}
 use Rattle.oberon_format.proofs.ChangeLemmas.{change_in}
 use Rattle.oberon_format.proofs.CheckpointLemmas.{checkpoint_at-is}
-use Rattle.oberon_format.proofs.PartLemmas.{laid_rises, laid_next, laid_within, changed_room, stood_laid}
+use Rattle.oberon_format.proofs.PartLemmas.{start_in_rises, start_in_next, start_in_within, changed_room, prior_encoded}
 use Rattle.oberon_format.proofs.RuleLemmas.{rule_met, rules_changed}
 use Rattle.oberon_format.proofs.SameFields.{same_append, changes_same}
 
--- the rules of fields at a place, and of the changes from a table to another
-abbrev pub laid_rules : ℕ → ℕ → ℕ → ℕ → ℕ → CheckpointFields → List ℕ → List ℕ → List (Rule Fault)
-laid_rules pages offset k before sent fields old new =
+-- the rules of fields at an offset, and of the changes from one table to another
+abbrev pub encoded_rules : ℕ → ℕ → ℕ → ℕ → ℕ → CheckpointFields → List ℕ → List ℕ → List (Rule Fault)
+encoded_rules pages offset k before sent fields old new =
     field_rules offset k before sent fields ++ each (length (changes old new)) (change_rules pages offset (slice_index old) (change_in old new))
 
 -- a checkpoint of parts has these rules: its bytes are there
-pub rules_laid : (r : RecordingParts) (k : ℕ) → k < length r.checkpoints
-    → first_broken (checkpoint_rules (fields_laid VERSION r) k)
-    ≡ first_broken (laid_rules (length r.pool) (start_laid VERSION r k) k (count_before (fields_laid VERSION r) k) (sent_below (fields_laid VERSION r) k)
-    ((fields_laid VERSION r).checkpoint k) (table_before r.checkpoints k) (checkpoint_at r k).table)
-rules_laid r k lt =
-    let f = fields_laid VERSION r in
+pub rules_encoded : (r : RecordingParts) (k : ℕ) → k < length r.checkpoints
+    → first_broken (checkpoint_rules (fields_in VERSION r) k)
+    ≡ first_broken (encoded_rules (length r.pool) (start_in VERSION r k) k (count_before (fields_in VERSION r) k) (sent_below (fields_in VERSION r) k)
+    ((fields_in VERSION r).checkpoint k) (table_before r.checkpoints k) (checkpoint_at r k).table)
+rules_encoded r k lt =
+    let f = fields_in VERSION r in
     let old = table_before r.checkpoints k in
     let new = (checkpoint_at r k).table in
     let n = length (changes old new) in
-    let offset = start_laid VERSION r k in
+    let offset = start_in VERSION r k in
     let room = changed_room r k in
-    let up = laid_rises VERSION r (suc k) (length r.checkpoints) (omega arith) in
+    let up = start_in_rises VERSION r (suc k) (length r.checkpoints) (omega arith) in
     let fields = field_rules offset k (count_before f k) (sent_below f k) (f.checkpoint k) in
-    let tested = each n (change_rules (length r.pool) offset (stood f k) (change_in old new)) in
+    let tested = each n (change_rules (length r.pool) offset (prior_number f k) (change_in old new)) in
     let left = each n (change_rules (length r.pool) offset (slice_index old) (change_in old new)) in
-    let ends = (nat_le (start_laid VERSION r (suc k)) f.long, fault.Short f.long) ∷ tested in
+    let ends = (nat_le (start_in VERSION r (suc k)) f.long, fault.Short f.long) ∷ tested in
     let same : first_broken ends ≡ first_broken left =
-    rule_met (nat_le (start_laid VERSION r (suc k)) f.long) (fault.Short f.long) tested (le-leb _ _ (omega arith))
-    ∙ changes_same (length r.pool) offset n (stood f k) (slice_index old) (change_in old new) (change_in old new) (λ p less. stood_laid VERSION r k p less) (λ i less. refl) in
+    rule_met (nat_le (start_in VERSION r (suc k)) f.long) (fault.Short f.long) tested (le-leb _ _ (omega arith))
+    ∙ changes_same (length r.pool) offset n (prior_number f k) (slice_index old) (change_in old new) (change_in old new) (λ p less. prior_encoded VERSION r k p less) (λ i less. refl) in
     ap (λ (xs : List (Rule Fault)). first_broken xs) (rules_changed f k refl)
     ∙ rule_met (nat_le (offset + CHANGES_AT) f.long) (fault.Short f.long) (fields ++ ends) (le-leb _ _ (omega arith))
     ∙ same_append fields fields ends left refl same
 
 -- what the code knows of checkpoint k
-pub record StandsAt (r : RecordingParts) (k pages offset before sent : ℕ) (fields : CheckpointFields) (old new : List ℕ) : Type 0 where
+pub record IsAtCheckpoint (r : RecordingParts) (k pages offset before sent : ℕ) (fields : CheckpointFields) (old new : List ℕ) : Type 0 where
   pub pages_are : pages ≡ length r.pool
-  pub offset_is : offset ≡ start_laid VERSION r k
-  pub before_is : before ≡ count_before (fields_laid VERSION r) k
-  pub sent_is : sent ≡ sent_below (fields_laid VERSION r) k
-  pub fields_are : fields ≡ (fields_laid VERSION r).checkpoint k
+  pub offset_is : offset ≡ start_in VERSION r k
+  pub before_is : before ≡ count_before (fields_in VERSION r) k
+  pub sent_is : sent ≡ sent_below (fields_in VERSION r) k
+  pub fields_are : fields ≡ (fields_in VERSION r).checkpoint k
   pub old_is : old ≡ table_before r.checkpoints k
   pub new_is : new ≡ (checkpoint_at r k).table
 
 -- and so what it tests are the rules of checkpoint k
 pub rules_here : (r : RecordingParts) (k pages offset before sent : ℕ) (fields : CheckpointFields) (old new : List ℕ) → k < length r.checkpoints
-    → StandsAt r k pages offset before sent fields old new
-    → first_broken (checkpoint_rules (fields_laid VERSION r) k) ≡ first_broken (laid_rules pages offset k before sent fields old new)
+    → IsAtCheckpoint r k pages offset before sent fields old new
+    → first_broken (checkpoint_rules (fields_in VERSION r) k) ≡ first_broken (encoded_rules pages offset k before sent fields old new)
 rules_here r k pages offset before sent fields old new lt are =
-    let f = fields_laid VERSION r in
-    let at = start_laid VERSION r k in
+    let f = fields_in VERSION r in
+    let at = start_in VERSION r k in
     let floor = count_before f k in
     let below = sent_below f k in
     let c = f.checkpoint k in
     let was = table_before r.checkpoints k in
     let is = (checkpoint_at r k).table in
-    rules_laid r k lt
-    ∙ sym (ap (λ (n : ℕ). first_broken (laid_rules n offset k before sent fields old new)) are.pages_are
-    ∙ ap (λ (n : ℕ). first_broken (laid_rules (length r.pool) n k before sent fields old new)) are.offset_is
-    ∙ ap (λ (n : ℕ). first_broken (laid_rules (length r.pool) at k n sent fields old new)) are.before_is
-    ∙ ap (λ (n : ℕ). first_broken (laid_rules (length r.pool) at k floor n fields old new)) are.sent_is
-    ∙ ap (λ (x : CheckpointFields). first_broken (laid_rules (length r.pool) at k floor below x old new)) are.fields_are
-    ∙ ap (λ (t : List ℕ). first_broken (laid_rules (length r.pool) at k floor below c t new)) are.old_is
-    ∙ ap (λ (t : List ℕ). first_broken (laid_rules (length r.pool) at k floor below c was t)) are.new_is)
+    rules_encoded r k lt
+    ∙ sym (ap (λ (n : ℕ). first_broken (encoded_rules n offset k before sent fields old new)) are.pages_are
+    ∙ ap (λ (n : ℕ). first_broken (encoded_rules (length r.pool) n k before sent fields old new)) are.offset_is
+    ∙ ap (λ (n : ℕ). first_broken (encoded_rules (length r.pool) at k n sent fields old new)) are.before_is
+    ∙ ap (λ (n : ℕ). first_broken (encoded_rules (length r.pool) at k floor n fields old new)) are.sent_is
+    ∙ ap (λ (x : CheckpointFields). first_broken (encoded_rules (length r.pool) at k floor below x old new)) are.fields_are
+    ∙ ap (λ (t : List ℕ). first_broken (encoded_rules (length r.pool) at k floor below c t new)) are.old_is
+    ∙ ap (λ (t : List ℕ). first_broken (encoded_rules (length r.pool) at k floor below c was t)) are.new_is)
 
--- it is known of the checkpoint that Rust has at this number
-pub stands_at : (pool : List (List ℕ)) (inputs : List Event) (checkpoints : List Checkpoint) (k : ℕ) (x : Checkpoint)
+-- it is known of the checkpoint that Rust has at this index
+pub is_at_checkpoint : (pool : List (List ℕ)) (inputs : List Event) (checkpoints : List Checkpoint) (k : ℕ) (x : Checkpoint)
     (pages offset before sent : ℕ) (fields : CheckpointFields) (old : List ℕ)
     → k < length checkpoints → x ≡ get_or checkpoints k x → pages ≡ length pool
-    → offset ≡ start_laid VERSION (parts_of pool inputs checkpoints) k
-    → before ≡ count_before (fields_laid VERSION (parts_of pool inputs checkpoints)) k
-    → sent ≡ sent_below (fields_laid VERSION (parts_of pool inputs checkpoints)) k
+    → offset ≡ start_in VERSION (parts_of pool inputs checkpoints) k
+    → before ≡ count_before (fields_in VERSION (parts_of pool inputs checkpoints)) k
+    → sent ≡ sent_below (fields_in VERSION (parts_of pool inputs checkpoints)) k
     → old ≡ table_before (map checkpoint_parts checkpoints) k
     → fields ≡ checkpoint_fields VERSION old (checkpoint_parts x)
-    → StandsAt (parts_of pool inputs checkpoints) k pages offset before sent fields old x.table
-stands_at pool inputs checkpoints k x pages offset before sent fields old lt is count at floor below table made =
+    → IsAtCheckpoint (parts_of pool inputs checkpoints) k pages offset before sent fields old x.table
+is_at_checkpoint pool inputs checkpoints k x pages offset before sent fields old lt is count at floor below table made =
     let r = parts_of pool inputs checkpoints in
     let here : checkpoint_at r k ≡ checkpoint_parts x = checkpoint_at-is checkpoints k x lt is in
     record {
@@ -109,17 +109,17 @@ stands_at pool inputs checkpoints k x pages offset before sent fields old lt is 
       new_is = ap (λ (y : CheckpointParts). y.table) (sym here);
     }
 
--- where the next checkpoint begins
-pub next_offset : (r : RecordingParts) (k offset size : ℕ) (fields : CheckpointFields) → offset ≡ start_laid VERSION r k
-    → fields ≡ (fields_laid VERSION r).checkpoint k → size ≡ checkpoint_size VERSION fields.changes
-    → offset + size ≡ start_laid VERSION r (k + 1)
+-- the offset of the next checkpoint
+pub next_offset : (r : RecordingParts) (k offset size : ℕ) (fields : CheckpointFields) → offset ≡ start_in VERSION r k
+    → fields ≡ (fields_in VERSION r).checkpoint k → size ≡ checkpoint_size VERSION fields.changes
+    → offset + size ≡ start_in VERSION r (k + 1)
 next_offset r k offset size fields at are long =
     ap (λ (n : ℕ). n + size) at
-    ∙ ap (λ (n : ℕ). start_laid VERSION r k + n) (long ∙ ap (λ (y : CheckpointFields). checkpoint_size VERSION y.changes) are)
-    ∙ sym (laid_next VERSION r k)
-    ∙ ap (start_laid VERSION r) (sym (add-one k))
+    ∙ ap (λ (n : ℕ). start_in VERSION r k + n) (long ∙ ap (λ (y : CheckpointFields). checkpoint_size VERSION y.changes) are)
+    ∙ sym (start_in_next VERSION r k)
+    ∙ ap (start_in VERSION r) (sym (add-one k))
 
--- no checkpoint within the limits begins behind the longest text
+-- no checkpoint within the limits begins after the longest file
 pub place_small : (r : RecordingParts) (k : ℕ) → length r.pool ≤ MAX_PAGES → length r.inputs ≤ MAX_EVENTS → k ≤ MAX_CHECKPOINTS
-    → start_laid VERSION r k ≤ LONGEST_TEXT
-place_small r k pages events few = let within = laid_within VERSION r k in omega arith
+    → start_in VERSION r k ≤ LONGEST_TEXT
+place_small r k pages events few = let within = start_in_within VERSION r k in omega arith

@@ -1,4 +1,4 @@
--- How far the parts of a text reach.
+-- How far the parts of a file reach.
 use Rattle.std.proofs.Common.{◌≡◌, ◌<◌, ◌≤◌, ◌+◌, ◌*◌, ◌∙◌, ℕ, zero, suc, List, length, refl, ap, inl, inr, arith, add-one}
 use Rattle.std.proofs.lemmas.Bool.{cases_lt}
 use Rattle.std.proofs.lemmas.Bool.Decides.{nat_tests}
@@ -9,7 +9,7 @@ use Rattle.oberon_format.specs.inner.Tested.{IsSized, Meets}
 use Rattle.oberon_format.specs.TextFields.{fields_of}
 use Rattle.oberon_format.proofs.RuleLemmas.{version_cases, is_first, is_later}
 
--- a checkpoint of either version has a front, and three more numbers at least
+-- a checkpoint of either version has the common fields, and at least three more numbers
 pub size_least : (v n : ℕ) → CHANGES_AT ≤ checkpoint_size v n
 size_least v n = grind (arith, nat_tests)
 
@@ -31,7 +31,7 @@ start_next text k = refl
 start_more : (text : List ℕ) (k : ℕ) → start text (k + 1) ≡ start text k + checkpoint_size (version text) (change_count text (start text k))
 start_more text k = ap (start text) (add-one k) ∙ start_next text k
 
--- checkpoints stand one behind the other
+-- checkpoints follow one another
 pub start_le : (text : List ℕ) (i n : ℕ) → i ≤ n → start text i ≤ start text n
 start_le text i zero le = let e : i ≡ 0 = omega arith in rw e (omega arith)
 start_le text i (suc n) le =
@@ -49,7 +49,7 @@ start_first text (suc k) is =
     let size = size_first (version text) (change_count text (start text k)) is in
     omega arith
 
--- where the next one begins, by the length of this one
+-- the offset of the next one, by the length of this one
 pub offset_next : (text : List ℕ) (k offset n size : ℕ) → offset ≡ start text k → n ≡ change_count text offset → size ≡ checkpoint_size (version text) n → offset + size ≡ start text (k + 1)
 offset_next text k offset n size at many is =
     let more = start_more text k in
@@ -92,7 +92,7 @@ whole_room text k sized lt is =
     let named = named_first text is in
     omega arith
 
--- the output is there too, of a text that breaks no rule
+-- the output is there too, in a file that breaks no rule
 pub output_there : (text : List ℕ) → Meets text → output_offset text ≤ length text
 output_there text meets = let whole_is = meets.whole_is in omega arith
 
@@ -104,8 +104,8 @@ checkpoint_there text k meets lt =
     let all = output_there text meets in
     omega arith
 
-pub front_there : (text : List ℕ) (k : ℕ) → Meets text → k < checkpoints text → start text k + CHANGES_AT ≤ length text
-front_there text k meets lt =
+pub common_there : (text : List ℕ) (k : ℕ) → Meets text → k < checkpoints text → start text k + CHANGES_AT ≤ length text
+common_there text k meets lt =
     let all = checkpoint_there text k meets lt in
     let least = size_least (version text) (change_count text (start text k)) in
     omega arith

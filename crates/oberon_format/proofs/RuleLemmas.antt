@@ -1,4 +1,4 @@
--- The first broken rule of lists of rules, and what a text has of which some rules are met.
+-- The first broken rule of lists of rules, and what a file has if some of its rules are met.
 use Rattle.std.proofs.Common.{◌≡◌, ◌<◌, ◌≤◌, ◌+◌, ◌-◌, ℕ, zero, suc, Bool, true, false, ◌&&◌, List, [], ◌∷◌, ◌++◌, length, Some, None, refl, ap, sym, ◌∙◌, arith, add-suc, add-zero, add-one, inl, inr, ◌⊎◌, eq-eqb}
 use Rattle.std.specs.Prelude.{nat_le, ◌==◌}
 use Rattle.std.proofs.lemmas.Bool.{cases_lt, or_cases, leb-true, le-leb, eqb-true}
@@ -10,7 +10,7 @@ use Rattle.oberon_format.specs.Fields.{Fields, sent_below, total}
 use Rattle.oberon_format.specs.FirstFault.{Rule, each, first_broken}
 use Rattle.oberon_format.specs.Layout.{page_number_offset, change_offset, checkpoints, event_offset, events, long_at, start, version, word_at}
 use Rattle.oberon_format.specs.Ranges.{is_version, is_change, is_checkpoint, is_event}
-use Rattle.oberon_format.specs.Rules.{checkpoint_rules, whole_rules, changed_rules, change_rules, place_floor, stood, count_before, end_rules, event_floor, event_rules, header_rules, page_number_rules, rules, whole}
+use Rattle.oberon_format.specs.Rules.{checkpoint_rules, whole_rules, changed_rules, change_rules, place_floor, prior_number, count_before, end_rules, event_floor, event_rules, header_rules, page_number_rules, rules, whole}
 use Rattle.oberon_format.specs.inner.Tested.{IsSized, Meets}
 use Rattle.oberon_format.specs.TextFields.{checkpoint_of, event_of, fields_of, first_fault_of}
 use Rattle.risc_devices.specs.InputKind.{is_input}
@@ -45,14 +45,14 @@ each_broken rules i n g lt h e =
     let one : first_broken (each (suc i) rules) ≡ Some g = met-append (each i rules) (rules i) h ∙ e in
     ap (λ (m : ℕ). first_broken (each m rules)) k ∙ each_stays rules (suc i) (n - suc i) g one
 
--- one rule at each number
+-- one rule at each index
 pub each_met : (holds : ℕ → Bool) (fault : ℕ → Fault) (i : ℕ) → first_broken (each i (λ k. (holds k, fault k) ∷ [])) ≡ None → holds i ≡ true → first_broken (each (i + 1) (λ k. (holds k, fault k) ∷ [])) ≡ None
 each_met holds fault i h e = each_more (λ k. (holds k, fault k) ∷ []) i h (rw e refl)
 
 pub each_unmet : (holds : ℕ → Bool) (fault : ℕ → Fault) (i n : ℕ) → i < n → first_broken (each i (λ k. (holds k, fault k) ∷ [])) ≡ None → holds i ≡ false → first_broken (each n (λ k. (holds k, fault k) ∷ [])) ≡ Some (fault i)
 each_unmet holds fault i n lt h e = each_broken (λ k. (holds k, fault k) ∷ []) i n (fault i) lt h (rw e refl)
 
--- the length of the output of the checkpoints of a text before checkpoint k
+-- the length of the output of the checkpoints of a file before checkpoint k
 abbrev pub output_below : List ℕ → ℕ → ℕ
 output_below text k = sent_below (fields_of text) k
 
@@ -97,7 +97,7 @@ any_in_end x h e k =
     let b = met-append (header_rules x ++ each x.events (event_rules x)) (each x.checkpoints (checkpoint_rules x)) a ∙ k in
     met-append (header_rules x ++ each x.events (event_rules x) ++ each x.checkpoints (checkpoint_rules x)) (end_rules x) b
 
--- those for a text, whose variables `grind` can see
+-- those for a file, whose variables `grind` can see
 pub in_header : (text : List ℕ) (g : Fault) → first_broken (header_rules (fields_of text)) ≡ Some g → first_fault_of text ≡ Some g
 in_header text = any_in_header (fields_of text)
 
@@ -214,7 +214,7 @@ event_input text i meets lt =
     let holds = rule_holds (is_event (event_floor (fields_of text) i) (event_of text (event_offset text i))) (fault.Event (event_offset text i)) [] one in
     and_right _ _ holds.0
 
--- which versions there are
+-- the known versions
 pub version_cases : (v : ℕ) → is_version v ≡ true → (v ≡ FIRST_VERSION) ⊎ (v ≡ VERSION)
 version_cases v known =
     elim (or_cases (v == FIRST_VERSION) (v == VERSION) known) [
@@ -255,7 +255,7 @@ pub record ChangedMet (f : Fields) (k : ℕ) : Type 0 where
   pub room : f.start k + CHANGES_AT ≤ f.long
   pub fields : is_checkpoint k (count_before f k) (sent_below f k) (f.checkpoint k) ≡ true
   pub ends : f.start (suc k) ≤ f.long
-  pub each_change : (i : ℕ) → i < (f.checkpoint k).changes → is_change f.pages (place_floor (f.change k) i) (stood f k) (f.change k i) ≡ true
+  pub each_change : (i : ℕ) → i < (f.checkpoint k).changes → is_change f.pages (place_floor (f.change k) i) (prior_number f k) (f.change k i) ≡ true
 
 -- a list of rules whose first one is met has the first fault of the rest
 pub rule_met : (b : Bool) (f : Fault) (xs : List (Rule Fault)) → b ≡ true → first_broken ((b, f) ∷ xs) ≡ first_broken xs
@@ -287,7 +287,7 @@ whole_meets f k is met =
 pub changed_met : (f : Fields) (k : ℕ) → f.version ≡ VERSION → first_broken (checkpoint_rules f k) ≡ None → ChangedMet f k
 changed_met f k is met =
     let n = (f.checkpoint k).changes in
-    let changes = change_rules f.pages (f.start k) (stood f k) (f.change k) in
+    let changes = change_rules f.pages (f.start k) (prior_number f k) (f.change k) in
     let ends = (nat_le (f.start (suc k)) f.long, fault.Short f.long) ∷ each n changes in
     let all : first_broken (changed_rules f k) ≡ None = ap (λ (xs : List (Rule Fault)). first_broken xs) (sym (rules_changed f k is)) ∙ met in
     let room = rule_holds (nat_le (f.start k + CHANGES_AT) f.long) (fault.Short f.long) ((is_checkpoint k (count_before f k) (sent_below f k) (f.checkpoint k), fault.Checkpoint (f.start k)) ∷ ends) all in
@@ -298,21 +298,21 @@ changed_met f k is met =
       fields = fields.0;
       ends = leb-true _ _ end.0;
       each_change = λ i lt.
-          (rule_holds (is_change f.pages (place_floor (f.change k) i) (stood f k) (f.change k i)) (fault.Page (change_offset (f.start k) i)) [] (each_holds changes n i lt end.1)).0;
+          (rule_holds (is_change f.pages (place_floor (f.change k) i) (prior_number f k) (f.change k i)) (fault.Page (change_offset (f.start k) i)) [] (each_holds changes n i lt end.1)).0;
     }
 
 pub changed_meets : (f : Fields) (k : ℕ) → f.version ≡ VERSION → ChangedMet f k → first_broken (checkpoint_rules f k) ≡ None
 changed_meets f k is met =
     let n = (f.checkpoint k).changes in
-    let changes = change_rules f.pages (f.start k) (stood f k) (f.change k) in
+    let changes = change_rules f.pages (f.start k) (prior_number f k) (f.change k) in
     let ends = (nat_le (f.start (suc k)) f.long, fault.Short f.long) ∷ each n changes in
     ap (λ (xs : List (Rule Fault)). first_broken xs) (rules_changed f k is)
     ∙ rule_met (nat_le (f.start k + CHANGES_AT) f.long) (fault.Short f.long) ((is_checkpoint k (count_before f k) (sent_below f k) (f.checkpoint k), fault.Checkpoint (f.start k)) ∷ ends) (le-leb _ _ met.room)
     ∙ rule_met (is_checkpoint k (count_before f k) (sent_below f k) (f.checkpoint k)) (fault.Checkpoint (f.start k)) ends met.fields
     ∙ rule_met (nat_le (f.start (suc k)) f.long) (fault.Short f.long) (each n changes) (le-leb _ _ met.ends)
-    ∙ each_all changes n (λ i lt. rule_met (is_change f.pages (place_floor (f.change k) i) (stood f k) (f.change k i)) (fault.Page (change_offset (f.start k) i)) [] (met.each_change i lt))
+    ∙ each_all changes n (λ i lt. rule_met (is_change f.pages (place_floor (f.change k) i) (prior_number f k) (f.change k i)) (fault.Page (change_offset (f.start k) i)) [] (met.each_change i lt))
 
--- the fields of a checkpoint of a text that breaks no rule are in their ranges
+-- the fields of a checkpoint of a file that breaks no rule are in their ranges
 pub checkpoint_holds : (text : List ℕ) (k : ℕ) → Meets text → k < checkpoints text → is_checkpoint k (count_before (fields_of text) k) (output_below text k) (checkpoint_of text (start text k)) ≡ true
 checkpoint_holds text k meets lt =
     let one = each_holds (checkpoint_rules (fields_of text)) (checkpoints text) k lt meets.checkpoints_meet in

@@ -1,4 +1,4 @@
--- Texts and parts with the same fields have the same first fault.
+-- Files and parts with the same fields have the same first fault.
 use Rattle.std.proofs.Common.{◌≡◌, ◌<◌, ◌≤◌, ◌+◌, ◌∙◌, ℕ, zero, suc, Bool, true, false, eqb, List, [], ◌∷◌, ◌++◌, sym, ap, arith, add-one, refl}
 use Rattle.std.specs.Prelude.{nat_le, ◌==◌, if◌then◌else◌}
 use Rattle.oberon_format.specs.declared.change.Change.{Change}
@@ -10,10 +10,10 @@ use Rattle.oberon_format.specs.Fields.{Fields, EventFields, total, sent_below}
 use Rattle.oberon_format.specs.FirstFault.{Rule, first_broken, each}
 use Rattle.oberon_format.specs.Layout.{page_number_offset, change_offset}
 use Rattle.oberon_format.specs.Ranges.{is_event, is_change, is_version}
-use Rattle.oberon_format.specs.Rules.{limit_rules, header_rules, named_len, event_rules, event_floor, offset_of_event, page_number_rules, place_floor, change_rules, stood, field_rules, whole_rules, changed_rules, count_before, checkpoint_rules, end_rules, rules}
+use Rattle.oberon_format.specs.Rules.{limit_rules, header_rules, named_len, event_rules, event_floor, offset_of_event, page_number_rules, place_floor, change_rules, prior_number, field_rules, whole_rules, changed_rules, count_before, checkpoint_rules, end_rules, rules}
 use Rattle.oberon_format.proofs.ChangeLemmas.{floor_same}
-use Rattle.oberon_format.proofs.PartLemmas.{floor_more, before_more, stood_more}
-use Rattle.oberon_format.proofs.SameRules.{same_behind}
+use Rattle.oberon_format.proofs.PartLemmas.{floor_more, before_more, prior_more}
+use Rattle.oberon_format.proofs.SameRules.{same_after_prefix}
 use Rattle.oberon_format.proofs.Tables.{change_same}
 
 -- the same numbers, and the same members as far as these go
@@ -33,7 +33,7 @@ pub record SameFields (f g : Fields) : Type 0 where
 
 pub same_append : (xs xs' ys ys' : List (Rule Fault)) → first_broken xs ≡ first_broken xs' → first_broken ys ≡ first_broken ys'
     → first_broken (xs ++ ys) ≡ first_broken (xs' ++ ys')
-same_append xs xs' ys ys' a b = same_behind xs xs' ys ys' a (λ _. b)
+same_append xs xs' ys ys' a b = same_after_prefix xs xs' ys ys' a (λ _. b)
 
 pub same_each : (n : ℕ) (f g : ℕ → List (Rule Fault)) → ((i : ℕ) → i < n → first_broken (f i) ≡ first_broken (g i)) → first_broken (each n f) ≡ first_broken (each n g)
 unfolding each
@@ -53,9 +53,9 @@ before_same f g (suc k) h =
     let e : suc k ≡ k + 1 = sym (add-one k) in
     ap (count_before f) e ∙ before_more f k ∙ ap (λ (x : CheckpointFields). x.count) (h k (omega arith)) ∙ sym (before_more g k) ∙ ap (count_before g) (sym e)
 
-pub stood_same : (f g : Fields) (k p : ℕ) → ((i : ℕ) → i < k → f.page_number i p ≡ g.page_number i p) → stood f k p ≡ stood g k p
-stood_same f g zero p h = refl
-stood_same f g (suc k) p h = stood_more f k p ∙ h k (omega arith) ∙ sym (stood_more g k p)
+pub prior_same : (f g : Fields) (k p : ℕ) → ((i : ℕ) → i < k → f.page_number i p ≡ g.page_number i p) → prior_number f k p ≡ prior_number g k p
+prior_same f g zero p h = refl
+prior_same f g (suc k) p h = prior_more f k p ∙ h k (omega arith) ∙ sym (prior_more g k p)
 
 pub total_same : (a b : ℕ → ℕ) (n : ℕ) → ((i : ℕ) → i < n → a i ≡ b i) → total a n ≡ total b n
 unfolding total
@@ -68,7 +68,7 @@ total_same a b (suc n) h =
 pub sent_same : (f g : Fields) (k : ℕ) → ((i : ℕ) → i < k → f.checkpoint i ≡ g.checkpoint i) → sent_below f k ≡ sent_below g k
 sent_same f g k h = total_same _ _ k (λ i less. ap (λ (x : CheckpointFields). x.output) (h i less))
 
--- the page numbers of a checkpoint of version 1
+-- the page ids of a checkpoint of version 1
 pub numbers_same : (pages offset : ℕ) (m n : ℕ → ℕ) → ((j : ℕ) → j < PLACES → m j ≡ n j)
     → first_broken (each PLACES (page_number_rules pages offset m)) ≡ first_broken (each PLACES (page_number_rules pages offset n))
 numbers_same pages offset m n h =
@@ -91,7 +91,7 @@ changes_same pages offset n s t a b stands same =
 mixed : Fields → Fields → Fields
 mixed f g = record g { event = f.event; start = f.start; checkpoint = f.checkpoint; change = f.change; page_number = f.page_number }
 
--- the header looks at two places
+-- the header looks at two fields
 header_at : Fields → ℕ → List (Rule Fault)
 header_at g long =
     ((nat_le HEADER_LEN g.long, fault.Short g.long)
@@ -148,15 +148,15 @@ changed_same f g k lt same =
     let ends = λ (n : ℕ). (let xs : List (Rule Fault) = (nat_le n g.long, fault.Short g.long) ∷ [] in xs) in
     let fields = field_rules (f.start k) k (count_before m k) (sent_below m k) (f.checkpoint k) in
     let fields' = field_rules (g.start k) k (count_before g k) (sent_below g k) (g.checkpoint k) in
-    let changes = each (f.checkpoint k).changes (change_rules g.pages (f.start k) (stood m k) (f.change k)) in
-    let changes' = each (g.checkpoint k).changes (change_rules g.pages (g.start k) (stood g k) (g.change k)) in
+    let changes = each (f.checkpoint k).changes (change_rules g.pages (f.start k) (prior_number m k) (f.change k)) in
+    let changes' = each (g.checkpoint k).changes (change_rules g.pages (g.start k) (prior_number g k) (g.change k)) in
     let at = same.start k (omega arith) in
     let next = same.start (suc k) (omega arith) in
     let of_changes : first_broken changes ≡ first_broken changes' =
-    ap (λ (c : CheckpointFields). first_broken (each c.changes (change_rules g.pages (f.start k) (stood m k) (f.change k)))) (same.checkpoint k lt)
-    ∙ ap (λ (n : ℕ). first_broken (each (g.checkpoint k).changes (change_rules g.pages n (stood m k) (f.change k)))) at
-    ∙ changes_same g.pages (g.start k) (g.checkpoint k).changes (stood m k) (stood g k) (f.change k) (g.change k)
-    (λ p less. stood_same m g k p (λ i before. same.page_number i p (omega arith) less)) (λ i less. same.change k i lt less) in
+    ap (λ (c : CheckpointFields). first_broken (each c.changes (change_rules g.pages (f.start k) (prior_number m k) (f.change k)))) (same.checkpoint k lt)
+    ∙ ap (λ (n : ℕ). first_broken (each (g.checkpoint k).changes (change_rules g.pages n (prior_number m k) (f.change k)))) at
+    ∙ changes_same g.pages (g.start k) (g.checkpoint k).changes (prior_number m k) (prior_number g k) (f.change k) (g.change k)
+    (λ p less. prior_same m g k p (λ i before. same.page_number i p (omega arith) less)) (λ i less. same.change k i lt less) in
     let rest = same_append (ends (f.start (suc k))) (ends (g.start (suc k))) changes changes' (ap (λ (n : ℕ). first_broken (ends n)) next) of_changes in
     let body = same_append fields fields' (ends (f.start (suc k)) ++ changes) (ends (g.start (suc k)) ++ changes') (ap (λ (xs : List (Rule Fault)). first_broken xs) (fields_same f g k lt same)) rest in
     same_append (room (f.start k)) (room (g.start k)) (fields ++ (ends (f.start (suc k)) ++ changes)) (fields' ++ (ends (g.start (suc k)) ++ changes')) (ap (λ (n : ℕ). first_broken (room n)) at) body

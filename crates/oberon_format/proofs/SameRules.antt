@@ -19,10 +19,10 @@ pub same_rule : (holds holds' : Bool) (fault fault' : Fault) (p q : List (Rule F
 same_rule holds holds' fault fault' p q is names same =
     same_after holds fault p q same ∙ ap₂ (λ (b : Bool) (f : Fault). first_broken ((b, f) ∷ q)) is names
 
--- the rules behind some that have one first fault
-pub same_behind : (front front' p q : List (Rule Fault)) → first_broken front ≡ first_broken front' → (first_broken front ≡ None → first_broken p ≡ first_broken q)
+-- the rules after some that have one first fault
+pub same_after_prefix : (front front' p q : List (Rule Fault)) → first_broken front ≡ first_broken front' → (first_broken front ≡ None → first_broken p ≡ first_broken q)
     → first_broken (front ++ p) ≡ first_broken (front' ++ q)
-same_behind front front' p q same rest = go (first_broken front) refl (sym same)
+same_after_prefix front front' p q same rest = go (first_broken front) refl (sym same)
   where
     go : (o : Option Fault) → first_broken front ≡ o → first_broken front' ≡ first_broken front → first_broken (front ++ p) ≡ first_broken (front' ++ q)
     go None a b = met-append front p a ∙ rest a ∙ sym (met-append front' q (b ∙ a))
@@ -33,14 +33,14 @@ pub both_pass : (holds holds' : Bool) (fault fault' : Fault) (p q : List (Rule F
     → first_broken ((holds, fault) ∷ p) ≡ first_broken ((holds', fault') ∷ q)
 both_pass holds holds' fault fault' p q is is' same = rw (is, is') same
 
--- a text that is longer than it is to be
+-- a file that is longer than it must be
 pub too_long : (end long : ℕ) → end < long → first_broken ((nat_le end long, fault.Short long) ∷ (long == end, fault.Trailing end) ∷ []) ≡ Some (fault.Trailing end)
 too_long end long over =
     let there : nat_le end long ≡ true = le-leb _ _ (omega arith) in
     let more : (long == end) ≡ false = ne_eqb _ _ (λ e. omega arith) in
     rw (there, more) refl
 
--- rules that are the same number by number
+-- rules that are equal index by index
 pub each_same : (n : ℕ) (p q : ℕ → List (Rule Fault)) → ((i : ℕ) → i < n → p i ≡ q i) → each n p ≡ each n q
 unfolding each
 each_same zero p q same = refl

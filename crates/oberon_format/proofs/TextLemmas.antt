@@ -1,4 +1,4 @@
--- The rules of a checkpoint of a text, over its fields and its table as they are read.
+-- The rules of a checkpoint of a file, over its fields and its table as they are read.
 use Rattle.std.proofs.Common.{◌≡◌, ◌<◌, ◌≤◌, ◌+◌, ◌∙◌, ℕ, zero, suc, Bool, true, false, List, ◌∷◌, ◌++◌, length, Some, None, refl, sym, ap}
 use Rattle.std.specs.Prelude.{nat_le, slice_index, ◌==◌, if◌then◌else◌}
 use Rattle.std.proofs.lemmas.Bool.{le-leb, lt-leb}
@@ -12,16 +12,16 @@ use Rattle.oberon_format.specs.Changes.{number_after}
 use Rattle.oberon_format.specs.Fields.{Fields, sent_below}
 use Rattle.oberon_format.specs.FirstFault.{Rule, first_broken, each}
 use Rattle.oberon_format.specs.Layout.{word_at, pages, checkpoints, page_number_offset, change_count, later_word, start, version}
-use Rattle.oberon_format.specs.Rules.{checkpoint_rules, field_rules, page_number_rules, change_rules, place_floor, count_before, stood}
+use Rattle.oberon_format.specs.Rules.{checkpoint_rules, field_rules, page_number_rules, change_rules, place_floor, count_before, prior_number}
 use Rattle.oberon_format.specs.inner.Tested.{HasNumbers, Meets}
 use Rattle.oberon_format.specs.TextFields.{change_of, checkpoint_of, fields_of, number_before, page_number_of}
 use Rattle.oberon_format.proofs.ChangeLemmas.{after-same}
-use Rattle.oberon_format.proofs.PartLemmas.{stood_more}
+use Rattle.oberon_format.proofs.PartLemmas.{prior_more}
 use Rattle.oberon_format.proofs.RuleLemmas.{ChangedMet, met-append, broken-append, each_holds, rule_met, rule_unmet, rules_whole, rules_changed, changed_met, is_first, is_later}
 use Rattle.oberon_format.proofs.SameFields.{changes_same}
 use Rattle.oberon_format.proofs.Tables.{change_inside}
 
--- the rules of the fields of checkpoint k of a text
+-- the rules of the fields of checkpoint k of a file
 abbrev pub rules_of_fields : List ℕ → ℕ → List (Rule Fault)
 rules_of_fields text k = field_rules (start text k) k (count_before (fields_of text) k) (sent_below (fields_of text) k) (checkpoint_of text (start text k))
 
@@ -34,7 +34,7 @@ fields_read text k offset before sent c at b s same =
     ∙ ap (λ (x : ℕ). first_broken (field_rules (start text k) k x sent (checkpoint_of text (start text k)))) b
     ∙ ap (λ (x : ℕ). first_broken (field_rules (start text k) k (count_before (fields_of text) k) x (checkpoint_of text (start text k)))) s
 
--- a checkpoint of version 1: a fault of its fields, and else the first of its page numbers
+-- a checkpoint of version 1: a fault of its fields, and else the first of its page ids
 pub whole_fields : (text : List ℕ) (k : ℕ) (g : Fault) → version text ≡ FIRST_VERSION → first_broken (rules_of_fields text k) ≡ Some g → first_broken (checkpoint_rules (fields_of text) k) ≡ Some g
 whole_fields text k g is broken =
     ap (λ (xs : List (Rule Fault)). first_broken xs) (rules_whole (fields_of text) k is)
@@ -50,14 +50,14 @@ whole_numbers text k number offset is count at met =
     ∙ ap (λ (p : ℕ). first_broken (each PLACES (page_number_rules (pages text) p (λ j. word_at text (page_number_offset p j))))) (sym at)
     ∙ ap (λ (n : ℕ). first_broken (each PLACES (page_number_rules n offset (λ j. word_at text (page_number_offset offset j))))) (sym count)
 
--- a word behind the front of a checkpoint, by the version
+-- a word after the common fields of a checkpoint, by the version
 pub later_first : (text : List ℕ) (offset : ℕ) → version text ≡ FIRST_VERSION → later_word text offset ≡ 0
 later_first text offset is = rw (is_first (version text) is) refl
 
 pub later_second : (text : List ℕ) (offset : ℕ) → version text ≡ VERSION → later_word text offset ≡ word_at text offset
 later_second text offset is = rw (is_later (version text) is) refl
 
--- the page numbers of a checkpoint, by the test of the version
+-- the page ids of a checkpoint, by the test of the version
 pub number_where : (text : List ℕ) (k p : ℕ) → (version text == FIRST_VERSION) ≡ true → page_number_of text k p ≡ word_at text (page_number_offset (start text k) p)
 number_where text k p test = rw test refl
 
@@ -76,19 +76,19 @@ pub numbers_none : (text : List ℕ) → HasNumbers zero_numbers (number_before 
 unfolding number_before
 numbers_none text p lt = zero_number p
 
--- what stood before checkpoint 0
-pub stood_none : (f : Fields) → HasNumbers zero_numbers (stood f 0)
-stood_none f p lt = zero_number p
+-- the table before checkpoint 0
+pub prior_none : (f : Fields) → HasNumbers zero_numbers (prior_number f 0)
+prior_none f p lt = zero_number p
 
--- what stood before checkpoint k of version 2
-pub stood_is : (text : List ℕ) (k p : ℕ) → version text ≡ VERSION → stood (fields_of text) k p ≡ number_before text k p
+-- the table before checkpoint k of version 2
+pub prior_is : (text : List ℕ) (k p : ℕ) → version text ≡ VERSION → prior_number (fields_of text) k p ≡ number_before text k p
 unfolding number_before
-stood_is text zero p is = refl
-stood_is text (suc k) p is = stood_more (fields_of text) k p ∙ number_second text k p is
+prior_is text zero p is = refl
+prior_is text (suc k) p is = prior_more (fields_of text) k p ∙ number_second text k p is
 
--- the changes of a checkpoint of version 2 of a text
+-- the changes of a checkpoint of version 2 of a file
 abbrev pub rules_of_changes : List ℕ → ℕ → List (Rule Fault)
-rules_of_changes text k = each (change_count text (start text k)) (change_rules (pages text) (start text k) (stood (fields_of text) k) (change_of text (start text k)))
+rules_of_changes text k = each (change_count text (start text k)) (change_rules (pages text) (start text k) (prior_number (fields_of text) k) (change_of text (start text k)))
 
 -- those are the rules of the changes as they are read, after the table before
 pub changes_read : (text : List ℕ) (k number offset count : ℕ) (table : List ℕ) → version text ≡ VERSION → number ≡ pages text → offset ≡ start text k → count ≡ change_count text offset
@@ -98,8 +98,8 @@ changes_read text k number offset count table is named at many has =
     ap (λ (n : ℕ). first_broken (each n (change_rules number offset (slice_index table) (change_of text offset)))) many
     ∙ ap (λ (n : ℕ). first_broken (each (change_count text offset) (change_rules n offset (slice_index table) (change_of text offset)))) named
     ∙ ap (λ (p : ℕ). first_broken (each (change_count text p) (change_rules (pages text) p (slice_index table) (change_of text p)))) at
-    ∙ changes_same (pages text) (start text k) (change_count text (start text k)) (slice_index table) (stood (fields_of text) k) (change_of text (start text k)) (change_of text (start text k))
-    (λ p lt. has p lt ∙ sym (stood_is text k p is)) (λ i lt. refl)
+    ∙ changes_same (pages text) (start text k) (change_count text (start text k)) (slice_index table) (prior_number (fields_of text) k) (change_of text (start text k)) (change_of text (start text k))
+    (λ p lt. has p lt ∙ sym (prior_is text k p is)) (λ i lt. refl)
 
 -- the rules of a checkpoint of version 2 that come after those of its fields
 abbrev pub rules_after_fields : List ℕ → ℕ → List (Rule Fault)
@@ -151,4 +151,4 @@ checkpoint_changed text k meets lt is = changed_met (fields_of text) k is (each_
 pub places_inside : (text : List ℕ) (k : ℕ) → Meets text → k < checkpoints text → version text ≡ VERSION → (i : ℕ) → i < change_count text (start text k) → (change_of text (start text k) i).place < PLACES
 places_inside text k meets lt is i few =
     let met = checkpoint_changed text k meets lt is in
-    change_inside (pages text) (place_floor (change_of text (start text k)) i) (stood (fields_of text) k) (change_of text (start text k) i) (met.each_change i few)
+    change_inside (pages text) (place_floor (change_of text (start text k)) i) (prior_number (fields_of text) k) (change_of text (start text k) i) (met.each_change i few)

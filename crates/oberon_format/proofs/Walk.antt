@@ -1,4 +1,4 @@
--- The changes between two tables, found place by place.
+-- The changes between two tables, found slot by slot.
 use Rattle.std.proofs.Common.{◌≡◌, ◌≢◌, ◌<◌, ◌≤◌, ◌+◌, ◌∙◌, ℕ, zero, suc, Bool, true, false, ◌&&◌, List, [], ◌∷◌, ◌++◌, length, refl, sym, ap, subst, ⊎_elim, arith, add-one, length-append}
 use Rattle.std.specs.Prelude.{slice_index, nat_le, not, ◌==◌}
 use Rattle.std.proofs.lemmas.Bool.{cases_eq, cases_lt, le-leb, lt-ltb, ne_eqb}
@@ -13,7 +13,7 @@ use Rattle.oberon_format.specs.Ranges.{is_change}
 use Rattle.oberon_format.specs.Rules.{place_floor, change_rules}
 use Rattle.oberon_format.proofs.ChangeLemmas.{member_of, change_in, change_to, are_below, below_same, below_more, changes-lawful}
 
--- the changes of places below a number of the code
+-- the changes of slots below a number of the code
 pub below_none : (before table : List ℕ) → changes_below 0 before table ≡ []
 unfolding changes_below
 below_none before table = refl
@@ -29,7 +29,7 @@ below_grows p before table ne = ap (λ (n : ℕ). changes_below n before table) 
 pub below_few : (p : ℕ) (before table : List ℕ) → length (changes_below p before table) ≤ p
 below_few p before table = (are_below before table p).few
 
--- the changes of fewer places are the first of those of more
+-- the changes of fewer slots are the first of those of more
 pub record AreFirstOf (cs ds : List Change) : Type 0 where
   pub fewer : length cs ≤ length ds
   pub same : (i : ℕ) → i < length cs → member_of ds i ≡ member_of cs i
@@ -59,7 +59,7 @@ below_first p (suc n) before table le =
     subst (λ (q : ℕ). AreFirstOf (changes_below q before table) (changes_below (suc n) before table)) (sym e) (record { fewer = omega arith; same = λ i lt. refl }))
     (cases_lt p (suc n))
 
--- the change of a place in which the tables differ stands behind those of the places before
+-- the change of a slot in which the tables differ is after those of the slots before
 pub record IsNext (p : ℕ) (before table : List ℕ) : Type 0 where
   pub inside : length (changes_below p before table) < length (changes before table)
   pub is : change_in before table (length (changes_below p before table)) ≡ change_to table p
@@ -77,7 +77,7 @@ next_change p before table lt ne =
       is = first.same (length cs) (omega arith) ∙ ap (λ (ds : List Change). member_of ds (length cs)) grown ∙ get_or_push cs c no_change (length cs) refl;
     }
 
--- of the rule of a change only the number is left, since the changes between two tables are lawful
+-- of the rule of a change only the page id remains, since the changes between two tables are lawful
 third_left : (a b c d : Bool) → a ≡ true → b ≡ true → d ≡ true → (a && b && c && d) ≡ c
 third_left a b true d ha hb hd = rw (ha, hb, hd) refl
 third_left a b false d ha hb hd = rw (ha, hb) refl
@@ -90,7 +90,7 @@ number_tested pages i before table lt =
     let differs : (c.number == slice_index before c.place) ≡ false = ne_eqb _ _ (are.differs i lt) in
     third_left _ _ (nat_le c.number pages) _ (le-leb _ _ (are.rises i lt)) (lt-ltb _ _ (are.inside i lt)) (ap not differs)
 
--- the rule of the change of a place in which the tables differ
+-- the rule of the change of a slot in which the tables differ
 pub next_rule : (pages offset p : ℕ) (before table : List ℕ) → p < PLACES → slice_index before p ≢ slice_index table p
     → (length (changes_below p before table) < length (changes before table))
     × (first_broken (change_rules pages offset (slice_index before) (change_in before table) (length (changes_below p before table)))

@@ -1,4 +1,4 @@
--- What is written of a list, member by member.
+-- What is written for a list, member by member.
 use Rattle.std.proofs.Common.{◌≡◌, ◌≢◌, ◌<◌, ◌≤◌, ◌+◌, ◌∙◌, ℕ, zero, suc, List, [], ◌∷◌, ◌++◌, length, map, take, get_or, sym, ap, arith, add-one, append-nil, append_assoc, length-append}
 use Rattle.std.specs.Prelude.{slice_index}
 use Rattle.std.specs.List.{flat_map}
@@ -11,12 +11,12 @@ use Rattle.oberon_format.specs.declared.layout.TheConstants.{VERSION}
 use Rattle.oberon_format.specs.Changes.{changes, changes_below}
 use Rattle.oberon_format.specs.CheckpointParts.{CheckpointParts, checkpoint_parts, no_checkpoint}
 use Rattle.oberon_format.specs.Layout.{checkpoint_size}
-use Rattle.oberon_format.specs.PartFields.{start_laid}
+use Rattle.oberon_format.specs.PartFields.{start_in}
 use Rattle.oberon_format.specs.Recording.{RecordingParts, checkpoint_at, table_before, output_of}
 use Rattle.oberon_format.specs.Encoding.{change_bytes, checkpoint_bytes, checkpoints_bytes}
 use Rattle.oberon_format.proofs.CheckpointLemmas.{checkpoint_at-is}
-use Rattle.oberon_format.proofs.PartLemmas.{laid_next}
-use Rattle.oberon_format.proofs.Places.{bytes_at, bytes_at-next}
+use Rattle.oberon_format.proofs.PartLemmas.{start_in_next}
+use Rattle.oberon_format.proofs.Starts.{bytes_at, bytes_at-next}
 use Rattle.oberon_format.proofs.Walk.{below_stays, below_grows}
 
 -- the bytes of one member more
@@ -39,7 +39,7 @@ checkpoints_more v before (c ∷ cs) (suc k) lt =
     ∙ sym (append_assoc first so_far (bytes_at v c.table cs k))
     ∙ ap (λ (l : List ℕ). first ++ so_far ++ l) (sym (bytes_at-next v before c cs k))
 
--- the bytes of the changes of one place more, where the tables agree in it and where they don't
+-- the bytes of the changes of one slot more, if the tables agree in it and if they differ
 pub changes_skipped : (before table start out : List ℕ) (p : ℕ) → slice_index before p ≡ slice_index table p → out ≡ start ++ flat_map change_bytes (changes_below p before table)
     → out ≡ start ++ flat_map change_bytes (changes_below (p + 1) before table)
 changes_skipped before table start out p same so_far =
@@ -53,22 +53,22 @@ changes_next before table start out more p other so_far now =
     now ∙ ap (λ (l : List ℕ). l ++ change_bytes here) so_far ∙ flat_map_more change_bytes start below here
     ∙ ap (λ (cs : List Change). start ++ flat_map change_bytes cs) (sym (below_grows p before table other))
 
--- checkpoint k, as Rust has it and as parts
+-- checkpoint k, as a Rust value and as parts
 written_at : (r : RecordingParts) (cs : List Checkpoint) (k : ℕ) (c : Checkpoint) → map checkpoint_parts cs ≡ r.checkpoints → k < length cs → c ≡ get_or cs k c → checkpoint_parts c ≡ checkpoint_at r k
 written_at r cs k c same lt is = sym (checkpoint_at-is cs k c lt is) ∙ ap (λ (l : List CheckpointParts). get_or l k no_checkpoint) same
 
 -- the length of one checkpoint more
-pub written_laid : (r : RecordingParts) (cs : List Checkpoint) (k : ℕ) (c : Checkpoint) (before : List ℕ) → map checkpoint_parts cs ≡ r.checkpoints → k < length cs → c ≡ get_or cs k c
-    → before ≡ table_before (map checkpoint_parts cs) k → start_laid VERSION r (k + 1) ≡ start_laid VERSION r k + checkpoint_size VERSION (length (changes before c.table))
-written_laid r cs k c before same lt is b =
+pub written_encoded : (r : RecordingParts) (cs : List Checkpoint) (k : ℕ) (c : Checkpoint) (before : List ℕ) → map checkpoint_parts cs ≡ r.checkpoints → k < length cs → c ≡ get_or cs k c
+    → before ≡ table_before (map checkpoint_parts cs) k → start_in VERSION r (k + 1) ≡ start_in VERSION r k + checkpoint_size VERSION (length (changes before c.table))
+written_encoded r cs k c before same lt is b =
     let at : checkpoint_parts c ≡ checkpoint_at r k = written_at r cs k c same lt is in
     let table : c.table ≡ (checkpoint_at r k).table = ap (λ (x : CheckpointParts). x.table) at in
     let before_is : before ≡ table_before r.checkpoints k = b ∙ ap (λ (l : List CheckpointParts). table_before l k) same in
-    ap (start_laid VERSION r) (add-one k) ∙ laid_next VERSION r k
-    ∙ ap (λ (t : List ℕ). start_laid VERSION r k + checkpoint_size VERSION (length (changes t (checkpoint_at r k).table))) (sym before_is)
-    ∙ ap (λ (t : List ℕ). start_laid VERSION r k + checkpoint_size VERSION (length (changes before t))) (sym table)
+    ap (start_in VERSION r) (add-one k) ∙ start_in_next VERSION r k
+    ∙ ap (λ (t : List ℕ). start_in VERSION r k + checkpoint_size VERSION (length (changes t (checkpoint_at r k).table))) (sym before_is)
+    ∙ ap (λ (t : List ℕ). start_in VERSION r k + checkpoint_size VERSION (length (changes before t))) (sym table)
 
--- page number p + 1 is page p of the pool
+-- page id p + 1 is that of page p of the pool
 pub next_page : (pool : List (List ℕ)) (p : ℕ) → page_of pool (p + 1) ≡ get_or pool p zero_page
 unfolding page_of
 next_page pool p = grind (arith, nat_tests)

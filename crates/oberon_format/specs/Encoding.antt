@@ -37,8 +37,8 @@ device_bytes d =
     ++ word_bytes (length d.keys) ++ key_bytes d
 
 -- the fields that begin a checkpoint in either version
-unfoldable pub front_bytes : CheckpointParts → List ℕ
-front_bytes c = long_bytes c.count ++ cpu_bytes c.cpu ++ device_bytes c.devices ++ word_bytes (length c.sent)
+unfoldable pub common_bytes : CheckpointParts → List ℕ
+common_bytes c = long_bytes c.count ++ cpu_bytes c.cpu ++ device_bytes c.devices ++ word_bytes (length c.sent)
 
 unfoldable pub change_bytes : Change → List ℕ
 change_bytes change = word_bytes change.place ++ word_bytes change.number
@@ -54,7 +54,7 @@ unfoldable pub tail_bytes : ℕ → List ℕ → CheckpointParts → List ℕ
 tail_bytes version before c = if version == FIRST_VERSION then words_bytes c.table else changed_bytes before c
 
 unfoldable pub checkpoint_bytes : ℕ → List ℕ → CheckpointParts → List ℕ
-checkpoint_bytes version before c = front_bytes c ++ tail_bytes version before c
+checkpoint_bytes version before c = common_bytes c ++ tail_bytes version before c
 
 -- the checkpoints, the first after a table, each other one after the one before
 unfoldable pub checkpoints_bytes : ℕ → List ℕ → List CheckpointParts → List ℕ

@@ -51,7 +51,7 @@ checkpoints text = word_at text CHECKPOINTS_AT
 abbrev pub event_offset : List ℕ → ℕ → ℕ
 event_offset text i = event_start (pages text) i
 
--- a word after the common fields of a checkpoint of version 2; 0 in a file of version 1, which has no such word
+-- the word at an offset after the common fields of a checkpoint of version 2; 0 in a file of version 1, which has no such word
 abbrev pub later_word : List ℕ → ℕ → ℕ
 later_word text offset = if version text == FIRST_VERSION then 0 else word_at text offset
 

@@ -22,8 +22,8 @@ abbrev pub no_event : EventFields
 no_event = record { count = 0; kind = 0; value = 0 }
 
 -- the number of changes that a checkpoint has in a version, after a table
-abbrev pub changes_laid : ℕ → List ℕ → CheckpointParts → ℕ
-changes_laid version before c = if version == FIRST_VERSION then 0 else length (changes before c.table)
+abbrev pub changes_in : ℕ → List ℕ → CheckpointParts → ℕ
+changes_in version before c = if version == FIRST_VERSION then 0 else length (changes before c.table)
 
 -- the fields that a checkpoint has in a version, after a table
 abbrev pub checkpoint_fields : ℕ → List ℕ → CheckpointParts → CheckpointFields
@@ -41,19 +41,19 @@ checkpoint_fields version before c = record {
   output = length c.sent;
   rate = c.devices.rate;
   phase = c.devices.phase;
-  changes = changes_laid version before c;
+  changes = changes_in version before c;
 }
 
 -- the offset of checkpoint k of parts in a version: the checkpoints follow the events, one after another
-unfoldable pub start_laid : ℕ → RecordingParts → ℕ → ℕ
-start_laid version r zero = event_start (length r.pool) (length r.inputs)
-start_laid version r (suc k) =
-    start_laid version r k + checkpoint_size version (changes_laid version (table_before r.checkpoints k) (checkpoint_at r k))
+unfoldable pub start_in : ℕ → RecordingParts → ℕ → ℕ
+start_in version r zero = event_start (length r.pool) (length r.inputs)
+start_in version r (suc k) =
+    start_in version r k + checkpoint_size version (changes_in version (table_before r.checkpoints k) (checkpoint_at r k))
 
 -- the fields of the file of these parts in a version. A number that is too large for its field breaks that field's rule
-abbrev pub fields_laid : ℕ → RecordingParts → Fields
-fields_laid version r = record {
-  long = start_laid version r (length r.checkpoints) + length (output_of r.checkpoints);
+abbrev pub fields_in : ℕ → RecordingParts → Fields
+fields_in version r = record {
+  long = start_in version r (length r.checkpoints) + length (output_of r.checkpoints);
   first = MAGIC;
   version = version;
   pages = length r.pool;
@@ -61,7 +61,7 @@ fields_laid version r = record {
   checkpoints = length r.checkpoints;
   last = 0;
   event = λ i. slice_index_or (map event_fields r.inputs) i no_event;
-  start = start_laid version r;
+  start = start_in version r;
   checkpoint = λ k. checkpoint_fields version (table_before r.checkpoints k) (checkpoint_at r k);
   change = λ k i. slice_index_or (changes (table_before r.checkpoints k) (checkpoint_at r k).table) i no_change;
   page_number = λ k. slice_index (checkpoint_at r k).table;
@@ -69,4 +69,4 @@ fields_laid version r = record {
 
 -- the first fault of the file of these parts in the current version, if it has one
 abbrev pub fault_of_parts : RecordingParts → Option Fault
-fault_of_parts r = first_broken (rules (fields_laid VERSION r))
+fault_of_parts r = first_broken (rules (fields_in VERSION r))

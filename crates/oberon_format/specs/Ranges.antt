@@ -17,11 +17,11 @@ use Rattle.oberon_format.specs.Fields.{EventFields}
 abbrev pub is_version : ℕ → Bool
 is_version version = version == FIRST_VERSION || version == VERSION
 
--- an event's count is at least `floor`, that of the event before it, and its value is one of its kind's
+-- an event's count is at least `floor`, that of the event before it, and at most `MAX_COUNT`; its value is one of its kind's
 abbrev pub is_event : ℕ → EventFields → Bool
 is_event floor e = nat_le floor e.count && nat_le e.count MAX_COUNT && is_input e.kind e.value
 
--- the count of checkpoint k is 0 for checkpoint 0, and else above the one before
+-- the count of checkpoint k is 0 for checkpoint 0, and else above the one before and at most `MAX_COUNT`
 abbrev pub is_count : ℕ → ℕ → ℕ → Bool
 is_count k before count = if k == 0 then count == 0 else (nat_lt before count && nat_le count MAX_COUNT)
 
@@ -51,7 +51,7 @@ abbrev pub is_checkpoint : ℕ → ℕ → ℕ → CheckpointFields → Bool
 is_checkpoint k before sent c = is_count k before c.count && in_ranges c && are_keys c && is_output k sent c.output
 
 -- a change is lawful if its slot is at least `floor` and one of the table's, and its page id is that of a page and differs from
--- the one in the slot before
+-- the slot's page id before the change
 abbrev pub is_change : ℕ → ℕ → (ℕ → ℕ) → Change → Bool
-is_change pages floor stood change =
-    nat_le floor change.place && nat_lt change.place PLACES && nat_le change.number pages && not (change.number == stood change.place)
+is_change pages floor prior_number change =
+    nat_le floor change.place && nat_lt change.place PLACES && nat_le change.number pages && not (change.number == prior_number change.place)

@@ -48,10 +48,10 @@ pub record IsFit (pool : List (List ℕ)) (c : CheckpointParts) : Type 0 where
   pub named : IsNamed pool c.table
   pub bytes : All (λ byte. byte < 2 ^ 8) c.sent
 
--- a recording within all limits: at most so many pages and inputs, inputs in the order of their counts, at least one checkpoint
--- and at most so many, counts that begin at 0 and rise, no output before checkpoint 0, and not too much output in all. That each
--- input's value is in its kind's range is not asked here: `Input` itself guarantees it, as `IsInput` of `risc_devices`
--- (`specs/InputKind.antt`)
+-- a recording within all limits: the numbers of pages, inputs and checkpoints are within theirs, there is at least one
+-- checkpoint, inputs are in the order of their counts, the counts of checkpoints begin at 0 and rise, checkpoint 0 has no output,
+-- and the output in all is within its limit. That each input's value is in its kind's range is not asked here: `Input` itself
+-- guarantees it, as `IsInput` of `risc_devices` (`specs/InputKind.antt`)
 pub record IsLawful (r : RecordingParts) : Type 0 where
   pub pages : length r.pool ≤ MAX_PAGES
   pub pool : ArePages r.pool

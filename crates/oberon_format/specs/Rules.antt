@@ -71,12 +71,12 @@ place_floor change i = if i == 0 then 0 else (change (i - 1)).place + 1
 
 -- change i of a checkpoint at an offset is lawful, given the page ids before the checkpoint
 abbrev pub change_rules : ℕ → ℕ → (ℕ → ℕ) → (ℕ → Change) → ℕ → List (Rule Fault)
-change_rules pages offset stood change i =
-    (is_change pages (place_floor change i) stood (change i), fault.Page (change_offset offset i)) ∷ []
+change_rules pages offset prior_number change i =
+    (is_change pages (place_floor change i) prior_number (change i), fault.Page (change_offset offset i)) ∷ []
 
 -- the page id in a slot before checkpoint k: at first 0
-abbrev pub stood : Fields → ℕ → ℕ → ℕ
-stood f k p = if k == 0 then 0 else f.page_number (k - 1) p
+abbrev pub prior_number : Fields → ℕ → ℕ → ℕ
+prior_number f k p = if k == 0 then 0 else f.page_number (k - 1) p
 
 -- checkpoint k of version 1: its fields, and then each of its page ids
 abbrev pub whole_rules : Fields → ℕ → List (Rule Fault)
@@ -91,7 +91,7 @@ changed_rules f k =
     (nat_le (f.start k + CHANGES_AT) f.long, fault.Short f.long)
     ∷ (field_rules (f.start k) k (count_before f k) (sent_below f k) (f.checkpoint k)
     ++ ((nat_le (f.start (suc k)) f.long, fault.Short f.long)
-    ∷ each (f.checkpoint k).changes (change_rules f.pages (f.start k) (stood f k) (f.change k))))
+    ∷ each (f.checkpoint k).changes (change_rules f.pages (f.start k) (prior_number f k) (f.change k))))
 
 -- checkpoint k
 unfoldable pub checkpoint_rules : Fields → ℕ → List (Rule Fault)

@@ -110,7 +110,7 @@ pub(crate) const KEYS_AT: usize = 112;
 pub(crate) const SENT_AT: usize = 128;
 
 /// The end of the common fields.
-pub(crate) const FRONT_LEN: usize = 132;
+pub(crate) const COMMON_LEN: usize = 132;
 
 // In version 1 the table follows the common fields.
 

@@ -6,10 +6,10 @@
 ghost use Rattle.std.specs.Prelude.{◌≡◌, ◌≤◌, length};
 ghost use Rattle.std.specs.Option.{IfNone};
 ghost use Rattle.oberon_format.specs.FirstFault.{first_broken};
-ghost use Rattle.oberon_format.specs.PartFields.{fields_laid, fault_of_parts};
+ghost use Rattle.oberon_format.specs.PartFields.{fields_in, fault_of_parts};
 ghost use Rattle.oberon_format.specs.Recording.{parts_of, IsLawful};
 ghost use Rattle.oberon_format.specs.Rules.{header_rules};
-ghost use Rattle.oberon_format.specs.inner.Tested.{change_rules_laid, checkpoint_rules_laid};
+ghost use Rattle.oberon_format.specs.inner.Tested.{encoded_change_rules, encoded_checkpoint_rules};
 
 use crate::checkpoint::{Checkpoint, table_before};
 use crate::fault::Fault;
@@ -41,7 +41,7 @@ pub(crate) fn parts_fault(pool: &Pool, inputs: &Inputs, checkpoints: &[Checkpoin
 
 /// Returns the first fault of the counts of parts.
 fn counts_fault(pool: &Pool, inputs: &Inputs, checkpoints: &[Checkpoint]) -> Option<Fault>
-    ensures fault { result ≡ first_broken (header_rules (fields_laid VERSION (parts_of pool.now inputs.now checkpoints.now))) }
+    ensures fault { result ≡ first_broken (header_rules (fields_in VERSION (parts_of pool.now inputs.now checkpoints.now))) }
     ensures pages { IfNone result (length pool.now ≤ MAX_PAGES) }
     ensures events { IfNone result (length inputs.now ≤ MAX_EVENTS) }
     ensures few { IfNone result (length checkpoints.now ≤ MAX_CHECKPOINTS) }
@@ -56,7 +56,7 @@ fn counts_fault(pool: &Pool, inputs: &Inputs, checkpoints: &[Checkpoint]) -> Opt
 /// Returns the first fault of the changes from one table to another, in a checkpoint at an offset.
 fn changes_fault(pages: u32, offset: usize, before: &Table, table: &Table) -> Option<Fault>
     requires { offset ≤ LONGEST_TEXT }
-    ensures { result ≡ first_broken (change_rules_laid pages offset before.now table.now) }
+    ensures { result ≡ first_broken (encoded_change_rules pages offset before.now table.now) }
 {
     let mut change_offset = offset + CHANGES_AT;
     for p in 0..PLACES as u16 {
@@ -75,7 +75,7 @@ fn checkpoints_fault(pool: &Pool, inputs: &Inputs, checkpoints: &[Checkpoint]) -
     requires pages { length pool.now ≤ MAX_PAGES }
     requires events { length inputs.now ≤ MAX_EVENTS }
     requires few { length checkpoints.now ≤ MAX_CHECKPOINTS }
-    ensures { result ≡ first_broken (checkpoint_rules_laid (length checkpoints.now) (parts_of pool.now inputs.now checkpoints.now)) }
+    ensures { result ≡ first_broken (encoded_checkpoint_rules (length checkpoints.now) (parts_of pool.now inputs.now checkpoints.now)) }
 {
     let pages = pool.len();
     let zeros = Table::zeros();

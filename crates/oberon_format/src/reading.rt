@@ -6,10 +6,10 @@ ghost use Rattle.oberon_format.specs.CheckpointParts.{checkpoint_parts};
 ghost use Rattle.oberon_format.specs.Layout.{word_at, version, pages, events, checkpoints, page_number_offset, change_offset, later_word, change_count, start, output_offset};
 ghost use Rattle.oberon_format.specs.Recording.{output_of};
 ghost use Rattle.oberon_format.specs.Ranges.{in_ranges, are_keys};
-ghost use Rattle.oberon_format.specs.Rules.{stood};
-ghost use Rattle.oberon_format.specs.inner.Tested.{IsSized, Meets, HasNumbers, StandIn};
+ghost use Rattle.oberon_format.specs.Rules.{prior_number};
+ghost use Rattle.oberon_format.specs.inner.Tested.{IsSized, Meets, HasNumbers, AreIn};
 ghost use Rattle.oberon_format.specs.Text.{Text};
-ghost use Rattle.oberon_format.specs.inner.Offsets.{EachAt, AreWords, IsPageAt, IsEvent, IsEventAt, IsCpu, IsDevices, IsFront};
+ghost use Rattle.oberon_format.specs.inner.Offsets.{EachAt, AreWords, IsPageAt, IsEvent, IsEventAt, IsCpu, IsDevices, HasCommonFields};
 ghost use Rattle.oberon_format.specs.TextFields.{fields_of, checkpoint_of, change_of, page_number_of, AnswersText};
 ghost use Rattle.risc_devices.specs.InputKind.{IsInput};
 ghost use Rattle.risc_model.specs.MachineState.{cpu_state};
@@ -182,7 +182,7 @@ fn advance_table(text: &[u8], k: usize, offset: usize, table: &mut Table)
     requires meets { Meets text.now }
     requires below { k < checkpoints text.now }
     requires offset { offset ≡ start text.now k }
-    requires table { HasNumbers table.old (stood (fields_of text.now) k) }
+    requires table { HasNumbers table.old (prior_number (fields_of text.now) k) }
     ensures { HasNumbers table.new (page_number_of text.now k) }
 {
     if is_first_version(text) {
@@ -233,7 +233,7 @@ fn checkpoint_of(
     requires ranges { in_ranges (checkpoint_of text.now offset) ≡ true }
     requires keys { are_keys (checkpoint_of text.now offset) ≡ true }
     requires output { from + word_at text.now (offset + SENT_AT) ≤ length text.now }
-    ensures front { IfOk result (λ c. IsFront text.now offset (checkpoint_parts c)) }
+    ensures front { IfOk result (λ c. HasCommonFields text.now offset (checkpoint_parts c)) }
     ensures rate { IfOk result (λ c. c.devices.rate ≡ later_word text.now (offset + RATE_AT)) }
     ensures phase { IfOk result (λ c. c.devices.phase ≡ later_word text.now (offset + PHASE_AT)) }
     ensures table { IfOk result (λ c. c.table ≡ table.now) }
@@ -255,7 +255,7 @@ fn checkpoints_of(alloc: Global, text: &[u8], output: usize) -> Result<Vec<Check
     requires meets { Meets text.now }
     requires output { output ≡ output_offset text.now }
     ensures count { IfOk result (λ list. length list.items ≡ checkpoints text.now) }
-    ensures stand { IfOk result (λ list. StandIn text.now (map checkpoint_parts list.items)) }
+    ensures stand { IfOk result (λ list. AreIn text.now (map checkpoint_parts list.items)) }
     ensures output { IfOk result (λ list. drop (output_offset text.now) text.now ≡ output_of (map checkpoint_parts list.items)) }
 {
     let count = checkpoint_count(text) as usize;

@@ -20,7 +20,7 @@ use std::marker::Model;
 /// | inputs | at most 1,000,000, their counts not falling and at most 2^40 |
 /// | checkpoints | from 1 to 4,097: the first at count 0 with no output, their counts rising and at most 2^40 |
 /// | output in all | at most 1,048,576 bytes |
-/// | each checkpoint | a program counter below 2^22, a stop of at most 4, a phase below the timer's rate or 0 at rate 0, page numbers of the pool |
+/// | each checkpoint | a program counter below 2^22, a stop of at most 4, a phase below the timer's rate or 0 at rate 0, page ids of the pool |
 ///
 /// All limits are this project's own choice. In contracts a recording is the record of its parts.
 #[derive(Drop)]

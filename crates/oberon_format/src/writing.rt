@@ -6,9 +6,9 @@ ghost use Rattle.risc_model.specs.MachineState.{cpu_state};
 ghost use Rattle.risc_pages.specs.Tables.{zero_numbers};
 ghost use Rattle.oberon_format.specs.Changes.{changes};
 ghost use Rattle.oberon_format.specs.CheckpointParts.{checkpoint_parts};
-ghost use Rattle.oberon_format.specs.PartFields.{start_laid};
+ghost use Rattle.oberon_format.specs.PartFields.{start_in};
 ghost use Rattle.oberon_format.specs.Recording.{IsLawful, output_of};
-ghost use Rattle.oberon_format.specs.Encoding.{word_bytes, long_bytes, words_bytes, event_bytes, cpu_bytes, device_bytes, front_bytes, change_bytes, changes_bytes, checkpoint_bytes, checkpoints_bytes, header_bytes, encoding};
+ghost use Rattle.oberon_format.specs.Encoding.{word_bytes, long_bytes, words_bytes, event_bytes, cpu_bytes, device_bytes, common_bytes, change_bytes, changes_bytes, checkpoint_bytes, checkpoints_bytes, header_bytes, encoding};
 ghost use Rattle.oberon_format.specs.Text.{TextIn};
 
 use crate::change::change_count;
@@ -48,7 +48,7 @@ fn encode(alloc: Global, r: &Recording) -> Result<Vec<u8>, AllocError>
 
 /// Returns the length of the file of a recording.
 fn text_len(r: &Recording) -> usize
-    ensures { result ≡ start_laid VERSION r.now (length r.now.checkpoints) + length (output_of r.now.checkpoints) }
+    ensures { result ≡ start_in VERSION r.now (length r.now.checkpoints) + length (output_of r.now.checkpoints) }
 {
     let zeros = Table::zeros();
     let checkpoints = r.checkpoints();
@@ -171,10 +171,10 @@ fn push_devices(out: &mut Vec<u8>, devices: &Devices) -> Result<(), AllocError>
 }
 
 /// Appends the fields that begin a checkpoint.
-#[tactic(auto, unfolding(crate::specs::Encoding::front_bytes))]
-fn push_front(out: &mut Vec<u8>, checkpoint: &Checkpoint) -> Result<(), AllocError>
+#[tactic(auto, unfolding(crate::specs::Encoding::common_bytes))]
+fn push_common(out: &mut Vec<u8>, checkpoint: &Checkpoint) -> Result<(), AllocError>
     requires { length checkpoint.now.sent.items ≤ MAX_OUTPUT }
-    ensures { OnOk result (out.new.items ≡ out.old.items ++ front_bytes (checkpoint_parts checkpoint.now)) }
+    ensures { OnOk result (out.new.items ≡ out.old.items ++ common_bytes (checkpoint_parts checkpoint.now)) }
 {
     push_long(out, checkpoint.count)?;
     push_cpu(out, &checkpoint.cpu)?;
@@ -215,7 +215,7 @@ fn push_checkpoint(
     requires { length checkpoint.now.sent.items ≤ MAX_OUTPUT }
     ensures { OnOk result (out.new.items ≡ out.old.items ++ checkpoint_bytes VERSION before.now (checkpoint_parts checkpoint.now)) }
 {
-    push_front(out, checkpoint)?;
+    push_common(out, checkpoint)?;
     push_word(out, checkpoint.devices.rate())?;
     push_word(out, checkpoint.devices.phase())?;
     push_changes(out, before, &checkpoint.table)

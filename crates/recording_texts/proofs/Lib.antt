@@ -1,3 +1,3 @@
 -- Files that the proofs of this crate depend on.
-mod Laid
+mod Encoded
 mod Lists

@@ -3,7 +3,7 @@ use Rattle.std.specs.Prelude.{ℕ, suc, List, [], ◌∷◌, ◌++◌, length, r
 use Rattle.std.specs.List.{flat_map}
 use Rattle.recording_texts.specs.Bytes.{length_number, long_bytes, padded, words_bytes}
 use Rattle.recording_texts.specs.Header.{header_bytes}
-use Rattle.recording_texts.specs.Spots.{turned_first, turned_pages, turned_second}
+use Rattle.recording_texts.specs.Spots.{replaced_first, replaced_pages, replaced_second}
 use Rattle.recording_texts.specs.Claims.{first_bytes, page_numbers, second_bytes}
 use Rattle.recording_texts.specs.declared.claim.Claim.{Claim}
 use Rattle.recording_texts.specs.declared.sketch.Event.{Event}
@@ -24,26 +24,26 @@ pages_bytes version sketch =
     ++ flat_map (λ page. page_bytes page.now) sketch.pages.now
 
 -- with the numbers of pages replaced, and the events
-abbrev pub front_bytes : ℕ → Sketch → List (Spot × ℕ) → List ℕ
-front_bytes version sketch turned = turned_pages turned (pages_bytes version sketch) ++ flat_map event_bytes sketch.events.now
+abbrev pub prefix_bytes : ℕ → Sketch → List (Spot × ℕ) → List ℕ
+prefix_bytes version sketch replaced = replaced_pages replaced (pages_bytes version sketch) ++ flat_map event_bytes sketch.events.now
 
 -- the checkpoints from number k on
 abbrev pub first_claims : List (Spot × ℕ) → ℕ → List Claim → List ℕ
-first_claims turned k [] = []
-first_claims turned k (claim ∷ claims) = turned_first k turned (first_bytes claim) ++ first_claims turned (suc k) claims
+first_claims replaced k [] = []
+first_claims replaced k (claim ∷ claims) = replaced_first k replaced (first_bytes claim) ++ first_claims replaced (suc k) claims
 
 -- the checkpoints after one with this table
 abbrev pub second_claims : List (Spot × ℕ) → ℕ → List ℕ → List Claim → List ℕ
-second_claims turned k before [] = []
-second_claims turned k before (claim ∷ claims) =
-    turned_second k turned (second_bytes before claim) ++ second_claims turned (suc k) (page_numbers claim) claims
+second_claims replaced k before [] = []
+second_claims replaced k before (claim ∷ claims) =
+    replaced_second k replaced (second_bytes before claim) ++ second_claims replaced (suc k) (page_numbers claim) claims
 
 -- all output
 abbrev pub output_bytes : List Claim → List ℕ
 output_bytes claims = flat_map (λ (claim : Claim). claim.sent.now) claims
 
 unfoldable pub first_text : Sketch → List (Spot × ℕ) → List ℕ
-first_text sketch turned = front_bytes 1 sketch turned ++ first_claims turned 0 sketch.claims.now ++ output_bytes sketch.claims.now
+first_text sketch replaced = prefix_bytes 1 sketch replaced ++ first_claims replaced 0 sketch.claims.now ++ output_bytes sketch.claims.now
 
 unfoldable pub second_text : Sketch → List (Spot × ℕ) → List ℕ
-second_text sketch turned = front_bytes 2 sketch turned ++ second_claims turned 0 (replicate 1024 0) sketch.claims.now ++ output_bytes sketch.claims.now
+second_text sketch replaced = prefix_bytes 2 sketch replaced ++ second_claims replaced 0 (replicate 1024 0) sketch.claims.now ++ output_bytes sketch.claims.now

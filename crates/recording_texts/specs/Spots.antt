@@ -39,13 +39,13 @@ put_if bytes (Some place) word = put_word bytes place word
 put_if bytes None word = bytes
 
 -- a file up to the end of its pages, with each number of a page at its offset
-abbrev pub turned_pages : List (Spot × ℕ) → List ℕ → List ℕ
-turned_pages turned text = fold (λ bytes n. put_if bytes (place_in_pages n.0) n.1) text turned
+abbrev pub replaced_pages : List (Spot × ℕ) → List ℕ → List ℕ
+replaced_pages replaced text = fold (λ bytes n. put_if bytes (place_in_pages n.0) n.1) text replaced
 
 -- checkpoint k of version 1, with each of its numbers at its offset
-abbrev pub turned_first : ℕ → List (Spot × ℕ) → List ℕ → List ℕ
-turned_first k turned bytes = fold (λ bs n. put_if bs (offset_in_first n.0 k) n.1) bytes turned
+abbrev pub replaced_first : ℕ → List (Spot × ℕ) → List ℕ → List ℕ
+replaced_first k replaced bytes = fold (λ bs n. put_if bs (offset_in_first n.0 k) n.1) bytes replaced
 
 -- checkpoint k of version 2, with each of its numbers at its offset
-abbrev pub turned_second : ℕ → List (Spot × ℕ) → List ℕ → List ℕ
-turned_second k turned bytes = fold (λ bs n. put_if bs (offset_in_second n.0 k) n.1) bytes turned
+abbrev pub replaced_second : ℕ → List (Spot × ℕ) → List ℕ → List ℕ
+replaced_second k replaced bytes = fold (λ bs n. put_if bs (offset_in_second n.0 k) n.1) bytes replaced

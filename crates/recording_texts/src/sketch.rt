@@ -4,8 +4,8 @@ ghost use Rattle.std.specs.Prelude.{◌≡◌, ◌++◌, ◌+◌, IfOk, OnOk, re
 ghost use Rattle.std.specs.List.{flat_map};
 ghost use Rattle.recording_texts.specs.Claims.{first_bytes, second_bytes};
 ghost use Rattle.recording_texts.specs.Header.{header_bytes};
-ghost use Rattle.recording_texts.specs.Spots.{turned_first, turned_second};
-ghost use Rattle.recording_texts.specs.Layout.{event_bytes, first_claims, first_text, front_bytes, output_bytes, page_bytes, pages_bytes, second_claims, second_text};
+ghost use Rattle.recording_texts.specs.Spots.{replaced_first, replaced_second};
+ghost use Rattle.recording_texts.specs.Layout.{event_bytes, first_claims, first_text, prefix_bytes, output_bytes, page_bytes, pages_bytes, second_claims, second_text};
 
 use crate::bytes::{number_of, push_long, push_word, push_words};
 use crate::claim::Claim;
@@ -47,22 +47,26 @@ impl<'a> Sketch<'a> {
 
     /// Returns the file of version 1, in which these numbers replace the claimed ones.
     #[tactic(auto, unfolding(crate::specs::Layout::first_text))]
-    pub fn first_text(&self, alloc: Global, turned: &[(Spot, u32)]) -> Result<Vec<u8>, AllocError>
-        ensures { IfOk result (λ text. text.items ≡ first_text self.now turned.now) }
+    pub fn first_text(&self, alloc: Global, replaced: &[(Spot, u32)]) -> Result<Vec<u8>, AllocError>
+        ensures { IfOk result (λ text. text.items ≡ first_text self.now replaced.now) }
     {
-        let mut text = self.front(alloc, 1, turned)?;
-        push_first_claims(alloc, &mut text, self.claims, turned)?;
+        let mut text = self.front(alloc, 1, replaced)?;
+        push_first_claims(alloc, &mut text, self.claims, replaced)?;
         push_output(&mut text, self.claims)?;
         Ok(text)
     }
 
     /// Returns the file of version 2, in which these numbers replace the claimed ones.
     #[tactic(auto, unfolding(crate::specs::Layout::second_text))]
-    pub fn second_text(&self, alloc: Global, turned: &[(Spot, u32)]) -> Result<Vec<u8>, AllocError>
-        ensures { IfOk result (λ text. text.items ≡ second_text self.now turned.now) }
+    pub fn second_text(
+        &self,
+        alloc: Global,
+        replaced: &[(Spot, u32)],
+    ) -> Result<Vec<u8>, AllocError>
+        ensures { IfOk result (λ text. text.items ≡ second_text self.now replaced.now) }
     {
-        let mut text = self.front(alloc, 2, turned)?;
-        push_second_claims(alloc, &mut text, self.claims, turned)?;
+        let mut text = self.front(alloc, 2, replaced)?;
+        push_second_claims(alloc, &mut text, self.claims, replaced)?;
         push_output(&mut text, self.claims)?;
         Ok(text)
     }
@@ -72,12 +76,12 @@ impl<'a> Sketch<'a> {
         &self,
         alloc: Global,
         version: u32,
-        turned: &[(Spot, u32)],
+        replaced: &[(Spot, u32)],
     ) -> Result<Vec<u8>, AllocError>
-        ensures { IfOk result (λ text. text.items ≡ front_bytes version self.now turned.now) }
+        ensures { IfOk result (λ text. text.items ≡ prefix_bytes version self.now replaced.now) }
     {
         let mut text = self.with_pages(alloc, version)?;
-        turn_pages(&mut text, turned);
+        turn_pages(&mut text, replaced);
         push_events(&mut text, self.events)?;
         Ok(text)
     }
@@ -128,12 +132,12 @@ fn second_claim(
     claim: &Claim,
     before: &[u32; 1024],
     k: usize,
-    turned: &[(Spot, u32)],
+    replaced: &[(Spot, u32)],
 ) -> Result<Vec<u8>, AllocError>
-    ensures { IfOk result (λ bytes. bytes.items ≡ turned_second k turned.now (second_bytes before.now claim.now)) }
+    ensures { IfOk result (λ bytes. bytes.items ≡ replaced_second k replaced.now (second_bytes before.now claim.now)) }
 {
     let mut bytes = claim.second(alloc, before)?;
-    turn_second(&mut bytes, k, turned);
+    turn_second(&mut bytes, k, replaced);
     Ok(bytes)
 }
 
@@ -165,17 +169,17 @@ fn push_output(text: &mut Vec<u8>, claims: &[Claim]) -> Result<(), AllocError>
 }
 
 /// Appends the checkpoints in version 1, with these numbers replaced.
-#[tactic(auto, using(crate::proofs::Laid::one_first_more))]
+#[tactic(auto, using(crate::proofs::Encoded::one_first_more))]
 fn push_first_claims(
     alloc: Global,
     text: &mut Vec<u8>,
     claims: &[Claim],
-    turned: &[(Spot, u32)],
+    replaced: &[(Spot, u32)],
 ) -> Result<(), AllocError>
-    ensures { OnOk result (text.new.items ≡ text.old.items ++ first_claims turned.now 0 claims.now) }
+    ensures { OnOk result (text.new.items ≡ text.old.items ++ first_claims replaced.now 0 claims.now) }
 {
     for k in 0..claims.len() {
-        let mut bytes = first_claim(alloc, &claims[k], k, turned)?;
+        let mut bytes = first_claim(alloc, &claims[k], k, replaced)?;
         text.append(&mut bytes)?;
     }
     Ok(())
@@ -186,28 +190,28 @@ fn first_claim(
     alloc: Global,
     claim: &Claim,
     k: usize,
-    turned: &[(Spot, u32)],
+    replaced: &[(Spot, u32)],
 ) -> Result<Vec<u8>, AllocError>
-    ensures { IfOk result (λ bytes. bytes.items ≡ turned_first k turned.now (first_bytes claim.now)) }
+    ensures { IfOk result (λ bytes. bytes.items ≡ replaced_first k replaced.now (first_bytes claim.now)) }
 {
     let mut bytes = claim.first(alloc)?;
-    turn_first(&mut bytes, k, turned);
+    turn_first(&mut bytes, k, replaced);
     Ok(bytes)
 }
 
 /// Appends the checkpoints in version 2, with these numbers replaced.
-#[tactic(auto, using(crate::proofs::Laid::one_second_more, crate::proofs::Laid::table_of_one_more))]
+#[tactic(auto, using(crate::proofs::Encoded::one_second_more, crate::proofs::Encoded::table_of_one_more))]
 fn push_second_claims(
     alloc: Global,
     text: &mut Vec<u8>,
     claims: &[Claim],
-    turned: &[(Spot, u32)],
+    replaced: &[(Spot, u32)],
 ) -> Result<(), AllocError>
-    ensures { OnOk result (text.new.items ≡ text.old.items ++ second_claims turned.now 0 (replicate 1024 0) claims.now) }
+    ensures { OnOk result (text.new.items ≡ text.old.items ++ second_claims replaced.now 0 (replicate 1024 0) claims.now) }
 {
     let mut before = [0; 1024];
     for k in 0..claims.len() {
-        let mut bytes = second_claim(alloc, &claims[k], &before, k, turned)?;
+        let mut bytes = second_claim(alloc, &claims[k], &before, k, replaced)?;
         text.append(&mut bytes)?;
         before = claims[k].page_numbers();
     }

@@ -1,7 +1,7 @@
 //! Numbers of a file that tests replace.
 
 ghost use Rattle.std.specs.Prelude.{◌≡◌, ◌<◌, ◌^◌, IfSome};
-ghost use Rattle.recording_texts.specs.Spots.{offset_if, offset_in_both, offset_in_first, offset_in_second, place_in_pages, put_if, turned_first, turned_pages, turned_second};
+ghost use Rattle.recording_texts.specs.Spots.{offset_if, offset_in_both, offset_in_first, offset_in_second, place_in_pages, put_if, replaced_first, replaced_pages, replaced_second};
 
 use crate::bytes::put_word;
 
@@ -97,30 +97,30 @@ fn offset_if(of: u16, k: usize, offset: usize) -> Option<usize>
 
 /// Replaces the numbers of pages, in a file that goes up to their end.
 #[tactic(auto, using(crate::proofs::Lists::one_more))]
-pub(crate) fn turn_pages(text: &mut [u8], turned: &[(Spot, u32)])
-    ensures { text.new ≡ turned_pages turned.now text.old }
+pub(crate) fn turn_pages(text: &mut [u8], replaced: &[(Spot, u32)])
+    ensures { text.new ≡ replaced_pages replaced.now text.old }
 {
-    for (spot, number) in turned {
+    for (spot, number) in replaced {
         put_if(text, spot.place_in_pages(), *number);
     }
 }
 
 /// Replaces the numbers of checkpoint k of a file of version 1.
 #[tactic(auto, using(crate::proofs::Lists::one_more))]
-pub(crate) fn turn_first(bytes: &mut [u8], k: usize, turned: &[(Spot, u32)])
-    ensures { bytes.new ≡ turned_first k turned.now bytes.old }
+pub(crate) fn turn_first(bytes: &mut [u8], k: usize, replaced: &[(Spot, u32)])
+    ensures { bytes.new ≡ replaced_first k replaced.now bytes.old }
 {
-    for (spot, number) in turned {
+    for (spot, number) in replaced {
         put_if(bytes, spot.offset_in_first(k), *number);
     }
 }
 
 /// Replaces the numbers of checkpoint k of a file of version 2.
 #[tactic(auto, using(crate::proofs::Lists::one_more))]
-pub(crate) fn turn_second(bytes: &mut [u8], k: usize, turned: &[(Spot, u32)])
-    ensures { bytes.new ≡ turned_second k turned.now bytes.old }
+pub(crate) fn turn_second(bytes: &mut [u8], k: usize, replaced: &[(Spot, u32)])
+    ensures { bytes.new ≡ replaced_second k replaced.now bytes.old }
 {
-    for (spot, number) in turned {
+    for (spot, number) in replaced {
         put_if(bytes, spot.offset_in_second(k), *number);
     }
 }

@@ -9,7 +9,8 @@ const LENGTH: usize = 5_292;
 /// The length of such a file of version 2, whose checkpoint has one change.
 const CHANGED_LENGTH: usize = 1_216;
 
-/// A file of version 1 with a page of zeros, a timer's event at count 0 and a checkpoint that is all zeros, and one byte more.
+/// Returns a file of version 1 with a page of zeros, a timer's event at count 0 and a checkpoint that is all zeros, and one byte
+/// more.
 fn sound_text() -> [u8; LENGTH + 1] {
     let mut text = [0; LENGTH + 1];
     text[0] = b'O';
@@ -24,7 +25,7 @@ fn sound_text() -> [u8; LENGTH + 1] {
     text
 }
 
-/// A file of version 2 with that page, which its checkpoint has in slot 0, and that event.
+/// Returns a file of version 2 with that page, which its checkpoint has in slot 0, and that event.
 fn changed_text() -> [u8; CHANGED_LENGTH] {
     let mut text = [0; CHANGED_LENGTH];
     text[0] = b'O';
@@ -44,7 +45,7 @@ fn changed_text() -> [u8; CHANGED_LENGTH] {
 /// The length of a file of version 2 with one checkpoint more, which has no change.
 const STEPPING_LENGTH: usize = CHANGED_LENGTH + 144;
 
-/// That file with a checkpoint at count 1: its first instruction is a zero, which moves R0 to itself and sets Z.
+/// Returns that file with a checkpoint at count 1: its first instruction is a zero, which moves R0 to itself and sets Z.
 pub(crate) fn stepping_text() -> [u8; STEPPING_LENGTH] {
     let mut text = [0; STEPPING_LENGTH];
     for (there, byte) in text.iter_mut().zip(changed_text()) {

@@ -1,15 +1,15 @@
 //! The numbers of operations, in bits 19 to 16 of formats F0 and F1. `arithmetic` and `sums` compute them.
 
-/// Moves the operand, H or the flags.
+/// Move of the operand, H or the flags.
 pub const MOV: u8 = 0;
 
-/// Shifts left.
+/// Left shift.
 pub const LSL: u8 = 1;
 
-/// Shifts right, and repeats the sign.
+/// Right shift that repeats the sign.
 pub const ASR: u8 = 2;
 
-/// Rotates right.
+/// Right rotation.
 pub const ROR: u8 = 3;
 
 /// Bitwise and.

@@ -69,8 +69,8 @@ same_byte a b fits_a fits_b bits =
     omega arith
 
 -- lists of one length are equal if their prefixes and the items after these are
-same_behind : (n : ℕ) (xs ys : List ℕ) → length xs ≡ length ys → take n xs ≡ take n ys → ((k : ℕ) → n + k < length xs → slice_index xs (n + k) ≡ slice_index ys (n + k)) → xs ≡ ys
-same_behind n xs ys lengths fronts rests =
+same_after : (n : ℕ) (xs ys : List ℕ) → length xs ≡ length ys → take n xs ≡ take n ys → ((k : ℕ) → n + k < length xs → slice_index xs (n + k) ≡ slice_index ys (n + k)) → xs ≡ ys
+same_after n xs ys lengths fronts rests =
     ext_get_or 0 xs ys lengths (λ i below. elim (cases_lt i n) as (λ _. get_or xs i 0 ≡ get_or ys i 0) [
       | inl front ↦ sym (get_or-take n xs i 0 front) ∙ (ap (λ l. get_or l i 0) fronts ∙ get_or-take n ys i 0 front)
       | inr behind ↦
@@ -82,7 +82,7 @@ same_behind n xs ys lengths fronts rests =
 -- a display has one picture
 pub same_picture : (words a b : List ℕ) → IsPicture words a → IsPicture words b → a ≡ b
 same_picture words a b pa pb =
-    same_behind 12 a b (pa.len ∙ sym pb.len) (pa.head ∙ sym pb.head) (λ k below.
+    same_after 12 a b (pa.len ∙ sym pb.len) (pa.head ∙ sym pb.head) (λ k below.
     let e : length a ≡ 98316 = pa.len in
     let f : length b ≡ 98316 = pb.len in
     let at : 128 * (k / 128) + k % 128 ≡ k = omega arith in

@@ -12,7 +12,7 @@ use crate::kind::Kind;
 /// | 1 | timer | any word, in milliseconds | sets the timer |
 /// | 2 | switches | below 4,096 | sets the buttons (bits 11..8) and the switches (bits 7..0) |
 /// | 3 | mouse | inside the mask `073FF3FF` | sets the mouse word: x in bits 0..9, y in bits 12..21, keys in bits 24..26 |
-/// | 4 | key | below 256 | joins the end of the key queue, or is dropped where sixteen wait |
+/// | 4 | key | below 256 | joins the end of the key queue, or is dropped if sixteen wait |
 /// | 5 | serial | below 256 | replaces the serial line's byte, which is then "received" |
 ///
 /// The numbers of the kinds, the layout of the mouse word, the length of the key queue, and that a byte of the serial line

@@ -53,8 +53,8 @@ places_same n base words cs h same =
     h ∙ sym (changed_below-more n base words ∙ ap (λ (b : Bool). changed_below n base words ++ cond b (n ∷ []) []) (differs_at-same base words n same) ∙ append-nil (changed_below n base words))
 
 -- the test is true only if the pages differ
-differs_at-tells : (base words : List ℕ) (p : ℕ) → differs_at base words p ≡ true → page_at words p ≡ page_at base p → ⊥
-differs_at-tells base words p told same = false≢true (sym (differs_at-same base words p same) ∙ told)
+differs_at-true : (base words : List ℕ) (p : ℕ) → differs_at base words p ≡ true → page_at words p ≡ page_at base p → ⊥
+differs_at-true base words p told same = false≢true (sym (differs_at-same base words p same) ∙ told)
 
 range-rising : (n : ℕ) → IsStrictlyIncreasing (range_with_len 0 n)
 range-rising n k h =
@@ -77,7 +77,7 @@ changed_below-each : (n : ℕ) (base words : List ℕ) → All (λ p. (p < n) ×
 unfolding changed_below
 changed_below-each n base words k d h = (
   All-filter (differs_at base words) (λ p. p < n) (range_with_len 0 n) (range-below n) k d h,
-  differs_at-tells base words _ (filter_passes (differs_at base words) (range_with_len 0 n) k d h),
+  differs_at-true base words _ (filter_passes (differs_at base words) (range_with_len 0 n) k d h),
 )
 
 changed_below-all : (n : ℕ) (base words : List ℕ) (p : ℕ) → p < n → (page_at words p ≡ page_at base p → ⊥) → Contains (changed_below n base words) p

@@ -14,7 +14,7 @@ use std::thread::Threads;
 /// The line of the stored run.
 const LINE: &[u8] = b"accepted 1 checkpoints 100 steps\n";
 
-/// Returns its bytes, at most a thousand a call. The call after a number of calls fails, and no other.
+/// A reader that returns at most a thousand bytes a call. The call after a number of calls fails, and no other.
 #[derive(Drop)]
 struct Failing<'a> {
     rest: &'a [u8],
@@ -34,7 +34,7 @@ impl Read for Failing<'_> {
     }
 }
 
-/// Returns its bytes, one a call.
+/// A reader that returns one byte a call.
 #[derive(Drop)]
 struct Dripping<'a> {
     rest: &'a [u8],
@@ -47,7 +47,7 @@ impl Read for Dripping<'_> {
     }
 }
 
-/// Returns zeros without end, and counts them.
+/// A reader that returns zeros without end, and counts them.
 #[derive(Drop)]
 struct Endless {
     given: u64,
@@ -90,7 +90,8 @@ impl Refusal {
     }
 }
 
-/// Takes one byte a call. The call after a number of calls is refused, and no other; each flush is refused if it is to be.
+/// A writer that takes one byte a call. The call after a number of calls is refused, and no other; each flush is refused if it is
+/// to be.
 #[derive(Drop)]
 struct Narrow {
     taken: Vec<u8>,
@@ -177,7 +178,7 @@ fn is_accepted<H: Abort + AllocGlobal + Threads + Wait + Sync>(
 }
 
 #[test]
-fn a_read_that_would_fail_behind_the_end_is_not_made(rt: HostRuntime) -> Result<(), Fail> {
+fn a_read_that_would_fail_after_the_end_is_not_made(rt: HostRuntime) -> Result<(), Fail> {
     let text = STORED_RUN.first_text(rt.alloc(), &[])?;
     let mut input = failing_reader(&text, 11, ErrorKind::Other);
     is_accepted(&rt, &["check"], &mut input);
@@ -251,7 +252,7 @@ const REFUSALS: [Refusal; 3] = [
 ];
 
 #[test]
-fn a_write_that_fails_leaves_a_front_of_the_text(rt: HostRuntime) -> Result<(), Fail> {
+fn a_write_that_fails_leaves_a_prefix_of_the_text(rt: HostRuntime) -> Result<(), Fail> {
     let text = STORED_RUN.first_text(rt.alloc(), &[])?;
     for calls in 0..LINE.len() {
         for refusal in REFUSALS {
@@ -263,7 +264,7 @@ fn a_write_that_fails_leaves_a_front_of_the_text(rt: HostRuntime) -> Result<(), 
 }
 
 #[test]
-fn a_write_that_fails_leaves_a_front_of_a_migrated_text(rt: HostRuntime) -> Result<(), Fail> {
+fn a_write_that_fails_leaves_a_prefix_of_a_migrated_text(rt: HostRuntime) -> Result<(), Fail> {
     let text = STORED_RUN.first_text(rt.alloc(), &[])?;
     let (migrated, _) = served(&rt, &["migrate"], &text);
     for calls in [0, 1, 24, migrated.len().saturating_sub(1)] {

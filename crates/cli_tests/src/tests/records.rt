@@ -145,7 +145,7 @@ const STORED: Sketch<'static> = Sketch {
 };
 
 #[test]
-fn lays_only_pages_that_changed(rt: HostRuntime) -> Result<(), Fail> {
+fn encodes_only_pages_that_changed(rt: HostRuntime) -> Result<(), Fail> {
     let text = session(rt.alloc(), STORES, "2,4,5")?;
     let recording = STORED.second_text(rt.alloc(), &[])?;
     assert_eq!(rt; recording.len(), 2_672);

@@ -5,7 +5,7 @@ use std::process::Abort;
 use std::sync::Wait;
 use std::thread::Threads;
 
-/// What was written for the arguments and the input, and the status.
+/// Returns what was written for the arguments and the input, and the status.
 pub(super) fn served<'a, H: AllocGlobal + Threads + Wait + Sync>(
     rt: &H,
     words: &'a [&'a str],

@@ -476,7 +476,7 @@ fn gives_the_first_of_two_faults(rt: HostRuntime) {
     assert!(rt; is_refused(alloc, 1, &TWO_EVENTS, &words, Fault::Event(1048)));
 }
 
-/// A file with as many pages and events as there can be.
+/// Returns a file with as many pages and events as there can be.
 fn most_text(alloc: Global) -> Result<Vec<u8>, AllocError> {
     let mut text = vec![in alloc; 0; 83_113_116]?;
     let header = header(alloc, 1, 65_536, 1_000_000, 1)?;

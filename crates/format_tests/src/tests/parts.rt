@@ -166,7 +166,7 @@ fn refuses_parts_by_the_first_fault_of_their_text(rt: HostRuntime) {
     check_rows(&rt, row_of_another_fault(rt.alloc()));
 }
 
-/// Two checkpoints that have page id 1 in slots 3 and 900, so that only the page ids in slots 4 and 5 are changes.
+/// Returns two checkpoints that have page id 1 in slots 3 and 900, so that only the page ids in slots 4 and 5 are changes.
 fn two_and_two_changes(alloc: Global) -> Option<Vec<Checkpoint>> {
     let mut checkpoints = checkpoints_of(alloc, &[(0, 0, 0, 0, 3, 1), (10, 0, 0, 0, 3, 1)])?;
     for checkpoint in &mut checkpoints {

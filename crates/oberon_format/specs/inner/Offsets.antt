@@ -54,7 +54,7 @@ pub record IsDevices (text : List ℕ) (offset : ℕ) (d : DeviceState) : Type 0
 
 -- the fields that begin a checkpoint at an offset in either version: all but rate, phase, table and output, of which the length
 -- is here
-pub record IsFront (text : List ℕ) (offset : ℕ) (c : CheckpointParts) : Type 0 where
+pub record HasCommonFields (text : List ℕ) (offset : ℕ) (c : CheckpointParts) : Type 0 where
   pub count : long_at text offset ≡ c.count
   pub cpu : IsCpu text offset c.cpu
   pub devices : IsDevices text offset c.devices
@@ -80,13 +80,13 @@ pub record IsChanged (text : List ℕ) (offset : ℕ) (before : List ℕ) (c : C
 
 -- a checkpoint is at an offset of a file of a version, after a table, without its output
 pub record IsCheckpoint (version : ℕ) (text : List ℕ) (offset : ℕ) (before : List ℕ) (c : CheckpointParts) : Type 0 where
-  pub front : IsFront text offset c
+  pub front : HasCommonFields text offset c
   pub in_first : version ≡ FIRST_VERSION → IsWhole text offset c
   pub in_second : version ≡ VERSION → IsChanged text offset before c
 
 -- the file has this known version and this length, and each field of these parts, lawful or not, is at its offset: so the first
 -- fault of parts can be reported, too
-pub record IsLaidOut (v : ℕ) (text : List ℕ) (r : RecordingParts) : Type 0 where
+pub record HasFieldsOf (v : ℕ) (text : List ℕ) (r : RecordingParts) : Type 0 where
   pub long : length text ≡ output_offset text + length (output_of r.checkpoints)
   pub magic : word_at text MAGIC_AT ≡ MAGIC
   pub version : version text ≡ v
@@ -95,7 +95,7 @@ pub record IsLaidOut (v : ℕ) (text : List ℕ) (r : RecordingParts) : Type 0 w
   pub event_count : events text ≡ length r.inputs
   pub checkpoint_count : checkpoints text ≡ length r.checkpoints
   pub zero : word_at text LAST_AT ≡ 0
-  pub pages_stand : EachAt (IsPageAt text) r.pool
-  pub events_stand : EachAt (IsEventAt text) r.inputs
-  pub checkpoints_stand : EachAt (λ k c. IsCheckpoint v text (start text k) (table_before r.checkpoints k) c) r.checkpoints
+  pub pages_are_at : EachAt (IsPageAt text) r.pool
+  pub events_are_at : EachAt (IsEventAt text) r.inputs
+  pub checkpoints_are_at : EachAt (λ k c. IsCheckpoint v text (start text k) (table_before r.checkpoints k) c) r.checkpoints
   pub output : drop (output_offset text) text ≡ output_of r.checkpoints

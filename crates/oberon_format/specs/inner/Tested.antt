@@ -12,7 +12,7 @@ use Rattle.oberon_format.specs.Fields.{sent_below}
 use Rattle.oberon_format.specs.FirstFault.{Rule, first_broken, each}
 use Rattle.oberon_format.specs.Layout.{word_at, version, pages, events, checkpoints, start, output_offset}
 use Rattle.oberon_format.specs.Ranges.{is_version}
-use Rattle.oberon_format.specs.PartFields.{fields_laid}
+use Rattle.oberon_format.specs.PartFields.{fields_in}
 use Rattle.oberon_format.specs.Recording.{RecordingParts, table_before}
 use Rattle.oberon_format.specs.Rules.{change_rules, event_rules, checkpoint_rules, named_len, whole}
 use Rattle.oberon_format.specs.inner.Offsets.{EachAt, IsCheckpoint}
@@ -44,8 +44,8 @@ abbrev pub HasNumbers : List ℕ → (ℕ → ℕ) → Type 0
 HasNumbers table number = (p : ℕ) → p < PLACES → slice_index table p ≡ number p
 
 -- these checkpoints are in a file, each at its offset and after the table of the one before
-abbrev pub StandIn : List ℕ → List CheckpointParts → Type 0
-StandIn text cs = EachAt (λ k c. IsCheckpoint (version text) text (start text k) (table_before cs k) c) cs
+abbrev pub AreIn : List ℕ → List CheckpointParts → Type 0
+AreIn text cs = EachAt (λ k c. IsCheckpoint (version text) text (start text k) (table_before cs k) c) cs
 
 -- the result for checkpoint k of version 1, at an offset: its fields if it meets its rules, and else its first fault
 abbrev pub IsWholeTested : List ℕ → ℕ → ℕ → ℕ → Result CheckpointFields Fault → Type 0
@@ -83,11 +83,11 @@ IsTested text told = MatchResult told
     (λ f. first_fault_of text ≡ Some f)
 
 -- the rules of the changes from one table to another, encoded in a checkpoint at an offset
-abbrev pub change_rules_laid : ℕ → ℕ → List ℕ → List ℕ → List (Rule Fault)
-change_rules_laid pages offset before table =
+abbrev pub encoded_change_rules : ℕ → ℕ → List ℕ → List ℕ → List (Rule Fault)
+encoded_change_rules pages offset before table =
     each (length (changes before table))
     (change_rules pages offset (slice_index before) (λ i. slice_index_or (changes before table) i no_change))
 
 -- the rules of the first n checkpoints of parts, as encoded
-abbrev pub checkpoint_rules_laid : ℕ → RecordingParts → List (Rule Fault)
-checkpoint_rules_laid count r = each count (checkpoint_rules (fields_laid VERSION r))
+abbrev pub encoded_checkpoint_rules : ℕ → RecordingParts → List (Rule Fault)
+encoded_checkpoint_rules count r = each count (checkpoint_rules (fields_in VERSION r))

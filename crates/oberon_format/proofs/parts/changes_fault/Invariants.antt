@@ -7,7 +7,7 @@ use Rattle.oberon_format.specs.Rules.{change_rules}
 use Rattle.oberon_format.proofs.ChangeLemmas.{change_in}
 use Rattle.oberon_format.proofs.parts.changes_fault.Given as goal
 
--- the changes of the places that were looked at meet their rules, and the next one would stand here
+-- the changes of the slots so far meet their rules, and the next one would be here
 abbrev pub invariant-loop-p : goal.invariant-loop-p
 invariant-loop-p l = record {
   met : first_broken (each (length (changes_below l.p l.before l.table)) (change_rules l.pages l.offset (slice_index l.before) (change_in l.before l.table))) ≡ None;

@@ -9,26 +9,26 @@ use Rattle.oberon_format.specs.CheckpointParts.{checkpoint_parts}
 use Rattle.oberon_format.specs.Fields.{sent_below}
 use Rattle.oberon_format.specs.FirstFault.{each}
 use Rattle.oberon_format.specs.Layout.{event_start}
-use Rattle.oberon_format.specs.PartFields.{fields_laid}
+use Rattle.oberon_format.specs.PartFields.{fields_in}
 use Rattle.oberon_format.specs.Recording.{parts_of}
 use Rattle.oberon_format.specs.Rules.{field_rules, change_rules, checkpoint_rules}
 use Rattle.oberon_format.proofs.ChangeLemmas.{change_in}
-use Rattle.oberon_format.proofs.PartLemmas.{before_more, laid_first, sent_none, sent_more}
-use Rattle.oberon_format.proofs.PartRules.{stands_at, rules_here, next_offset, place_small}
+use Rattle.oberon_format.proofs.PartLemmas.{before_more, start_in_first, sent_none, sent_more}
+use Rattle.oberon_format.proofs.PartRules.{is_at_checkpoint, rules_here, next_offset, place_small}
 use Rattle.oberon_format.proofs.RuleLemmas.{met-append, broken-append, each_none, each_more, each_broken}
 use Rattle.oberon_format.proofs.parts.checkpoints_fault.Goals as goal
 
 pub loop-k-init : goal.loop-k-init
 loop-k-init c =
     let r = parts_of c.args.pool.now c.args.inputs.now c.args.checkpoints.now in
-    let f = fields_laid VERSION r in
+    let f = fields_in VERSION r in
     let inputs = ap (λ (es : List Event). length es) c.events.ensures.events in
     record {
       met = each_none (checkpoint_rules f);
       offset_is = c.event_start-offset.ensures
           ∙ ap (λ (n : ℕ). event_start n (length c.events.result.now)) c.len-pages.ensures.count
           ∙ ap (λ (n : ℕ). event_start (length c.args.pool.now) n) inputs
-          ∙ sym (laid_first VERSION r);
+          ∙ sym (start_in_first VERSION r);
       before_is = refl;
       sent_is = sym (sent_none f);
       small = omega arith;
@@ -47,13 +47,13 @@ pub returns-in-Some : goal.returns-in-Some
 returns-in-Some c =
     let checkpoints = c.args.checkpoints.now in
     let r = parts_of c.args.pool.now c.args.inputs.now checkpoints in
-    let f = fields_laid VERSION r in
+    let f = fields_in VERSION r in
     let k = c.loop-k.k in
     let x = c.index-checkpoints-k.result in
     let old = c.table_before-table.result.now in
     let so_far = c.loop-k.invariant in
     let lt : k < length r.checkpoints = omega (arith, length-map checkpoints checkpoint_parts) in
-    let stands = stands_at c.args.pool.now c.args.inputs.now checkpoints k x c.len-pages.result c.loop-k.offset c.loop-k.before c.loop-k.sent c.of_parts-fields.result old
+    let stands = is_at_checkpoint c.args.pool.now c.args.inputs.now checkpoints k x c.len-pages.result c.loop-k.offset c.loop-k.before c.loop-k.sent c.of_parts-fields.result old
     c.loop-k-test.true c.index-checkpoints-k.is c.len-pages.ensures.count so_far.offset_is so_far.before_is so_far.sent_is c.table_before-table.ensures c.of_parts-fields.ensures in
     let rules = rules_here r k c.len-pages.result c.loop-k.offset c.loop-k.before c.loop-k.sent c.of_parts-fields.result old x.table lt stands in
     let broken = broken-append (field_rules c.loop-k.offset k c.loop-k.before c.loop-k.sent c.of_parts-fields.result)
@@ -65,13 +65,13 @@ pub returns-in-Some-changes_fault : goal.returns-in-Some-changes_fault
 returns-in-Some-changes_fault c =
     let checkpoints = c.args.checkpoints.now in
     let r = parts_of c.args.pool.now c.args.inputs.now checkpoints in
-    let f = fields_laid VERSION r in
+    let f = fields_in VERSION r in
     let k = c.loop-k.k in
     let x = c.index-checkpoints-k.result in
     let old = c.table_before-table.result.now in
     let so_far = c.loop-k.invariant in
     let lt : k < length r.checkpoints = omega (arith, length-map checkpoints checkpoint_parts) in
-    let stands = stands_at c.args.pool.now c.args.inputs.now checkpoints k x c.len-pages.result c.loop-k.offset c.loop-k.before c.loop-k.sent c.of_parts-fields.result old
+    let stands = is_at_checkpoint c.args.pool.now c.args.inputs.now checkpoints k x c.len-pages.result c.loop-k.offset c.loop-k.before c.loop-k.sent c.of_parts-fields.result old
     c.loop-k-test.true c.index-checkpoints-k.is c.len-pages.ensures.count so_far.offset_is so_far.before_is so_far.sent_is c.table_before-table.ensures c.of_parts-fields.ensures in
     let rules = rules_here r k c.len-pages.result c.loop-k.offset c.loop-k.before c.loop-k.sent c.of_parts-fields.result old x.table lt stands in
     let broken = met-append (field_rules c.loop-k.offset k c.loop-k.before c.loop-k.sent c.of_parts-fields.result)
@@ -94,13 +94,13 @@ pub loop-k-preserved : goal.loop-k-preserved
 loop-k-preserved c =
     let checkpoints = c.args.checkpoints.now in
     let r = parts_of c.args.pool.now c.args.inputs.now checkpoints in
-    let f = fields_laid VERSION r in
+    let f = fields_in VERSION r in
     let k = c.loop-k.k in
     let x = c.index-checkpoints-k.result in
     let old = c.table_before-table.result.now in
     let so_far = c.loop-k.invariant in
     let lt : k < length r.checkpoints = omega (arith, length-map checkpoints checkpoint_parts) in
-    let stands = stands_at c.args.pool.now c.args.inputs.now checkpoints k x c.len-pages.result c.loop-k.offset c.loop-k.before c.loop-k.sent c.of_parts-fields.result old
+    let stands = is_at_checkpoint c.args.pool.now c.args.inputs.now checkpoints k x c.len-pages.result c.loop-k.offset c.loop-k.before c.loop-k.sent c.of_parts-fields.result old
     c.loop-k-test.true c.index-checkpoints-k.is c.len-pages.ensures.count so_far.offset_is so_far.before_is so_far.sent_is c.table_before-table.ensures c.of_parts-fields.ensures in
     let rules = rules_here r k c.len-pages.result c.loop-k.offset c.loop-k.before c.loop-k.sent c.of_parts-fields.result old x.table lt stands in
     let met = met-append (field_rules c.loop-k.offset k c.loop-k.before c.loop-k.sent c.of_parts-fields.result)

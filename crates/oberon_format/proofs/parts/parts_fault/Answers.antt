@@ -2,7 +2,7 @@ use Rattle.std.proofs.Common.{◌∙◌, length, refl, sym}
 use Rattle.std.proofs.lemmas.List.{length-map}
 use Rattle.oberon_format.specs.declared.layout.TheConstants.{VERSION}
 use Rattle.oberon_format.specs.CheckpointParts.{checkpoint_parts}
-use Rattle.oberon_format.specs.PartFields.{fields_laid}
+use Rattle.oberon_format.specs.PartFields.{fields_in}
 use Rattle.oberon_format.specs.Recording.{parts_of}
 use Rattle.oberon_format.proofs.LawfulLemmas.{faultless_lawful, if_none, parts_rest}
 use Rattle.oberon_format.proofs.RuleLemmas.{any_in_header}
@@ -11,7 +11,7 @@ use Rattle.oberon_format.proofs.parts.parts_fault.Goals as goal
 pub returns-in-Some-clause-fault : goal.returns-in-Some-clause-fault
 returns-in-Some-clause-fault c =
     let r = parts_of c.args.pool.now c.args.inputs.now c.args.checkpoints.now in
-    sym (any_in_header (fields_laid VERSION r) c.in-Some.fault (sym c.counts_fault.ensures.fault ∙ c.in-Some.is))
+    sym (any_in_header (fields_in VERSION r) c.in-Some.fault (sym c.counts_fault.ensures.fault ∙ c.in-Some.is))
 
 pub returns-clause-fault : goal.returns-clause-fault
 returns-clause-fault c =

@@ -4,7 +4,7 @@ use Rattle.std.proofs.lemmas.Bool.Decides.{nat_tests}
 use Rattle.risc_devices.specs.InputKind.{is_input}
 use Rattle.oberon_format.proofs.ranges.is_input.Goals as goal
 
--- there is no kind of so large a number
+-- no kind has so large a number
 no_kind : (kind value : ℕ) → 6 ≤ kind → is_input kind value ≡ false
 unfolding is_input
 no_kind kind value h = grind (arith, nat_tests)

@@ -5,7 +5,7 @@ use Rattle.oberon_format.specs.declared.layout.TheConstants.{FIRST_VERSION}
 use Rattle.oberon_format.specs.Layout.{change_count, version}
 use Rattle.oberon_format.proofs.Room.{whole_there, changes_there}
 use Rattle.oberon_format.proofs.RuleLemmas.{later_by}
-use Rattle.oberon_format.proofs.TextLemmas.{places_inside, stood_is, numbers_next, number_second}
+use Rattle.oberon_format.proofs.TextLemmas.{places_inside, prior_is, numbers_next, number_second}
 use Rattle.oberon_format.proofs.reading.advance_table.Goals as goal
 
 pub read_table-requires : goal.read_table-requires
@@ -34,5 +34,5 @@ returns-else-is_first_version c =
     let is = later_by _ c.requires.meets.sized.known test in
     let count = change_count text c.args.offset in
     λ p lt.
-    numbers_next text k c.args.offset count c.args.table.now c.change_table.new.table c.requires.offset refl (λ q less. c.requires.table q less ∙ stood_is text k q is) c.change_table.ensures p lt
+    numbers_next text k c.args.offset count c.args.table.now c.change_table.new.table c.requires.offset refl (λ q less. c.requires.table q less ∙ prior_is text k q is) c.change_table.ensures p lt
     ∙ sym (number_second text k p is)

@@ -2,15 +2,15 @@ use Rattle.std.proofs.Common.{◌≡◌, ◌<◌, ◌∙◌, ℕ, List, [], ◌�
 use Rattle.std.proofs.lemmas.List.{map-append, length-map}
 use Rattle.oberon_format.specs.CheckpointParts.{checkpoint_parts}
 use Rattle.oberon_format.specs.Recording.{output_of}
-use Rattle.oberon_format.specs.Rules.{stood}
-use Rattle.oberon_format.specs.inner.Tested.{HasNumbers, StandIn}
+use Rattle.oberon_format.specs.Rules.{prior_number}
+use Rattle.oberon_format.specs.inner.Tested.{HasNumbers, AreIn}
 use Rattle.oberon_format.specs.TextFields.{fields_of, page_number_of}
 use Rattle.oberon_format.proofs.RuleLemmas.{output_below_none, output_below_more}
 use Rattle.oberon_format.proofs.Output.{ranges_hold, keys_hold, changes_few, output_fits, output_more, output_all, range-none}
-use Rattle.oberon_format.proofs.ReadLemmas.{stand_next}
-use Rattle.oberon_format.proofs.Room.{front_there, offset_next}
-use Rattle.oberon_format.proofs.PartLemmas.{stood_more}
-use Rattle.oberon_format.proofs.TextLemmas.{stood_none}
+use Rattle.oberon_format.proofs.ReadLemmas.{next_is_at}
+use Rattle.oberon_format.proofs.Room.{common_there, offset_next}
+use Rattle.oberon_format.proofs.PartLemmas.{prior_more}
+use Rattle.oberon_format.proofs.TextLemmas.{prior_none}
 use Rattle.oberon_format.proofs.reading.checkpoints_of.Goals as goal
 use Rattle.oberon_format.specs.Layout.{checkpoints, output_offset}
 
@@ -21,7 +21,7 @@ loop-k-init c =
     rw (c.in_ok-list.ensures.items, c.zeros-table.ensures) (record {
       len = refl;
       offset_is = c.first_checkpoint-offset.ensures;
-      table_is = stood_none (fields_of text);
+      table_is = prior_none (fields_of text);
       stand = λ i d h. absurd (omega arith);
       from_is = omega arith;
       output = range-none text (output_offset text) c.args.output c.requires.output;
@@ -30,7 +30,7 @@ loop-k-init c =
 pub checkpoint_of-requires-clause-room : goal.checkpoint_of-requires-clause-room
 checkpoint_of-requires-clause-room c =
     let lt : c.loop-k.k < checkpoints c.args.text.now = omega arith in
-    rw c.loop-k.invariant.offset_is (front_there c.args.text.now c.loop-k.k c.requires.meets lt)
+    rw c.loop-k.invariant.offset_is (common_there c.args.text.now c.loop-k.k c.requires.meets lt)
 
 pub checkpoint_of-requires-clause-ranges : goal.checkpoint_of-requires-clause-ranges
 checkpoint_of-requires-clause-ranges c =
@@ -50,14 +50,14 @@ checkpoint_of-requires-clause-output c =
 pub u32_at-requires : goal.u32_at-requires
 u32_at-requires c =
     let lt : c.loop-k.k < checkpoints c.args.text.now = omega arith in
-    let there = front_there c.args.text.now c.loop-k.k c.requires.meets lt in
+    let there = common_there c.args.text.now c.loop-k.k c.requires.meets lt in
     let offset = c.loop-k.invariant.offset_is in
     omega arith
 
 pub later_word-requires-clause-room : goal.later_word-requires-clause-room
 later_word-requires-clause-room c =
     let lt : c.loop-k.k < checkpoints c.args.text.now = omega arith in
-    let there = front_there c.args.text.now c.loop-k.k c.requires.meets lt in
+    let there = common_there c.args.text.now c.loop-k.k c.requires.meets lt in
     let offset = c.loop-k.invariant.offset_is in
     omega arith
 
@@ -90,8 +90,8 @@ loop-k-preserved c =
     rw c.in_ok-push.ensures.items (record {
       len = omega (arith, length-append items (checkpoint ∷ []));
       offset_is = offset_next text k c.loop-k.offset c.later_word.result c.checkpoint_len.result at c.later_word.ensures c.checkpoint_len.ensures;
-      table_is = λ p less. c.advance_table.ensures p less ∙ sym (ap (λ (n : ℕ). stood (fields_of text) n p) (add-one k) ∙ stood_more (fields_of text) k p);
-      stand = subst (StandIn text) (sym pushed) (stand_next text parts part k c.requires.meets lt count c.loop-k.invariant.stand front rate phase len numbers);
+      table_is = λ p less. c.advance_table.ensures p less ∙ sym (ap (λ (n : ℕ). prior_number (fields_of text) n p) (add-one k) ∙ prior_more (fields_of text) k p);
+      stand = subst (AreIn text) (sym pushed) (next_is_at text parts part k c.requires.meets lt count c.loop-k.invariant.stand front rate phase len numbers);
       from_is = omega arith;
       output = rw own (output_more text k c.loop-k.from parts part c.requires.meets lt c.loop-k.invariant.from_is c.loop-k.invariant.output sent ∙ ap output_of (sym pushed));
     })

@@ -5,7 +5,7 @@ use Rattle.risc_devices.specs.DeviceState.{DeviceState}
 use Rattle.oberon_format.specs.declared.layout.TheConstants.{KEYS_AT}
 use Rattle.oberon_format.specs.declared.ranges.TheConstants.{MAX_KEYS, SERIAL_END}
 use Rattle.oberon_format.specs.inner.Offsets.{IsDevices}
-use Rattle.oberon_format.proofs.Keys.{keys-stand, length-range}
+use Rattle.oberon_format.proofs.Keys.{keys-are_at, length-range}
 use Rattle.oberon_format.proofs.Numbers.{serial_whole}
 use Rattle.oberon_format.proofs.reading.devices_of.Goals as goal
 
@@ -25,7 +25,7 @@ returns c =
         mouse = sym c.u32_at-4.ensures;
         serial = sym c.u32_at-5.ensures ∙ sym (serial_whole c.u32_at-5.result line);
         waiting = sym c.u32_at-waiting.ensures ∙ sym len;
-        keys = rw (len, c.u32_at-waiting.ensures) (keys-stand text offset c.requires.room c.requires.keys);
+        keys = rw (len, c.u32_at-waiting.ensures) (keys-are_at text offset c.requires.room c.requires.keys);
       });
       rate = ap (λ (d : DeviceState). d.rate) is ∙ c.later_word.ensures;
       phase = ap (λ (d : DeviceState). d.phase) is ∙ c.later_word-2.ensures;

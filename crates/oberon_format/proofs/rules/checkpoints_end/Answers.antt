@@ -50,7 +50,7 @@ returns-in-Err c =
     ] in
     each_broken rules k (checkpoints text) c.in-Err.fault (omega arith) c.loop-k.invariant.met one
 
--- what either test tells of a checkpoint
+-- what either test says of a checkpoint
 record AreTested (text : List ℕ) (k offset sent : ℕ) (fields : CheckpointFields) (table : List ℕ) : Type 0 where
   read : fields ≡ checkpoint_of text offset
   small : sent + fields.output ≤ MAX_OUTPUT

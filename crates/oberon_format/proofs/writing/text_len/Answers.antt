@@ -5,14 +5,14 @@ use Rattle.oberon_format.specs.declared.checkpoint.Checkpoint.{Checkpoint}
 use Rattle.oberon_format.specs.declared.layout.TheConstants.{VERSION}
 use Rattle.oberon_format.specs.Changes.{changes}
 use Rattle.oberon_format.specs.CheckpointParts.{CheckpointParts, checkpoint_parts}
-use Rattle.oberon_format.specs.PartFields.{start_laid}
+use Rattle.oberon_format.specs.PartFields.{start_in}
 use Rattle.oberon_format.proofs.ChangeLemmas.{changes-few}
 use Rattle.oberon_format.proofs.PartRules.{place_small}
-use Rattle.oberon_format.proofs.WriteLemmas.{written_laid}
+use Rattle.oberon_format.proofs.WriteLemmas.{written_encoded}
 use Rattle.oberon_format.proofs.writing.text_len.Goals as goal
 
 pub loop-k-init : goal.loop-k-init
-unfolding start_laid
+unfolding start_in
 loop-k-init c =
     let pages : c.len.result ≡ length c.args.r.now.pool = c.len.ensures.count ∙ ap (λ (l : List (List ℕ)). length l) c.pool.ensures.pool in
     let events : length c.events.result.now ≡ length c.args.r.now.inputs = ap (λ (l : List Event). length l) (c.events.ensures.events ∙ c.inputs.ensures.inputs) in
@@ -41,7 +41,7 @@ loop-k-preserved c =
     let cs = c.checkpoints-checkpoints.result.now in
     let e = c.index-checkpoints-k.result in
     let before : List ℕ = c.table_before-before.result.now in
-    let next = written_laid c.args.r.now cs c.loop-k.k e before c.checkpoints-checkpoints.ensures.checkpoints c.loop-k-test.true c.index-checkpoints-k.is c.table_before-before.ensures in
+    let next = written_encoded c.args.r.now cs c.loop-k.k e before c.checkpoints-checkpoints.ensures.checkpoints c.loop-k-test.true c.index-checkpoints-k.is c.table_before-before.ensures in
     let so_far = c.loop-k.invariant in
     let count : c.change_count.result ≡ length (changes before e.table) = c.change_count.ensures ∙ ap (λ (x : Checkpoint). length (changes before x.table)) (sym c.index-checkpoints-k.is) in
     let own = c.changed_len-len.ensures in
@@ -65,6 +65,6 @@ returns c =
     let same : length (map checkpoint_parts cs) ≡ length c.args.r.now.checkpoints = ap (λ (l : List CheckpointParts). length l) c.checkpoints-checkpoints.ensures.checkpoints in
     let len = length-map cs checkpoint_parts in
     let end : c.loop-k.k ≡ length c.args.r.now.checkpoints = omega arith in
-    let so_far : c.loop-k.len ≡ start_laid VERSION c.args.r.now (length c.args.r.now.checkpoints) = c.loop-k.invariant ∙ ap (start_laid VERSION c.args.r.now) end in
+    let so_far : c.loop-k.len ≡ start_in VERSION c.args.r.now (length c.args.r.now.checkpoints) = c.loop-k.invariant ∙ ap (start_in VERSION c.args.r.now) end in
     let own = c.output_len.ensures in
     omega arith

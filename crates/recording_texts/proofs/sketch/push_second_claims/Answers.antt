@@ -1,11 +1,11 @@
 use Rattle.std.proofs.Common.{List, ℕ, sym, ◌∙◌, replicate}
-use Rattle.recording_texts.proofs.Laid.{second_after, table_of_one_more}
+use Rattle.recording_texts.proofs.Encoded.{second_after, table_of_one_more}
 use Rattle.recording_texts.proofs.sketch.push_second_claims.Goals as goal
 
 pub loop-k-preserved : goal.loop-k-preserved
 loop-k-preserved c =
     let zeros : List ℕ = replicate 1024 0 in record {
-      text = second_after c.args.text.now.items c.loop-k.text.items c.in_ok-bytes.bytes.items _ zeros c.loop-k.before c.args.turned.now c.args.claims.now
+      text = second_after c.args.text.now.items c.loop-k.text.items c.in_ok-bytes.bytes.items _ zeros c.loop-k.before c.args.replaced.now c.args.claims.now
           c.loop-k.k _ c.loop-k-test.true c.in_ok-append.ensures.items c.loop-k.invariant.text c.loop-k.invariant.before c.in_ok-bytes.ensures;
       before = c.page_numbers-before.ensures ∙ sym (table_of_one_more zeros c.args.claims.now c.loop-k.k _ c.loop-k-test.true);
     }

@@ -1,10 +1,10 @@
 use Rattle.std.proofs.Common.{◌≡◌, ◌++◌, replicate, take}
 use Rattle.recording_texts.specs.Layout.{second_claims}
-use Rattle.recording_texts.proofs.Laid.{table_after}
+use Rattle.recording_texts.proofs.Encoded.{table_after}
 use Rattle.recording_texts.proofs.sketch.push_second_claims.Given as goal
 
 abbrev pub invariant-loop-k : goal.invariant-loop-k
 invariant-loop-k l = record {
-  text : l.text.items ≡ l.fn.text.items ++ second_claims l.turned 0 (replicate 1024 0) (take l.k l.claims);
+  text : l.text.items ≡ l.fn.text.items ++ second_claims l.replaced 0 (replicate 1024 0) (take l.k l.claims);
   before : l.before ≡ table_after (replicate 1024 0) (take l.k l.claims);
 }

@@ -1,6 +1,6 @@
 use Rattle.std.proofs.Common.{arith}
 use Rattle.std.proofs.lemmas.Grind.{common_steps}
-use Rattle.oberon_cli.proofs.process.behind_name.Goals as goal
+use Rattle.oberon_cli.proofs.process.after_name.Goals as goal
 
 pub returns : goal.returns
 returns c = grind (arith, common_steps)
