@@ -13,3 +13,5 @@ pub mod OutcomeLemmas
 pub mod Examples
 pub mod SilentLemmas
 pub mod EntryLemmas
+pub mod PlacedLemmas
+pub mod DecodedLemmas
