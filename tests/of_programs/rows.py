@@ -207,7 +207,23 @@ STORES = [
         26, [4, 12], {"R1": 51, "PC": 4}, {0: 3}),
 ]
 
+
+def _at(base: int, words: Sequence[int]) -> dict[int, int]:
+    """The words from a word of memory on."""
+    return {base + at: word for at, word in enumerate(words)}
+
+
 ROWS_OF_CODE = [
+    Row("a loop over the end of 64 words", _at(60, _loop(*[PLUS_1] * 5)), 23, [3, 4, 5, 10, 11, 12], {"R0": 0, "R1": 15, "PC": 67},
+        {0: 3}, pc=60),
+    Row("checkpoints at each of 70 words in turn", _loop(*[PLUS_1] * 70), 146, range(1, 74), {"R0": 0, "R1": 140, "PC": 72}, {0: 2}),
+    Row("inputs at the last of 64 words and the next", _loop(*[PLUS_1] * 70), 146, [63, 64, 65],
+        {"R1": 140, "switches": 7, "timer": 146}, {0: 2},
+        [(62, "switches", 4), (63, "switches", 5), (64, "switches", 6), (135, "switches", 7)]),
+    Row("a loop in the last 64 words of memory", _at(END - 40, _loop(*[PLUS_1] * 5)), 23, [3, 10], {"R1": 15, "PC": END - 33},
+        {0: 3}, pc=END - 40),
+    Row("a loop into the last 64 words of memory", _at(END - 67, _loop(*[PLUS_1] * 5)), 23, [2, 3, 4], {"R1": 15, "PC": END - 60},
+        {0: 3}, pc=END - 67),
     Row("SUB at the last of 64 words, and its branch in the next 64", {63 + at: word for at, word in enumerate(COUNT_DOWN)}, 9,
         [1, 3, 5], {"R0": 0, "PC": 65, "timer": 9}, {0: 3}, pc=63),
     Row("from the first of 64 words to the last, and back from the next 64", {64: branch(ALWAYS, 62), 127: imm(SUB, 0, 0, 1),

@@ -24,8 +24,12 @@ pub const fn place(base: u32, off: i32) -> (Place, u8)
     ensures place_inside { IsInside result.0 }
     ensures lane_inside { result.1 < 4 }
 {
-    let address = base.wrapping_add(off.cast_unsigned()) & ADDRESS_MASK;
-    let lane = (address & 3) as u8;
+    let sum = base.wrapping_add(off.cast_unsigned());
+    let lane = (sum & 3) as u8;
+    if sum < RAM_END {
+        return (Place::Ram(sum >> 2), lane);
+    }
+    let address = sum & ADDRESS_MASK;
     if address < RAM_END {
         (Place::Ram(address >> 2), lane)
     } else if address >= DEVICES {

@@ -9,3 +9,5 @@ pub mod KeepLemmas
 pub mod OutcomeLemmas
 pub mod SilentLemmas
 pub mod EntryLemmas
+pub mod PlacedLemmas
+pub mod DecodedLemmas

@@ -5,6 +5,7 @@ pub mod Actions
 pub mod Due
 pub mod Matched
 pub mod Entries
+pub mod Frames
 pub mod Operands
 pub mod Rests
 pub mod Destinations

@@ -105,6 +105,28 @@ impl<'a> Memory<'a> {
         }
     }
 
+    /// Writes one word if its page is private. Returns whether it is; if not, the memory is unchanged. It allocates nothing.
+    #[inline(always)]
+    pub fn write_owned(&mut self, word_no: u32, word: u32) -> bool
+        requires { word_no < 262144 }
+        ensures words { result ≡ true → self.new.words ≡ slice_set self.old.words word_no word }
+        ensures owned { result ≡ true → self.new.owned ≡ slice_set self.old.owned (word_no / 256) true }
+        ensures base { self.new.base ≡ self.old.base }
+        ensures unchanged { result ≡ false → self.new ≡ self.old }
+        ensures answer { slice_get self.old.owned (word_no / 256) ≡ Some result }
+    {
+        let place = (word_no / 256) as usize;
+        let index = (word_no % 256) as usize;
+        match &mut self.places[place] {
+            Place::Owned(own) => {
+                own.page.words[index] = word;
+                true
+            }
+            Place::Blank(_) => false,
+            Place::Shared(_) => false,
+        }
+    }
+
     /// Reports whether a page slot has a private page.
     pub fn owned(&self, place: u16) -> bool
         requires { place < 1024 }
