@@ -3,7 +3,7 @@
 ghost use Rattle.std.specs.Prelude.{◌≡◌, ◌-◌, ◌<◌, ◌≤◌, IfOk, IfErr, OnOk, length};
 ghost use Rattle.risc_core.specs.declared.branch.TheConstants.{COUNTER_END};
 ghost use Rattle.risc_pages.specs.Tables.{IsNamed};
-ghost use Rattle.risc_machine.specs.Wanting.{MayFail};
+ghost use Rattle.risc_machine.specs.Allocation.{MayFail};
 ghost use Rattle.risc_model.specs.Replay.{run_of, sent_of};
 ghost use Rattle.oberon_format.specs.CheckpointParts.{checkpoint_parts};
 ghost use Rattle.oberon_session.specs.inner.Progress.{HasReached, SendsTooMuch, sent_on};

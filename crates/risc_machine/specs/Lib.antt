@@ -1,3 +1,3 @@
 -- When the machine may fail to allocate. What its steps and runs are is in `risc_model`.
-pub mod Wanting
+pub mod Allocation
 pub mod inner

@@ -1,7 +1,7 @@
 use Rattle.std.proofs.Common.{◌≡◌, ◌-◌, List, [], sym, ap, ◌∙◌}
 use Rattle.risc_machine.proofs.RangeLemmas.{run-in_range}
 use Rattle.risc_model.specs.declared.event.Event.{Event}
-use Rattle.risc_machine.specs.Wanting.{Held}
+use Rattle.risc_machine.specs.Allocation.{Held}
 use Rattle.risc_machine.specs.inner.Boards.{held_of}
 use Rattle.risc_model.specs.Replay.{sent_of}
 use Rattle.risc_machine.proofs.machine.Machine.run_matching.Goals as goal
