@@ -23,7 +23,7 @@ raw-counts : (Q : ℕ → Type 0) (es : List Event) → All (λ (r : RawInput). 
 raw-counts Q [] each i lt = absurd (omega (arith, lt))
 raw-counts Q (e ∷ es) each i lt =
     let here : (get_or (map raw_input (e ∷ es)) i (raw_input e)).count ≡ count_at (e ∷ es) i =
-        ap (λ (r : RawInput). r.count) (get_or-map raw_input (e ∷ es) i e (raw_input e) lt) ∙ sym (count_at-is (e ∷ es) i e lt) in
+    ap (λ (r : RawInput). r.count) (get_or-map raw_input (e ∷ es) i e (raw_input e) lt) ∙ sym (count_at-is (e ∷ es) i e lt) in
     subst Q here (each i (raw_input e) (omega (arith, lt, length-map (e ∷ es) raw_input)))
 
 right-place : (es : List Event) (place : ℕ) → count_at es place ≤ MAX_COUNT → ((p : ℕ) → p + 1 ≡ place → count_at es p ≤ count_at es place) → IsRightPlace es place

@@ -174,20 +174,20 @@ extended-true text inputs old new old_words new_words sent new_text live run ext
     let same_inputs = same-events ext.events run.events (ext.are_events.written ∙ sym run.are_events.written) in
     let claim = claim_of new new_words sent in
     let next : IsNext r run.events new.count =
-        subst (λ (es : List Event). IsNext r es new.count) same_inputs (subst (λ (x : RecordingParts). IsNext x ext.events new.count) same_old ext.next) in
+    subst (λ (es : List Event). IsNext r es new.count) same_inputs (subst (λ (x : RecordingParts). IsNext x ext.events new.count) same_old ext.next) in
     let more : IsExtended r run.events new.count claim ext.new =
-        subst (λ (es : List Event). IsExtended r es new.count claim ext.new) same_inputs
-        (subst (λ (x : RecordingParts). IsExtended x ext.events new.count claim ext.new) same_old ext.extended) in
+    subst (λ (es : List Event). IsExtended r es new.count claim ext.new) same_inputs
+    (subst (λ (x : RecordingParts). IsExtended x ext.events new.count claim ext.new) same_old ext.extended) in
     let past : All (λ (e : Event). e.count < last_count r) r.inputs =
-        subst (λ (n : ℕ). All (λ (e : Event). e.count < n) r.inputs) (sym live.count_is) live.past in
+    subst (λ (n : ℕ). All (λ (e : Event). e.count < n) r.inputs) (sym live.count_is) live.past in
     let state_is =
-        run.state_is
-        ∙ ap (λ (n : ℕ). run_of run.events n (new.count - n) (state_of old old_words)) (sym live.count_is)
-        ∙ ap (λ (s : State). run_of run.events (last_count r) (new.count - last_count r) s) (sym live.claims) in
+    run.state_is
+    ∙ ap (λ (n : ℕ). run_of run.events n (new.count - n) (state_of old old_words)) (sym live.count_is)
+    ∙ ap (λ (s : State). run_of run.events (last_count r) (new.count - last_count r) s) (sym live.claims) in
     let sent_is =
-        run.sent_is
-        ∙ ap (λ (n : ℕ). sent_of run.events n (new.count - n) (state_of old old_words)) (sym live.count_is)
-        ∙ ap (λ (s : State). sent_of run.events (last_count r) (new.count - last_count r) s) (sym live.claims) in
+    run.sent_is
+    ∙ ap (λ (n : ℕ). sent_of run.events n (new.count - n) (state_of old old_words)) (sym live.count_is)
+    ∙ ap (λ (s : State). sent_of run.events (last_count r) (new.count - last_count r) s) (sym live.claims) in
     let last : length r.checkpoints ≡ last_of ext.new = omega (arith, more.more) in
     let bound = next.later in
     record {
@@ -209,9 +209,9 @@ begun-true state words text begun =
     let r = begun.recording in
     let last : last_of r ≡ 0 = omega (arith, begun.begun.one) in
     let here : IsTrueAt r 0 =
-        begun.begun.claims
-        ∙ ap (λ (o : Outcome). record { state = o.state; sent = [] }) (sym begun.begun.claims)
-        ∙ ap (λ (n : ℕ). given r.inputs (claimed r 0).state n n) (sym begun.begun.begins) in
+    begun.begun.claims
+    ∙ ap (λ (o : Outcome). record { state = o.state; sent = [] }) (sym begun.begun.claims)
+    ∙ ap (λ (n : ℕ). given r.inputs (claimed r 0).state n n) (sym begun.begun.begins) in
     record {
       recording = r;
       is_text = begun.text_is;

@@ -15,8 +15,8 @@ ghost use Rattle.oberon_session.specs.inner.Progress.{stored_view};
 
 use crate::claim::Claim;
 use crate::extend_fault::ExtendFault;
-use crate::storing::{StoredPages, store_words};
 use crate::recorder::{bytes_fit, recording_of};
+use crate::storing::{StoredPages, store_words};
 use oberon_format::{Checkpoint, LAST_CHECKPOINT, MAX_COUNT, MAX_EVENTS, MAX_PAGES, Recording};
 use risc_devices::Devices;
 use risc_model::{Cpu, Event, Inputs};

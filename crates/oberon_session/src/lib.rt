@@ -14,7 +14,6 @@ mod extend_fault;
 mod extension;
 mod fault;
 mod laws;
-mod storing;
 mod parts;
 mod range;
 mod reading;
@@ -22,6 +21,7 @@ mod record_fault;
 mod recorder;
 mod session;
 mod shape;
+mod storing;
 mod walk;
 mod way;
 

@@ -60,9 +60,7 @@ fn pages_fit(pages: &[PageDraft<'_>]) -> bool
     ensures { IsTrue result ↔ DraftPagesFit pages.now }
 {
     pages.len() <= PLACES as usize
-        && pages
-            .iter()
-            .all(|page| page.at < PLACES as u64 && page.hex.len() <= MOST_DIGITS)
+        && pages.iter().all(|page| page.at < PLACES as u64 && page.hex.len() <= MOST_DIGITS)
 }
 
 /// Whether there are at most 4,096 checkpoints, each at a count from 1 to 2^40.

@@ -7,9 +7,9 @@ ghost use Rattle.oberon_format.specs.Recording.{parts_of, IsLawful};
 ghost use Rattle.oberon_session.specs.Recorded.{first_devices, record_fault_of, recording_of};
 ghost use Rattle.oberon_session.specs.inner.Progress.{HasRecorded};
 
-use crate::storing::{StoredPages, store_first, store_pages};
 use crate::record_fault::RecordFault;
 use crate::session::Session;
+use crate::storing::{StoredPages, store_first, store_pages};
 use crate::way::reach;
 use oberon_format::{Checkpoint, MAX_OUTPUT, MAX_PAGES, Recording};
 use risc_devices::Devices;

@@ -29,4 +29,6 @@ mod status;
 
 pub use machine::Machine;
 pub use replay::RunFault;
-pub use risc_model::{Cpu, Event, Flags, Inputs, MAX_COUNT, Unordered, lane_law, run_law, stop_law, stopped_law};
+pub use risc_model::{
+    Cpu, Event, Flags, Inputs, MAX_COUNT, Unordered, lane_law, run_law, stop_law, stopped_law,
+};
