@@ -3,7 +3,7 @@ use Rattle.std.specs.Prelude.{◌≡◌, ◌⊎◌, ℕ, List}
 use Rattle.oberon_format.specs.Migration.{IsMigrated}
 use Rattle.oberon_check.specs.Headline.{IsLineOfFault}
 
--- the input is the text of a recording, and this is that recording's text in the version that is written
+-- the input is a recording file, and the output is the file of that recording in the current version
 pub record IsReadMigration (input text : List ℕ) (status : ℕ) : Type 0 where
   pub migrated : IsMigrated input text
   pub status_is : status ≡ 0
