@@ -13,6 +13,7 @@ import subprocess
 import time
 from pathlib import Path
 
+from debian import install
 from samples import EXAMPLES, PROGRAM, STORED, TOP, Ran, ToolTest, record, rejoining, run, tool
 
 ACCOUNTS = {"one.example": "galluspa-one", "two.example": "galluspa-two"}
@@ -56,10 +57,7 @@ class RecipesTest(ToolTest):
             return
         if Path("/run/systemd/system").exists():
             self.skipTest(f"{', '.join(missing)} would be started as services if this test installed them")
-        words = ["apt-get", "-qq", "install", "-y", "--no-install-recommends", *missing]
-        environment = {**os.environ, "DEBIAN_FRONTEND": "noninteractive"}
-        subprocess.run(["apt-get", "-qq", "update"], check=False, **QUIET)
-        subprocess.run(words, check=False, timeout=300, env=environment, **QUIET)
+        install(missing)
         if left := [it for it in commands if not shutil.which(it, path=FOUND)]:
             self.skipTest(f"{', '.join(COMMANDS[it] for it in left)} can't be installed")
 
