@@ -1,4 +1,4 @@
--- What the passes' seats come to once they are put together.
+-- What the book's own seat knows once it has joined the seats of all passes.
 use Rattle.std.proofs.Common.{◌≡◌, ℕ, zero, suc, ◌+◌, ◌<◌, ◌≤◌, List, [], ◌∷◌, ◌++◌, length, get_or, min, Bool, true, false, sym, refl, ap, ◌∙◌, subst, arith, ⊎_elim, length-append, append_assoc, append-nil, eqb, Option, None, Some, cond}
 use Rattle.std.specs.Prelude.{All, Contains, MatchOption, HoldsAt}
 use Rattle.oberon_claims.specs.declared.book.View.{View}
@@ -10,47 +10,49 @@ use Rattle.oberon_claims.specs.inner.Steps.{joined_view}
 use Rattle.oberon_claims.proofs.Counting.{number_of_each_once}
 use Rattle.oberon_claims.proofs.Sums.{times_front, times_here, one_is, empty_if}
 
+-- how many passes were answered `None`
 abbrev pub marks : List PassRecord → ℕ
 marks [] = 0
 marks (p ∷ ps) = cond p.ended 1 0 + marks ps
 
+-- the view of the book's own seat after it joined the seats of these passes
 abbrev pub gathered : BookId → List PassRecord → View
-gathered book ps = record { jobs = book.jobs; workers = book.workers; taken = all_taken ps; reported = all_reported ps; shown = all_shown ps; ends = marks ps; stands = length ps }
+gathered book ps = record { jobs = book.jobs; workers = book.workers; taken = all_taken ps; reported = all_reported ps; shown = all_shown ps; ends = marks ps; passes = length ps }
 
-taken_more : (ps : List PassRecord) (p : PassRecord) → all_taken ps ++ p.taken ≡ all_taken (ps ++ p ∷ [])
-taken_more [] p = sym (append-nil p.taken)
-taken_more (q ∷ ps) p = append_assoc q.taken (all_taken ps) p.taken ∙ ap (λ (l : List ℕ). q.taken ++ l) (taken_more ps p)
+taken_snoc : (ps : List PassRecord) (p : PassRecord) → all_taken ps ++ p.taken ≡ all_taken (ps ++ p ∷ [])
+taken_snoc [] p = sym (append-nil p.taken)
+taken_snoc (q ∷ ps) p = append_assoc q.taken (all_taken ps) p.taken ∙ ap (λ (l : List ℕ). q.taken ++ l) (taken_snoc ps p)
 
-reported_more : (ps : List PassRecord) (p : PassRecord) → all_reported ps ++ p.reported ≡ all_reported (ps ++ p ∷ [])
-reported_more [] p = sym (append-nil p.reported)
-reported_more (q ∷ ps) p = append_assoc q.reported (all_reported ps) p.reported ∙ ap (λ (l : List ℕ). q.reported ++ l) (reported_more ps p)
+reported_snoc : (ps : List PassRecord) (p : PassRecord) → all_reported ps ++ p.reported ≡ all_reported (ps ++ p ∷ [])
+reported_snoc [] p = sym (append-nil p.reported)
+reported_snoc (q ∷ ps) p = append_assoc q.reported (all_reported ps) p.reported ∙ ap (λ (l : List ℕ). q.reported ++ l) (reported_snoc ps p)
 
-shown_more : (ps : List PassRecord) (p : PassRecord) → all_shown ps ++ p.shown ≡ all_shown (ps ++ p ∷ [])
-shown_more [] p = sym (append-nil p.shown)
-shown_more (q ∷ ps) p = append_assoc q.shown (all_shown ps) p.shown ∙ ap (λ (l : List ℕ). q.shown ++ l) (shown_more ps p)
+shown_snoc : (ps : List PassRecord) (p : PassRecord) → all_shown ps ++ p.shown ≡ all_shown (ps ++ p ∷ [])
+shown_snoc [] p = sym (append-nil p.shown)
+shown_snoc (q ∷ ps) p = append_assoc q.shown (all_shown ps) p.shown ∙ ap (λ (l : List ℕ). q.shown ++ l) (shown_snoc ps p)
 
-marks_more : (ps : List PassRecord) (p : PassRecord) → marks ps + cond p.ended 1 0 ≡ marks (ps ++ p ∷ [])
-marks_more [] p = omega arith
-marks_more (q ∷ ps) p = let e = marks_more ps p in omega arith
+marks_snoc : (ps : List PassRecord) (p : PassRecord) → marks ps + cond p.ended 1 0 ≡ marks (ps ++ p ∷ [])
+marks_snoc [] p = omega arith
+marks_snoc (q ∷ ps) p = let e = marks_snoc ps p in omega arith
 
--- the seat of a pass
+-- v is the view of the pass's seat
 pub record IsSeatOf (v : View) (p : PassRecord) : Type 0 where
   pub taken : v.taken ≡ p.taken
   pub reported : v.reported ≡ p.reported
   pub shown : v.shown ≡ p.shown
   pub ends : v.ends ≡ cond p.ended 1 0
-  pub stands : v.stands ≡ 1
+  pub passes : v.passes ≡ 1
 
-pub gathers : (book : BookId) (ps : List PassRecord) (p : PassRecord) (v : View) → IsSeatOf v p → joined_view (gathered book ps) v ≡ gathered book (ps ++ p ∷ [])
-gathers book ps p v is =
-    let taken = ap (λ (l : List ℕ). all_taken ps ++ l) is.taken ∙ taken_more ps p in
-    let reported = ap (λ (l : List ℕ). all_reported ps ++ l) is.reported ∙ reported_more ps p in
-    let shown = ap (λ (l : List ℕ). all_shown ps ++ l) is.shown ∙ shown_more ps p in
-    let ends = ap (λ (n : ℕ). marks ps + n) is.ends ∙ marks_more ps p in
-    let stands : length ps + v.stands ≡ length (ps ++ p ∷ []) = let e = is.stands in let l = length-append ps (p ∷ []) in omega arith in
-    λ i. record { jobs = book.jobs; workers = book.workers; taken = taken i; reported = reported i; shown = shown i; ends = ends i; stands = stands i }
+pub gathered_snoc : (book : BookId) (ps : List PassRecord) (p : PassRecord) (v : View) → IsSeatOf v p → joined_view (gathered book ps) v ≡ gathered book (ps ++ p ∷ [])
+gathered_snoc book ps p v is =
+    let taken = ap (λ (l : List ℕ). all_taken ps ++ l) is.taken ∙ taken_snoc ps p in
+    let reported = ap (λ (l : List ℕ). all_reported ps ++ l) is.reported ∙ reported_snoc ps p in
+    let shown = ap (λ (l : List ℕ). all_shown ps ++ l) is.shown ∙ shown_snoc ps p in
+    let ends = ap (λ (n : ℕ). marks ps + n) is.ends ∙ marks_snoc ps p in
+    let passes : length ps + v.passes ≡ length (ps ++ p ∷ []) = let e = is.passes in let l = length-append ps (p ∷ []) in omega arith in
+    λ i. record { jobs = book.jobs; workers = book.workers; taken = taken i; reported = reported i; shown = shown i; ends = ends i; passes = passes i }
 
--- what holds of each element of a list holds of the next one
+-- what is true of each element of a list is true of the next one
 module _ {A : Type 0} where
   at_next : (P : A → Type 0) (ys : List A) (p : A) (rest : List A) → All P (ys ++ p ∷ rest) → P p
   at_next P [] p rest holds = holds 0 p (omega arith)
@@ -67,7 +69,7 @@ marks_at (p ∷ ps) (suc k) in_range holds = let r = marks_at ps k (omega arith)
 some_marks : (ps : List PassRecord) → SomeEnded ps → 0 < marks ps
 some_marks ps m = marks_at ps m.0 m.1 m.2
 
--- what stands in a list stands at some place
+-- a number that occurs in a list is at some index of it
 pub found : (x : ℕ) (xs : List ℕ) → 0 < times x xs → Contains xs x
 found x [] there = absurd (omega arith)
 found x (y ∷ ys) there = go x y ys (eqb y x) refl (let f = times_front x y ys in omega arith) (λ t. found x ys t)
@@ -79,13 +81,13 @@ found x (y ∷ ys) there = go x y ys (eqb y x) refl (let f = times_front x y ys 
         let r = next (omega arith) in
         (suc r.0, (let h = r.1 in omega arith), r.2)
 
--- what a whole book says of the passes' lists
+-- what a legal book whose only seat has joined all passes says of their lists
 module _ (book : BookId) (jobs next least : ℕ) (ps : List PassRecord) (legal : IsLegal jobs (length ps) next least (gathered book ps ∷ [])) where
   pub taken_once : (x : ℕ) → times x (all_taken ps) ≡ once_below x (min next jobs)
   taken_once x = (let n : times x (all_taken ps) ≡ times x (all_taken ps) + 0 = omega arith in n) ∙ legal.each_once x
 
-  pub all_gone : SomeEnded ps → min next jobs ≡ jobs
-  all_gone m = let s = some_marks ps m in let c : length (all_taken ps) + 0 ≡ min next jobs = number_of_each_once (min next jobs) (gathered book ps ∷ []) legal.each_once in let n = legal.next_is in omega arith
+  pub all_jobs_taken : SomeEnded ps → min next jobs ≡ jobs
+  all_jobs_taken m = let s = some_marks ps m in let c : length (all_taken ps) + 0 ≡ min next jobs = number_of_each_once (min next jobs) (gathered book ps ∷ []) legal.each_once in let n = legal.next_is in omega arith
 
   pub none_reported : nothing ≤ least → all_reported ps ≡ []
   none_reported none = empty_if (all_reported ps) (λ x there. let t = legal.reported_above x (omega arith) in omega arith)
@@ -120,7 +122,7 @@ shown_not_below reported shown None none all = empty_if_none shown (λ k d in_ra
     empty_if_none (x ∷ xs) none = absurd (none 0 x (omega arith))
 shown_not_below reported shown (Some x) is all = λ k d in_range. (let c = all k d in_range in subst (λ (y : ℕ). x ≤ y) (c.2) (is.1 c.0 (get_or shown k d) c.1))
 
--- the one view of a list of one
+-- lists of one view are equal only if the views are
 pub first_of : {v w : View} → v ∷ [] ≡ w ∷ [] → v ≡ w
 first_of {v} {w} e = λ i. head w (e i)
   where

@@ -12,7 +12,7 @@ use Rattle.oberon_claims.specs.inner.Steps.{view_with_job, view_with_end, view_w
 use Rattle.oberon_claims.proofs.Counting.{number_of_each_once}
 use Rattle.oberon_claims.proofs.Sums.{each_set, total_set, total_has, total_le, times_append, times_here, once_more, once_is, one_is, one_same, empty_if}
 
--- how the two words change
+-- the two words after one of them is set
 pub set_next : (words : List ℕ) (n : ℕ) → length words ≡ 2 → (length (set words 0 n) ≡ 2) × (slice_index (set words 0 n) 0 ≡ n) × (slice_index (set words 0 n) 1 ≡ slice_index words 1)
 set_next [] n two = absurd (omega arith)
 set_next (a ∷ ws) n two = (two, refl, refl)
@@ -29,8 +29,8 @@ module _ (jobs workers next least : ℕ) (views : List View) (id : ℕ) (v : Vie
   -- `next` is far from wrapping
   pub next_small : next ≤ 4160
   next_small =
-      let ends = total_le (λ u. u.ends) (λ u. u.stands) views (λ j u there. (legal.seats j u there).ends_within) in
-      let a = legal.few_jobs in let b = legal.few_workers in let c = number_of_each_once _ _ legal.each_once in let d = legal.next_is in let e = legal.stands_are in
+      let ends = total_le (λ u. u.ends) (λ u. u.passes) views (λ j u there. (legal.seats j u there).ends_within) in
+      let a = legal.few_jobs in let b = legal.few_workers in let c = number_of_each_once _ _ legal.each_once in let d = legal.next_is in let e = legal.passes_are in
       omega arith
 
   -- each job that the seat took is below `next`
@@ -43,8 +43,8 @@ module _ (jobs workers next least : ℕ) (views : List View) (id : ℕ) (v : Vie
       let below = once_is x (min next jobs) (omega arith) in
       omega arith
 
-  pub take_job : next < jobs → 0 < v.stands → IsLegal jobs workers (next + 1) least (set views id (view_with_job v next))
-  take_job free stands =
+  pub take_job : next < jobs → 0 < v.passes → IsLegal jobs workers (next + 1) least (set views id (view_with_job v next))
+  take_job free active =
       let w = view_with_job v next in
       let same : (f : View → ℕ) → f w ≡ f v → total f (set views id w) ≡ total f views = λ f e. (let s = total_set f views id v w at in omega arith) in
       let count : number_taken (set views id w) ≡ number_taken views + 1 =
@@ -69,14 +69,14 @@ module _ (jobs workers next least : ℕ) (views : List View) (id : ℕ) (v : Vie
             let o' = ap (once_below x) m' in
             omega arith;
         next_is = let n = legal.next_is in let e = same (λ u. u.ends) refl in omega arith;
-        stands_are = same (λ u. u.stands) refl ∙ legal.stands_are;
+        passes_are = same (λ u. u.passes) refl ∙ legal.passes_are;
         reported_above = λ x there. legal.reported_above x (subst (λ (n : ℕ). 0 < n) (same (λ u. times x u.reported) refl) there);
         least_reported = ⊎_elim inl (λ (t : 0 < times_reported least views). inr (subst (λ (n : ℕ). 0 < n) (sym (same (λ u. times least u.reported) refl)) t)) legal.least_reported;
         shown_reported = λ x there. subst (λ (n : ℕ). 0 < n) (sym (same (λ u. times x u.reported) refl)) (legal.shown_reported x (subst (λ (n : ℕ). 0 < n) (same (λ u. times x u.shown) refl) there));
       }
 
-  pub take_end : jobs ≤ next → v.ends ≡ 0 → 0 < v.stands → IsLegal jobs workers (next + 1) least (set views id (view_with_end v))
-  take_end past unmarked stands =
+  pub take_end : jobs ≤ next → v.ends ≡ 0 → 0 < v.passes → IsLegal jobs workers (next + 1) least (set views id (view_with_end v))
+  take_end past unmarked active =
       let w = view_with_end v in
       let same : (f : View → ℕ) → f w ≡ f v → total f (set views id w) ≡ total f views = λ f e. (let s = total_set f views id v w at in omega arith) in
       let m : min (next + 1) jobs ≡ min next jobs = omega arith in
@@ -91,13 +91,13 @@ module _ (jobs workers next least : ℕ) (views : List View) (id : ℕ) (v : Vie
         };
         each_once = λ x. same (λ u. times x u.taken) refl ∙ legal.each_once x ∙ ap (once_below x) (sym m);
         next_is = let n = legal.next_is in let c = same (λ u. length u.taken) refl in let s = total_set (λ u. u.ends) views id v w at in omega arith;
-        stands_are = same (λ u. u.stands) refl ∙ legal.stands_are;
+        passes_are = same (λ u. u.passes) refl ∙ legal.passes_are;
         reported_above = λ x there. legal.reported_above x (subst (λ (n : ℕ). 0 < n) (same (λ u. times x u.reported) refl) there);
         least_reported = ⊎_elim inl (λ (t : 0 < times_reported least views). inr (subst (λ (n : ℕ). 0 < n) (sym (same (λ u. times least u.reported) refl)) t)) legal.least_reported;
         shown_reported = λ x there. subst (λ (n : ℕ). 0 < n) (sym (same (λ u. times x u.reported) refl)) (legal.shown_reported x (subst (λ (n : ℕ). 0 < n) (same (λ u. times x u.shown) refl) there));
       }
 
-  -- what the seat reported or was shown was reported, so it is at least `least`
+  -- each segment that the seat reported or was shown is at least `least`, since it was reported
   pub reported_least : (k d : ℕ) → k < length v.reported → least ≤ get_or v.reported k d
   reported_least k d in_range =
       let x = get_or v.reported k d in
@@ -112,15 +112,15 @@ module _ (jobs workers next least : ℕ) (views : List View) (id : ℕ) (v : Vie
       let has = total_has (λ u. times x u.shown) views id v at in
       (legal.reported_above x (legal.shown_reported x (omega arith))).0
 
-  -- while nothing is reported, the seat reported nothing and was shown nothing
+  -- while no segment is reported, the seat has reported nothing and was shown nothing
   pub reported_none : nothing ≤ least → v.reported ≡ []
   reported_none none = empty_if v.reported (λ x there. let has = total_has (λ u. times x u.reported) views id v at in let t = legal.reported_above x (omega arith) in omega arith)
 
   pub shown_none : nothing ≤ least → v.shown ≡ []
   shown_none none = empty_if v.shown (λ x there. let has = total_has (λ u. times x u.shown) views id v at in let t = legal.reported_above x (legal.shown_reported x (omega arith)) in omega arith)
 
-  pub see : least < nothing → 0 < v.stands → IsLegal jobs workers next least (set views id (view_with_shown v least))
-  see some_reported stands =
+  pub show_least : least < nothing → 0 < v.passes → IsLegal jobs workers next least (set views id (view_with_shown v least))
+  show_least some_reported active =
       let w = view_with_shown v least in
       let same : (f : View → ℕ) → f w ≡ f v → total f (set views id w) ≡ total f views = λ f e. (let s = total_set f views id v w at in omega arith) in
       let reported : 0 < times_reported least views = ⊎_elim (λ (e : least ≡ nothing). absurd (omega arith)) (λ (t : 0 < times_reported least views). t) legal.least_reported in
@@ -135,7 +135,7 @@ module _ (jobs workers next least : ℕ) (views : List View) (id : ℕ) (v : Vie
         };
         each_once = λ x. same (λ u. times x u.taken) refl ∙ legal.each_once x;
         next_is = let n = legal.next_is in let c = same (λ u. length u.taken) refl in let e = same (λ u. u.ends) refl in omega arith;
-        stands_are = same (λ u. u.stands) refl ∙ legal.stands_are;
+        passes_are = same (λ u. u.passes) refl ∙ legal.passes_are;
         reported_above = λ x there. legal.reported_above x (subst (λ (n : ℕ). 0 < n) (same (λ u. times x u.reported) refl) there);
         least_reported = inr (subst (λ (n : ℕ). 0 < n) (sym (same (λ u. times least u.reported) refl)) reported);
         shown_reported = λ x there. subst (λ (n : ℕ). 0 < n) (sym (same (λ u. times x u.reported) refl))
@@ -146,8 +146,8 @@ module _ (jobs workers next least : ℕ) (views : List View) (id : ℕ) (v : Vie
             (λ new. subst (λ (y : ℕ). 0 < times_reported y views) (one_is least x (omega arith)) reported));
       }
 
-  pub say : (x : ℕ) → x < nothing → 0 < v.stands → IsLegal jobs workers next (min least x) (set views id (view_with_reported v x))
-  say x small stands =
+  pub report : (x : ℕ) → x < nothing → 0 < v.passes → IsLegal jobs workers next (min least x) (set views id (view_with_reported v x))
+  report x small active =
       let w = view_with_reported v x in
       let same : (f : View → ℕ) → f w ≡ f v → total f (set views id w) ≡ total f views = λ f e. (let s = total_set f views id v w at in omega arith) in
       let more : (y : ℕ) → times_reported y (set views id w) ≡ times_reported y views + cond (eqb x y) 1 0 =
@@ -163,7 +163,7 @@ module _ (jobs workers next least : ℕ) (views : List View) (id : ℕ) (v : Vie
         };
         each_once = λ y. same (λ u. times y u.taken) refl ∙ legal.each_once y;
         next_is = let n = legal.next_is in let c = same (λ u. length u.taken) refl in let e = same (λ u. u.ends) refl in omega arith;
-        stands_are = same (λ u. u.stands) refl ∙ legal.stands_are;
+        passes_are = same (λ u. u.passes) refl ∙ legal.passes_are;
         reported_above = λ y there.
             let m = more y in
             dite (dec_le 1 (times_reported y views))

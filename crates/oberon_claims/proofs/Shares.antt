@@ -1,4 +1,4 @@
--- Cutting a seat in two and putting two together keeps each sum, and so the book.
+-- A split and a join of seats leave each sum as it is, and so keep the book legal.
 use Rattle.std.proofs.Common.{◌≡◌, ◌≢◌, ℕ, zero, suc, ◌+◌, ◌-◌, ◌<◌, ◌≤◌, List, [], ◌∷◌, ◌++◌, length, set, min, inl, inr, sym, refl, ap, ◌∙◌, subst, arith, ⊎_elim, length-append}
 use Rattle.std.specs.Prelude.{slice_index}
 use mathlib.Core.Option.{some, some-injective, some-ne-none}
@@ -12,12 +12,12 @@ use Rattle.oberon_claims.specs.inner.Book.{total, nothing, times_reported, IsSea
 use Rattle.oberon_claims.specs.inner.Steps.{view_with_one_less, fresh_view, joined_view, spent_view}
 use Rattle.oberon_claims.proofs.Sums.{Each, each_set, each_snoc, total_set, total_snoc, total_only, times_append, none_below}
 
--- the six sums of a book
+-- f is true of each of the six sums of a book
 record AreSums (f : (View → ℕ) → Type 0) : Type 0 where
   taken : (x : ℕ) → f (λ v. times x v.taken)
   count : f (λ v. length v.taken)
   ends : f (λ v. v.ends)
-  stands : f (λ v. v.stands)
+  passes : f (λ v. v.passes)
   reported : (x : ℕ) → f (λ v. times x v.reported)
   shown : (x : ℕ) → f (λ v. times x v.shown)
 
@@ -29,13 +29,13 @@ resum jobs workers next least views views' same seats legal = record {
   seats = seats;
   each_once = λ x. same.taken x ∙ legal.each_once x;
   next_is = let n = legal.next_is in let c = same.count in let e = same.ends in omega arith;
-  stands_are = same.stands ∙ legal.stands_are;
+  passes_are = same.passes ∙ legal.passes_are;
   reported_above = λ x there. legal.reported_above x (subst (λ (n : ℕ). 0 < n) (same.reported x) there);
   least_reported = ⊎_elim inl (λ (t : 0 < times_reported least views). inr (subst (λ (n : ℕ). 0 < n) (sym (same.reported least)) t)) legal.least_reported;
   shown_reported = λ x there. subst (λ (n : ℕ). 0 < n) (sym (same.reported x)) (legal.shown_reported x (subst (λ (n : ℕ). 0 < n) (same.shown x) there));
 }
 
--- an empty book
+-- a new book is legal
 pub begins : (plan : Plan) → plan.jobs ≤ 4096 → plan.workers ≤ 64 → Kept plan (opening (0 ∷ nothing ∷ []) [] (own_seat plan))
 begins plan few_jobs few_workers = (
   refl,
@@ -45,7 +45,7 @@ begins plan few_jobs few_workers = (
     seats = one;
     each_once = λ x. sym (none_below x) ∙ ap (once_below x) (let m : 0 ≡ min 0 plan.jobs = omega arith in m);
     next_is = omega arith;
-    stands_are = omega arith;
+    passes_are = omega arith;
     reported_above = λ x there. absurd (omega arith);
     least_reported = inl refl;
     shown_reported = λ x there. absurd (omega arith);
@@ -69,7 +69,7 @@ may_hand_out plan id n some_left s book at =
             taken = λ x. same _ refl;
             count = same _ refl;
             ends = same _ refl;
-            stands = same _ (omega arith);
+            passes = same _ (omega arith);
             reported = λ x. same _ refl;
             shown = λ x. same _ refl;
           }
@@ -96,7 +96,7 @@ may_take_in plan id v other w s book at apart there =
             taken = λ x. same _ (times_append x v.taken w.taken) refl;
             count = same _ (length-append v.taken w.taken) refl;
             ends = same _ refl refl;
-            stands = same _ refl refl;
+            passes = same _ refl refl;
             reported = λ x. same _ (times_append x v.reported w.reported) refl;
             shown = λ x. same _ (times_append x v.shown w.shown) refl;
           }
@@ -112,18 +112,18 @@ may_take_in plan id v other w s book at apart there =
           book.1,
     )
 
--- once one seat stands for all passes, it has the whole book
-pub alone : (jobs workers next least : ℕ) (views : List View) (id : ℕ) (v : View) → get_elem? views id ≡ some v → v.stands ≡ workers → IsLegal jobs workers next least views
+-- if one seat represents all passes, the book is legal with its view alone
+pub alone : (jobs workers next least : ℕ) (views : List View) (id : ℕ) (v : View) → get_elem? views id ≡ some v → v.passes ≡ workers → IsLegal jobs workers next least views
     → IsLegal jobs workers next least (v ∷ [])
 alone jobs workers next least views id v at whole legal =
-    let same : (f : View → ℕ) → Each (λ u. u.stands ≡ 0 → f u ≡ 0) views → total f (v ∷ []) ≡ total f views =
-    λ f idle. (let e = total_only f (λ u. u.stands) views id v at idle (legal.stands_are ∙ sym whole) in omega arith) in
+    let same : (f : View → ℕ) → Each (λ u. u.passes ≡ 0 → f u ≡ 0) views → total f (v ∷ []) ≡ total f views =
+    λ f idle. (let e = total_only f (λ u. u.passes) views id v at idle (legal.passes_are ∙ sym whole) in omega arith) in
     resum jobs workers next least views (v ∷ [])
     record {
       taken = λ x. same _ (λ j u there none. ap (times x) ((legal.seats j u there).idle_taken none));
       count = same _ (λ j u there none. ap length ((legal.seats j u there).idle_taken none));
       ends = same _ (λ j u there none. (let p = (legal.seats j u there).ends_within in omega arith));
-      stands = same _ (λ j u there none. none);
+      passes = same _ (λ j u there none. none);
       reported = λ x. same _ (λ j u there none. ap (times x) ((legal.seats j u there).idle_reported none));
       shown = λ x. same _ (λ j u there none. ap (times x) ((legal.seats j u there).idle_shown none));
     }
@@ -134,7 +134,7 @@ alone jobs workers next least views id v at whole legal =
     one is zero u e = subst IsSeat (some-injective _ _ e) is
     one is (suc j) u e = absurd (some-ne-none u (sym e))
 
--- the moves, at a view that is known
+-- a split may hand out a pass, if the view equals the own view
 pub may_hand_out_as : (key plan : Plan) (id : ℕ) (v : View) (n : ℕ) → key ≡ plan → v ≡ own_view plan n → 0 < n → Splits (Kept key) id v (view_with_one_less v) (fresh_view v)
 may_hand_out_as key plan id v n same is some_left =
     subst (λ (k : Plan). Splits (Kept k) id v (view_with_one_less v) (fresh_view v)) (sym same)
@@ -143,9 +143,9 @@ may_hand_out_as key plan id v n same is some_left =
 pub less_one : (plan : Plan) (m n : ℕ) → view_with_one_less (own_view plan (m - n)) ≡ own_view plan (m - (n + 1))
 less_one plan m n = let e : (m - n) - 1 ≡ m - (n + 1) = omega arith in λ i. own_view plan (e i)
 
--- a closed table, in which one seat stands for all passes
+-- a closed table is a legal book of one view, if that seat represents all passes
 pub closes : (plan : Plan) (id : ℕ) (v : View) (words : List ℕ) (next least : ℕ) (s : State ℕ View) → Kept plan s → get_elem? s.views id ≡ some v → s.words ≡ words
-    → get_elem? words 0 ≡ some next → get_elem? words 1 ≡ some least → v.stands ≡ plan.workers → IsLegal plan.jobs plan.workers next least (v ∷ [])
+    → get_elem? words 0 ≡ some next → get_elem? words 1 ≡ some least → v.passes ≡ plan.workers → IsLegal plan.jobs plan.workers next least (v ∷ [])
 closes plan id v words next least s book at is zeroth first whole =
     let n : slice_index s.words 0 ≡ next = at_place s.words 0 next (ap (λ (l : List ℕ). get_elem? l 0) is ∙ zeroth) in
     let l : slice_index s.words 1 ≡ least = at_place s.words 1 least (ap (λ (l : List ℕ). get_elem? l 1) is ∙ first) in

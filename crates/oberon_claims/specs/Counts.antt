@@ -9,6 +9,6 @@ times x xs = count_by (λ y. nat_eq y x) xs
 abbrev pub once_below : ℕ → ℕ → ℕ
 once_below x n = if nat_lt x n then 1 else 0
 
--- the list has each number below n once, and no other number
+-- the list has each number below n exactly once, and no other number
 abbrev pub IsEachOnceBelow : ℕ → List ℕ → Type 0
 IsEachOnceBelow n xs = (x : ℕ) → times x xs ≡ once_below x n

@@ -1,4 +1,4 @@
--- The passes of a claim book and their result. Read it in this order:
+-- The passes of a claim book and their result, in reading order:
 pub mod Pass
 pub mod Counts
 pub mod Ledger

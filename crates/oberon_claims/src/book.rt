@@ -1,39 +1,40 @@
-//! The two shared words, the rule that is kept between any two atomic steps, and the five kinds of step.
+//! The two shared words, their invariant, which holds between any two atomic steps, and the five kinds of step.
 //!
-//! Here live the names that the rule and the steps have in the code; what they say lives in `specs/inner/Book.antt`
-//! and `specs/inner/Steps.antt`. The calls that make the steps live in `claims`.
+//! This module has the names of the invariant and of the steps in the code. Their definitions are in
+//! `specs/inner/Book.antt` and `specs/inner/Steps.antt`; the calls that make the steps are in `claims`.
 
 use atomic_table::{Join, Play, Split, TableRule};
 use std::collections::LinkedList;
 
-/// The place of the word `next`: the number of claims made so far, and so the next job while there is one.
+/// The index of the word `next`: the number of claims made so far. While it is below the number of jobs, it is the next job.
 pub const NEXT: usize = 0;
 
-/// The place of the word `least`: the least segment reported, or [`NOTHING`].
+/// The index of the word `least`: the least segment reported, or [`NOTHING`].
 pub const LEAST: usize = 1;
 
-/// What `least` holds while no segment was reported: 2^32, which is above every segment.
+/// The value of `least` while no segment is reported: 2^32, which is above every segment.
 pub const NOTHING: u64 = 1 << 32;
 
-/// What a seat knows. It exists in the proofs alone: no value of it is ever made.
+/// What a seat knows. It exists in proofs only: no code makes a value of it.
 pub struct View {
     /// The number of jobs of the book.
     pub jobs: u32,
-    /// The number of its passes.
+    /// The number of passes of the book.
     pub workers: u32,
     /// The jobs that the seat took.
     pub taken: LinkedList<u32>,
     /// The segments that it reported.
     pub reported: LinkedList<u32>,
-    /// The values that it was shown.
+    /// The values of `least` that it was shown.
     pub shown: LinkedList<u32>,
-    /// The number of its claims that came past the end.
+    /// The number of its claims that found no job left.
     pub ends: u32,
-    /// The number of passes that it stands for.
-    pub stands: u32,
+    /// The number of passes that it represents: 1 for the seat of a pass, and for the book's own seat those that it has not
+    /// handed out.
+    pub passes: u32,
 }
 
-/// The two numbers that a book is made for, which never change.
+/// The two numbers that a book is made with, which never change.
 #[derive(Clone, Copy)]
 pub struct Plan {
     /// The number of jobs, at most 4,096.
@@ -42,7 +43,7 @@ pub struct Plan {
     pub workers: u32,
 }
 
-/// The rule: the two words and the views of all seats are a legal book.
+/// The invariant: the two words and the views of all seats are a legal book.
 pub struct Legal;
 
 impl TableRule<u8, View, Plan> for Legal {
@@ -53,7 +54,7 @@ impl TableRule<u8, View, Plan> for Legal {
     ghost first = { own_seat };
 }
 
-/// A fetch_add on `next`: a job is taken, or the claim comes past the end.
+/// A fetch_add on `next`: takes a job, or finds none left.
 pub struct Take;
 
 impl Play<u8, View> for Take {
@@ -62,7 +63,7 @@ impl Play<u8, View> for Take {
     ghost then = { Takes };
 }
 
-/// A load of `least`: the least segment reported so far is shown.
+/// A load of `least`: shows the least segment reported so far.
 pub struct Look;
 
 impl Play<u8, View> for Look {
@@ -71,7 +72,7 @@ impl Play<u8, View> for Look {
     ghost then = { Looks };
 }
 
-/// A fetch_min on `least`: a segment is reported.
+/// A fetch_min on `least`: reports a segment.
 pub struct Tell;
 
 impl Play<u8, View> for Tell {
@@ -80,7 +81,7 @@ impl Play<u8, View> for Tell {
     ghost then = { Tells };
 }
 
-/// The split of a seat, which hands one pass out.
+/// The split of a seat: hands out one pass.
 pub struct HandOut;
 
 impl Split<View> for HandOut {
@@ -91,7 +92,7 @@ impl Split<View> for HandOut {
     ghost right = { fresh_view };
 }
 
-/// The join of two seats, in which one takes the other in.
+/// The join of two seats: one takes in what the other has.
 pub struct TakeIn;
 
 impl Join<View> for TakeIn {

@@ -1,7 +1,7 @@
-//! The book that workers share, and the calls that they make of it.
+//! The book that workers share, and its calls.
 //!
-//! Here live the book's making and closing and the three calls of a worker, each of which is one atomic step on a shared
-//! word. The rule that the steps keep lives in `book`, what the closed words say in `ledger`.
+//! This module makes and closes a book, and has the three calls of a worker, each of which is at most one atomic step on a
+//! shared word. The invariant that the steps keep is in `book`; how the result is read from the closed words, in `ledger`.
 ghost use Rattle.std.specs.Prelude.{◌≡◌, ◌<◌, ◌≤◌, false, true, [], None, IfSome, IfNone, IfOk, All, Contains, replicate, vec_len};
 ghost use Rattle.oberon_claims.specs.Counts.{IsEachOnceBelow};
 ghost use Rattle.oberon_claims.specs.Pass.{fresh_pass, pass_with_job, pass_with_end, pass_with_reported, pass_with_shown};
@@ -15,9 +15,9 @@ use atomic_table::Table;
 use std::alloc::{AllocError, Global};
 use std::marker::Model;
 
-/// A book of jobs numbered from 0, which threads share by reference.
+/// A book of jobs, numbered from 0, which threads share by reference.
 ///
-/// Contracts see it as which book it is, with its number of jobs and of passes, which is 1 to 64.
+/// Contracts see its identity, its number of jobs and its number of passes, which is 1 to 64.
 #[derive(Drop)]
 pub struct Claims {
     table: Table<u8, View, Plan, Legal, Global>,
@@ -38,9 +38,9 @@ impl Model for Claims {
 }
 
 impl Claims {
-    /// A new book of `jobs` jobs, at most 4,096, and `workers` fresh passes of it, 1 to 64.
+    /// Makes a book of `jobs` jobs, at most 4,096, and `workers` fresh passes of it, 1 to 64.
     ///
-    /// It fails only when memory runs out.
+    /// It fails only if memory runs out.
     pub fn new(alloc: Global, jobs: u32, workers: u32) -> Result<(Claims, Vec<Pass>), AllocError>
         requires jobs { jobs ≤ 4096 }
         requires workers { (1 ≤ workers) × (workers ≤ 64) }
@@ -64,9 +64,8 @@ impl Claims {
 
     /// Takes the next job, which no pass has taken before, or returns `None` if all jobs are taken.
     ///
-    /// It is one fetch_add on `next`, takes no memory and waits for nobody. A pass that was once answered `None` is
-    /// answered `None` from then on, without a step. That no other pass has the job is what `finish` says of all
-    /// passes.
+    /// It is one fetch_add on `next`, allocates nothing and never waits. Once it has returned `None` for a pass, it returns
+    /// `None` for that pass again, without a step. The contract of `finish` says that no two passes have the same job.
     pub fn claim(&self, pass: &mut Pass) -> Option<u32>
         requires book { pass.old.book ≡ self.now }
         ensures job { IfSome result (λ job. job < self.now.jobs) }
@@ -87,10 +86,10 @@ impl Claims {
         }
     }
 
-    /// The least segment reported so far by any pass, or `None` if none was reported.
+    /// Returns the least segment that any pass has reported so far, or `None` if none was reported.
     ///
-    /// It is one load of `least`, takes no memory and waits for nobody. That the value was reported by some pass is what
-    /// `finish` says of all passes; that a look sees what another pass reported before it is not promised by a contract.
+    /// It is one load of `least`, allocates nothing and never waits. The contract of `finish` says that some pass reported
+    /// the value. No contract promises that a look sees what another pass reported before it.
     pub fn look(&self, pass: &mut Pass) -> Option<u32>
         requires book { pass.old.book ≡ self.now }
         ensures reported { IfSome result (λ x. All (λ y. x ≤ y) pass.old.reported) }
@@ -102,9 +101,9 @@ impl Claims {
         segment_of(self.table.shared.load::<Look>(&mut pass.seat, LEAST))
     }
 
-    /// Reports a segment, so that later looks show none above it.
+    /// Reports a segment, so that later looks of this pass return none above it.
     ///
-    /// It is one fetch_min on `least`, takes no memory and waits for nobody.
+    /// It is one fetch_min on `least`, allocates nothing and never waits.
     pub fn tell(&self, pass: &mut Pass, segment: u32)
         requires book { pass.old.book ≡ self.now }
         ensures { pass.new ≡ pass_with_reported pass.old segment }
@@ -114,9 +113,9 @@ impl Claims {
             .fetch_min::<Tell>(&mut pass.seat, LEAST, u64::from(segment));
     }
 
-    /// Closes the book on all its passes: how many jobs they took, and the least segment that any reported.
+    /// Closes the book and takes back all its passes. Returns how many jobs they took, and the least segment that any reported.
     ///
-    /// It takes no memory and always answers.
+    /// It allocates nothing and cannot fail.
     pub fn finish(self, passes: Vec<Pass>) -> Ledger
         requires all { vec_len passes ≡ self.workers }
         requires book { All (λ p. p.book ≡ self) passes.items }
@@ -127,7 +126,7 @@ impl Claims {
         ensures least { IsLeastOf (all_reported passes.items) result.least }
         ensures shown { All (λ x. Contains (all_reported passes.items) x) (all_shown passes.items) }
         ensures not_below { IsNotBelow result.least (all_shown passes.items) }
-        // Which the book's type keeps: so who has all passes back has one, and needn't test for it.
+        // A book has a pass by its type, so a caller that has all passes has one, and need not test for it.
         ensures workers { (1 ≤ self.workers) × (self.workers ≤ 64) }
     {
         let Claims { table, own, jobs } = self;

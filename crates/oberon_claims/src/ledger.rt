@@ -1,7 +1,7 @@
 //! The result of a closed book.
 //!
-//! This module has the ledger and how it is read off the two words of a closed book. That the words mean this is proved where
-//! the book is closed, in `claims`.
+//! This module reads the result from the two words of a closed book. `claims`, which closes the book, proves that the words
+//! mean this.
 ghost use Rattle.std.specs.Prelude.{◌≡◌, ◌<◌, ◌≤◌, MatchOption, min};
 ghost use Rattle.oberon_claims.specs.inner.Book.{nothing};
 
@@ -10,13 +10,13 @@ use crate::book::NOTHING;
 /// The number of jobs taken, and the least segment reported.
 #[derive(Clone, Copy, Debug, PartialEq, Eq)]
 pub struct Ledger {
-    /// How many jobs were taken: they are the numbers below it.
+    /// The number of jobs taken, which are the jobs numbered below it.
     pub taken: u32,
-    /// The least segment that any pass reported, `None` if none reported one.
+    /// The least segment that any pass reported, or `None` if none was reported.
     pub least: Option<u32>,
 }
 
-/// How many of `jobs` jobs were taken, when `next` claims were made.
+/// Returns how many of `jobs` jobs were taken by `next` claims.
 pub(crate) fn jobs_taken(next: u64, jobs: u32) -> u32
     ensures { result ≡ min next jobs }
 {
@@ -27,7 +27,7 @@ pub(crate) fn jobs_taken(next: u64, jobs: u32) -> u32
     }
 }
 
-/// The segment that the word `least` holds, `None` if it holds the number for none.
+/// Decodes the word `least`: the segment that it holds, or `None` if it is at least [`NOTHING`].
 pub(crate) fn segment_of(least: u64) -> Option<u32>
     ensures { MatchOption result (nothing ≤ least) (λ x. (x ≡ least) × (least < nothing)) }
 {

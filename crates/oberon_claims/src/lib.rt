@@ -1,10 +1,9 @@
-//! The claim book: numbered jobs shared out among workers in any threads, over two atomic words.
+//! The claim book: workers on many threads take numbered jobs, over two atomic words.
 //!
-//! Here live the book that the workers share by reference ([`Claims`]), the right of one worker to take part in it
-//! ([`Pass`]), and the result of the book once all passes are back ([`Ledger`]). What a job is, what a segment is, and
-//! how workers are started live in the crates above. There is no lock, no channel and nothing that waits: each of
-//! [`Claims::claim`], [`Claims::look`] and [`Claims::tell`] is at most one atomic step, in whatever order the threads
-//! come. `docs/claims.md` describes the protocol.
+//! [`Claims`] is the book, which the workers share by reference. [`Pass`] is one worker's ticket to it, and [`Ledger`] the
+//! result of the book once all passes are back. The crates above define what a job and a segment are, and start the
+//! workers. There is no lock and no channel, and nothing waits: each of [`Claims::claim`], [`Claims::look`] and
+//! [`Claims::tell`] is at most one atomic step. `docs/claims.md` describes the protocol.
 #![tactic(auto)]
 
 mod book;

@@ -1,8 +1,7 @@
 //! The book's own seat, kept in the book while threads share it.
 //!
-//! A seat may move to another thread, but it can't be shared by reference, and the book is. So the own seat lies as a
-//! badge in the one slot of a small table, on which no step is ever made. Here live that table and its rule; what the
-//! seat stands for lives in `book`.
+//! A seat may move to another thread, but cannot be shared by reference, and the book is shared. So the book keeps its own
+//! seat as a badge in the one slot of a small table, on which no step is ever made.
 ghost use Rattle.std.specs.Prelude.{◌≡◌, [], ◌∷◌, IfOk};
 ghost use Rattle.oberon_claims.specs.declared.book.View.{View};
 
@@ -12,7 +11,7 @@ use std::alloc::{AllocError, Global};
 use std::marker::Model;
 use std::snapshot::Snapshot;
 
-/// The rule of the small table: its slot is at home, and has the badge that the table was made with.
+/// The invariant of the small table: its slot is not taken out, and holds the badge that the table was made with.
 pub struct AtHome;
 
 impl TableRule<Badge<View>, u8, Snapshot<Badge<View>>> for AtHome {
@@ -25,7 +24,7 @@ impl TableRule<Badge<View>, u8, Snapshot<Badge<View>>> for AtHome {
 
 /// The book's own seat, which nobody can use until it is taken out.
 ///
-/// Contracts see it as the table whose seat it is, with what the seat knows.
+/// Contracts see the table whose seat it is, and the seat's view.
 #[derive(Drop)]
 pub struct OwnSeat {
     table: Table<Badge<View>, u8, Snapshot<Badge<View>>, AtHome, Global>,
@@ -43,7 +42,7 @@ impl Model for OwnSeat {
 }
 
 impl OwnSeat {
-    /// Puts the seat away. It fails only when memory runs out, and then the seat is gone.
+    /// Puts the seat away. It fails only if memory runs out, and then the seat is lost.
     pub fn new(alloc: Global, seat: Seat<u8, View>) -> Result<OwnSeat, AllocError>
         requires { seat.me.1 ≡ [] }
         ensures table { IfOk result (λ o. o.table ≡ seat.table_id) }
@@ -59,7 +58,7 @@ impl OwnSeat {
         Ok(OwnSeat { table })
     }
 
-    /// Takes the seat out. It takes no memory.
+    /// Takes the seat out. It allocates nothing.
     pub fn into_seat(self) -> Seat<u8, View>
         requires { (v : View) × (self.views ≡ v ∷ []) }
         ensures table { result.table_id ≡ self.table }

@@ -1,17 +1,14 @@
-//! The right of one worker to take part in a book.
-//!
-//! Here lives the type alone: what a pass does lives in `claims`, since each step is one on the book's words.
+//! The pass of one worker. This module has the type only; the calls that use a pass are in `claims`.
 
 use crate::book::View;
 use atomic_table::Seat;
 use std::marker::Model;
 
-/// One worker's right to claim jobs of a book, to look and to report segments. `Claims::new` hands the passes out and
+/// One worker's ticket to a book, with which it claims jobs, looks, and reports segments. `Claims::new` makes the passes and
 /// `Claims::finish` takes them back.
 ///
-/// A pass can move to another thread. Contracts see it as its book, the jobs that it took, the segments that it reported,
-/// the values that it was shown, and whether a claim of it was answered None. Only that last mark has a place at run
-/// time.
+/// A pass can move to another thread. Contracts see its book, the jobs that it took, the segments that it reported, the
+/// values that it was shown, and whether a claim with it was answered `None`. Only the last of these exists at run time.
 #[derive(Drop)]
 pub struct Pass {
     pub(crate) seat: Seat<u8, View>,
@@ -26,6 +23,6 @@ impl Model for Pass {
 
     ghost view = { λ p. record { book = record { table = p.seat.table_id; jobs = p.seat.me.0.jobs; workers = p.seat.me.0.workers }; taken = p.seat.me.0.taken; reported = p.seat.me.0.reported; shown = p.seat.me.0.shown; ended = p.answered_none } };
 
-    // It holds no slot, stands for itself, and came past the end exactly if its mark says so.
-    ghost invariant = { λ p. (p.seat.me.1 ≡ []) × (p.seat.me.0.stands ≡ 1) × (p.seat.me.0.ends ≡ (if p.answered_none then 1 else 0)) };
+    // It holds no slot, represents itself, and has made one claim past the end if its mark is set, and none otherwise.
+    ghost invariant = { λ p. (p.seat.me.1 ≡ []) × (p.seat.me.0.passes ≡ 1) × (p.seat.me.0.ends ≡ (if p.answered_none then 1 else 0)) };
 }

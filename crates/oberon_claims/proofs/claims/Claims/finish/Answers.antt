@@ -8,7 +8,7 @@ use Rattle.oberon_claims.specs.Counts.{once_below}
 use Rattle.oberon_claims.specs.inner.Steps.{joined_view}
 use Rattle.oberon_claims.specs.inner.Book.{own_view, IsLegal}
 use Rattle.oberon_claims.proofs.Shares.{may_take_in, closes}
-use Rattle.oberon_claims.proofs.Gathers.{gathered, gathers, first_of, next_of, taken_once, all_gone, least_reported_is, shown_all_reported, shown_not_below}
+use Rattle.oberon_claims.proofs.Gathers.{gathered, gathered_snoc, first_of, next_of, taken_once, all_jobs_taken, least_reported_is, shown_all_reported, shown_not_below}
 use Rattle.oberon_claims.proofs.claims.Claims.finish.Goals as goal
 
 pub loop-pass-init : goal.loop-pass-init
@@ -42,12 +42,12 @@ loop-pass-preserved c =
     let is = c.pass.view_is in (
       j.0 ∙ i.0,
       ap (λ (m : Me ℕ View). m.0) j.2 ∙ ap (λ (v : View). joined_view v c.pass.inside.seat.me.0) i.1
-          ∙ gathers c.args.self c.loop-pass.yielded c.in-Some.pass c.pass.inside.seat.me.0 record {
+          ∙ gathered_snoc c.args.self c.loop-pass.yielded c.in-Some.pass c.pass.inside.seat.me.0 record {
             taken = ap (λ (h : PassRecord). h.taken) is;
             reported = ap (λ (h : PassRecord). h.reported) is;
             shown = ap (λ (h : PassRecord). h.shown) is;
             ends = p.2 ∙ ap (λ (h : PassRecord). cond h.ended 1 0) is;
-            stands = p.1;
+            passes = p.1;
           },
       append_assoc c.loop-pass.yielded (c.in-Some.pass ∷ []) _ ∙ ap (λ (l : List PassRecord). c.loop-pass.yielded ++ l) (sym step.0) ∙ i.2,
     )
@@ -68,7 +68,7 @@ whole c =
     let view = i.1 ∙ ap (gathered c.args.self) all in
     let workers : length c.args.passes.items ≡ plan.workers = sym c.args.passes.ok.0 ∙ c.requires.all ∙ ap (λ (b : BookId). b.workers) (sym c.self.view_is) in
     subst (λ (p : ℕ × View). IsLegal plan.jobs p.0 c.word-next.result c.word-least.result (p.1 ∷ [])) (λ k. (sym workers k, view k))
-    (closes plan _ _ _ c.word-next.result c.word-least.result e.0 e.1.0 e.1.1 e.2 c.word-next.ensures c.word-least.ensures (ap (λ (v : View). v.stands) view ∙ workers))
+    (closes plan _ _ _ c.word-next.result c.word-least.result e.0 e.1.0 e.1.1 e.2 c.word-next.ensures c.word-least.ensures (ap (λ (v : View). v.passes) view ∙ workers))
 
 capped_is : (c : goal.After-segment_of) → c.jobs_taken.result ≡ min c.word-next.result c.self.inside.table.shared.key.jobs
 capped_is c = c.jobs_taken.ensures ∙ ap (min c.word-next.result) (sym c.self.invariant.0)
@@ -80,7 +80,7 @@ pub returns-clause-taken : goal.returns-clause-taken
 returns-clause-taken c = λ x. taken_once c.args.self _ _ _ _ (whole c) x ∙ ap (once_below x) (sym (capped_is c))
 
 pub returns-clause-whole : goal.returns-clause-whole
-returns-clause-whole c = λ ended. capped_is c ∙ all_gone c.args.self _ _ _ _ (whole c) ended ∙ c.self.invariant.0 ∙ ap (λ (b : BookId). b.jobs) c.self.view_is
+returns-clause-whole c = λ ended. capped_is c ∙ all_jobs_taken c.args.self _ _ _ _ (whole c) ended ∙ c.self.invariant.0 ∙ ap (λ (b : BookId). b.jobs) c.self.view_is
 
 pub returns-clause-least : goal.returns-clause-least
 returns-clause-least c = least_reported_is c.args.self _ _ _ _ (whole c) _ c.segment_of.ensures

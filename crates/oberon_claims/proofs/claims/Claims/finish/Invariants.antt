@@ -2,7 +2,7 @@ use Rattle.std.proofs.Common.{◌≡◌, ◌++◌}
 use Rattle.oberon_claims.proofs.Gathers.{gathered}
 use Rattle.oberon_claims.proofs.claims.Claims.finish.Given as goal
 
--- the own seat has taken in the passes that came
+-- the own seat has joined the seats of the passes so far
 abbrev pub invariant-loop-pass : goal.invariant-loop-pass
 invariant-loop-pass l =
     (l.own.table_id ≡ l.table.shared.table_id)

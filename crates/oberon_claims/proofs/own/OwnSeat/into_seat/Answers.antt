@@ -6,7 +6,7 @@ use Rattle.oberon_claims.specs.declared.book.View.{View}
 use Rattle.oberon_claims.specs.inner.Own.{OwnRecord}
 use Rattle.oberon_claims.proofs.own.OwnSeat.into_seat.Goals as goal
 
--- the badge that is taken out is the one that was put away
+-- the badge that is taken out is the badge that was put in
 badge_is : (c : goal.After-free) → c.take-badge.result ≡ c.self.inside.table.shared.key.value
 badge_is c =
     let f = c.close-closed.ensures.values.2 in
