@@ -1,7 +1,8 @@
-//! Tests of the check: the claim book, segments and what their verdicts come to, workers, lines, and trials of the whole with
-//! texts that are cut off or stand at a limit, and with schedules of workers that are as bad as a gate can make them.
+//! Tests of `oberon_claims` and `oberon_check`, over their public names: the claim book, segments, verdicts, workers and verdict
+//! lines.
 //!
-//! Nothing is exported. The tests of `oberon_claims` and `oberon_check` stand here, over their public names alone.
+//! They also test the whole check on recordings that are cut off or at a limit, and with gates that hold workers back in the
+//! worst order. Nothing is exported.
 #![tactic(auto)]
 
 #[cfg(test)]

@@ -1,5 +1,5 @@
-//! The tests, each family in a module. What they share, recordings of jumps, the check of a text and gates that hold jobs, has
-//! modules of its own.
+//! The tests, each family in a module. `jumps`, `checked`, `gates` and `held` have what several of them use: recordings of
+//! jumps, the check of a file, and gates that hold jobs back.
 
 mod checked;
 mod claims;

@@ -1,4 +1,4 @@
--- What the findings of all parts are, where this is the verdict on their recording.
+-- What the segment verdicts of all shares are, if this is the verdict on their recording.
 use Rattle.std.proofs.Common.{◌≡◌, ℕ, zero, suc, ◌+◌, ◌-◌, ◌<◌, ◌≤◌, List, length, get_or, Option, None, Some, refl, ap, sym, ◌∙◌, subst, arith, ⊎_elim}
 use Rattle.std.specs.Prelude.{All, Contains}
 use mathlib.Core.Logic.{dite}
@@ -22,7 +22,7 @@ use Rattle.oberon_check.proofs.Tallying.{not_some}
 use Rattle.oberon_check.proofs.Parts.{not_first}
 use Rattle.oberon_check.proofs.Gathered.{AllBack, at_most_once, occurs_or_after, reported_occurs}
 
--- where the checkpoints up to one are true, the segments below it hold
+-- if the checkpoints up to n are true, the segments below n hold
 hold_of : (r : RecordingParts) → IsLawful r → (n : ℕ) → n ≤ last_of r → ((k : ℕ) → 0 < k → k ≤ n → IsTrueAt r k) → HoldBelow r n
 hold_of r lawful zero inside truths j below = absurd (omega arith)
 hold_of r lawful (suc n) inside truths j below =
@@ -33,7 +33,7 @@ hold_of r lawful (suc n) inside truths j below =
     subst (λ (i : ℕ). claimed r (i + 1) ≡ replayed r i) e
     (truths (n + 1) (omega arith) (omega arith) ∙ sym (replayed-defined r lawful n (omega arith) before))))
 
--- the segments below the answer's
+-- the segments below the answer's are segments of the recording, and hold
 below_within : (r : RecordingParts) (v : Verdict) → IsVerdict r v → below_answer v ≤ last_of r
 below_within r (Accepted checkpoints steps) is = let e = is.checkpoints_is in omega arith
 below_within r (FalseAt checkpoint count part) is = let inside = is.inside in omega arith
@@ -47,23 +47,23 @@ hold_below_answer r lawful (FalseAt checkpoint count part) is =
     let above = is.above in
     hold_of r lawful (checkpoint - 1) (omega arith) (λ k some within. is.before k some (omega arith))
 
--- where two outcomes are the same, no part differs
+-- if two outcomes are the same, no part differs
 no_part : (x y : Outcome) (o : Option Part) → x ≡ y → IsDifference x y o → o ≡ None
 no_part x y None same is = refl
 no_part x y (Some p) same is = absurd (not_first x y p same is)
 
--- where they differ first in a part, it is this one
+-- the first part in which two outcomes differ is the only one
 this_part : (x y : Outcome) (p : Part) (o : Option Part) → first_difference x y ≡ Some p → IsDifference x y o → o ≡ Some p
 this_part x y p None first same = absurd (not_first x y p same first)
 this_part x y p (Some q) first is = sym is ∙ first
 
--- a finding below the answer's is of a segment that held
+-- a verdict of a segment below the answer's says that the segment held
 held_below : (r : RecordingParts) → IsLawful r → (vs : List Finding) → ((k : ℕ) → k < length vs → IsTruth r vs k) → (v : Verdict) → IsVerdict r v
     → (k : ℕ) → k < length vs → segment_at vs k < below_answer v → part_at vs k ≡ None
 held_below r lawful vs truths v is k inside below =
     no_part _ _ (part_at vs k) (hold_below_answer r lawful v is (segment_at vs k) below) (truths k inside).replay
 
--- so nothing that was reported lies there
+-- so no segment below the answer's was reported
 none_reported_below : (r : RecordingParts) (cut : ℕ) (ps : List PassRecord) (vs : List Finding) → AllBack (last_of r) cut ps vs → IsLawful r → ((k : ℕ) → k < length vs → IsTruth r vs k)
     → (v : Verdict) → IsVerdict r v → (x : ℕ) → Contains (all_reported ps) x → x < below_answer v → ⊥
 none_reported_below r cut ps vs b lawful truths v is x reported below =
@@ -71,12 +71,12 @@ none_reported_below r cut ps vs b lawful truths v is x reported below =
     let at = k.2 in
     not_some _ (held_below r lawful vs truths v is k.0 k.1 (omega arith)) k.3
 
--- each segment up to the answer's has a finding
+-- each segment up to the answer's has a verdict
 occurs_to : (r : RecordingParts) (cut : ℕ) (ps : List PassRecord) (vs : List Finding) → AllBack (last_of r) cut ps vs → IsLawful r → ((k : ℕ) → k < length vs → IsTruth r vs k)
     → (v : Verdict) → IsVerdict r v → (s : ℕ) → s < last_of r → s ≤ below_answer v → OccursBelow vs (length vs) s
 occurs_to r cut ps vs b lawful truths v is s inside within =
     ⊎_elim
-    (λ (stands : OccursBelow vs (length vs) s). stands)
+    (λ (occurs : OccursBelow vs (length vs) s). occurs)
     (λ (w : (x : ℕ) × Contains (all_reported ps) x × (x < s)). (let before = w.2 in absurd (none_reported_below r cut ps vs b lawful truths v is w.0 w.1 (omega arith))))
     (occurs_or_after (last_of r) cut ps vs b s inside)
 
@@ -118,11 +118,11 @@ has_answer r cut ps vs b lawful truths (FalseAt checkpoint count part) is =
       replay = first;
     }
 
--- what was passed over lies after the least that was reported
+-- a segment without a verdict is after the least segment reported
 after_least : (last cut : ℕ) (ps : List PassRecord) (vs : List Finding) → AllBack last cut ps vs → (least : Option ℕ) → IsLeastOf (all_reported ps) least → (s : ℕ) → s < last → ¬ (OccursBelow vs (length vs) s) → IsAfterLeast (all_reported ps) s
 after_least last cut ps vs b least is s inside not =
     ⊎_elim
-    (λ (stands : OccursBelow vs (length vs) s). absurd (not stands))
+    (λ (occurs : OccursBelow vs (length vs) s). absurd (not occurs))
     (λ (w : (x : ℕ) × Contains (all_reported ps) x × (x < s)). of least is w.0 w.1 w.2)
     (occurs_or_after last cut ps vs b s inside)
   where
@@ -148,5 +148,5 @@ answered r cut ds b of least is_least lawful findings v is =
       once = each_once (last_of r) cut (passes_of ds) (all_findings ds) b;
       below = has_below r cut (passes_of ds) (all_findings ds) b lawful truths v is;
       answer = has_answer r cut (passes_of ds) (all_findings ds) b lawful truths v is;
-      passed_over = after_least (last_of r) cut (passes_of ds) (all_findings ds) b least is_least;
+      skipped = after_least (last_of r) cut (passes_of ds) (all_findings ds) b least is_least;
     }

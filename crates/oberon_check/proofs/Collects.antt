@@ -1,4 +1,4 @@
--- What segment verdicts come to, where each that counts has one.
+-- The verdict that follows from segment verdicts, if each segment that needs one has one.
 use Rattle.std.proofs.Common.{◌≡◌, ℕ, zero, suc, ◌+◌, ◌-◌, ◌<◌, ◌≤◌, List, length, get_or, Bool, Option, None, Some, refl, ap, sym, ◌∙◌, subst, arith}
 use Rattle.std.specs.Prelude.{All, IsSome}
 use Rattle.std.proofs.lemmas.List.{get_or_default}
@@ -32,7 +32,7 @@ truth r vs of findings k inside =
     let moved = subst P (λ i. (of k blank inside i, sym s i, sym p i)) (t.inside, t.replay) in
     record { inside = moved.0; replay = moved.1 }
 
--- no verdict below the end failed
+-- no segment below the end failed
 holds_at : (vs : List Finding) (n last : ℕ) (least : Option (ℕ × Part)) → IsLeastFailed vs n least → (k : ℕ) → k < n → segment_at vs k < end_of least last → part_at vs k ≡ None
 holds_at vs n last None is k small below = is k small
 holds_at vs n last (Some f) is k small below = none_or (part_at vs k) (λ some. (let h = is.1 k small some in omega arith))
@@ -44,22 +44,22 @@ holds_at vs n last (Some f) is k small below = none_or (part_at vs k) (λ some. 
 pub hold_below : (r : RecordingParts) (vs : List Finding) (n : ℕ) (seen : List Bool) (least : Option (ℕ × Part)) → ((k : ℕ) → k < n → IsTruth r vs k) → IsTally vs n seen least
     → end_of least (last_of r) ≤ 4096 → ((s : ℕ) → s < end_of least (last_of r) → IsMarked seen s) → HoldBelow r (end_of least (last_of r))
 hold_below r vs n seen least truths tally few marked j below =
-    let stands : OccursBelow vs n j = (tally.marks j (omega arith)).0 (marked j below) in
-    let k : ℕ = stands.0 in
-    let is : segment_at vs k ≡ j = stands.2 in
-    let held = holds_at vs n (last_of r) least tally.least_failed k stands.1 (omega arith) in
-    let t = (truths k stands.1).replay in
+    let occurs : OccursBelow vs n j = (tally.marks j (omega arith)).0 (marked j below) in
+    let k : ℕ = occurs.0 in
+    let is : segment_at vs k ≡ j = occurs.2 in
+    let held = holds_at vs n (last_of r) least tally.least_failed k occurs.1 (omega arith) in
+    let t = (truths k occurs.1).replay in
     let P : (ℕ × Option Part) → Type 0 = λ x. IsSegmentPart r x.0 x.1 in
     subst P (λ i. (is i, held i)) t
 
--- all checkpoints up to one are true
+-- if the segments below n hold, the checkpoints up to n are true
 pub true_to : (r : RecordingParts) → IsLawful r → (n : ℕ) → n ≤ last_of r → HoldBelow r n → (k : ℕ) → 0 < k → k ≤ n → IsTrueAt r k
 true_to r lawful n inside hold zero some within = absurd (omega arith)
 true_to r lawful n inside hold (suc i) some within =
     let e : i + 1 ≡ suc i = omega arith in
     subst (IsTrueAt r) e (hold i (omega arith) ∙ replayed-defined r lawful i (omega arith) (λ j h. hold j (omega arith)))
 
--- the first false checkpoint
+-- the least failed segment leads to the first false checkpoint
 pub first_false : (r : RecordingParts) (vs : List Finding) (n : ℕ) (f : ℕ × Part) (count : ℕ) → count ≡ count_at r (f.0 + 1) → IsLawful r → ((k : ℕ) → k < n → IsTruth r vs k) → IsLeastFailed vs n (Some f) → HoldBelow r f.0 → IsFirstFalse r (f.0 + 1) count f.1
 first_false r vs n f count is_count lawful truths is hold =
     let k : ℕ = is.0.0 in
@@ -98,7 +98,7 @@ is_missing r vs seen least s tally few within below not before = (
   no_double vs seen least tally,
   record {
     inside = omega arith;
-    missing = λ stands. not ((tally.marks s (omega arith)).1 stands);
+    missing = λ occurs. not ((tally.marks s (omega arith)).1 occurs);
     before = λ j small. (tally.marks j (omega arith)).0 (before j small);
     below_failed = failed_above (last_of r) least tally.least_failed below;
   },
@@ -112,7 +112,7 @@ pub end_within : (r : RecordingParts) (vs : List Finding) (n : ℕ) (least : Opt
 end_within r vs n None truths is = omega arith
 end_within r vs n (Some f) truths is = let h = (truths is.0.0 is.0.1).inside in let e = is.0.2 in omega arith
 
--- what collect knows once each segment below the end has a mark
+-- what `collect` knows once each segment below the end is marked
 pub record IsCollected (r : RecordingParts) (vs : List Finding) (seen : List Bool) (least : Option (ℕ × Part)) : Type 0 where
   pub lawful : IsLawful r
   pub truths : (k : ℕ) → k < length vs → IsTruth r vs k

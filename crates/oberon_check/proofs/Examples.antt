@@ -1,5 +1,5 @@
--- The definitions on worked examples, computed outright: the order of the parts, the lines of verdicts, and what the verdicts
--- of segments come to.
+-- Worked examples of the definitions: the order of the parts, the lines of verdicts, and the least failed segment of a list
+-- of verdicts.
 use Rattle.std.proofs.Common.{◌≡◌, ◌<◌, ℕ, zero, suc, [], ◌∷◌, List, get_or, Option, None, Some, map, refl, inl, inr, arith}
 use Rattle.std.specs.Prelude.{codes, Contains}
 use Rattle.std.specs.Fmt.{digits}
@@ -16,7 +16,7 @@ use Rattle.oberon_check.specs.Segment.{Finding}
 use Rattle.oberon_check.specs.inner.Tally.{lesser_of, end_of}
 use Rattle.oberon_check.specs.Work.{IsAfterShown, IsJob, failed_of}
 
--- registers first, then the processor's other parts, the devices, the output, and the pages last
+-- the order of the registers, of the processor's other parts and of the devices, and the names of parts
 order_of_registers : (a b : List ℕ) → map (λ (rule : Rule Part). rule.1) (register_parts a b) ≡ R 0 ∷ R 1 ∷ R 2 ∷ R 3 ∷ R 4 ∷ R 5 ∷ R 6 ∷ R 7 ∷ R 8 ∷ R 9 ∷ R 10 ∷ R 11 ∷ R 12 ∷ R 13 ∷ R 14 ∷ R 15 ∷ []
 unfolding each
 order_of_registers a b = refl
@@ -32,7 +32,7 @@ names : map part_name (R 0 ∷ R 15 ∷ H ∷ Pc ∷ Rate ∷ Phase ∷ Sent ∷
 unfolding digits
 names = refl
 
--- the recording of checkpoint 0 alone, and the largest numbers that a recording can have
+-- the line of a recording that has only checkpoint 0, and the line with the largest numbers
 no_checkpoint : line_of (Accepted 0 0) ≡ codes "accepted 0 checkpoints 0 steps\n"
 unfolding digits
 no_checkpoint = refl
@@ -56,7 +56,7 @@ false_output = refl
 statuses : map status_of (Accepted 2 9 ∷ FalseAt 1 2 (R 5) ∷ []) ≡ 0 ∷ 1 ∷ []
 statuses = refl
 
--- verdicts in the order 7, 3, 5 of which all failed: the least is kept, and only what lies below it has to be there
+-- segments 7, 3 and 5 failed, in this order: 3 is the least, and only the segments below it need a verdict
 least_of_three : lesser_of (lesser_of (lesser_of None 7 (Some Leds)) 3 (Some Keys)) 5 (Some H) ≡ Some (3, Keys)
 least_of_three = refl
 
@@ -69,7 +69,7 @@ below_the_least = refl
 all_of_them : end_of None 10 ≡ 10
 all_of_them = refl
 
--- 4 is the one element of this list
+-- 4 is the only element of this list
 only_four : (k x : ℕ) → k < 1 → get_or (4 ∷ []) k x ≡ x → 4 ≡ x
 only_four zero x small is = is
 only_four (suc k) x small is = absurd (omega arith)
@@ -77,7 +77,7 @@ only_four (suc k) x small is = absurd (omega arith)
 not_eight : (x : ℕ) → x ≡ 8 → x < 8 → ⊥
 not_eight x is below = absurd (omega arith)
 
--- ten segments in jobs of four, of which segment 2 failed: job 0 ends with it, and it alone is reported
+-- ten segments in jobs of four. Segment 2 failed: job 0 ends with it, and no other segment is reported
 module _ (r : RecordingParts) where
   abbrev found : ℕ → Option Part → Finding
   found segment part = record { recording = r; segment = segment; part = part }
@@ -91,16 +91,16 @@ module _ (r : RecordingParts) where
   failed_is_reported : failed_of first_job ≡ 2 ∷ []
   failed_is_reported = refl
 
-  -- job 1 begins at segment 4, so it may be passed over where 2 was shown, and not where 4 alone was
-  passed_over : IsJob 10 4 (2 ∷ []) 1 []
-  passed_over = inl (refl, (2, (0, omega arith, refl), omega arith))
+  -- job 1 begins at segment 4, so it may be skipped if 2 was shown, but not if only 4 was
+  skipped : IsJob 10 4 (2 ∷ []) 1 []
+  skipped = inl (refl, (2, (0, omega arith, refl), omega arith))
 
   not_at_its_first : IsJob 10 4 (4 ∷ []) 1 [] → ⊥
   not_at_its_first (inl over) =
-      let behind : IsAfterShown (4 ∷ []) 4 = over.1 in
-      let there : Contains (4 ∷ []) behind.0 = behind.1 in
-      let four = only_four there.0 behind.0 there.1 there.2 in
-      let below : behind.0 < 4 = behind.2 in
+      let after : IsAfterShown (4 ∷ []) 4 = over.1 in
+      let there : Contains (4 ∷ []) after.0 = after.1 in
+      let four = only_four there.0 after.0 there.1 there.2 in
+      let below : after.0 < 4 = after.2 in
       absurd (omega arith)
   not_at_its_first (inr run) = not_eight 4 run (omega arith)
 

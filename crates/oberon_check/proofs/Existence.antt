@@ -35,7 +35,7 @@ true_if_none r lawful k inside none =
     let some = lawful.some in
     same_in_all (claimed r k) (defined r k) (claimed-sized r lawful k (omega arith)) (defined-sized r lawful k) none
 
--- a checkpoint is true exactly when no part differs
+-- a checkpoint is true exactly if no part differs
 pub none_if_true : (r : RecordingParts) → IsLawful r → (k : ℕ) → k ≤ last_of r → (first_difference (claimed r k) (defined r k) ≡ None) ↔ IsTrueAt r k
 none_if_true r lawful k inside = (
   true_if_none r lawful k inside,

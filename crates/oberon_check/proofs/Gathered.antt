@@ -1,4 +1,4 @@
--- The parts of all workers together: no segment has two verdicts, and each that counts has one.
+-- The shares of all workers together: no segment has two verdicts, and each that needs one has one.
 use Rattle.std.proofs.Common.{◌≡◌, ◌≢◌, ◌⊎◌, ℕ, zero, suc, ◌+◌, ◌*◌, ◌/◌, ◌%◌, ◌<◌, ◌≤◌, min, List, [], ◌∷◌, ◌++◌, map, length, get_or, Bool, true, false, cond, nat_eq, nat_lt, Option, None, Some, refl, ap, sym, ◌∙◌, subst, arith, inl, inr, ⊎_elim, lt_of_not-le, div-add-mod', mul-le-mul_right}
 use Rattle.std.specs.Prelude.{All, Contains, IsSome, MatchOption, is_some}
 use Rattle.std.specs.Int.{div_ceil}
@@ -10,7 +10,7 @@ use native.Mathlib.Decide.{dec_le, dec_lt, ℕ_discrete}
 use Rattle.oberon_claims.specs.Counts.{times, once_below}
 use Rattle.oberon_claims.specs.Pass.{PassRecord}
 use Rattle.oberon_claims.specs.Ledger.{all_taken, all_reported, all_shown}
-use Rattle.oberon_claims.proofs.Sums.{times_append, times_front, once_here, one_is, one_same}
+use Rattle.oberon_claims.proofs.Sums.{times_append, times_cons, once_here, one_is, one_same}
 use Rattle.oberon_format.specs.Recording.{RecordingParts, last_of}
 use Rattle.oberon_check.specs.declared.part.Part.{Part}
 use Rattle.oberon_check.specs.declared.collector.CollectFault.{CollectFault}
@@ -27,8 +27,8 @@ segments_append : (xs ys : List Finding) → segments (xs ++ ys) ≡ segments xs
 segments_append [] ys = refl
 segments_append (x ∷ xs) ys = ap (λ (l : List ℕ). x.segment ∷ l) (segments_append xs ys)
 
-times_pieces : (s : ℕ) (vs front back : List Finding) → vs ≡ front ++ back → times s (segments vs) ≡ times s (segments front) + times s (segments back)
-times_pieces s vs front back is = ap (λ (l : List Finding). times s (segments l)) is ∙ ap (times s) (segments_append front back) ∙ times_append s (segments front) (segments back)
+times_pieces : (s : ℕ) (vs piece rest : List Finding) → vs ≡ piece ++ rest → times s (segments vs) ≡ times s (segments piece) + times s (segments rest)
+times_pieces s vs piece rest is = ap (λ (l : List Finding). times s (segments l)) is ∙ ap (times s) (segments_append piece rest) ∙ times_append s (segments piece) (segments rest)
 
 one_other : (x y : ℕ) → x ≢ y → cond {A = ℕ} (nat_eq x y) 1 0 ≡ 0
 one_other x y ne = go (cond (nat_eq x y) 1 0) refl
@@ -41,26 +41,26 @@ one_small : (b : Bool) → cond b 1 0 ≤ 1
 one_small true = omega arith
 one_small false = omega arith
 
--- a segment that no run from here on has doesn't stand behind a verdict: there is such a run, or nothing where it failed
-none_behind : (first end s : ℕ) (vs : List Finding) (o : Option Part) → (IsRun first end vs → times s (segments vs) ≡ 0) → MatchOption o (IsRun first end vs) (λ _. vs ≡ []) → times s (segments vs) ≡ 0
-none_behind first end s vs None next run = next run
-none_behind first end s vs (Some p) next is = ap (λ (l : List Finding). times s (segments l)) is
+-- after a verdict, a segment does not occur if no run from the next segment on has it: what follows is such a run, or nothing
+none_after : (first end s : ℕ) (vs : List Finding) (o : Option Part) → (IsRun first end vs → times s (segments vs) ≡ 0) → MatchOption o (IsRun first end vs) (λ _. vs ≡ []) → times s (segments vs) ≡ 0
+none_after first end s vs None next run = next run
+none_after first end s vs (Some p) next is = ap (λ (l : List Finding). times s (segments l)) is
 
--- no segment before a run stands in it
+-- a segment before the first of a run, or after its end, does not occur in it
 run_before : (first end s : ℕ) (vs : List Finding) → IsRun first end vs → s < first → times s (segments vs) ≡ 0
 run_before first end s [] h below = refl
 run_before first end s (v ∷ vs) h below =
     let here = one_other v.segment s (λ e. (let f = h.1 in absurd (omega arith))) in
-    let front = times_front s v.segment (segments vs) in
-    let rest = none_behind (first + 1) end s vs v.part (λ run. run_before (first + 1) end s vs run (omega arith)) h.2 in omega arith
+    let counted = times_cons s v.segment (segments vs) in
+    let rest = none_after (first + 1) end s vs v.part (λ run. run_before (first + 1) end s vs run (omega arith)) h.2 in omega arith
 
 run_past : (first end s : ℕ) (vs : List Finding) → IsRun first end vs → end ≤ s → times s (segments vs) ≡ 0
 run_past first end s [] h past = refl
 run_past first end s (v ∷ vs) h past =
     let below = h.0 in
     let here = one_other v.segment s (λ e. (let f = h.1 in absurd (omega arith))) in
-    let front = times_front s v.segment (segments vs) in
-    let rest = none_behind (first + 1) end s vs v.part (λ run. run_past (first + 1) end s vs run past) h.2 in omega arith
+    let counted = times_cons s v.segment (segments vs) in
+    let rest = none_after (first + 1) end s vs v.part (λ run. run_past (first + 1) end s vs run past) h.2 in omega arith
 
 run_once : (first end s : ℕ) (vs : List Finding) → IsRun first end vs → times s (segments vs) ≤ 1
 run_once first end s [] h = omega arith
@@ -69,9 +69,9 @@ run_once first end s (v ∷ vs) h = tail v.part (λ run. run_once (first + 1) en
     tail : (o : Option Part) → (IsRun (first + 1) end vs → times s (segments vs) ≤ 1) → MatchOption o (IsRun (first + 1) end vs) (λ _. vs ≡ []) → times s (segments (v ∷ vs)) ≤ 1
     tail None next run =
         dite (ℕ_discrete v.segment s)
-        (λ (same : v.segment ≡ s). (let f = h.1 in let front = times_front s v.segment (segments vs) in let rest = run_before (first + 1) end s vs run (omega arith) in let one = one_small (nat_eq v.segment s) in omega arith))
-        (λ other. (let here = one_other v.segment s other in let front = times_front s v.segment (segments vs) in let rest = next run in omega arith))
-    tail (Some p) next is = let front = times_front s v.segment (segments vs) in let rest : times s (segments vs) ≡ 0 = ap (λ (l : List Finding). times s (segments l)) is in let one = one_small (nat_eq v.segment s) in omega arith
+        (λ (same : v.segment ≡ s). (let f = h.1 in let counted = times_cons s v.segment (segments vs) in let rest = run_before (first + 1) end s vs run (omega arith) in let one = one_small (nat_eq v.segment s) in omega arith))
+        (λ other. (let here = one_other v.segment s other in let counted = times_cons s v.segment (segments vs) in let rest = next run in omega arith))
+    tail (Some p) next is = let counted = times_cons s v.segment (segments vs) in let rest : times s (segments vs) ≡ 0 = ap (λ (l : List Finding). times s (segments l)) is in let one = one_small (nat_eq v.segment s) in omega arith
 
 -- a segment of a run has a verdict, or one before it failed
 run_has : (first end s : ℕ) (vs : List Finding) → IsRun first end vs → first ≤ s → s < end → Contains (segments vs) s ⊎ ((f : ℕ) × Contains (failed_of vs) f × (f < s))
@@ -96,7 +96,7 @@ run_has first end s (v ∷ vs) h from below =
         let f = h.1 in
         inr (v.segment, Contains-append_left (one_failed v.segment v.part) (failed_of vs) v.segment here, omega arith)
 
--- which job a segment is in
+-- the number of the job that a segment is in
 in_job : (cut s job : ℕ) → 0 < cut → job * cut ≤ s → s < job * cut + cut → job ≡ s / cut
 in_job cut s job some from below =
     let d = div-add-mod' s cut in
@@ -124,7 +124,7 @@ jobs_once last cut s shown [] vs some h = let none : times s (segments vs) ≡ 0
 jobs_once last cut s shown (job ∷ taken) vs some h =
     let here = job_once last cut s job shown h.0 some h.3 in
     let rest = jobs_once last cut s shown taken h.1 some h.4 in
-    let front = times_front (s / cut) job taken in
+    let counted = times_cons (s / cut) job taken in
     let both = times_pieces s vs h.0 h.1 h.2 in omega arith
 
 all_once : (last cut s : ℕ) (ps : List PassRecord) (vs : List Finding) → 0 < cut → InPieces (HasDone last cut) ps vs → times s (segments vs) ≤ times (s / cut) (all_taken ps)
@@ -135,20 +135,20 @@ all_once last cut s (p ∷ ps) vs some h =
     let both = times_pieces s vs h.0 h.1 h.2 in
     let split = times_append (s / cut) p.taken (all_taken ps) in omega arith
 
--- a number at two places
+-- a number at some index of a list occurs at least once, and a number at two indices at least twice
 one_time : (s : ℕ) (xs : List ℕ) (k : ℕ) → k < length xs → get_or xs k 0 ≡ s → 1 ≤ times s xs
 one_time s [] k inside is = absurd (omega arith)
-one_time s (x ∷ xs) zero inside is = let front = times_front s x xs in let one = one_same x s is in omega arith
-one_time s (x ∷ xs) (suc k) inside is = let front = times_front s x xs in let r = one_time s xs k (omega arith) is in omega arith
+one_time s (x ∷ xs) zero inside is = let counted = times_cons s x xs in let one = one_same x s is in omega arith
+one_time s (x ∷ xs) (suc k) inside is = let counted = times_cons s x xs in let r = one_time s xs k (omega arith) is in omega arith
 
 two_times : (s : ℕ) (xs : List ℕ) (j k : ℕ) → j < k → k < length xs → get_or xs j 0 ≡ s → get_or xs k 0 ≡ s → 2 ≤ times s xs
 two_times s [] j k before inside a b = absurd (omega arith)
 two_times s (x ∷ xs) j zero before inside a b = absurd (omega arith)
-two_times s (x ∷ xs) zero (suc k) before inside a b = let front = times_front s x xs in let one = one_same x s a in let r = one_time s xs k (omega arith) b in omega arith
-two_times s (x ∷ xs) (suc j) (suc k) before inside a b = let front = times_front s x xs in let r = two_times s xs j k (omega arith) (omega arith) a b in omega arith
+two_times s (x ∷ xs) zero (suc k) before inside a b = let counted = times_cons s x xs in let one = one_same x s a in let r = one_time s xs k (omega arith) b in omega arith
+two_times s (x ∷ xs) (suc j) (suc k) before inside a b = let counted = times_cons s x xs in let r = two_times s xs j k (omega arith) (omega arith) a b in omega arith
 
-stands : (vs : List Finding) (s : ℕ) → Contains (segments vs) s → OccursBelow vs (length vs) s
-stands vs s c =
+contained_occurs : (vs : List Finding) (s : ℕ) → Contains (segments vs) s → OccursBelow vs (length vs) s
+contained_occurs vs s c =
     let l = length-map vs (λ (v : Finding). v.segment) in
     let inside = c.1 in
     (c.0, omega arith, get_or_default (segments vs) c.0 0 s inside ∙ c.2)
@@ -169,43 +169,43 @@ failed_occurs (v ∷ vs) f c =
         let zero_place : here.0 ≡ 0 = omega arith in
         (0, omega arith, ap (λ (k : ℕ). get_or (v.segment ∷ []) k f) (sym zero_place) ∙ here.2, ap is_some e)
 
--- the job's piece
+-- the verdicts of one job, which are a piece of vs
 pub record Piece (last cut job : ℕ) (vs : List Finding) (shown : List ℕ) : Type 0 where
-  pub front : List Finding
-  pub is_job : IsJob last cut shown job front
-  pub in_segments : (s : ℕ) → Contains (segments front) s → Contains (segments vs) s
-  pub in_failed : (f : ℕ) → Contains (failed_of front) f → Contains (failed_of vs) f
+  pub verdicts : List Finding
+  pub is_job : IsJob last cut shown job verdicts
+  pub in_segments : (s : ℕ) → Contains (segments verdicts) s → Contains (segments vs) s
+  pub in_failed : (f : ℕ) → Contains (failed_of verdicts) f → Contains (failed_of vs) f
 
-left_in : (vs front back : List Finding) → vs ≡ front ++ back → (s : ℕ) → Contains (segments front) s → Contains (segments vs) s
-left_in vs front back is s c = subst (λ (l : List ℕ). Contains l s) (sym (ap segments is ∙ segments_append front back)) (Contains-append_left (segments front) (segments back) s c)
+left_in : (vs piece rest : List Finding) → vs ≡ piece ++ rest → (s : ℕ) → Contains (segments piece) s → Contains (segments vs) s
+left_in vs piece rest is s c = subst (λ (l : List ℕ). Contains l s) (sym (ap segments is ∙ segments_append piece rest)) (Contains-append_left (segments piece) (segments rest) s c)
 
-right_in : (vs front back : List Finding) → vs ≡ front ++ back → (s : ℕ) → Contains (segments back) s → Contains (segments vs) s
-right_in vs front back is s c = subst (λ (l : List ℕ). Contains l s) (sym (ap segments is ∙ segments_append front back)) (Contains-append_right (segments front) (segments back) s c)
+right_in : (vs piece rest : List Finding) → vs ≡ piece ++ rest → (s : ℕ) → Contains (segments rest) s → Contains (segments vs) s
+right_in vs piece rest is s c = subst (λ (l : List ℕ). Contains l s) (sym (ap segments is ∙ segments_append piece rest)) (Contains-append_right (segments piece) (segments rest) s c)
 
-left_failed : (vs front back : List Finding) → vs ≡ front ++ back → (s : ℕ) → Contains (failed_of front) s → Contains (failed_of vs) s
-left_failed vs front back is s c = subst (λ (l : List ℕ). Contains l s) (sym (ap failed_of is ∙ failed_append front back)) (Contains-append_left (failed_of front) (failed_of back) s c)
+left_failed : (vs piece rest : List Finding) → vs ≡ piece ++ rest → (s : ℕ) → Contains (failed_of piece) s → Contains (failed_of vs) s
+left_failed vs piece rest is s c = subst (λ (l : List ℕ). Contains l s) (sym (ap failed_of is ∙ failed_append piece rest)) (Contains-append_left (failed_of piece) (failed_of rest) s c)
 
-right_failed : (vs front back : List Finding) → vs ≡ front ++ back → (s : ℕ) → Contains (failed_of back) s → Contains (failed_of vs) s
-right_failed vs front back is s c = subst (λ (l : List ℕ). Contains l s) (sym (ap failed_of is ∙ failed_append front back)) (Contains-append_right (failed_of front) (failed_of back) s c)
+right_failed : (vs piece rest : List Finding) → vs ≡ piece ++ rest → (s : ℕ) → Contains (failed_of rest) s → Contains (failed_of vs) s
+right_failed vs piece rest is s c = subst (λ (l : List ℕ). Contains l s) (sym (ap failed_of is ∙ failed_append piece rest)) (Contains-append_right (failed_of piece) (failed_of rest) s c)
 
 job_piece : (last cut job : ℕ) (shown taken : List ℕ) (vs : List Finding) → InPieces (IsJob last cut shown) taken vs → 0 < times job taken → Piece last cut job vs shown
 job_piece last cut job shown [] vs h there = absurd (omega arith)
 job_piece last cut job shown (j ∷ taken) vs h there =
     dite (ℕ_discrete j job)
     (λ (same : j ≡ job). record {
-      front = h.0;
+      verdicts = h.0;
       is_job = subst (λ (n : ℕ). IsJob last cut shown n h.0) same h.3;
       in_segments = left_in vs h.0 h.1 h.2;
       in_failed = left_failed vs h.0 h.1 h.2;
     })
-    (λ other. (let none = one_other j job other in let front = times_front job j taken in let r = job_piece last cut job shown taken h.1 h.4 (omega arith) in record {
-      front = r.front;
+    (λ other. (let none = one_other j job other in let counted = times_cons job j taken in let r = job_piece last cut job shown taken h.1 h.4 (omega arith) in record {
+      verdicts = r.verdicts;
       is_job = r.is_job;
       in_segments = λ s c. right_in vs h.0 h.1 h.2 s (r.in_segments s c);
       in_failed = λ s c. right_failed vs h.0 h.1 h.2 s (r.in_failed s c);
     }))
 
--- the piece of a job that some pass took, with what that pass was shown
+-- the verdicts of one job that some pass took, and what that pass was shown
 pub record Found (last cut job : ℕ) (ps : List PassRecord) (vs : List Finding) : Type 0 where
   pub shown : List ℕ
   pub piece : Piece last cut job vs shown
@@ -219,7 +219,7 @@ taken_piece last cut job (p ∷ ps) vs h there =
     (λ (here : 0 < times job p.taken). (let r = job_piece last cut job p.shown p.taken h.0 h.3.jobs here in record {
       shown = p.shown;
       piece = record {
-        front = r.front;
+        verdicts = r.verdicts;
         is_job = r.is_job;
         in_segments = λ s c. left_in vs h.0 h.1 h.2 s (r.in_segments s c);
         in_failed = λ s c. left_failed vs h.0 h.1 h.2 s (r.in_failed s c);
@@ -229,7 +229,7 @@ taken_piece last cut job (p ∷ ps) vs h there =
     (λ none. (let r = taken_piece last cut job ps h.1 h.4 (omega arith) in record {
       shown = r.shown;
       piece = record {
-        front = r.piece.front;
+        verdicts = r.piece.verdicts;
         is_job = r.piece.is_job;
         in_segments = λ s c. right_in vs h.0 h.1 h.2 s (r.piece.in_segments s c);
         in_failed = λ s c. right_failed vs h.0 h.1 h.2 s (r.piece.in_failed s c);
@@ -251,14 +251,14 @@ job_below last cut s some below =
     (λ (le : jobs ≤ s / cut). (let b : jobs * cut ≤ s / cut * cut = mul-le-mul_right cut le in absurd (omega arith)))
     (λ gt. lt_of_not-le gt)
 
--- what is known once all parts are back: each job was taken once, and what was shown was reported
+-- what is known once all shares are back: each job was taken once, and each segment shown was reported
 pub record AllBack (last cut : ℕ) (ps : List PassRecord) (vs : List Finding) : Type 0 where
   pub some : 0 < cut
   pub done : InPieces (HasDone last cut) ps vs
   pub each : (x : ℕ) → times x (all_taken ps) ≡ once_below x (div_ceil last cut)
   pub shown_reported : All (λ x. Contains (all_reported ps) x) (all_shown ps)
 
--- no segment stands at two places
+-- no segment has two verdicts
 pub at_most_once : (last cut : ℕ) (ps : List PassRecord) (vs : List Finding) → AllBack last cut ps vs → (j k : ℕ) → j < k → k < length vs → segment_at vs j ≢ segment_at vs k
 at_most_once last cut ps vs b j k before inside same =
     let s : ℕ = segment_at vs k in
@@ -268,7 +268,7 @@ at_most_once last cut ps vs b j k before inside same =
     let e = b.each (s / cut) in
     let o = one_small (nat_lt (s / cut) (div_ceil last cut)) in omega arith
 
--- a segment has a verdict, or one that was reported lies before it
+-- a segment has a verdict, or is after one that was reported
 pub occurs_or_after : (last cut : ℕ) (ps : List PassRecord) (vs : List Finding) → AllBack last cut ps vs → (s : ℕ) → s < last → OccursBelow vs (length vs) s ⊎ ((x : ℕ) × Contains (all_reported ps) x × (x < s))
 occurs_or_after last cut ps vs b s inside =
     let some = b.some in
@@ -280,31 +280,31 @@ occurs_or_after last cut ps vs b s inside =
     let d = div-add-mod' s cut in
     let small : s % cut < cut = omega arith in
     ⊎_elim
-    (λ (w : (f.piece.front ≡ []) × IsAfterShown f.shown (job * cut)).
+    (λ (w : (f.piece.verdicts ≡ []) × IsAfterShown f.shown (job * cut)).
     (let x : ℕ = w.1.0 in
     let c : Contains (all_reported ps) x = has (all_shown ps) x b.shown_reported (f.in_shown x w.1.1) in
     let h = w.1.2 in inr (x, c, omega arith)))
-    (λ (run : IsRun (job * cut) (min (job * cut + cut) last) f.piece.front).
+    (λ (run : IsRun (job * cut) (min (job * cut + cut) last) f.piece.verdicts).
     ⊎_elim
-    (λ (c : Contains (segments f.piece.front) s). inl (stands vs s (f.piece.in_segments s c)))
-    (λ (w : (x : ℕ) × Contains (failed_of f.piece.front) x × (x < s)).
+    (λ (c : Contains (segments f.piece.verdicts) s). inl (contained_occurs vs s (f.piece.in_segments s c)))
+    (λ (w : (x : ℕ) × Contains (failed_of f.piece.verdicts) x × (x < s)).
     (let c : Contains (all_reported ps) w.0 = subst (λ (l : List ℕ). Contains l w.0) (sym (reported_failed last cut ps vs b.done)) (f.piece.in_failed w.0 w.1) in inr (w.0, c, w.2)))
-    (run_has _ _ s f.piece.front run (omega arith) (omega arith))) f.piece.is_job
+    (run_has _ _ s f.piece.verdicts run (omega arith) (omega arith))) f.piece.is_job
   where
     has : (xs : List ℕ) (x : ℕ) → All (λ y. Contains (all_reported ps) y) xs → Contains xs x → Contains (all_reported ps) x
     has xs x all c = subst (λ (y : ℕ). Contains (all_reported ps) y) c.2 (all c.0 x c.1)
 
--- what was reported has a verdict that failed
+-- each segment reported has a verdict that it failed
 pub reported_occurs : (last cut : ℕ) (ps : List PassRecord) (vs : List Finding) → AllBack last cut ps vs → (x : ℕ) → Contains (all_reported ps) x → (k : ℕ) × (k < length vs) × (segment_at vs k ≡ x) × IsSome (part_at vs k)
 reported_occurs last cut ps vs b x c = failed_occurs vs x (subst (λ (l : List ℕ). Contains l x) (reported_failed last cut ps vs b.done) c)
 
--- so the collector finds no fault
+-- so there is no fault for the collector to find
 pub no_fault : (r : RecordingParts) (cut : ℕ) (ps : List PassRecord) (vs : List Finding) → AllBack (last_of r) cut ps vs → (f : CollectFault) → IsCollectFault r vs f → ⊥
 no_fault r cut ps vs b (Double s) d =
     at_most_once (last_of r) cut ps vs b d.occurred.0 d.at d.occurred.1 d.inside (d.occurred.2 ∙ sym d.is)
 no_fault r cut ps vs b (Missing s) (single, m) =
     ⊎_elim
-    (λ (stands : OccursBelow vs (length vs) s). m.missing stands)
+    (λ (occurs : OccursBelow vs (length vs) s). m.missing occurs)
     (λ (w : (x : ℕ) × Contains (all_reported ps) x × (x < s)).
     (let k = reported_occurs (last_of r) cut ps vs b w.0 w.1 in let h = m.below_failed k.0 k.1 k.3 in let is = k.2 in let before = w.2 in absurd (omega arith)))
     (occurs_or_after (last_of r) cut ps vs b s m.inside)

@@ -14,4 +14,4 @@ pub mod Answered
 pub mod Lines
 pub mod Migrations
 pub mod Examples
-pub mod Sent
+pub mod Threads

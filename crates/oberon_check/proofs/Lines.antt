@@ -1,4 +1,4 @@
--- A byte text has exactly one line with its status.
+-- Any bytes have exactly one line with one status.
 use Rattle.std.proofs.Common.{◌≡◌, ℕ, List, Option, None, Some, refl, ap, sym, ◌∙◌, subst, inl, inr, ⊎_elim}
 use Rattle.std.specs.Prelude.{MatchOption}
 use Rattle.oberon_format.specs.declared.fault.Fault.{Fault}
@@ -14,7 +14,7 @@ use Rattle.oberon_check.specs.declared.verdict.Verdict.{Verdict}
 use Rattle.oberon_check.proofs.Existence.{some_verdict}
 use Rattle.oberon_check.proofs.Unique.{one_verdict}
 
--- a line with its status, the only ones of the text
+-- the bytes have exactly one line with one status
 abbrev pub HasOneLine : List ℕ → Type 0
 HasOneLine text =
     (line : List ℕ) × (status : ℕ) × IsLineOf text line status

@@ -1,4 +1,4 @@
--- A text and its migration are texts of one recording, so their lines are the same.
+-- A file and its migrated form encode the same recording, so their lines are the same.
 use Rattle.std.proofs.Common.{◌≡◌, ℕ, List, Option, None, Some, subst, inl, inr}
 use Rattle.std.specs.Prelude.{MatchOption}
 use Rattle.oberon_format.specs.declared.fault.Fault.{Fault}
@@ -11,7 +11,7 @@ use Rattle.oberon_check.specs.Headline.{IsLineOf}
 use Rattle.oberon_check.specs.Laws.{SameLine}
 use Rattle.oberon_check.specs.Verdict.{IsVerdict}
 
--- the text of a recording has no fault
+-- bytes that encode a recording have no fault
 no_fault : HasTextOrFault → (text : List ℕ) → AreBytes text → (r : RecordingParts) → Text text r → (fault : Fault) → first_fault_of text ≡ Some fault → ⊥
 no_fault either text bytes r is fault first = go (first_fault_of text) first (either text bytes)
   where
@@ -19,7 +19,7 @@ no_fault either text bytes r is fault first = go (first_fault_of text) first (ei
     go None e has = cc
     go (Some f) e none = none r is
 
--- the line of a text of a recording is that of every text of it
+-- the line of bytes that encode a recording is the line of all bytes that encode it
 line_of_both : HasOneRecording → HasTextOrFault → (one other : List ℕ) → AreBytes one → (r : RecordingParts) → Text one r → Text other r
     → (line : List ℕ) (status : ℕ) → IsLineOf one line status → IsLineOf other line status
 line_of_both same either one other bytes r is also line status (inl a) = inl (record {

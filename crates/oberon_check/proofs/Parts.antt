@@ -22,7 +22,7 @@ fails : (b : Bool) → (b ≡ true → ⊥) → b ≡ false
 fails true never = absurd (never refl)
 fails false never = refl
 
--- ---- where they differ first
+-- ---- two outcomes that differ
 
 module _ (x y : Outcome) where
   abbrev rest : List (Rule Part)
@@ -63,7 +63,7 @@ module _ (x y : Outcome) where
       (λ k below. (bytes_decides _ _).1 (sym (first.before k below)))
       (fails _ (λ e. first.differs (sym ((bytes_decides _ _).0 e))))
 
--- ---- where no part differs
+-- ---- two outcomes that differ in no part
 
 from_flags : (f g : FlagsState) → same_flags f g ≡ true → f ≡ g
 from_flags f g h = λ i. record { n = n i; z = z i; c = c i; v = v i }
@@ -132,7 +132,7 @@ same_devices a b h = λ i. record {
     serial : ((a.serial == b.serial) ≡ true) × (beq a.received b.received ≡ true)
     serial = and_parts (a.serial == b.serial) (beq a.received b.received) (all 6 d (omega arith))
 
--- a word is in its page
+-- word w of a memory is word w % 256 of page w / 256
 word_in_page : (xs : List ℕ) (w : ℕ) → get_or xs w 0 ≡ get_or (page_at xs (w / 256)) (w % 256) 0
 unfolding page_at
 word_in_page xs w =
@@ -148,7 +148,7 @@ same_words xs ys a b h =
     page : (p : ℕ) → p < 1024 → page_at xs p ≡ page_at ys p
     page p lt = (bytes_decides _ _).0 (each_holds (λ k. pointwise nat_eq (page_at xs k) (page_at ys k)) Page 1024 h p lt)
 
--- the same in all
+-- outcomes whose parts are the same are the same
 pub same_outcome : (x y : Outcome) → x.state.cpu ≡ y.state.cpu → x.state.devices ≡ y.state.devices → x.state.words ≡ y.state.words → x.sent ≡ y.sent → x ≡ y
 same_outcome x y cpu devices words sent = λ i. record { state = record { cpu = cpu i; devices = devices i; words = words i }; sent = sent i }
 
@@ -199,17 +199,17 @@ none_differs x =
     ∙ met_append (devices x x) (rest x x) (no_device x.state.devices)
     ∙ met (pointwise nat_eq x.sent x.sent) Sent (page_parts x.state.words x.state.words) (bytes x.sent) (no_page x.state.words)
 
--- the same outcome differs in no part
+-- an outcome differs from itself in no part
 pub not_first : (x y : Outcome) (p : Part) → x ≡ y → first_difference x y ≡ Some p → ⊥
 not_first x y p e h =
     let none : first_difference x y ≡ None = subst (λ (o : Outcome). first_difference x o ≡ None) e (none_differs x) in
     absurd cc
 
--- two outcomes differ first in one part
+-- there is only one first part in which two outcomes differ
 pub one_first : (x y : Outcome) (p q : Part) → first_difference x y ≡ Some p → first_difference x y ≡ Some q → p ≡ q
 one_first x y p q a b = cc
 
--- ---- the same in the words of the law
+-- ---- the two sides of the law of the first difference
 
 pub first_to : (x y : Outcome) (p : Part) → first_difference x y ≡ Some p → IsFirstDifference x y p
 unfolding first_difference

@@ -1,4 +1,4 @@
--- Segments that hold lead along the one run.
+-- If the segments below i hold, checkpoint i claims the state of the one run. This is the induction of docs/theorem.md.
 use Rattle.std.proofs.Common.{◌≡◌, ℕ, zero, suc, ◌+◌, ◌-◌, ◌<◌, ◌≤◌, List, refl, ap, sym, ◌∙◌, arith}
 use Rattle.risc_model.specs.declared.event.Event.{Event}
 use Rattle.risc_model.specs.MachineState.{State}
@@ -9,7 +9,7 @@ use Rattle.oberon_format.specs.Recording.{RecordingParts, IsLawful, count_at, la
 use Rattle.oberon_format.specs.Defined.{Outcome, claimed, state_at, defined}
 use Rattle.oberon_check.specs.Segment.{replayed}
 
--- a run goes on from where it is
+-- a run is a run up to some count, followed by a run from the state there
 run_of-to : (es : List Event) (from to : ℕ) (s : State) → from ≤ to → run_of es from (to - from) (run_of es 0 from s) ≡ run_of es 0 to s
 run_of-to es from to s h =
     let begin : 0 + from ≡ from = omega arith in
@@ -36,7 +36,7 @@ claimed-defined r lawful (suc i) inside hold =
     ∙ run_of-to r.inputs (count_at r i) (count_at r (i + 1)) (claimed r 0).state (omega arith)
     ∙ ap (λ (k : ℕ). state_at r (count_at r k)) n
 
--- and the replay of segment i gives what is defined at checkpoint i + 1
+-- and the replay of segment i gives the defined outcome at checkpoint i + 1
 pub replayed-defined : (r : RecordingParts) → IsLawful r → (i : ℕ) → i < last_of r → HoldBelow r i → replayed r i ≡ defined r (i + 1)
 replayed-defined r lawful i inside hold =
     let n : i ≡ i + 1 - 1 = omega arith in

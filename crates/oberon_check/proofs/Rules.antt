@@ -1,11 +1,11 @@
--- The first broken rule of a list, whatever its faults are.
+-- The first broken rule of a list, for faults of any type.
 use Rattle.std.proofs.Common.{◌≡◌, ◌<◌, ℕ, zero, suc, Bool, true, false, List, [], ◌∷◌, ◌++◌, None, Some, refl, ap, sym, ◌∙◌, arith, inl, inr}
 use Rattle.std.specs.Prelude.{All}
 use Rattle.std.proofs.lemmas.Bool.{cases_lt}
 use Rattle.std.proofs.lemmas.List.Elements.{All-nil, All-cons, All-head, All-tail}
 use Rattle.oberon_format.specs.FirstFault.{Rule, each, first_broken}
 
--- where a list of rules breaks first: each rule before it holds
+-- this is the fault of the first broken rule: each rule before it holds
 pub record BrokenAt {F : Type 0} (rules : List (Rule F)) (fault : F) : Type 0 where
   pub before : List (Rule F)
   pub after : List (Rule F)
@@ -34,7 +34,7 @@ module _ {F : Type 0} where
   pub met_right : (xs ys : List (Rule F)) → first_broken (xs ++ ys) ≡ None → first_broken ys ≡ None
   met_right xs ys h = sym (met_append xs ys (met_left xs ys h)) ∙ h
 
-  -- a first rule
+  -- the first broken rule of a list that begins with this rule
   pub met : (b : Bool) (f : F) (xs : List (Rule F)) → b ≡ true → first_broken xs ≡ None → first_broken ((b, f) ∷ xs) ≡ None
   met b f xs h e = rw h e
 
@@ -46,7 +46,7 @@ module _ {F : Type 0} where
   hold ((true, f) ∷ xs) h = All-cons Held (true, f) xs refl (hold xs h)
   hold ((false, f) ∷ xs) h = absurd cc
 
-  -- one rule at each number
+  -- lists with one rule for each number
   module _ (holds : ℕ → Bool) (fault : ℕ → F) where
     abbrev pub singly : ℕ → List (Rule F)
     singly k = (holds k, fault k) ∷ []
@@ -81,7 +81,7 @@ module _ {F : Type 0} where
               ∙ unmet (holds i) (fault i) [] e
         ]
 
-  -- what breaks first breaks at a place before which all rules hold, and the other way round
+  -- a fault is that of the first broken rule exactly if its rule is broken and each rule before it holds
   pub broken_at : (xs : List (Rule F)) (g : F) → first_broken xs ≡ Some g → BrokenAt xs g
   broken_at [] g h = absurd cc
   broken_at ((true, f) ∷ xs) g h =

@@ -10,7 +10,7 @@ use Rattle.oberon_check.specs.Work.{IsAfterShown, IsJob, InPieces, one_failed, f
 use Rattle.oberon_check.specs.inner.Progress.{AddsJob, AddsRun, IsLooked}
 use Rattle.std.proofs.lemmas.List.Elements.{All-push}
 
--- the verdicts of the segments from first on, up to end, all of which held
+-- the list has the verdicts of the segments from `first` to `end - 1` in order, all of which held
 abbrev pub IsHeld : ℕ → ℕ → List Finding → Type 0
 IsHeld first end [] = first ≡ end
 IsHeld first end (v ∷ vs) = (v.segment ≡ first) × (v.part ≡ None) × IsHeld (first + 1) end vs
@@ -51,7 +51,7 @@ held_none : (first end : ℕ) (vs : List Finding) → IsHeld first end vs → fa
 held_none first end [] h = refl
 held_none first end (v ∷ vs) h = ap (λ (o : Option Part). one_failed v.segment o ++ failed_of vs) h.1 ∙ held_none (first + 1) end vs h.2
 
--- a list of verdicts, with segments that held more
+-- ws is vs and the verdicts of the segments from `first` to `k - 1`, all of which held
 pub record HeldPiece (r : RecordingParts) (first k : ℕ) (vs ws : List Finding) : Type 0 where
   pub piece : List Finding
   pub verdicts : ws ≡ vs ++ piece
@@ -110,13 +110,13 @@ pub looked : (o : Option ℕ) (p q : PassRecord) → IfSome o (λ x. q ≡ pass_
 looked None p q some none = subst (IsLooked p) (sym none) (record { book = refl; taken = refl; reported = refl; ended = refl; shown = λ x c. c })
 looked (Some x) p q some none = subst (IsLooked p) (sym some) (record { book = refl; taken = refl; reported = refl; ended = refl; shown = λ y c. Contains-append_left p.shown (x ∷ []) y c })
 
--- the value that a look shows
+-- a segment after the value that a look shows
 pub after_shown : (x first : ℕ) (p q : PassRecord) → q ≡ pass_with_shown p x → x < first → IsAfterShown q.shown first
 after_shown x first p q is below =
     (x, subst (λ (h : PassRecord). Contains h.shown x) (sym is) (Contains-append_right p.shown (x ∷ []) x (0, omega arith, refl)), below)
 
-pub job_passed : (r : RecordingParts) (cut job : ℕ) (p q : PassRecord) (vs : List Finding) → IsLooked p q → IsAfterShown q.shown (job * cut) → AddsJob r cut job p q vs vs
-job_passed r cut job p q vs l behind = record {
+pub job_skipped : (r : RecordingParts) (cut job : ℕ) (p q : PassRecord) (vs : List Finding) → IsLooked p q → IsAfterShown q.shown (job * cut) → AddsJob r cut job p q vs vs
+job_skipped r cut job p q vs l after = record {
   book = l.book;
   taken = l.taken;
   ended = l.ended;
@@ -125,7 +125,7 @@ job_passed r cut job p q vs l behind = record {
   verdicts = sym (append-nil vs);
   reported = l.reported ∙ sym (append-nil p.reported);
   recordings = λ k d small. absurd (omega arith);
-  is_job = inl (refl, behind);
+  is_job = inl (refl, after);
 }
 
 pub job_run : (r : RecordingParts) (cut job first end : ℕ) (p m q : PassRecord) (vs ws : List Finding) → IsLooked p m → first ≡ job * cut → end ≡ min (job * cut + cut) (last_of r) → AddsRun r first end m q vs ws → AddsJob r cut job p q vs ws
@@ -141,7 +141,7 @@ job_run r cut job first end p m q vs ws l f e run = record {
   is_job = inr (let P : (ℕ × ℕ) → Type 0 = λ x. IsRun x.0 x.1 run.piece in subst P (λ i. (f i, e i)) run.is_run);
 }
 
--- pieces
+-- lists of verdicts in pieces
 module _ {A : Type 0} where
   pub pieces_more : (P Q : A → List Finding → Type 0) → ((x : A) (vs : List Finding) → P x vs → Q x vs) → (xs : List A) (vs : List Finding) → InPieces P xs vs → InPieces Q xs vs
   pieces_more P Q f [] vs h = h
@@ -152,7 +152,7 @@ module _ {A : Type 0} where
   pieces_snoc P (y ∷ xs) x vs ws piece h here is =
       (h.0, h.1 ++ piece, is ∙ ap (λ (l : List Finding). l ++ piece) h.2 ∙ append_assoc h.0 h.1 piece, h.3, pieces_snoc P xs x h.1 (h.1 ++ piece) piece h.4 here refl)
 
--- a job more
+-- one more job
 pub done_more : (r : RecordingParts) (cut job : ℕ) (p q s : PassRecord) (vs ws : List Finding) → HasDone (last_of r) cut p vs → q ≡ pass_with_job p job → AddsJob r cut job q s vs ws → HasDone (last_of r) cut s ws
 done_more r cut job p q s vs ws done is adds =
     let taken : s.taken ≡ p.taken ++ job ∷ [] = adds.taken ∙ ap (λ (h : PassRecord). h.taken) is in

@@ -1,4 +1,4 @@
--- One verdict more.
+-- The tally after one more verdict.
 use Rattle.std.proofs.Common.{◌≡◌, ◌≢◌, ◌⊎◌, ℕ, ◌+◌, ◌<◌, ◌≤◌, List, length, get_or, replicate, Bool, true, false, nat_lt, Option, None, Some, refl, ap, sym, ◌∙◌, subst, arith, true≢false, inl, inr, ⊎_elim, lt_of_not-le}
 use Rattle.std.proofs.Math.ListN.{set}
 use Rattle.std.specs.Prelude.{IsSome, ◌↔◌, if◌then◌else◌}
@@ -20,20 +20,20 @@ part_here vs k v inside is = get_or-map (λ (t : Finding). t.part) vs k v None i
 
 pub tally_none : (vs : List Finding) (n : ℕ) → IsTally vs 0 (replicate n false) None
 tally_none vs n = record {
-  marks = λ s few. ((λ m. absurd (true≢false (sym m ∙ replicate_anywhere n false s))), (λ (stands : OccursBelow vs 0 s). let h = stands.1 in absurd (omega arith)));
+  marks = λ s few. ((λ m. absurd (true≢false (sym m ∙ replicate_anywhere n false s))), (λ (occurs : OccursBelow vs 0 s). let h = occurs.1 in absurd (omega arith)));
   single = λ k below. absurd (omega arith);
   least_failed = λ k below. absurd (omega arith);
 }
 
--- one more
-stands_more : (vs : List Finding) (n s : ℕ) → OccursBelow vs (n + 1) s → OccursBelow vs n s ⊎ (segment_at vs n ≡ s)
-stands_more vs n s (k, below, is) =
+-- segments that occur among the first n + 1 verdicts, and the marks of those
+occurs_snoc : (vs : List Finding) (n s : ℕ) → OccursBelow vs (n + 1) s → OccursBelow vs n s ⊎ (segment_at vs n ≡ s)
+occurs_snoc vs n s (k, below, is) =
     dite (dec_le n k)
     (λ (at : n ≤ k). inr (let e : n ≡ k = omega arith in ap (λ (i : ℕ). segment_at vs i) e ∙ is))
     (λ before. inl (k, lt_of_not-le before, is))
 
-stands_still : (vs : List Finding) (n s : ℕ) → OccursBelow vs n s → OccursBelow vs (n + 1) s
-stands_still vs n s (k, below, is) = (k, omega arith, is)
+occurs_still : (vs : List Finding) (n s : ℕ) → OccursBelow vs n s → OccursBelow vs (n + 1) s
+occurs_still vs n s (k, below, is) = (k, omega arith, is)
 
 marks_more : (vs : List Finding) (n : ℕ) (seen : List Bool) (new : ℕ) → length seen ≡ 4096 → new < 4096 → segment_at vs n ≡ new
     → ((s : ℕ) → s < 4096 → IsMarked seen s ↔ OccursBelow vs n s)
@@ -42,12 +42,12 @@ marks_more vs n seen new whole few here marks s inside =
     dite (ℕ_discrete s new)
     (λ (same : s ≡ new). ((λ _. (n, omega arith, here ∙ sym same)), (λ _. ap (λ (i : ℕ). get_or (set seen new true) i false) same ∙ get_or-set_same seen new true false (omega arith))))
     (λ (other : s ≢ new). (
-      (λ m. stands_still vs n s ((marks s inside).0 (sym (get_or-set_other seen new s true false other) ∙ m))),
-      (λ stands. get_or-set_other seen new s true false other ∙ (marks s inside).1 (
-          ⊎_elim (λ (old : OccursBelow vs n s). old) (λ (is : segment_at vs n ≡ s). absurd (other (sym is ∙ here))) (stands_more vs n s stands))),
+      (λ m. occurs_still vs n s ((marks s inside).0 (sym (get_or-set_other seen new s true false other) ∙ m))),
+      (λ occurs. get_or-set_other seen new s true false other ∙ (marks s inside).1 (
+          ⊎_elim (λ (old : OccursBelow vs n s). old) (λ (is : segment_at vs n ≡ s). absurd (other (sym is ∙ here))) (occurs_snoc vs n s occurs))),
     ))
 
--- where a fact holds below n and at n
+-- what is true of each number below n and of n is true of each number below n + 1
 below_also : (P : ℕ → Type 0) (n : ℕ) → ((k : ℕ) → k < n → P k) → P n → (k : ℕ) → k < n + 1 → P k
 below_also P n below here k small =
     dite (dec_le n k) (λ (at : n ≤ k). (let e : n ≡ k = omega arith in subst P e here)) (λ before. below k (lt_of_not-le before))
@@ -86,7 +86,7 @@ pub tally_more : (vs : List Finding) (n : ℕ) (seen : List Bool) (least : Optio
 tally_more vs n seen least s o tally here part whole few unseen = record {
   marks = marks_more vs n seen s whole few here tally.marks;
   single = below_also (λ k. OccursBelow vs k (segment_at vs k) → ⊥) n tally.single
-      (λ (stands : OccursBelow vs n (segment_at vs n)). true≢false (sym ((tally.marks s few).1 (stands.0, stands.1, stands.2 ∙ here)) ∙ unseen));
+      (λ (occurs : OccursBelow vs n (segment_at vs n)). true≢false (sym ((tally.marks s few).1 (occurs.0, occurs.1, occurs.2 ∙ here)) ∙ unseen));
   least_failed = least_more vs n least s o here part tally.least_failed;
 }
 

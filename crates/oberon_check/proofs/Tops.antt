@@ -1,4 +1,4 @@
--- One more than the greatest number of a list.
+-- One more than the greatest number of a list, and 0 for the empty list.
 use Rattle.std.proofs.Common.{◌≡◌, ℕ, suc, ◌+◌, ◌<◌, ◌≤◌, List, [], ◌∷◌, ◌++◌, max, arith}
 use Rattle.std.specs.Prelude.{All}
 

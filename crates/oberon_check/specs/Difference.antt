@@ -11,15 +11,15 @@ use Rattle.oberon_format.specs.FirstFault.{Rule, each, first_broken}
 use Rattle.oberon_check.specs.declared.part.Part.{Part}
 use Rattle.oberon_check.specs.declared.part.Part.TheVariants.{R, H, Pc, Flags, Stop, Timer, Rate, Phase, Switches, Leds, Mouse, Serial, Keys, Sent, Page}
 
--- the four flags are the same
+-- whether the four flags are the same
 abbrev pub same_flags : FlagsState → FlagsState → Bool
 same_flags f g = beq f.n g.n && beq f.z g.z && beq f.c g.c && beq f.v g.v
 
--- each register with its test: whether it is the same
+-- the registers, each with the test whether it is the same
 abbrev pub register_parts : List ℕ → List ℕ → List (Rule Part)
 register_parts a b = each 16 (λ i. (slice_index a i == slice_index b i, R i) ∷ [])
 
--- the processor's other parts
+-- the other parts of the processor
 abbrev pub control_parts : CpuState → CpuState → List (Rule Part)
 control_parts a b =
     (a.h == b.h, H)
@@ -32,7 +32,7 @@ control_parts a b =
 abbrev pub cpu_parts : CpuState → CpuState → List (Rule Part)
 cpu_parts a b = register_parts a.r b.r ++ control_parts a b
 
--- the parts of the devices. The serial line's part is its byte and whether it was received
+-- the parts of the devices. The part of the serial line is its byte and the flag "received"
 abbrev pub device_parts : DeviceState → DeviceState → List (Rule Part)
 device_parts a b =
     (a.timer == b.timer, Timer)
@@ -45,11 +45,11 @@ device_parts a b =
     ∷ (pointwise nat_eq a.keys b.keys, Keys)
     ∷ []
 
--- the pages of the memory: page p is the words 256 * p to 256 * p + 255
+-- the pages of the memory: page p has the words 256 * p to 256 * p + 255
 abbrev pub page_parts : List ℕ → List ℕ → List (Rule Part)
 page_parts a b = each 1024 (λ p. (pointwise nat_eq (page_at a p) (page_at b p), Page p) ∷ [])
 
--- all parts in their order
+-- all parts in their order: processor, devices, the bytes sent, and pages
 abbrev pub parts : Outcome → Outcome → List (Rule Part)
 parts x y =
     cpu_parts x.state.cpu y.state.cpu
@@ -61,11 +61,11 @@ parts x y =
 unfoldable pub first_difference : Outcome → Outcome → Option Part
 first_difference x y = first_broken (parts x y)
 
--- the first part in which the two differ, none exactly if they are the same outcome
+-- this is the first part in which the two differ, or `None` if they are the same outcome
 abbrev pub IsDifference : Outcome → Outcome → Option Part → Type 0
 IsDifference x y part = MatchOption part (x ≡ y) (λ p. first_difference x y ≡ Some p)
 
--- what this says, without a computation: the part's own test fails, and that of each part before it holds
+-- the same without a computation: the part's own test fails, and the test of each part before it holds
 pub record IsFirstDifference (x y : Outcome) (part : Part) : Type 0 where
   pub before : List (Rule Part)
   pub after : List (Rule Part)

@@ -1,4 +1,4 @@
--- Laws of the definitions.
+-- Laws of the definitions of a check.
 use Rattle.std.specs.Prelude.{◌≡◌, ◌↔◌, ℕ, List, ◌≤◌, None, Some}
 use Rattle.oberon_format.specs.Migration.{IsMigrated}
 use Rattle.oberon_format.specs.Recording.{RecordingParts, IsLawful, last_of}
@@ -14,25 +14,25 @@ use Rattle.oberon_check.specs.Headline.{IsLineOf}
 abbrev pub FirstDifference : Type 0
 FirstDifference = (x y : Outcome) (part : Part) → (first_difference x y ≡ Some part) ↔ IsFirstDifference x y part
 
--- a checkpoint of a lawful recording is true exactly when no part of what it claims differs from what the run gives
+-- a checkpoint of a lawful recording is true exactly if no part of what it claims differs from what the run gives
 abbrev pub NoDifference : Type 0
 NoDifference = (r : RecordingParts) → IsLawful r → (k : ℕ) → k ≤ last_of r → (first_difference (claimed r k) (defined r k) ≡ None) ↔ IsTrueAt r k
 
--- a lawful recording has a verdict, and no other one
+-- a lawful recording has exactly one verdict
 abbrev pub OneVerdict : Type 0
 OneVerdict =
     (r : RecordingParts) → IsLawful r
     → (verdict : Verdict) × IsVerdict r verdict × ((other : Verdict) → IsVerdict r other → other ≡ verdict)
 
--- a byte text has a line with a status, and no other one. So neither workers nor the cut of a check bear on its answer
+-- any bytes have exactly one line with one status. So the answer of a check depends on neither workers nor cut
 abbrev pub OneLine : Type 0
 OneLine =
-    (text : List ℕ) → AreBytes text
-    → (line : List ℕ) × (status : ℕ) × IsLineOf text line status
-    × ((other : List ℕ) (number : ℕ) → IsLineOf text other number → (other ≡ line) × (number ≡ status))
+    (bytes : List ℕ) → AreBytes bytes
+    → (line : List ℕ) × (status : ℕ) × IsLineOf bytes line status
+    × ((other : List ℕ) (number : ℕ) → IsLineOf bytes other number → (other ≡ line) × (number ≡ status))
 
--- migration leaves the line: the line and the status of a migrated text are those of the text
+-- the line and the status of migrated bytes are those of the original bytes
 abbrev pub SameLine : Type 0
 SameLine =
-    (text migrated : List ℕ) → AreBytes text → AreBytes migrated → IsMigrated text migrated
-    → (line : List ℕ) (status : ℕ) → IsLineOf text line status ↔ IsLineOf migrated line status
+    (bytes migrated : List ℕ) → AreBytes bytes → AreBytes migrated → IsMigrated bytes migrated
+    → (line : List ℕ) (status : ℕ) → IsLineOf bytes line status ↔ IsLineOf migrated line status

@@ -1,4 +1,4 @@
--- The check of a recording. Read it in this order: the line of a text, then what segments and workers come to.
+-- The check of a recording, in reading order: the line of a file, then what segments and workers contribute to it.
 pub mod Difference
 pub mod Verdict
 pub mod Line

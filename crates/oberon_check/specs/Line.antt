@@ -29,7 +29,7 @@ abbrev pub line_of : Verdict → List ℕ
 line_of (Accepted checkpoints steps) = codes "accepted " ++ (decimal checkpoints ++ (codes " checkpoints " ++ (decimal steps ++ codes " steps\n")))
 line_of (FalseAt checkpoint count part) = codes "false checkpoint " ++ (decimal checkpoint ++ (codes " at " ++ (decimal count ++ (codes " part " ++ (part_name part ++ codes "\n")))))
 
--- its exit status: 0 accepted, 1 false
+-- the exit status of a verdict: 0 accepted, 1 false
 abbrev pub status_of : Verdict → ℕ
 status_of (Accepted checkpoints steps) = 0
 status_of (FalseAt checkpoint count part) = 1

@@ -1,4 +1,4 @@
--- What the replay of one segment finds.
+-- The replay of one segment, which leads from checkpoint i to checkpoint i + 1.
 use Rattle.std.specs.Prelude.{ℕ, ◌+◌, ◌-◌, ◌<◌, Option, ◌≡◌, List, [], ◌∷◌, MatchOption}
 use Rattle.risc_model.specs.Replay.{run_of, sent_of}
 use Rattle.oberon_format.specs.Recording.{RecordingParts, IsLawful, count_at, last_of}
@@ -6,29 +6,29 @@ use Rattle.oberon_format.specs.Defined.{Outcome, claimed}
 use Rattle.oberon_check.specs.declared.part.Part.{Part}
 use Rattle.oberon_check.specs.Difference.{IsDifference}
 
--- what a run from the state that checkpoint i claims gives at checkpoint i + 1
+-- the outcome at the count of checkpoint i + 1 of a run from the state that checkpoint i claims
 abbrev pub replayed : RecordingParts → ℕ → Outcome
 replayed r i =
     let steps = count_at r (i + 1) - count_at r i in
     record { state = run_of r.inputs (count_at r i) steps (claimed r i).state; sent = sent_of r.inputs (count_at r i) steps (claimed r i).state }
 
--- the first part in which such a run differs from what checkpoint i + 1 claims, none if the segment holds
+-- this is the first part in which that outcome differs from what checkpoint i + 1 claims, or `None` if the segment holds
 abbrev pub IsSegmentPart : RecordingParts → ℕ → Option Part → Type 0
 IsSegmentPart r i part = IsDifference (claimed r (i + 1)) (replayed r i) part
 
--- what a contract sees of a segment verdict: its recording, its segment and the part that was found to differ
+-- a segment verdict as contracts see it: its recording, its segment, and the part that was found to differ
 pub record Finding : Type 0 where
   pub recording : RecordingParts
   pub segment : ℕ
   pub part : Option Part
 
--- the finding is true of its recording
+-- the segment verdict is true of its recording
 pub record IsTrueFinding (f : Finding) : Type 0 where
   pub lawful : IsLawful f.recording
   pub inside : f.segment < last_of f.recording
   pub replay : IsSegmentPart f.recording f.segment f.part
 
--- the verdicts of the segments from `first` on, in order, up to `end` or to the first that failed
+-- the list has the verdicts of the segments from `first` to `end - 1` in order, or only up to the first that failed
 abbrev pub IsRun : ℕ → ℕ → List Finding → Type 0
 IsRun first end [] = first ≡ end
 IsRun first end (v ∷ vs) = (first < end) × (v.segment ≡ first) × MatchOption v.part (IsRun (first + 1) end vs) (λ _. vs ≡ [])

@@ -1,4 +1,4 @@
--- The verdict on a recording, against one uninterrupted run from its first state.
+-- The verdict on a recording: how its checkpoints compare with one uninterrupted run from its initial state.
 use Rattle.std.specs.Prelude.{ℕ, ◌≡◌, ◌<◌, ◌≤◌, Some}
 use Rattle.oberon_format.specs.Recording.{RecordingParts, count_at, last_of}
 use Rattle.oberon_format.specs.Defined.{claimed, defined, IsTrueAt}
@@ -7,14 +7,14 @@ use Rattle.oberon_check.specs.declared.verdict.Verdict.{Verdict}
 use Rattle.oberon_check.specs.declared.verdict.Verdict.TheVariants.{Accepted, FalseAt}
 use Rattle.oberon_check.specs.Difference.{first_difference}
 
--- each checkpoint is the state and the output that the run gives at its count. Checkpoint 0 is taken as given. The
--- verdict names the number of checkpoints after it, and the last one's count
+-- each checkpoint claims the state and the output that the run gives at its count. Checkpoint 0 is taken as given. The
+-- verdict has the number of checkpoints after it, and the count of the last one
 pub record IsAccepted (r : RecordingParts) (checkpoints steps : ℕ) : Type 0 where
   pub true_at : (k : ℕ) → 0 < k → k ≤ last_of r → IsTrueAt r k
   pub checkpoints_is : checkpoints ≡ last_of r
   pub steps_is : steps ≡ count_at r (last_of r)
 
--- this checkpoint is the least that isn't, and this is the first part in which it differs from what the run gives
+-- this is the first checkpoint that is not true, and this is the first part in which it differs from what the run gives
 pub record IsFirstFalse (r : RecordingParts) (checkpoint count : ℕ) (part : Part) : Type 0 where
   pub above : 0 < checkpoint
   pub inside : checkpoint ≤ last_of r
@@ -22,7 +22,7 @@ pub record IsFirstFalse (r : RecordingParts) (checkpoint count : ℕ) (part : Pa
   pub differs : first_difference (claimed r checkpoint) (defined r checkpoint) ≡ Some part
   pub count_is : count ≡ count_at r checkpoint
 
--- the verdict: all checkpoints are true, or this one is the first false one
+-- the verdict: all checkpoints are true, or one is the first false one
 abbrev pub IsVerdict : RecordingParts → Verdict → Type 0
 IsVerdict r (Accepted checkpoints steps) = IsAccepted r checkpoints steps
 IsVerdict r (FalseAt checkpoint count part) = IsFirstFalse r checkpoint count part

@@ -1,4 +1,4 @@
--- What one worker does of the jobs that workers share.
+-- What one worker does: the jobs that it took, and their verdicts.
 use Rattle.std.specs.Prelude.{ℕ, ◌≡◌, ◌⊎◌, ◌+◌, ◌*◌, ◌<◌, ◌≤◌, min, List, [], ◌∷◌, ◌++◌, true, Option, None, Some, All, Contains}
 use Rattle.std.specs.Int.{div_ceil}
 use Rattle.oberon_claims.specs.Pass.{PassRecord, BookId}
@@ -6,44 +6,44 @@ use Rattle.oberon_format.specs.Recording.{RecordingParts, last_of}
 use Rattle.oberon_check.specs.declared.part.Part.{Part}
 use Rattle.oberon_check.specs.Segment.{Finding, IsRun}
 
--- a segment that was shown is before this one
+-- some segment that was shown is before this one
 abbrev pub IsAfterShown : List ℕ → ℕ → Type 0
 IsAfterShown shown first = (x : ℕ) × Contains shown x × (x < first)
 
--- the verdicts of a job of `cut` segments, of fewer at the end: those of its segments in order, to its end or its first
--- failed one; or none, if it begins after a value shown
+-- these are the verdicts of a job. Job j has `cut` segments from `j * cut` on, or fewer at the end of the recording. Its verdicts
+-- are those of its segments in order, up to the first failed one; or none, if the job begins after a segment shown
 abbrev pub IsJob : ℕ → ℕ → List ℕ → ℕ → List Finding → Type 0
 IsJob last cut shown job vs = ((vs ≡ []) × IsAfterShown shown (job * cut)) ⊎ IsRun (job * cut) (min (job * cut + cut) last) vs
 
--- the list is one piece for each, in order, and nothing else
+-- vs is the concatenation of one piece for each x of the list, in order, and P is true of each x and its piece
 abbrev pub InPieces : {A : Type 0} → (A → List Finding → Type 0) → List A → List Finding → Type 0
 InPieces P [] vs = vs ≡ []
-InPieces P (x ∷ xs) vs = (front : List Finding) × (back : List Finding) × (vs ≡ front ++ back) × P x front × InPieces P xs back
+InPieces P (x ∷ xs) vs = (piece : List Finding) × (rest : List Finding) × (vs ≡ piece ++ rest) × P x piece × InPieces P xs rest
 
--- the segment, if it failed
+-- a list with the segment if it failed, and the empty list if not
 abbrev pub one_failed : ℕ → Option Part → List ℕ
 one_failed segment None = []
 one_failed segment (Some part) = segment ∷ []
 
--- the segments that failed
+-- the segments that failed, in order
 abbrev pub failed_of : List Finding → List ℕ
 failed_of [] = []
 failed_of (v ∷ vs) = one_failed v.segment v.part ++ failed_of vs
 
--- each job that the pass took has its verdicts, there are no others, and the segments reported are the failed ones
+-- each job that the pass took has its verdicts, there are no others, and the pass reported the failed segments
 pub record HasDone (last cut : ℕ) (p : PassRecord) (vs : List Finding) : Type 0 where
   pub jobs : InPieces (IsJob last cut p.shown) p.taken vs
   pub reported : p.reported ≡ failed_of vs
 
--- what a contract sees of a worker's share
+-- a worker's share as contracts see it
 pub record DoneRecord : Type 0 where
   pub recording : RecordingParts
   pub cut : ℕ
   pub pass : PassRecord
   pub verdicts : List Finding
 
--- the share is whole: the pass was answered None, its book has as many jobs as the recording has at this cut, the verdicts
--- are the recording's, and they are those of the jobs that the pass took
+-- the share is complete: the pass was answered `None`, its book has as many jobs as the recording has at this cut, and the
+-- verdicts are of this recording and of the jobs that the pass took
 pub record IsDone (d : DoneRecord) : Type 0 where
   pub cut : 1 ≤ d.cut
   pub book : d.pass.book.jobs ≡ div_ceil (last_of d.recording) d.cut

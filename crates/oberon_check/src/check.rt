@@ -1,6 +1,6 @@
-//! The check of a recording by workers in threads of their own.
+//! The check of a recording by workers, each on a thread of its own.
 //!
-//! Here live the start and the end of the threads. What a worker does lives in `worker`, what their shares come to in
+//! This module starts the threads and joins them. What a worker does is in `worker`, the verdict from all workers' shares in
 //! `gathering`, and what is printed in `report`.
 ghost use Rattle.std.specs.Prelude.{◌≡◌, ◌≤◌, vec_len, All, IfOk};
 ghost use Rattle.std.specs.Int.{div_ceil};
@@ -20,7 +20,7 @@ use std::sync::Wait;
 use std::thread::{Threads, map_vec};
 use thiserror::Error;
 
-/// Why a check has no answer.
+/// Why a check returns no verdict.
 #[derive(Clone, Copy, Debug, PartialEq, Eq, Error)]
 pub enum CheckFault {
     /// Memory ran out.
@@ -39,8 +39,8 @@ impl From<AllocError> for CheckFault {
     }
 }
 
-/// Each pass in a thread of its own, over one recording and one book. Each share comes back by its thread's join, with what its type
-/// keeps.
+/// Works each pass on a thread of its own, all over one recording and one book. Returns the workers' shares in the order of
+/// the passes, with an error for each worker that ran out of memory.
 pub(crate) fn work_all<R: Threads + Sync, G: Gate + Sync>(
     rt: &R,
     alloc: Global,
@@ -54,7 +54,7 @@ pub(crate) fn work_all<R: Threads + Sync, G: Gate + Sync>(
     requires fresh { All (λ p. p ≡ fresh_pass claims.now) passes.items }
     requires jobs { claims.now.jobs ≡ div_ceil (last_of r.now) cut }
     ensures len { IfOk result (λ v. vec_len v ≡ vec_len passes) }
-    ensures parts { IfOk result (λ v. All (λ d. IfOk d (IsShareOf r.now cut claims.now)) v.items) }
+    ensures shares { IfOk result (λ v. All (λ d. IfOk d (IsShareOf r.now cut claims.now)) v.items) }
 {
     map_vec(
         rt,
@@ -66,7 +66,7 @@ pub(crate) fn work_all<R: Threads + Sync, G: Gate + Sync>(
     )
 }
 
-/// The shares, if memory sufficed for each.
+/// Returns the shares, or an error if some worker ran out of memory.
 pub(crate) fn shares_of(
     alloc: Global,
     r: &Recording,
@@ -76,21 +76,21 @@ pub(crate) fn shares_of(
 ) -> Result<Vec<Done>, AllocError>
     requires { All (λ d. IfOk d (IsShareOf r.now cut claims.now)) results.items }
     ensures len { IfOk result (λ v. vec_len v ≡ vec_len results) }
-    ensures parts { IfOk result (λ v. All (IsShareOf r.now cut claims.now) v.items) }
+    ensures shares { IfOk result (λ v. All (IsShareOf r.now cut claims.now) v.items) }
 {
-    // The contract alone names these.
+    // Only the contract uses these.
     let _ = r;
     let _ = claims;
     let _ = cut;
     let mut done = Vec::new(alloc);
     for result in results {
-        let one = result?;
-        done.push(one)?;
+        let share = result?;
+        done.push(share)?;
     }
     Ok(done)
 }
 
-/// Returns the verdict from the workers' results, if memory sufficed for each.
+/// Returns the verdict from the workers' results, or an error if memory ran out.
 fn verdict_of(
     alloc: Global,
     r: &Recording,
@@ -99,7 +99,7 @@ fn verdict_of(
     results: Vec<Result<Done, AllocError>>,
 ) -> Result<Verdict, AllocError>
     requires len { vec_len results ≡ claims.workers }
-    requires parts { All (λ d. IfOk d (IsShareOf r.now cut claims)) results.items }
+    requires shares { All (λ d. IfOk d (IsShareOf r.now cut claims)) results.items }
     ensures { IfOk result (IsVerdict r.now) }
 {
     let done = shares_of(alloc, r, &claims, cut, results)?;
@@ -107,11 +107,10 @@ fn verdict_of(
     Ok(verdict)
 }
 
-/// The verdict on a recording, by so many workers that share its jobs, each in a thread of its own. Neither `workers` nor
-/// `cut`, the number of segments in a job, bears on the answer.
+/// Returns the verdict on a recording. `workers` threads, 1 to 64, replay its segments; a job is `cut` consecutive segments.
 ///
-/// The gate is called once before each job. The call returns when all workers have ended; `Memory` is returned only
-/// when memory runs out.
+/// The verdict depends neither on `workers` nor on `cut`. The gate is called once before each job. The call waits until all
+/// workers have ended. It returns `Memory` only if memory runs out.
 pub fn check_recording<R: Threads + Wait + Sync, G: Gate + Sync>(
     rt: &R,
     alloc: Global,

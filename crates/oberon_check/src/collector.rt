@@ -1,7 +1,7 @@
-//! The collector: the verdict on a recording from segment verdicts in any order.
+//! The collector: makes the verdict on a recording from segment verdicts in any order.
 //!
-//! Here live the tally of segment verdicts and the faults of lists that have too many or too few. What one segment's replay
-//! finds lives in `segment`.
+//! This module tallies segment verdicts, and rejects lists that have a verdict too many or too few. The replay of one segment
+//! is in `segment`.
 ghost use Rattle.std.specs.Prelude.{◌≡◌, ◌<◌, ◌≤◌, All, IfOk, IfErr, OnOk, length};
 ghost use Rattle.oberon_format.specs.Recording.{IsLawful};
 ghost use Rattle.oberon_check.specs.Verdict.{IsVerdict};
@@ -15,20 +15,20 @@ use crate::verdict::Verdict;
 use oberon_format::Recording;
 use thiserror::Error;
 
-/// Why segment verdicts don't come to one verdict.
+/// Why no verdict on the recording follows from a list of segment verdicts.
 #[derive(Clone, Copy, Debug, PartialEq, Eq, Error)]
 pub enum CollectFault {
-    /// This segment has two verdicts: that of the first verdict whose segment occurred before it.
+    /// This segment has two verdicts. It is the first whose second verdict occurs in the list.
     #[error("segment {0} has two verdicts")]
     Double(u32),
-    /// No segment has two verdicts, and this is the least one without a verdict, among those below the least failed segment
-    /// or among all if none failed.
+    /// No segment has two verdicts, but this one has none. It is the least such segment below the least failed one, or of
+    /// all segments if none failed.
     #[error("segment {0} has no verdict")]
     Missing(u32),
 }
 
 impl CollectFault {
-    /// The fault's number, 1 or 2.
+    /// Returns the fault's number, 1 or 2.
     pub fn number(self) -> u8
         ensures { result ≡ collect_fault_number self }
     {
@@ -39,14 +39,14 @@ impl CollectFault {
     }
 }
 
-/// Which segments have a verdict, and the least that failed.
+/// Which segments have a verdict, and the least failed segment with its part.
 #[derive(Clone, Copy)]
 struct Tally {
     seen: [bool; 4096],
     least: Option<(u32, Part)>,
 }
 
-/// The least failed segment with its part, once one verdict more is taken in.
+/// Returns the least failed segment with its part, after one more segment verdict.
 fn lesser(least: Option<(u32, Part)>, segment: u32, part: Option<Part>) -> Option<(u32, Part)>
     ensures { result ≡ lesser_of least segment part }
 {
@@ -59,7 +59,7 @@ fn lesser(least: Option<(u32, Part)>, segment: u32, part: Option<Part>) -> Optio
     }
 }
 
-/// The number of segments that have to have a verdict.
+/// Returns how many segments need a verdict: those below the least failed one, or all of them if none failed.
 fn end(least: Option<(u32, Part)>, last: u32) -> u32
     ensures { result ≡ end_of least last }
 {
@@ -69,7 +69,7 @@ fn end(least: Option<(u32, Part)>, last: u32) -> u32
     }
 }
 
-/// The tally of the verdicts, or the first segment that occurred before.
+/// Tallies the verdicts. Returns the segment of the first verdict whose segment occurred before, if there is one, as an error.
 fn tally_of(verdicts: &[SegmentVerdict]) -> Result<Tally, u32>
     ensures ok { IfOk result (λ t. IsTally verdicts.now (length verdicts.now) t.seen t.least) }
     ensures findings { IfOk result (λ t. All IsTrueFinding verdicts.now) }
@@ -88,7 +88,7 @@ fn tally_of(verdicts: &[SegmentVerdict]) -> Result<Tally, u32>
     Ok(Tally { seen, least })
 }
 
-/// The first segment below `end` that has no mark.
+/// Returns the first segment below `end` that is not marked as seen.
 fn first_unmarked(seen: &[bool; 4096], end: u32) -> Option<u32>
     requires { end ≤ 4096 }
     ensures { IsFirstUnmarked seen.now end result }
@@ -101,8 +101,10 @@ fn first_unmarked(seen: &[bool; 4096], end: u32) -> Option<u32>
     None
 }
 
-/// Returns the verdict that follows from segment verdicts of a recording, in any order. Those above the least failed
-/// segment may be missing. It returns a verdict exactly if there is no [`CollectFault`], and takes no memory.
+/// Returns the verdict that follows from segment verdicts of a recording, in any order.
+///
+/// Verdicts of segments above the least failed one may be missing. It returns a verdict exactly if there is no
+/// [`CollectFault`]. It allocates nothing.
 pub fn collect(r: &Recording, verdicts: &[SegmentVerdict]) -> Result<Verdict, CollectFault>
     requires { All (λ v. v.recording ≡ r.now) verdicts.now }
     ensures verdict { IfOk result (IsVerdict r.now) }

@@ -1,7 +1,7 @@
 //! The first part in which a machine differs from a checkpoint.
 //!
-//! Here live the comparisons of the processor, of the devices and of the whole. Pages are compared by `risc_pages`, and
-//! the bytes sent while the machine runs.
+//! This module compares the processor and the devices. `risc_pages` compares the pages, and `risc_machine` the bytes sent,
+//! while the machine runs.
 ghost use Rattle.std.specs.Prelude.{◌≡◌, IfNone};
 ghost use Rattle.risc_pages.specs.Tables.{IsNamed};
 ghost use Rattle.risc_model.specs.MachineState.{cpu_state};
@@ -18,7 +18,7 @@ use risc_machine::Machine;
 use risc_model::Cpu;
 use risc_pages::Pool;
 
-/// The first register that isn't the same.
+/// Returns the first register that differs.
 fn register_difference(a: &[u32; 16], b: &[u32; 16]) -> Option<Part>
     ensures part { result ≡ first_broken (register_parts a.now b.now) }
     ensures same { IfNone result (a.now ≡ b.now) }
@@ -31,7 +31,7 @@ fn register_difference(a: &[u32; 16], b: &[u32; 16]) -> Option<Part>
     None
 }
 
-/// The first part after the registers in which two processors differ.
+/// Returns the first part after the registers in which two processors differ.
 fn control_difference(claimed: &Cpu, cpu: &Cpu) -> Option<Part>
     ensures { result ≡ first_broken (control_parts (cpu_state claimed.now) (cpu_state cpu.now)) }
 {
@@ -50,7 +50,7 @@ fn control_difference(claimed: &Cpu, cpu: &Cpu) -> Option<Part>
     None
 }
 
-/// The first part in which two processors differ, whatever is around them.
+/// Returns the first part in which two processors differ.
 fn cpu_difference(claimed: &Cpu, cpu: &Cpu) -> Option<Part>
     ensures part { result ≡ first_broken (cpu_parts (cpu_state claimed.now) (cpu_state cpu.now)) }
     ensures same { IfNone result (cpu_state claimed.now ≡ cpu_state cpu.now) }
@@ -92,8 +92,8 @@ fn device_difference(claimed: &Devices, devices: &Devices) -> Option<Part>
     None
 }
 
-/// The first part in which a checkpoint differs from a machine, if `same` says whether the bytes that the machine sent
-/// are the checkpoint's. Takes no memory.
+/// Returns the first part in which a checkpoint differs from a machine. `same` says whether the bytes that the machine sent
+/// are the checkpoint's. It allocates nothing.
 pub(crate) fn first_difference(
     machine: &Machine<'_>,
     same: bool,

@@ -1,12 +1,12 @@
-//! The gate: what is called before each job of a worker.
+//! The gate: a call before each job of a worker, by which tests hold workers back.
 
-/// Is called once before each job, after the job was claimed. The check goes on when it returns.
+/// What a worker calls once before each job, after it claimed the job. The worker goes on when the call returns.
 pub trait Gate {
-    /// Called before this job.
+    /// Is called before this job.
     fn before(&self, job: u32);
 }
 
-/// The gate that lets each job begin at once.
+/// The gate that does nothing.
 #[derive(Clone, Copy, Debug)]
 pub struct FreeGate;
 

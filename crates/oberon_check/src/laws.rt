@@ -3,7 +3,7 @@ ghost use Rattle.oberon_check.specs.Laws.{FirstDifference, NoDifference, OneLine
 
 use oberon_format::{one_recording_law, text_or_fault_law};
 
-/// The first part in which two outcomes differ is the first one whose test fails, and a checkpoint is true exactly when no
+/// The first part in which two outcomes differ is the first one whose test fails, and a checkpoint is true exactly if no
 /// part differs.
 pub const fn difference_law()
     ensures first { FirstDifference }
@@ -15,7 +15,7 @@ pub const fn verdict_law()
     ensures { OneVerdict }
 {}
 
-/// A byte text has exactly one line with one status.
+/// Any bytes have exactly one verdict line with one status.
 pub fn line_law()
     ensures { OneLine }
 {
@@ -23,7 +23,7 @@ pub fn line_law()
     text_or_fault_law();
 }
 
-/// The line and the status of a migrated text are those of the text.
+/// The line and the status of migrated bytes are those of the original bytes.
 pub fn migration_law()
     ensures { SameLine }
 {

@@ -1,8 +1,8 @@
-//! Whether the checkpoints of a recording are what one uninterrupted run gives.
+//! The check: whether the checkpoints of a recording are what one uninterrupted run gives.
 //!
-//! A recording's segments, each from one checkpoint to the next, are replayed from what their checkpoints claim, in any
-//! order. What they find comes to the verdict of one replay from checkpoint 0, by the least segment that failed. Here live
-//! segments, the collector, the verdict and its line. Machines live in `risc_machine`, and texts in `oberon_format`.
+//! A *segment* is the stretch from one checkpoint to the next. Workers replay segments in any order, each from what its
+//! checkpoint claims. The least failed segment leads to the verdict of one uninterrupted replay from checkpoint 0. Machines
+//! are in `risc_machine`, and the encoding of recordings in `oberon_format`.
 #![tactic(auto)]
 
 mod check;

@@ -1,14 +1,13 @@
-//! The parts of a state and its output, by which a check says in what two of them differ.
+//! The parts of a state and its output. A false checkpoint is reported with the first part that differs.
 //!
-//! Here live their names. Their order is in `specs/Difference.antt`, and how they are compared lives in
-//! `difference`.
+//! This module has their names. Their order is in `specs/Difference.antt`, and their comparison in `difference`.
 ghost use Rattle.std.specs.Prelude.{◌≡◌, ◌++◌, Some};
 ghost use Rattle.oberon_check.specs.Line.{part_name};
 ghost use Rattle.oberon_check.specs.inner.Names.{part_number};
 
 use std::fmt;
 
-/// A part of a state, or the bytes sent on the way to it.
+/// A part of a state, or the bytes sent since the checkpoint before.
 ///
 /// The parts and their order, which is that of the variants here, are this project's own choice.
 #[derive(Clone, Copy, Debug, PartialEq, Eq)]
@@ -25,9 +24,9 @@ pub enum Part {
     Stop,
     /// The timer: `timer`.
     Timer,
-    /// How many instructions a millisecond of the timer has: `rate`.
+    /// The number of instructions in a millisecond of the timer: `rate`.
     Rate,
-    /// How many instructions of the timer's next millisecond are done: `phase`.
+    /// The number of instructions done since the timer's last millisecond: `phase`.
     Phase,
     /// The buttons and switches: `switches`.
     Switches,
@@ -35,18 +34,18 @@ pub enum Part {
     Leds,
     /// The mouse word: `mouse`.
     Mouse,
-    /// The byte that the serial line holds, and whether it was received: `serial`.
+    /// The byte that the serial line holds, and the flag "received": `serial`.
     Serial,
-    /// The key codes that wait: `keys`.
+    /// The waiting key codes: `keys`.
     Keys,
     /// The bytes sent since the checkpoint before: `out`.
     Sent,
-    /// The page of memory at this place, 0 to 1,023: `page 0` to `page 1023`.
+    /// The memory in this page slot, 0 to 1,023: `page 0` to `page 1023`.
     Page(u16),
 }
 
 impl Part {
-    /// The name without the number that a register's and a page's ends with.
+    /// Returns the part's name, without the number at the end of a register's or a page's name.
     fn letters(&self) -> &'static str
         ensures { part_name self.now ≡ result.now ++ part_number self.now }
     {

@@ -1,6 +1,6 @@
-//! The check of a recording file: its line, and the exit status.
+//! The check of a recording file: the verdict line and the exit status.
 //!
-//! This module has what is printed. Reading a file is in `oberon_format`, and checking a recording in `check`.
+//! This module has what is printed. `oberon_format` decodes the file, and `check` checks the recording.
 ghost use Rattle.std.specs.Prelude.{◌≡◌, ◌≢◌, ◌≤◌, IfOk};
 ghost use Rattle.oberon_check.specs.Headline.{IsLineOf};
 ghost use Rattle.oberon_check.specs.Line.{line_of, status_of};
@@ -15,20 +15,20 @@ use std::alloc::Global;
 use std::sync::Wait;
 use std::thread::Threads;
 
-/// What is printed, and the exit status of a program that prints it.
+/// What a check prints, and the exit status of a program that prints it.
 #[derive(Debug, Drop)]
 pub struct Report {
-    /// One line with its line feed.
+    /// The line, ended by a line feed.
     pub line: Vec<u8>,
-    /// 0 accepted, 1 false, 2 refused.
+    /// The status: 0 accepted, 1 false, 2 refused.
     pub status: u8,
 }
 
-/// Checks the bytes of a recording file, and returns the line to print with the status: that of its first fault, or that of one uninterrupted replay of its
-/// recording from checkpoint 0. The bytes may be any, and neither `workers` nor `cut` bears on the answer.
+/// Checks the bytes of a recording file, and returns the line to print with the exit status.
 ///
-/// A job is `cut` segments that follow each other, and the gate is called before each. `Memory` is returned only
-/// when memory runs out.
+/// If the bytes encode a recording, the line is the verdict of one uninterrupted replay from checkpoint 0. If not, it names the
+/// first rule that they break. Any bytes will do. The answer depends neither on `workers`, 1 to 64 threads, nor on `cut`, the
+/// number of consecutive segments in a job. The gate is called before each job. It returns `Memory` only if memory runs out.
 pub fn check_bytes<R: Threads + Wait + Sync, G: Gate + Sync>(
     rt: &R,
     alloc: Global,
@@ -50,6 +50,7 @@ pub fn check_bytes<R: Threads + Wait + Sync, G: Gate + Sync>(
     }
 }
 
+/// Returns the report on a recording with this verdict.
 fn answered(alloc: Global, verdict: &Verdict) -> Result<Report, CheckFault>
     ensures line { IfOk result (λ report. report.line.items ≡ line_of verdict.now) }
     ensures status { IfOk result (λ report. report.status ≡ status_of verdict.now) }
@@ -60,7 +61,7 @@ fn answered(alloc: Global, verdict: &Verdict) -> Result<Report, CheckFault>
     })
 }
 
-/// Returns the report on a file that is refused for this fault, or an error if the fault is that memory ran out.
+/// Returns the report on a file with this fault, or an error if the fault is that memory ran out.
 fn refused(alloc: Global, fault: &Fault) -> Result<Report, CheckFault>
     ensures fault { IfOk result (λ _. fault.now ≢ Fault.Memory) }
     ensures line { IfOk result (λ report. report.line.items ≡ fault_line fault.now) }

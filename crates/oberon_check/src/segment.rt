@@ -1,6 +1,6 @@
-//! The replay of one segment, and what it found.
+//! The replay of one segment, and its segment verdict.
 //!
-//! Here live segment verdicts, which can only be made true. The verdict from many of them is in `collector`.
+//! A segment verdict is true by its type: only a replay makes one. The verdict from many of them is in `collector`.
 ghost use Rattle.std.specs.Prelude.{◌≡◌, ◌+◌, ◌<◌, IfOk};
 ghost use Rattle.oberon_format.specs.Recording.{last_of};
 ghost use Rattle.oberon_check.specs.Segment.{IsTrueFinding};
@@ -13,10 +13,10 @@ use std::alloc::{AllocError, Global};
 use std::marker::Model;
 use std::snapshot::Snapshot;
 
-/// What the replay of a segment found. Segment i leads from checkpoint i to checkpoint i + 1.
+/// The result of the replay of one segment. Segment i leads from checkpoint i to checkpoint i + 1.
 ///
-/// It is true of the recording that it carries for contracts, whoever has it: replayed from what checkpoint i claims, the
-/// part is the first one in which checkpoint i + 1 differs.
+/// By its type it is true of its recording, which only contracts see: the part is the first one in which what checkpoint
+/// i + 1 claims differs from a replay that starts at what checkpoint i claims.
 #[derive(Drop)]
 pub struct SegmentVerdict {
     recording: Snapshot<Recording>,
@@ -37,7 +37,7 @@ impl Model for SegmentVerdict {
 impl SegmentVerdict {
     ghost use Rattle.oberon_check.specs.Segment.{IsTrueFinding};
 
-    /// The segment, below the number of checkpoints after checkpoint 0.
+    /// Returns the segment's number, counted from 0.
     pub fn segment(&self) -> u32
         ensures segment { result ≡ self.now.segment }
         ensures finding { IsTrueFinding self.now }
@@ -45,7 +45,7 @@ impl SegmentVerdict {
         self.segment
     }
 
-    /// The first part that differs, none if the segment held.
+    /// Returns the first part that differs, or `None` if the segment held.
     pub fn part(&self) -> Option<Part>
         ensures part { result ≡ self.now.part }
         ensures finding { IsTrueFinding self.now }
@@ -54,7 +54,7 @@ impl SegmentVerdict {
     }
 }
 
-/// The first part in which a replay of segment `i` differs from what the next checkpoint claims.
+/// Replays segment `i`, and returns the first part in which the result differs from what the next checkpoint claims.
 fn replayed_part(alloc: Global, r: &Recording, i: u32) -> Result<Option<Part>, AllocError>
     requires { i < last_of r.now }
     ensures { IfOk result (λ part. IsTrueFinding (record { recording = r.now; segment = i; part = part })) }
@@ -70,8 +70,8 @@ fn replayed_part(alloc: Global, r: &Recording, i: u32) -> Result<Option<Part>, A
     Ok(part)
 }
 
-/// Replays segment `i` from what its checkpoint claims, and compares with what the next checkpoint claims. It fails
-/// only when memory runs out.
+/// Replays segment `i` from what checkpoint `i` claims, and compares the result with what the next checkpoint claims. It
+/// fails only if memory runs out.
 pub fn replay_segment(alloc: Global, r: &Recording, i: u32) -> Result<SegmentVerdict, AllocError>
     requires { i < last_of r.now }
     ensures recording { IfOk result (λ v. v.recording ≡ r.now) }

@@ -1,6 +1,4 @@
-//! The verdict on a recording, with its line and its exit status.
-//!
-//! This module has how a verdict is printed. Its making from segment verdicts is in `collector`.
+//! The verdict on a recording, its line and its exit status. `collector` makes it from segment verdicts.
 ghost use Rattle.std.specs.Prelude.{◌≡◌, IfOk};
 ghost use Rattle.oberon_check.specs.Line.{line_of, status_of};
 
@@ -17,18 +15,18 @@ pub enum Verdict {
         /// The last checkpoint's count, at most 2^40.
         steps: u64,
     },
-    /// A checkpoint isn't.
+    /// Some checkpoint is not.
     FalseAt {
-        /// The least such checkpoint, from 1 on.
+        /// The number of the first such checkpoint, at least 1.
         checkpoint: u32,
-        /// Its count.
+        /// The count of this checkpoint.
         count: u64,
         /// The first part in which it differs from the run.
         part: Part,
     },
 }
 
-/// The line of a verdict, ended by a line feed.
+/// Returns the verdict line, ended by a line feed.
 pub(crate) fn line(alloc: Global, verdict: &Verdict) -> Result<Vec<u8>, AllocError>
     ensures { IfOk result (λ bytes. bytes.items ≡ line_of verdict.now) }
 {
@@ -45,7 +43,7 @@ pub(crate) fn line(alloc: Global, verdict: &Verdict) -> Result<Vec<u8>, AllocErr
     Ok(text.into_bytes())
 }
 
-/// The exit status of a verdict: 0 accepted, 1 false.
+/// Returns the exit status of a verdict: 0 accepted, 1 false.
 pub(crate) fn status(verdict: &Verdict) -> u8
     ensures { result ≡ status_of verdict.now }
 {

@@ -1,7 +1,7 @@
 //! One worker's share: the jobs that it claims, and the verdicts of their segments.
 //!
-//! Here live the loop of a worker and what it leaves. The claims themselves live in `oberon_claims`, what all workers' shares
-//! come to in `gathering`, and the threads in `check`. Nothing here waits.
+//! This module has the loop of a worker. The claim book is in `oberon_claims`, the verdict from all shares in `gathering`, and
+//! the threads in `check`. Nothing here waits.
 ghost use Rattle.std.specs.Prelude.{◌≡◌, ◌<◌, ◌≤◌, ◌*◌, IfOk, IsTrue, OnOk};
 ghost use Rattle.std.specs.Int.{div_ceil};
 ghost use Rattle.oberon_claims.specs.Pass.{fresh_pass};
@@ -19,10 +19,10 @@ use std::snapshot::Snapshot;
 
 /// One worker's share: its pass, and the verdicts of the jobs that it took.
 ///
-/// Whoever has it, the pass was answered `None`; each job that it took has the verdicts of its segments, in order, to its
-/// end or to its first failed one, or it has none and begins after a value that the pass was shown; there are no other
-/// verdicts; the pass reported the failed segments; and its book has as many jobs as the recording has at the cut. It carries,
-/// for contracts, the recording and the cut.
+/// Its type ensures the following. The last claim of the pass was answered `None`. Each job that the pass took has the
+/// verdicts of its segments in order, up to its end or its first failed segment; or it was skipped, has no verdict, and begins
+/// after a value that the pass was shown. There are no other verdicts. The pass reported the failed segments. The book has as
+/// many jobs as the recording has at this cut. Only contracts see the recording and the cut.
 #[derive(Drop)]
 pub struct Done {
     recording: Snapshot<Recording>,
@@ -45,7 +45,7 @@ impl Done {
     ghost use Rattle.oberon_check.specs.Work.{IsDone};
     ghost use Rattle.oberon_check.specs.inner.Progress.{done_record};
 
-    /// The pass and the verdicts.
+    /// Returns the pass and the verdicts.
     pub(crate) fn into_parts(self) -> (Pass, Vec<SegmentVerdict>)
         ensures parts { done_record self.recording self.cut result.0 result.1.items ≡ self }
         ensures done { IsDone self }
@@ -59,7 +59,7 @@ impl Done {
         (pass, verdicts)
     }
 
-    /// The verdicts of the jobs that the pass took, job by job in the order of the claims.
+    /// Returns the verdicts of the jobs that the pass took, job by job in the order of the claims.
     pub fn verdicts(&self) -> &[SegmentVerdict]
         ensures verdicts { result.now ≡ self.now.verdicts }
         ensures done { IsDone self.now }
@@ -68,7 +68,8 @@ impl Done {
     }
 }
 
-/// Replays the segments from one up to another, or up to the first that fails, which is reported.
+/// Replays the segments from `from` to `to - 1` in order, and appends their verdicts. It ends at the first segment that
+/// fails, and reports it.
 fn replay_run(
     alloc: Global,
     r: &Recording,
@@ -94,8 +95,8 @@ fn replay_run(
     Ok(())
 }
 
-/// Whether a job that begins at this segment is passed over: a value that the pass is shown is below the segment.
-fn is_passed_over(claims: &Claims, pass: &mut Pass, first: u32) -> bool
+/// Looks, and returns whether a job that begins at segment `first` may be skipped: a reported segment is below it.
+fn is_skipped(claims: &Claims, pass: &mut Pass, first: u32) -> bool
     requires { pass.old.book ≡ claims.now }
     ensures looked { IsLooked pass.old pass.new }
     ensures shown { IsTrue result → IsAfterShown pass.new.shown first }
@@ -106,7 +107,7 @@ fn is_passed_over(claims: &Claims, pass: &mut Pass, first: u32) -> bool
     }
 }
 
-/// Does a job, or passes it over.
+/// Does a job, or skips it if it begins after a segment that was reported as failed.
 fn do_job(
     alloc: Global,
     r: &Recording,
@@ -123,7 +124,7 @@ fn do_job(
 {
     let last = r.count() - 1;
     let first = job * cut;
-    if is_passed_over(claims, pass, first) {
+    if is_skipped(claims, pass, first) {
         return Ok(());
     }
     let end = if cut < last - first {
@@ -135,10 +136,10 @@ fn do_job(
     Ok(())
 }
 
-/// Claims jobs until there is none, calls the gate before each, and does it. It waits for nobody.
+/// Does one worker's share: claims jobs until none is left, and calls the gate before each of them. It never waits.
 ///
-/// A job is `cut` segments that follow each other, the last one perhaps fewer: job j begins at segment `j * cut`. Want
-/// of memory gives the pass up, and its book can't be gathered any more.
+/// A job is `cut` consecutive segments, the last one perhaps fewer: job j begins at segment `j * cut`. If memory runs out, the
+/// pass is lost, and no verdict can be gathered from its book any more.
 pub fn work<G: Gate>(
     alloc: Global,
     r: &Recording,

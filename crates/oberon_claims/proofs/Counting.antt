@@ -4,7 +4,7 @@ use Rattle.std.proofs.lemmas.Bool.Decides.{nat_tests}
 use Rattle.oberon_claims.specs.declared.book.View.{View}
 use Rattle.oberon_claims.specs.Counts.{times, once_below}
 use Rattle.oberon_claims.specs.inner.Book.{times_taken, number_taken}
-use Rattle.oberon_claims.proofs.Sums.{times_front, once_is, once_here, one_same}
+use Rattle.oberon_claims.proofs.Sums.{times_cons, once_is, once_here, one_same}
 
 -- the sum of f over the numbers below n
 abbrev tally : ℕ → (ℕ → ℕ) → ℕ
@@ -38,11 +38,11 @@ tally_one (suc n) y = let e = tally_one n y in let s = step n y in omega arith
 length_as_tally : (n : ℕ) (xs : List ℕ) → ((x : ℕ) → 0 < times x xs → x < n) → length xs ≡ tally n (λ x. times x xs)
 length_as_tally n [] below = sym (tally_zero n)
 length_as_tally n (y ∷ ys) below =
-    let rest = length_as_tally n ys (λ x there. below x (let f = times_front x y ys in omega arith)) in
+    let rest = length_as_tally n ys (λ x there. below x (let f = times_cons x y ys in omega arith)) in
     let add = tally_add n (λ x. cond (eqb y x) 1 0) (λ x. times x ys) in
-    let front : tally n (λ x. times x (y ∷ ys)) ≡ tally n (λ x. cond (eqb y x) 1 0 + times x ys) = λ i. tally n (λ x. times_front x y ys i) in
+    let counted : tally n (λ x. times x (y ∷ ys)) ≡ tally n (λ x. cond (eqb y x) 1 0 + times x ys) = λ i. tally n (λ x. times_cons x y ys i) in
     let one = tally_one n y in
-    let is = once_here y n (below y (let f = times_front y y ys in let s = one_same y y refl in omega arith)) in
+    let is = once_here y n (below y (let f = times_cons y y ys in let s = one_same y y refl in omega arith)) in
     omega arith
 
 number_as_tally : (n : ℕ) (views : List View) → ((x : ℕ) → 0 < times_taken x views → x < n) → number_taken views ≡ tally n (λ x. times_taken x views)

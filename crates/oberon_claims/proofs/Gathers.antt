@@ -8,7 +8,7 @@ use Rattle.oberon_claims.specs.Ledger.{all_taken, all_reported, all_shown, SomeE
 use Rattle.oberon_claims.specs.inner.Book.{nothing, times_reported, IsLegal}
 use Rattle.oberon_claims.specs.inner.Steps.{joined_view}
 use Rattle.oberon_claims.proofs.Counting.{number_of_each_once}
-use Rattle.oberon_claims.proofs.Sums.{times_front, times_here, one_is, empty_if}
+use Rattle.oberon_claims.proofs.Sums.{times_cons, times_here, one_is, empty_if}
 
 -- how many passes were answered `None`
 abbrev pub marks : List PassRecord → ℕ
@@ -72,7 +72,7 @@ some_marks ps m = marks_at ps m.0 m.1 m.2
 -- a number that occurs in a list is at some index of it
 pub found : (x : ℕ) (xs : List ℕ) → 0 < times x xs → Contains xs x
 found x [] there = absurd (omega arith)
-found x (y ∷ ys) there = go x y ys (eqb y x) refl (let f = times_front x y ys in omega arith) (λ t. found x ys t)
+found x (y ∷ ys) there = go x y ys (eqb y x) refl (let f = times_cons x y ys in omega arith) (λ t. found x ys t)
   where
     go : (x y : ℕ) (ys : List ℕ) (b : Bool) → eqb y x ≡ b → 0 < cond (eqb y x) 1 0 + times x ys → (0 < times x ys → Contains ys x) → Contains (y ∷ ys) x
     go x y ys true e there next = (0, omega arith, one_is y x (let o : cond {A = ℕ} (eqb y x) 1 0 ≡ 1 = ap (λ (b : Bool). cond b 1 0) e in omega arith))

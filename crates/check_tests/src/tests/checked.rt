@@ -1,4 +1,4 @@
-//! The check of a text by so many workers, as the trials call it.
+//! The check of a recording file by some number of workers.
 
 use oberon_check::{FreeGate, Gate, check_bytes};
 use oberon_format::{Fault, migrate, refusal};
@@ -9,14 +9,14 @@ use std::sync::Wait;
 use std::test::Fail;
 use std::thread::Threads;
 
-/// Workers and segments in a job.
+/// How a check is shared: the number of workers, and the number of segments in a job.
 #[derive(Clone, Copy)]
 pub(crate) struct Crew {
     pub workers: u32,
     pub cut: u32,
 }
 
-/// The line and the status of a text, or a failure where these workers can't be.
+/// Returns the line and the status of a file, or fails if there is no such number of workers or segments.
 pub(crate) fn checked<R: Threads + Wait + Sync, G: Gate + Sync>(
     rt: &R,
     alloc: Global,
@@ -32,20 +32,20 @@ pub(crate) fn checked<R: Threads + Wait + Sync, G: Gate + Sync>(
     Ok((report.line, report.status))
 }
 
-/// Checks the line and the status of a recording's text of version 1, with these numbers turned, and those of its migration.
+/// Checks the line and the status of a recording's file of version 1, with some numbers replaced, and of its migrated form.
 pub(crate) fn text_gives<R: Abort + Threads + Wait + Sync>(
     rt: &R,
     alloc: Global,
     recording: &Sketch<'_>,
-    turned: &[(Spot, u32)],
+    replaced: &[(Spot, u32)],
     crew: Crew,
     expected: (&[u8], u8),
 ) -> Result<(), Fail> {
-    let text = recording.first_text(alloc, turned)?;
+    let text = recording.first_text(alloc, replaced)?;
     gives(rt, alloc, &text, crew, expected)
 }
 
-/// Checks the line and the status of a text by so many workers, whose jobs begin at once, and those of its migration.
+/// Checks the line and the status of a file and of its migrated form, with a gate that does nothing.
 pub(crate) fn gives<R: Abort + Threads + Wait + Sync>(
     rt: &R,
     alloc: Global,
@@ -60,7 +60,7 @@ pub(crate) fn gives<R: Abort + Threads + Wait + Sync>(
     }
 }
 
-/// Checks the line and the status of a text.
+/// Checks the line and the status of a file.
 fn is_answered<R: Abort + Threads + Wait + Sync>(
     rt: &R,
     alloc: Global,
@@ -74,7 +74,7 @@ fn is_answered<R: Abort + Threads + Wait + Sync>(
     Ok(())
 }
 
-/// Checks that a text is refused, and the line of its fault.
+/// Checks that a file is expected to be refused, and the line of its fault.
 fn is_refused(
     rt: &impl Abort,
     alloc: Global,

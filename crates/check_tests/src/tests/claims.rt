@@ -1,4 +1,4 @@
-//! The worked examples of the claim book, in one thread and in eight.
+//! Worked examples of the claim book, on one thread and on eight.
 ghost use Rattle.std.specs.Prelude.{◌≡◌, All, IfOk, vec_len};
 ghost use Rattle.oberon_claims.specs.Pass.{fresh_pass};
 
@@ -10,7 +10,7 @@ use std::sync::atomic::{AtomicU64, Ordering};
 use std::test::Fail;
 use std::thread::{Threads, map_vec};
 
-/// What two passes that share three jobs are answered in turn.
+/// Makes the calls of the worked example with two passes that share three jobs, and returns the answers in order.
 fn answers_to_two(claims: &Claims, a: &mut Pass, b: &mut Pass) -> [Option<u32>; 8]
     requires first { a.old.book ≡ claims.now }
     requires second { b.old.book ≡ claims.now }
@@ -31,7 +31,7 @@ fn answers_to_two(claims: &Claims, a: &mut Pass, b: &mut Pass) -> [Option<u32>; 
     [first, second, third, past, past_again, own, less, still]
 }
 
-/// What these are answered, and what the book comes to.
+/// Returns the answers of the worked example, and the result of its book.
 fn answers_by_hand(alloc: Global) -> Result<([Option<u32>; 8], Ledger), Fail> {
     let (claims, mut passes) = Claims::new(alloc, 3, 2)?;
     let mut b = passes.pop().ok_or("no pass")?;
@@ -42,21 +42,24 @@ fn answers_by_hand(alloc: Global) -> Result<([Option<u32>; 8], Ledger), Fail> {
     Ok((answers, claims.finish(passes)))
 }
 
-/// Checks what passes were answered, each call in turn.
-fn are_answers(rt: &impl Abort, answers: &[Option<u32>], wanted: &[Option<u32>]) {
-    assert!(rt; answers.len() == wanted.len(), "another number of answers");
+/// Checks the answers of several calls.
+fn are_answers(rt: &impl Abort, answers: &[Option<u32>], expected: &[Option<u32>]) {
+    assert!(rt;
+        answers.len() == expected.len(),
+        "another number of answers"
+    );
     for call in 0..answers.len() {
-        assert!(rt; answers[call] == wanted[call], "answer {call}");
+        assert!(rt; answers[call] == expected[call], "answer {call}");
     }
 }
 
-/// Checks what a book comes to: how many jobs were taken, and the least segment told.
-fn comes_to(rt: &impl Abort, ledger: Ledger, taken: u32, least: Option<u32>) {
+/// Checks the result of a book: how many jobs were taken, and the least segment reported.
+fn is_result(rt: &impl Abort, ledger: Ledger, taken: u32, least: Option<u32>) {
     assert!(rt; ledger.taken == taken, "another number of jobs taken");
     assert!(rt; ledger.least == least, "another least segment");
 }
 
-/// What two passes are to be answered.
+/// The expected answers of the worked example.
 const TO_TWO: [Option<u32>; 8] = [
     Some(0),
     Some(1),
@@ -68,16 +71,16 @@ const TO_TWO: [Option<u32>; 8] = [
     Some(3),
 ];
 
-/// Two passes share three jobs: claims past the end, and looks that see what the other pass told.
+/// Two passes share three jobs. They also claim when no job is left, and look after the other pass reported.
 #[test]
 fn claims_by_hand(rt: HostRuntime) -> Result<(), Fail> {
     let (answers, ledger) = answers_by_hand(rt.alloc())?;
     are_answers(&rt, &answers, &TO_TWO);
-    comes_to(&rt, ledger, 3, Some(3));
+    is_result(&rt, ledger, 3, Some(3));
     Ok(())
 }
 
-/// What the one pass of a book without jobs is answered.
+/// Claims twice and looks once with the only pass of a book without jobs, and returns the answers.
 fn answers_to_one(claims: &Claims, pass: &mut Pass) -> [Option<u32>; 3]
     requires { pass.old.book ≡ claims.now }
     ensures { pass.new.book ≡ claims.now }
@@ -87,7 +90,7 @@ fn answers_to_one(claims: &Claims, pass: &mut Pass) -> [Option<u32>; 3]
     [first, second, claims.look(pass)]
 }
 
-/// What it is answered, and what the book comes to.
+/// Returns the answers of a book without jobs, and its result.
 fn answers_without_jobs(alloc: Global) -> Result<([Option<u32>; 3], Ledger), Fail> {
     let (claims, mut passes) = Claims::new(alloc, 0, 1)?;
     let mut pass = passes.pop().ok_or("no pass")?;
@@ -100,14 +103,14 @@ fn answers_without_jobs(alloc: Global) -> Result<([Option<u32>; 3], Ledger), Fai
 fn no_jobs(rt: HostRuntime) -> Result<(), Fail> {
     let (answers, ledger) = answers_without_jobs(rt.alloc())?;
     are_answers(&rt, &answers, &[None, None, None]);
-    comes_to(&rt, ledger, 0, None);
+    is_result(&rt, ledger, 0, None);
     Ok(())
 }
 
-/// How often a thread looks for another before it goes on alone.
+/// How often a thread looks for another one before it continues alone.
 const TURNS: u32 = 1_000_000_000;
 
-/// Says that a thread has begun, waits for another, and counts those that saw one.
+/// Counts a thread as begun, waits for another one, and counts it as met if it sees one.
 fn meet(begun: &AtomicU64, met: &AtomicU64) {
     begun.fetch_add(1, Ordering::SeqCst);
     for _turn in 0..TURNS {
@@ -118,7 +121,7 @@ fn meet(begun: &AtomicU64, met: &AtomicU64) {
     }
 }
 
-/// Claims to the end, marks each job taken, and tells each that is a multiple of 7 and at least 700.
+/// Claims jobs until none is left, marks each job taken, and reports each that is a multiple of 7 and at least 700.
 fn work(claims: &Claims, mut pass: Pass, marks: &[AtomicU64]) -> Pass
     requires { pass.book ≡ claims.now }
     ensures { result.book ≡ claims.now }
@@ -137,7 +140,7 @@ fn work(claims: &Claims, mut pass: Pass, marks: &[AtomicU64]) -> Pass
     pass
 }
 
-/// Each pass in a thread of its own, which waits for another.
+/// Works each pass on a thread of its own, which first waits for another thread.
 fn work_all<R: Threads + Sync>(
     rt: &R,
     claims: &Claims,
@@ -163,7 +166,7 @@ fn work_all<R: Threads + Sync>(
     )
 }
 
-/// What a book of 4,096 jobs comes to, which eight threads share, and how many of them met another.
+/// Returns the result of a book of 4,096 jobs that eight threads share, and how many of the threads met another.
 fn ledger_of_eight<R: Threads + Sync>(
     rt: &R,
     alloc: Global,
@@ -183,13 +186,13 @@ fn are_taken_once(rt: &impl Abort, marks: &[AtomicU64]) {
     }
 }
 
-/// Eight threads share 4,096 jobs: each sees another at work, each job is taken once, and the least segment told is known.
+/// Eight threads share 4,096 jobs. Each meets another, each job is taken once, and the least segment reported is known.
 #[test]
 fn eight_threads_share_all_jobs(rt: HostRuntime) -> Result<(), Fail> {
     let marks = counters(rt.alloc(), 4096)?;
     let (ledger, met) = ledger_of_eight(&rt, rt.alloc(), marks.as_slice())?;
     assert!(rt; met == 8, "{met} threads met another");
-    comes_to(&rt, ledger, 4096, Some(700));
+    is_result(&rt, ledger, 4096, Some(700));
     are_taken_once(&rt, marks.as_slice());
     Ok(())
 }

@@ -1,4 +1,4 @@
-//! How often each job begins, where two checkpoints are false.
+//! How often each job begins, in a recording with two false checkpoints.
 
 use super::checked::{Crew, checked};
 use super::gates::counters;
@@ -11,7 +11,7 @@ use std::sync::atomic::{AtomicU64, Ordering};
 use std::test::Fail;
 use std::thread::Threads;
 
-/// Counts how often each job begins.
+/// A gate that counts how often each job begins.
 #[derive(Drop)]
 struct CountingGate<'a> {
     begun: &'a [AtomicU64],
@@ -25,7 +25,7 @@ impl Gate for CountingGate<'_> {
     }
 }
 
-/// Whether each of so many jobs has begun once, and no other has begun.
+/// Reports whether each of the first `jobs` jobs has begun once, and no other has begun.
 fn each_begun_once(begun: &[AtomicU64], jobs: u32) -> bool {
     for (job, begun) in begun.iter().enumerate() {
         if begun.load(Ordering::SeqCst) != u64::from(job < jobs as usize) {
@@ -35,7 +35,7 @@ fn each_begun_once(begun: &[AtomicU64], jobs: u32) -> bool {
     true
 }
 
-/// The workers, the segments in a job, and how many jobs ten segments are then.
+/// The number of workers, of segments in a job, and of jobs that ten segments make.
 const CREWS: [(u32, u32, u32); 9] = [
     (1, 1, 10),
     (2, 1, 10),
@@ -48,7 +48,7 @@ const CREWS: [(u32, u32, u32); 9] = [
     (64, 100, 1),
 ];
 
-/// The verdict by so many workers, where each of the recording's jobs begins once and no other does.
+/// Returns the verdict on a recording, or fails if not each of its jobs begins once and no other.
 fn counted_verdict<R: Threads + Wait + Sync>(
     rt: &R,
     alloc: Global,
@@ -71,7 +71,7 @@ fn counted_verdict<R: Threads + Wait + Sync>(
     Ok(verdict)
 }
 
-/// The same of ten jumps, two checkpoints of which are false.
+/// Returns the verdict on ten jumps with two false checkpoints, or fails as `counted_verdict` does.
 fn verdict_of_jumps<R: Threads + Wait + Sync>(
     rt: &R,
     alloc: Global,
@@ -91,8 +91,7 @@ fn two_false_checkpoints(rt: HostRuntime) -> Result<(), Fail> {
     Ok(())
 }
 
-/// Whether the line of a text by so many workers names the false checkpoint, and whether each of its jobs begins once and no
-/// other does.
+/// Reports whether the line of a file names the false checkpoint, and whether each of its jobs begins once and no other.
 fn counted_line<R: Threads + Wait + Sync>(
     rt: &R,
     alloc: Global,
@@ -112,7 +111,7 @@ fn counted_line<R: Threads + Wait + Sync>(
     ))
 }
 
-/// The same of the text of ten jumps, two checkpoints of which are false.
+/// Reports the same of the file of ten jumps with two false checkpoints.
 fn line_of_jumps<R: Threads + Wait + Sync>(
     rt: &R,
     alloc: Global,

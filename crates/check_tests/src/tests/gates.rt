@@ -1,20 +1,20 @@
-//! Gates that hold jobs until others began too.
+//! Gates that hold a job back until other jobs have begun.
 
 use oberon_check::Gate;
 use std::alloc::{AllocError, Global};
 use std::sync::atomic::{AtomicU64, Ordering};
 
-/// How often a held job looks for the others before it goes on without them.
+/// How often a held job looks for the others before it continues without them.
 const TURNS: u32 = 1_000_000_000;
 
-/// A job that is held until all of these others began.
+/// A job that is held until all jobs of `awaits` have begun.
 #[derive(Clone, Copy)]
 pub(crate) struct Hold<'a> {
     pub job: u32,
     pub awaits: &'a [u32],
 }
 
-/// Two jobs wait for each other.
+/// Jobs 0 and 1 wait for each other.
 pub(crate) const EACH_OTHER: [Hold<'static>; 2] = [
     Hold {
         job: 0,
@@ -26,7 +26,7 @@ pub(crate) const EACH_OTHER: [Hold<'static>; 2] = [
     },
 ];
 
-/// Marks each job that begins, holds some, and counts those that it let go on because the others began.
+/// A gate that marks each job that begins, holds some, and counts in `met` those that continued because the others began.
 #[derive(Drop)]
 pub(crate) struct HoldingGate<'a> {
     pub holds: &'a [Hold<'a>],
@@ -74,7 +74,7 @@ impl Gate for HoldingGate<'_> {
     }
 }
 
-/// So many counters, all 0.
+/// Returns `count` counters, all 0.
 pub(crate) fn counters(alloc: Global, count: u32) -> Result<Vec<AtomicU64>, AllocError> {
     let mut begun = Vec::new(alloc);
     for _ in 0..count {

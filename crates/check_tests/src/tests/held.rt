@@ -1,4 +1,4 @@
-//! Checks by two workers whose jobs are single segments, where a gate holds some of the jobs.
+//! Checks by two workers, with jobs of one segment and a gate that holds some of them.
 
 use super::checked::{Crew, checked, is_line};
 use super::gates::{Hold, HoldingGate, counters};
@@ -14,10 +14,10 @@ use std::thread::Threads;
 
 const TWO: Crew = Crew { workers: 2, cut: 1 };
 
-/// As many jobs as the longest recording has that is checked so.
+/// The number of jobs of the longest recording in these tests.
 const JOBS: u32 = 10;
 
-/// The verdict on the recording of a text, and how often a held job met the others.
+/// Returns the verdict on the recording of a file, and how many held jobs met the others.
 pub(crate) fn held_verdict<R: Threads + Wait + Sync>(
     rt: &R,
     alloc: Global,
@@ -28,7 +28,7 @@ pub(crate) fn held_verdict<R: Threads + Wait + Sync>(
     verdict_of(rt, alloc, &r, holds)
 }
 
-/// The verdict on a recording, and how often a held job met the others.
+/// Returns the verdict on a recording, and how many held jobs met the others.
 fn verdict_of<R: Threads + Wait + Sync>(
     rt: &R,
     alloc: Global,
@@ -46,7 +46,7 @@ fn verdict_of<R: Threads + Wait + Sync>(
     Ok((verdict, met.load(Ordering::SeqCst)))
 }
 
-/// Checks the line and the status of a text, and returns how often a held job met the others.
+/// Encodes a recording, checks the line and the status of the file, and returns how many held jobs met the others.
 pub(crate) fn held_line<R: Abort + Threads + Wait + Sync>(
     rt: &R,
     alloc: Global,
@@ -58,7 +58,7 @@ pub(crate) fn held_line<R: Abort + Threads + Wait + Sync>(
     meets(rt, alloc, &text, holds, expected)
 }
 
-/// The same of the text itself.
+/// Checks the line and the status of a file, and returns how many held jobs met the others.
 fn meets<R: Abort + Threads + Wait + Sync>(
     rt: &R,
     alloc: Global,

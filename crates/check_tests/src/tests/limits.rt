@@ -1,4 +1,4 @@
-//! Texts that are cut off, and texts that stand at a limit or past it.
+//! Files that are cut off, and files with a number at its limit or past it.
 
 use super::checked::{Crew, gives, text_gives};
 use oberon_format::{MAX_COUNT, Recording, read};
@@ -31,7 +31,7 @@ const STOPPED: Sketch<'static> = Sketch {
     ],
 };
 
-/// The same with the checkpoint at the count after.
+/// The same recording, with the checkpoint one count later.
 const STOPPED_TOO_LATE: Sketch<'static> = Sketch {
     claims: &[
         FIRST_PAGE,
@@ -44,7 +44,7 @@ const STOPPED_TOO_LATE: Sketch<'static> = Sketch {
     ..STOPPED
 };
 
-/// Checks that a text that is cut off is short at its end.
+/// Checks that a file that is cut off is refused as short, at its end.
 fn is_short<R: Abort + Threads + Wait + Sync>(
     rt: &R,
     alloc: Global,
@@ -56,7 +56,7 @@ fn is_short<R: Abort + Threads + Wait + Sync>(
 }
 
 #[test]
-fn a_text_cut_anywhere_is_short(rt: HostRuntime) -> Result<(), Fail> {
+fn a_file_cut_anywhere_is_short(rt: HostRuntime) -> Result<(), Fail> {
     let text = STORED_RUN.first_text(rt.alloc(), &[])?;
     assert!(rt; text.len() == 9504, "another length");
     for length in 0..text.len() {
@@ -66,14 +66,14 @@ fn a_text_cut_anywhere_is_short(rt: HostRuntime) -> Result<(), Fail> {
     gives(&rt, rt.alloc(), &text, TWO, accepted)
 }
 
-/// Lengths to which the text of one byte sent is cut or filled up, its own length first, and what it gives then.
+/// The lengths to which the file of `ONE_BYTE_SENT` is cut or padded, first its own, each with the expected line and status.
 const LENGTHS: [(usize, (&[u8], u8)); 3] = [
     (13_733, (b"accepted 2 checkpoints 4 steps\n", 0)),
     (13_734, (b"refused 8 trailing at byte 13733\n", 2)),
     (13_732, (b"refused 1 short at byte 13732\n", 2)),
 ];
 
-/// Checks the text of one byte sent: its length, and what it gives at another one, cut or filled up with bytes of 0.
+/// Checks the length of the file of `ONE_BYTE_SENT`, and its line and status when it is cut or padded with zeros to a length.
 fn gives_at_length<R: Abort + Threads + Wait + Sync>(
     rt: &R,
     alloc: Global,
@@ -94,7 +94,7 @@ fn a_byte_of_output_too_few_or_one_too_many(rt: HostRuntime) -> Result<(), Fail>
     Ok(())
 }
 
-/// Pages, events and checkpoints of a header, and the line that it gives with nothing behind it.
+/// The numbers of pages, events and checkpoints in a header, and the line of a file that has only this header.
 const HEADERS: [((u32, u32, u32), &[u8]); 4] = [
     ((65_537, 0, 1), b"refused 4 limit at byte 8\n"),
     ((0, 1_000_001, 1), b"refused 4 limit at byte 12\n"),
@@ -102,7 +102,7 @@ const HEADERS: [((u32, u32, u32), &[u8]); 4] = [
     ((65_536, 1_000_000, 4_097), b"refused 1 short at byte 24\n"),
 ];
 
-/// Checks the line of a header, of 24 bytes, with nothing behind it.
+/// Checks the line of a file that has only a header, of 24 bytes.
 fn header_gives<R: Abort + Threads + Wait + Sync>(
     rt: &R,
     alloc: Global,
@@ -122,10 +122,11 @@ fn headers_at_the_limits_and_past_them(rt: HostRuntime) -> Result<(), Fail> {
     Ok(())
 }
 
-/// After a step that moved R0 to itself, which sets Z, but for the count and the program counter.
+/// The claim after a step that moved R0 to itself, which sets Z. Count and program counter are still to be set.
 const MOVED: Claim<'static> = Claim { flags: 4, ..ZEROS };
 
-/// As many checkpoints as there can be, one after each step. The memory is zeros alone, so each step moves R0 to itself.
+/// Returns the claims of the largest number of checkpoints, one after each step. The memory is all zeros, so each step moves R0
+/// to itself.
 fn most_claims(alloc: Global) -> Result<Vec<Claim<'static>>, AllocError> {
     let mut claims = Vec::new(alloc);
     claims.push(ZEROS)?;
@@ -138,8 +139,8 @@ fn most_claims(alloc: Global) -> Result<Vec<Claim<'static>>, AllocError> {
     Ok(claims)
 }
 
-/// The text of as many checkpoints as there can be.
-fn text_of_most_checkpoints(alloc: Global) -> Result<Vec<u8>, AllocError> {
+/// Returns the file with the largest number of checkpoints.
+fn file_of_most_checkpoints(alloc: Global) -> Result<Vec<u8>, AllocError> {
     let claims = most_claims(alloc)?;
     let recording = Sketch {
         pages: &[],
@@ -149,18 +150,18 @@ fn text_of_most_checkpoints(alloc: Global) -> Result<Vec<u8>, AllocError> {
     recording.first_text(alloc, &[])
 }
 
-/// What such a text gives.
+/// The line and the status of this file.
 const MOST_ACCEPTED: (&[u8], u8) = (b"accepted 4096 checkpoints 4096 steps\n", 0);
 
 #[test]
 fn as_many_checkpoints_as_there_can_be(rt: HostRuntime) -> Result<(), Fail> {
-    let text = text_of_most_checkpoints(rt.alloc())?;
+    let text = file_of_most_checkpoints(rt.alloc())?;
     gives(&rt, rt.alloc(), &text, TWO, MOST_ACCEPTED)
 }
 
 #[test]
 fn as_many_jobs_as_there_can_be(rt: HostRuntime) -> Result<(), Fail> {
-    let text = text_of_most_checkpoints(rt.alloc())?;
+    let text = file_of_most_checkpoints(rt.alloc())?;
     let crew = Crew { workers: 2, cut: 1 };
     gives(&rt, rt.alloc(), &text, crew, MOST_ACCEPTED)
 }
@@ -176,7 +177,7 @@ fn the_last_count_and_the_one_after(rt: HostRuntime) -> Result<(), Fail> {
     text_gives(&rt, rt.alloc(), &STOPPED_TOO_LATE, &[], TWO, after)
 }
 
-/// Whether a machine's memory is what the recording's first checkpoint claims.
+/// Reports whether a machine's memory is what checkpoint 0 of the recording claims.
 fn has_first_memory(machine: &Machine<'_>, r: &Recording) -> bool {
     let pool = r.pool();
     let first = r.checkpoint(0);
@@ -186,7 +187,7 @@ fn has_first_memory(machine: &Machine<'_>, r: &Recording) -> bool {
         .is_none()
 }
 
-/// Whether all devices are as they began: no number, and no key that waits.
+/// Reports whether all devices are in their initial state: all numbers 0, and no waiting key.
 fn are_untouched(devices: &Devices) -> bool {
     devices.timer() == 0
         && devices.switches() == 0
@@ -196,7 +197,7 @@ fn are_untouched(devices: &Devices) -> bool {
         && devices.keys().is_empty()
 }
 
-/// What a machine has other than this processor, and devices and memory as at the recording's first checkpoint.
+/// Returns what is not as expected: this processor, untouched devices, the memory of checkpoint 0, and no bytes sent.
 fn difference_at_stop(
     machine: &Machine<'_>,
     r: &Recording,
@@ -218,7 +219,7 @@ fn difference_at_stop(
     None
 }
 
-/// Runs from the recording's first checkpoint to the last count that there is, and names what has changed besides the stop.
+/// Runs from checkpoint 0 to the largest count, and returns what has changed besides the stop.
 fn run_to_the_last_count(alloc: Global, r: &Recording) -> Result<Option<&'static str>, Fail> {
     let pool = r.pool();
     let first = r.checkpoint(0);
@@ -230,7 +231,7 @@ fn run_to_the_last_count(alloc: Global, r: &Recording) -> Result<Option<&'static
     Ok(difference_at_stop(&machine, r, cpu, sent.as_slice()))
 }
 
-/// What has changed besides the stop where a division by zero has stopped the machine.
+/// Runs the recording that a division by zero stops, and returns what has changed besides the stop.
 fn changed_after_the_stop(alloc: Global) -> Result<Option<&'static str>, Fail> {
     let text = STOPPED.first_text(alloc, &[])?;
     let r = read(alloc, text.as_slice())?;

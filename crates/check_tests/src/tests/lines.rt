@@ -1,4 +1,4 @@
-//! The names of parts, the texts of faults, and the lines of texts.
+//! The names of parts, the messages of faults, and the lines of files.
 
 use super::checked::{Crew, gives, text_gives};
 use super::jumps::{GIVEN_H, jumps};
@@ -7,13 +7,13 @@ use std::alloc::{AllocError, Global};
 use std::fmt::Display;
 use std::test::Fail;
 
-/// Whether a value is printed as this text.
+/// Reports whether a value is printed as `text`.
 fn is_printed<D: Display>(alloc: Global, value: &D, text: &str) -> Result<bool, AllocError> {
     let printed = format!(in alloc; "{value}")?;
     Ok(printed.as_str() == text)
 }
 
-/// Parts and their names.
+/// Parts, each with its name.
 const NAMES: [(Part, &str); 15] = [
     (Part::R(15), "R15"),
     (Part::H, "H"),
@@ -32,7 +32,7 @@ const NAMES: [(Part, &str); 15] = [
     (Part::Page(1023), "page 1023"),
 ];
 
-/// All of them.
+/// Returns all parts with their names.
 fn names() -> &'static [(Part, &'static str)] {
     &NAMES
 }
@@ -45,15 +45,15 @@ fn names_of_parts(rt: HostRuntime) -> Result<(), Fail> {
     Ok(())
 }
 
-/// Faults and their texts.
-const TEXTS: [(CollectFault, &str); 2] = [
+/// Faults, each with its message.
+const MESSAGES: [(CollectFault, &str); 2] = [
     (CollectFault::Double(3), "segment 3 has two verdicts"),
     (CollectFault::Missing(4095), "segment 4095 has no verdict"),
 ];
 
 #[test]
-fn texts_of_faults(rt: HostRuntime) -> Result<(), Fail> {
-    for (fault, text) in TEXTS {
+fn messages_of_faults(rt: HostRuntime) -> Result<(), Fail> {
+    for (fault, text) in MESSAGES {
         assert!(rt; is_printed(rt.alloc(), &fault, text)?, "{text}");
     }
     Ok(())
@@ -66,14 +66,14 @@ fn numbers_of_faults(rt: HostRuntime) {
 }
 
 #[test]
-fn text_of_wanting_memory(rt: HostRuntime) -> Result<(), Fail> {
+fn message_of_a_failed_allocation(rt: HostRuntime) -> Result<(), Fail> {
     let same = is_printed(rt.alloc(), &CheckFault::Memory, "there is no memory")?;
-    assert!(rt; same, "another text");
+    assert!(rt; same, "another message");
     Ok(())
 }
 
 #[test]
-fn lines_of_texts(rt: HostRuntime) -> Result<(), Fail> {
+fn lines_of_files(rt: HostRuntime) -> Result<(), Fail> {
     let alloc = rt.alloc();
     let false_h = (b"false checkpoint 2 at 20 part H\n".as_slice(), 1);
     let three = jumps(3);

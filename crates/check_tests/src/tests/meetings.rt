@@ -13,11 +13,11 @@ const ACCEPTED: Verdict = Verdict::Accepted {
 
 const ACCEPTED_LINE: (&[u8], u8) = (b"accepted 2 checkpoints 20 steps\n", 0);
 
-/// Two jumps, in this version.
+/// Returns the recording of two jumps, in a version.
 fn two_jumps(version: u32) -> Written<'static> {
     Written {
         recording: jumps(2),
-        turned: &[],
+        replaced: &[],
         version,
     }
 }
@@ -31,7 +31,7 @@ fn workers_meet(rt: HostRuntime) -> Result<(), Fail> {
 }
 
 #[test]
-fn workers_of_a_text_meet(rt: HostRuntime) -> Result<(), Fail> {
+fn workers_of_a_file_meet(rt: HostRuntime) -> Result<(), Fail> {
     for version in [1, 2] {
         let text = two_jumps(version);
         let met = held_line(&rt, rt.alloc(), &text, &EACH_OTHER, ACCEPTED_LINE)?;

@@ -1,4 +1,4 @@
-//! Passes of a book that callers give to `work` by themselves, and all shares that they give to `gather`.
+//! A book whose passes the caller works with `work`, on its own threads or in turn, and whose shares it gives to `gather`.
 ghost use Rattle.std.specs.Prelude.{◌≡◌, ◌≤◌, All, IfOk, vec_len};
 ghost use Rattle.std.specs.Int.{div_ceil};
 ghost use Rattle.oberon_claims.specs.Pass.{fresh_pass};
@@ -14,7 +14,7 @@ use std::alloc::{AllocError, Global};
 use std::test::Fail;
 use std::thread::{Threads, map_vec};
 
-/// Each pass in a thread of its own.
+/// Works each pass on a thread of its own.
 fn work_all<R: Threads + Sync>(
     rt: &R,
     alloc: Global,
@@ -25,7 +25,7 @@ fn work_all<R: Threads + Sync>(
     requires fresh { All (λ p. p ≡ fresh_pass claims.now) passes.items }
     requires jobs { claims.now.jobs ≡ div_ceil (last_of r.now) 1 }
     ensures len { IfOk result (λ v. vec_len v ≡ vec_len passes) }
-    ensures parts { IfOk result (λ v. All (λ d. IfOk d (IsShareOf r.now 1 claims.now)) v.items) }
+    ensures shares { IfOk result (λ v. All (λ d. IfOk d (IsShareOf r.now 1 claims.now)) v.items) }
 {
     map_vec(
         rt,
@@ -37,7 +37,7 @@ fn work_all<R: Threads + Sync>(
     )
 }
 
-/// The shares, if memory sufficed for each.
+/// Returns the shares, or an error if some worker ran out of memory.
 fn all_done(
     alloc: Global,
     r: &Recording,
@@ -46,20 +46,20 @@ fn all_done(
 ) -> Result<Vec<Done>, AllocError>
     requires { All (λ d. IfOk d (IsShareOf r.now 1 claims.now)) results.items }
     ensures len { IfOk result (λ v. vec_len v ≡ vec_len results) }
-    ensures parts { IfOk result (λ v. All (IsShareOf r.now 1 claims.now) v.items) }
+    ensures shares { IfOk result (λ v. All (IsShareOf r.now 1 claims.now) v.items) }
 {
-    // The contract alone names these.
+    // Only the contract uses these.
     let _ = r;
     let _ = claims;
     let mut done = Vec::new(alloc);
     for result in results {
-        let one = result?;
-        done.push(one)?;
+        let share = result?;
+        done.push(share)?;
     }
     Ok(done)
 }
 
-/// The verdict of eight passes, each on a thread of the caller.
+/// Returns the verdict from eight passes, each worked on a thread of the caller.
 fn verdict_of_eight<R: Threads + Sync>(
     rt: &R,
     alloc: Global,
@@ -72,13 +72,13 @@ fn verdict_of_eight<R: Threads + Sync>(
     gather(alloc, r, claims, done)
 }
 
-/// The same of ten jumps, two checkpoints of which are false.
+/// Returns the verdict from eight passes on ten jumps with two false checkpoints.
 fn eight_on_jumps<R: Threads + Sync>(rt: &R, alloc: Global) -> Result<Verdict, Fail> {
     let r = jump_recording(alloc, 10, &LIT_LEDS)?;
     Ok(verdict_of_eight(rt, alloc, &r)?)
 }
 
-/// Ten segments, of which checkpoints 3 and 7 are false, and a pass for each of eight threads.
+/// Ten segments, false checkpoints 3 and 7, and a pass for each of eight threads.
 #[test]
 fn eight_passes_on_threads_of_the_caller(rt: HostRuntime) -> Result<(), Fail> {
     let verdict = eight_on_jumps(&rt, rt.alloc())?;
@@ -86,7 +86,7 @@ fn eight_passes_on_threads_of_the_caller(rt: HostRuntime) -> Result<(), Fail> {
     Ok(())
 }
 
-/// The passes are worked one after the other, in this thread.
+/// Works the passes one after the other, on this thread.
 fn work_in_turn(
     alloc: Global,
     r: &Recording,
@@ -98,20 +98,20 @@ fn work_in_turn(
     requires fresh { All (λ p. p ≡ fresh_pass claims.now) passes.items }
     requires jobs { claims.now.jobs ≡ div_ceil (last_of r.now) cut }
     ensures len { IfOk result (λ v. vec_len v ≡ vec_len passes) }
-    ensures parts { IfOk result (λ v. All (IsShareOf r.now cut claims.now) v.items) }
+    ensures shares { IfOk result (λ v. All (IsShareOf r.now cut claims.now) v.items) }
 {
     let mut done = Vec::new(alloc);
     for pass in passes {
-        let one = work(alloc, r, claims, pass, cut, &FreeGate)?;
-        done.push(one)?;
+        let share = work(alloc, r, claims, pass, cut, &FreeGate)?;
+        done.push(share)?;
     }
     Ok(done)
 }
 
-/// What the first pass finds where it takes all jobs: it tells segment 2, and passes the other jobs over.
+/// The verdicts of the first pass, which takes all jobs: it reports segment 2, and skips the other jobs.
 const FIRST_SHARE: [(u32, Option<Part>); 3] = [(0, None), (1, None), (2, Some(Part::Leds))];
 
-/// Whether there are two shares, of which the first has all findings and the second has none.
+/// Reports whether there are two shares, the first with all verdicts and the second with none.
 fn first_has_all(done: &[Done]) -> bool {
     match done {
         [first, second] => {
@@ -121,7 +121,7 @@ fn first_has_all(done: &[Done]) -> bool {
     }
 }
 
-/// Whether the first of two passes, worked one after the other, has all findings, and whether both come to the first false
+/// Works two passes one after the other. Reports whether the first has all verdicts, and whether both give the first false
 /// checkpoint.
 fn work_of_two(alloc: Global, r: &Recording) -> Result<(bool, bool), AllocError> {
     let jobs = (r.count() - 1).div_ceil(4);
@@ -131,19 +131,19 @@ fn work_of_two(alloc: Global, r: &Recording) -> Result<(bool, bool), AllocError>
     Ok((all, gather(alloc, r, claims, done)? == FALSE_LEDS))
 }
 
-/// The same of ten jumps, two checkpoints of which are false.
+/// Reports the same of ten jumps with two false checkpoints.
 fn two_on_jumps(alloc: Global) -> Result<(bool, bool), Fail> {
     let r = jump_recording(alloc, 10, &LIT_LEDS)?;
     Ok(work_of_two(alloc, &r)?)
 }
 
-/// Two passes, of which the first takes all jobs: it tells segment 2, and passes the other jobs over.
+/// The first of two passes takes all jobs: it reports segment 2, and skips the other jobs.
 #[test]
 fn first_pass_takes_all(rt: HostRuntime) -> Result<(), Fail> {
     let (all, first) = two_on_jumps(rt.alloc())?;
     assert!(rt;
         all,
-        "the first pass has other findings, or the second has any"
+        "the first pass has other verdicts, or the second has any"
     );
     assert!(rt; first, "another verdict");
     Ok(())

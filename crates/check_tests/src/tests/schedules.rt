@@ -1,4 +1,4 @@
-//! Verdicts that no schedule of the workers may bend.
+//! Verdicts that do not depend on the schedule of the workers.
 
 use super::checked::{Crew, text_gives};
 use super::gates::{EACH_OTHER, Hold};
@@ -13,7 +13,7 @@ use std::sync::Wait;
 use std::test::Fail;
 use std::thread::Threads;
 
-/// Of ten segments: each a job, three in a job with one left over, and all in one job.
+/// The numbers of segments in a job: with ten segments, jobs of one, jobs of three and a last one of one, and one job.
 const CUTS: [u32; 3] = [1, 3, 10];
 
 const FALSE_AT_ONCE: (&[u8], u8) = (b"false checkpoint 1 at 10 part LEDs\n", 1);
@@ -24,24 +24,24 @@ const FALSE_FIRST: Verdict = Verdict::FalseAt {
     part: Part::Leds,
 };
 
-/// Checks that each crew of these cuts gives this line and status of the recording's text with these numbers turned.
+/// Checks the line and the status of a recording's file, with some numbers replaced, for each cut and 1, 2 and 64 workers.
 fn agree<R: Abort + Threads + Wait + Sync>(
     rt: &R,
     alloc: Global,
-    (recording, turned): (&Sketch<'_>, &[(Spot, u32)]),
+    (recording, replaced): (&Sketch<'_>, &[(Spot, u32)]),
     cuts: &[u32],
     expected: (&[u8], u8),
 ) -> Result<(), Fail> {
     for workers in [1, 2, 64] {
         for cut in cuts {
             let crew = Crew { workers, cut: *cut };
-            text_gives(rt, alloc, recording, turned, crew, expected)?;
+            text_gives(rt, alloc, recording, replaced, crew, expected)?;
         }
     }
     Ok(())
 }
 
-/// What R0 is claimed to be at the end of the stored run, and what its text gives.
+/// The value of R0 that the last checkpoint of the stored run claims, and the line and the status of its file.
 const STORED: [(u32, (&[u8], u8)); 2] = [
     (5, (b"accepted 1 checkpoints 100 steps\n", 0)),
     (6, (b"false checkpoint 1 at 100 part R0\n", 1)),
@@ -50,14 +50,14 @@ const STORED: [(u32, (&[u8], u8)); 2] = [
 #[test]
 fn the_stored_run_and_its_false_form(rt: HostRuntime) -> Result<(), Fail> {
     for (r0, expected) in STORED {
-        let turned = [(Register(1, 0), r0)];
-        let text = (&STORED_RUN, turned.as_slice());
+        let replaced = [(Register(1, 0), r0)];
+        let text = (&STORED_RUN, replaced.as_slice());
         agree(&rt, rt.alloc(), text, &[1, 4, 100], expected)?;
     }
     Ok(())
 }
 
-/// A checkpoint whose LEDs are false, and the line that names it.
+/// A checkpoint that claims false LEDs, and the line that names it.
 const LIT: [(u16, &[u8]); 10] = [
     (1, b"false checkpoint 1 at 10 part LEDs\n"),
     (2, b"false checkpoint 2 at 20 part LEDs\n"),
@@ -71,7 +71,7 @@ const LIT: [(u16, &[u8]); 10] = [
     (10, b"false checkpoint 10 at 100 part LEDs\n"),
 ];
 
-/// All of them.
+/// Returns all these checkpoints with their lines.
 fn lit() -> &'static [(u16, &'static [u8])] {
     &LIT
 }
@@ -80,13 +80,13 @@ fn lit() -> &'static [(u16, &'static [u8])] {
 fn one_false_checkpoint_of_ten(rt: HostRuntime) -> Result<(), Fail> {
     let ten = jumps(10);
     for (checkpoint, line) in lit() {
-        let turned = [(Leds(*checkpoint), 1)];
-        agree(&rt, rt.alloc(), (&ten, &turned), &CUTS, (*line, 1))?;
+        let replaced = [(Leds(*checkpoint), 1)];
+        agree(&rt, rt.alloc(), (&ten, &replaced), &CUTS, (*line, 1))?;
     }
     Ok(())
 }
 
-/// LEDs that are false at all ten checkpoints: the same, and rising ones.
+/// False LEDs at all ten checkpoints: the same at each, or rising.
 const ALL_LIT: [[(Spot, u32); 10]; 2] = [
     [
         (Leds(1), 1),
@@ -117,14 +117,14 @@ const ALL_LIT: [[(Spot, u32); 10]; 2] = [
 #[test]
 fn the_first_of_many_false_checkpoints(rt: HostRuntime) -> Result<(), Fail> {
     let ten = jumps(10);
-    for turned in &ALL_LIT {
-        let text = (&ten, turned.as_slice());
+    for replaced in &ALL_LIT {
+        let text = (&ten, replaced.as_slice());
         agree(&rt, rt.alloc(), text, &CUTS, FALSE_AT_ONCE)?;
     }
     Ok(())
 }
 
-/// Checks the verdict on a recording and the line of its text by two workers, and how often a held job met the others.
+/// Checks the verdict on a recording, the line of its file, and how many held jobs met the others, with two workers.
 fn hold<R: Abort + Threads + Wait + Sync>(
     rt: &R,
     alloc: Global,
@@ -141,7 +141,7 @@ fn hold<R: Abort + Threads + Wait + Sync>(
     Ok(())
 }
 
-/// The same of the verdict alone.
+/// Checks the verdict on a recording, and how many held jobs met the others.
 fn is_held<R: Abort + Threads + Wait + Sync>(
     rt: &R,
     alloc: Global,
@@ -158,20 +158,20 @@ fn is_held<R: Abort + Threads + Wait + Sync>(
     Ok(())
 }
 
-/// The first job goes on when all others have begun.
+/// The first job is held until all others have begun.
 const FIRST_LAST: [Hold<'static>; 1] = [Hold {
     job: 0,
     awaits: &[1, 2, 3, 4, 5, 6, 7, 8, 9],
 }];
 
-/// Checkpoints 1 and 7 are false, and the first job goes on when all others have begun: whoever takes them finds the
-/// seventh false long before the first.
+/// Checkpoints 1 and 7 are false, and the first job is held until all others have begun. So checkpoint 7 is found false long
+/// before checkpoint 1.
 #[test]
 fn the_first_job_waits_for_all_others(rt: HostRuntime) -> Result<(), Fail> {
     for version in [1, 2] {
         let text = Written {
             recording: jumps(10),
-            turned: &[(Leds(1), 1), (Leds(7), 1)],
+            replaced: &[(Leds(1), 1), (Leds(7), 1)],
             version,
         };
         let expected = (FALSE_FIRST, FALSE_AT_ONCE, 1);
@@ -192,7 +192,7 @@ fn two_workers_meet(rt: HostRuntime) -> Result<(), Fail> {
     for version in [1, 2] {
         let text = Written {
             recording: jumps(2),
-            turned: &[],
+            replaced: &[],
             version,
         };
         let expected = (TWO_ACCEPTED, TWO_ACCEPTED_LINE, 2);

@@ -1,4 +1,4 @@
-//! Worked examples of segments and of what their verdicts come to.
+//! Worked examples of segment verdicts, and of the verdicts collected from them.
 ghost use Rattle.std.specs.Prelude.{◌≡◌, All, IfOk};
 
 use super::jumps::{FALSE_H, GIVEN_H, Written, jump_recording, jumps};
@@ -8,7 +8,7 @@ use recording_texts::{EMPTY, Sketch, Spot};
 use std::alloc::{AllocError, Global};
 use std::test::Fail;
 
-/// The verdicts of these segments, in this order.
+/// Replays segments, and returns their verdicts in the same order.
 fn verdicts_of(
     alloc: Global,
     r: &Recording,
@@ -27,7 +27,7 @@ fn verdicts_of(
     Ok(verdicts)
 }
 
-/// Whether verdicts name these segments and parts, in this order.
+/// Reports whether verdicts have these segments and parts, in this order.
 pub(crate) fn are_findings(verdicts: &[SegmentVerdict], expected: &[(u32, Option<Part>)]) -> bool {
     if verdicts.len() != expected.len() {
         return false;
@@ -40,7 +40,7 @@ pub(crate) fn are_findings(verdicts: &[SegmentVerdict], expected: &[(u32, Option
     true
 }
 
-/// Whether the verdicts of the first three segments name these segments and parts, in this order.
+/// Reports whether the verdicts of the first three segments have these segments and parts, in this order.
 fn has_findings(
     alloc: Global,
     r: &Recording,
@@ -59,7 +59,7 @@ fn segments_of_a_false_h(rt: HostRuntime) -> Result<(), Fail> {
     Ok(())
 }
 
-/// What the verdicts of these segments, in this order, come to.
+/// Returns what `collect` makes of the verdicts of these segments, in this order.
 fn collect_some(
     alloc: Global,
     r: &Recording,
@@ -69,23 +69,23 @@ fn collect_some(
     Ok(collect(r, verdicts.as_slice()))
 }
 
-/// Whether the verdicts of these segments, in this order, come to this, in a recording with these numbers turned.
-fn come_to(
+/// Reports whether `collect` makes this of the verdicts of these segments, in a recording with some numbers replaced.
+fn is_collected(
     alloc: Global,
-    (recording, turned): (Sketch<'_>, &[(Spot, u32)]),
+    (recording, replaced): (Sketch<'_>, &[(Spot, u32)]),
     segments: &[u32],
     expected: Result<Verdict, CollectFault>,
 ) -> Result<bool, Fail> {
     let written = Written {
         recording,
-        turned,
+        replaced,
         version: 1,
     };
     let r = written.recording(alloc)?;
     Ok(collect_some(alloc, &r, segments)? == expected)
 }
 
-/// Segments of the recording with a false H, in the order of their verdicts, and what these come to.
+/// Segments of the recording with a false H, in the order of their verdicts, and what `collect` makes of them.
 const COLLECTED: [(&[u32], Result<Verdict, CollectFault>); 5] = [
     (&[2, 0, 1], Ok(FALSE_H)),
     (&[0, 1], Ok(FALSE_H)),
@@ -98,27 +98,27 @@ const COLLECTED: [(&[u32], Result<Verdict, CollectFault>); 5] = [
 fn collect_by_hand(rt: HostRuntime) -> Result<(), Fail> {
     let recording = (jumps(3), GIVEN_H.as_slice());
     for (row, (segments, expected)) in COLLECTED.iter().enumerate() {
-        let same = come_to(rt.alloc(), recording, segments, *expected)?;
+        let same = is_collected(rt.alloc(), recording, segments, *expected)?;
         assert!(rt; same, "row {row}");
     }
     Ok(())
 }
 
-/// So many segments that all hold, the order of their verdicts, and the steps of all.
+/// A number of segments that all hold, the order of their verdicts, and the number of steps.
 const ALL_HOLD: [(u32, &[u32], u64); 2] = [(3, &[2, 0, 1], 30), (0, &[], 0)];
 
 #[test]
-fn collect_where_all_hold(rt: HostRuntime) -> Result<(), Fail> {
+fn collect_if_all_hold(rt: HostRuntime) -> Result<(), Fail> {
     for (checkpoints, segments, steps) in ALL_HOLD {
         let recording = (jumps(checkpoints as usize), [].as_slice());
         let accepted = Verdict::Accepted { checkpoints, steps };
-        let same = come_to(rt.alloc(), recording, segments, Ok(accepted))?;
+        let same = is_collected(rt.alloc(), recording, segments, Ok(accepted))?;
         assert!(rt; same, "of {checkpoints} segments");
     }
     Ok(())
 }
 
-/// The verdict where there is no segment.
+/// The verdict if there is no segment.
 const NOTHING: Verdict = Verdict::Accepted {
     checkpoints: 0,
     steps: 0,
@@ -126,7 +126,7 @@ const NOTHING: Verdict = Verdict::Accepted {
 
 #[test]
 fn collect_nothing_of_a_recording_without_pages(rt: HostRuntime) -> Result<(), Fail> {
-    let same = come_to(rt.alloc(), (EMPTY, &[]), &[], Ok(NOTHING))?;
+    let same = is_collected(rt.alloc(), (EMPTY, &[]), &[], Ok(NOTHING))?;
     assert!(rt; same, "another verdict");
     Ok(())
 }

@@ -1,4 +1,4 @@
-//! Timers that a checkpoint of the second version claims, and the part of them that is named first.
+//! Claims about the timer in version 2 of the format, and the first part that differs.
 
 use oberon_check::{Part, replay_segment};
 use oberon_format::{Recording, read};
@@ -6,8 +6,9 @@ use recording_texts::{Claim, FIRST_PAGE, JUMP, Sketch};
 use std::alloc::{AllocError, Global};
 use std::test::Fail;
 
-/// The text of a jump to itself for ten steps, where checkpoint 1 claims this timer, of this rate and phase.
-fn timer_text(
+/// Returns the file of a jump to itself for ten steps. Checkpoint 0 claims the rate `before`, and checkpoint 1 the timer, rate and
+/// phase.
+fn timer_file(
     alloc: Global,
     (timer, rate, phase): (u32, u32, u32),
     before: u32,
@@ -31,7 +32,7 @@ fn timer_text(
     recording.second_text(alloc, &[])
 }
 
-/// The part that is named at the end of the first segment.
+/// Returns the first part that differs at the end of the first segment.
 fn part_of_segment(alloc: Global, r: &Recording) -> Result<Option<Part>, Fail> {
     if r.count() < 2 {
         return Err("no segment".into());
@@ -39,18 +40,18 @@ fn part_of_segment(alloc: Global, r: &Recording) -> Result<Option<Part>, Fail> {
     Ok(replay_segment(alloc, r, 0)?.part())
 }
 
-/// The part that is named where checkpoint 1 claims this timer.
+/// Returns the first part that differs if checkpoint 1 claims this timer, rate and phase.
 fn part_of_timer(
     alloc: Global,
     claimed: (u32, u32, u32),
     before: u32,
 ) -> Result<Option<Part>, Fail> {
-    let text = timer_text(alloc, claimed, before)?;
+    let text = timer_file(alloc, claimed, before)?;
     let r = read(alloc, text.as_slice())?;
     part_of_segment(alloc, &r)
 }
 
-/// The rate at checkpoint 0, what checkpoint 1 claims of the timer, its rate and its phase, and the part that is named.
+/// The rate at checkpoint 0; the timer, rate and phase that checkpoint 1 claims; and the first part that differs.
 const TIMERS: [(u32, (u32, u32, u32), Option<Part>); 6] = [
     (0, (0, 0, 0), None),
     (0, (7, 10, 3), Some(Part::Timer)),

@@ -1,5 +1,4 @@
-//! A segment of 2^40 steps that no worker may replay. It stands alone, since a worker that does so ends only by the time
-//! limit of a test.
+//! A segment of 2^40 steps that no worker may replay. A worker that does so is ended only by the time limit of the test.
 
 use super::gates::Hold;
 use super::held::{held_line, held_verdict};
@@ -9,7 +8,7 @@ use oberon_format::MAX_COUNT;
 use recording_texts::{Claim, FIRST_PAGE, JUMP, Sketch};
 use std::test::Fail;
 
-/// Checkpoint 1 is false, and a long segment lies behind it.
+/// A recording with a false checkpoint 1, and a long segment after it.
 const LONG: Sketch<'static> = Sketch {
     pages: &[&[JUMP]],
     events: &[],
@@ -31,17 +30,17 @@ const LONG: Sketch<'static> = Sketch {
     ],
 };
 
-/// Its text, of version 1 or of version 2.
-fn long_text(version: u32) -> Written<'static> {
+/// Returns this recording, in version 1 or 2.
+fn long_recording(version: u32) -> Written<'static> {
     Written {
         recording: LONG,
-        turned: &[],
+        replaced: &[],
         version,
     }
 }
 
-/// The job of the long segment goes on when the last one has begun. Then the false checkpoint is known, whoever found it, so
-/// the long segment is passed over.
+/// The job of the long segment is held until the last job has begun. By then the false checkpoint was reported, so the long
+/// segment is skipped.
 const HOLDS: [Hold<'static>; 1] = [Hold {
     job: 1,
     awaits: &[2],
@@ -56,17 +55,17 @@ const FALSE_AT_ONCE: Verdict = Verdict::FalseAt {
 const FALSE_LINE: (&[u8], u8) = (b"false checkpoint 1 at 10 part LEDs\n", 1);
 
 #[test]
-fn the_long_segment_behind_a_false_checkpoint_is_passed_over(rt: HostRuntime) -> Result<(), Fail> {
-    let (verdict, met) = held_verdict(&rt, rt.alloc(), &long_text(1), &HOLDS)?;
+fn the_long_segment_after_a_false_checkpoint_is_skipped(rt: HostRuntime) -> Result<(), Fail> {
+    let (verdict, met) = held_verdict(&rt, rt.alloc(), &long_recording(1), &HOLDS)?;
     assert!(rt; verdict == FALSE_AT_ONCE, "another verdict");
     assert!(rt; met == 1, "the long segment met the last one {met} times");
     Ok(())
 }
 
 #[test]
-fn the_long_segment_of_a_text_is_passed_over(rt: HostRuntime) -> Result<(), Fail> {
+fn the_long_segment_of_a_file_is_skipped(rt: HostRuntime) -> Result<(), Fail> {
     for version in [1, 2] {
-        let text = long_text(version);
+        let text = long_recording(version);
         let met = held_line(&rt, rt.alloc(), &text, &HOLDS, FALSE_LINE)?;
         assert!(rt;
             met == 1,

@@ -4,7 +4,7 @@ use Rattle.std.specs.Fmt.{decimal}
 use Rattle.oberon_check.specs.declared.part.Part.{Part}
 use Rattle.oberon_check.specs.declared.part.Part.TheVariants.{R, Page}
 
--- a register's and a page's, in decimal; the other parts have none
+-- the number of a register or a page, in decimal; other parts have none
 abbrev pub part_number : Part → List ℕ
 part_number (R i) = decimal i
 part_number (Page place) = decimal place

@@ -1,4 +1,4 @@
--- How the verdicts of a worker grow, job by job.
+-- How a worker's pass and its list of verdicts change, job by job.
 use Rattle.std.specs.Prelude.{ℕ, ◌≡◌, List, ◌++◌, All, Contains}
 use Rattle.oberon_claims.specs.Pass.{PassRecord}
 use Rattle.oberon_format.specs.Recording.{RecordingParts, IsLawful, last_of}
@@ -8,11 +8,11 @@ use Rattle.oberon_check.specs.Segment.{Finding, IsRun, IsTrueFinding}
 use Rattle.oberon_check.specs.Verdict.{IsVerdict}
 use Rattle.oberon_check.specs.Work.{IsJob, failed_of, DoneRecord}
 
--- the share of this recording, cut, pass and verdicts
+-- the share with this recording, cut, pass and verdicts
 abbrev pub done_record : RecordingParts → ℕ → PassRecord → List Finding → DoneRecord
 done_record r cut p vs = record { recording = r; cut = cut; pass = p; verdicts = vs }
 
--- what a pass and a list of verdicts become with the verdicts of one job more
+-- from pass p and verdicts vs to pass q and verdicts ws by one more job, whose verdicts are `piece`
 pub record AddsJob (r : RecordingParts) (cut job : ℕ) (p q : PassRecord) (vs ws : List Finding) : Type 0 where
   pub book : q.book ≡ p.book
   pub taken : q.taken ≡ p.taken
@@ -24,7 +24,7 @@ pub record AddsJob (r : RecordingParts) (cut job : ℕ) (p q : PassRecord) (vs w
   pub recordings : All (λ v. v.recording ≡ r) piece
   pub is_job : IsJob (last_of r) cut q.shown job piece
 
--- what they become with a run of verdicts more
+-- from pass p and verdicts vs to pass q and verdicts ws by one more run of verdicts, `piece`
 pub record AddsRun (r : RecordingParts) (first end : ℕ) (p q : PassRecord) (vs ws : List Finding) : Type 0 where
   pub book : q.book ≡ p.book
   pub taken : q.taken ≡ p.taken
@@ -36,7 +36,7 @@ pub record AddsRun (r : RecordingParts) (first end : ℕ) (p q : PassRecord) (vs
   pub recordings : All (λ v. v.recording ≡ r) piece
   pub is_run : IsRun first end piece
 
--- what a look leaves
+-- from pass p to pass q by a look
 pub record IsLooked (p q : PassRecord) : Type 0 where
   pub book : q.book ≡ p.book
   pub taken : q.taken ≡ p.taken
@@ -44,7 +44,7 @@ pub record IsLooked (p q : PassRecord) : Type 0 where
   pub ended : q.ended ≡ p.ended
   pub shown : (x : ℕ) → Contains p.shown x → Contains q.shown x
 
--- what the answer of true findings rests on: the shares that they come from
-abbrev pub GathersTrue : RecordingParts → List DoneRecord → List Finding → Type 0
-GathersTrue r done findings =
+-- if the segment verdicts are true, any verdict that follows from them is as `IsGathered` says of the shares
+abbrev pub IsGatheredIfTrue : RecordingParts → List DoneRecord → List Finding → Type 0
+IsGatheredIfTrue r done findings =
     IsLawful r → All IsTrueFinding findings → (verdict : Verdict) → IsVerdict r verdict → IsGathered r done verdict

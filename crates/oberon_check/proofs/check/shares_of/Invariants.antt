@@ -5,7 +5,7 @@ use Rattle.oberon_check.proofs.check.shares_of.Given as goal
 
 abbrev pub invariant-loop-result : goal.invariant-loop-result
 invariant-loop-result l = record {
-  parts : All (IsShareOf l.r l.cut l.claims) l.done.items;
+  shares : All (IsShareOf l.r l.cut l.claims) l.done.items;
   count : length l.done.items ≡ length l.yielded;
   rest : l.yielded ++ l.result-iterator.rest.items ≡ l.fn.results.items;
 }

@@ -11,68 +11,68 @@ use Rattle.oberon_check.specs.Work.{DoneRecord, IsDone}
 use Rattle.oberon_check.specs.Gathering.{passes_of, all_findings}
 use Rattle.std.proofs.lemmas.List.{nil_from_length}
 use Rattle.std.proofs.lemmas.List.Elements.{All-push}
-use Rattle.oberon_check.proofs.Shares.{findings_snoc, books, recordings, pieces, first_part}
+use Rattle.oberon_check.proofs.Shares.{findings_snoc, books, recordings, pieces, first_share}
 use Rattle.oberon_check.proofs.Gathered.{AllBack, no_fault}
 use Rattle.oberon_check.proofs.Answered.{answered}
 use Rattle.oberon_check.proofs.gathering.all_verdicts.Goals as goal
-use Rattle.oberon_check.proofs.gathering.all_verdicts.Goals.{After-drop-one-iterator-2, After-finish-ledger}
+use Rattle.oberon_check.proofs.gathering.all_verdicts.Goals.{After-drop-share-iterator-2, After-finish-ledger}
 
-pub loop-one-preserved : goal.loop-one-preserved
-loop-one-preserved c =
-    let i = c.loop-one.invariant in
-    let one : DoneRecord = c.in-Some.one in
+pub loop-share-preserved : goal.loop-share-preserved
+loop-share-preserved c =
+    let i = c.loop-share.invariant in
+    let share : DoneRecord = c.in-Some.share in
     let apart = c.in_ok-take_apart.ensures in
     let step = c.in-Some.ensures.steps in
-    let at = ap (λ (l : List DoneRecord). c.loop-one.yielded ++ l) (sym step.0) ∙ i.rest in record {
-      passes = apart.passes ∙ ap (λ (l : List PassRecord). l ++ one.pass ∷ []) i.passes ∙ sym (map-append (λ (d : DoneRecord). d.pass) c.loop-one.yielded (one ∷ []));
-      verdicts = apart.verdicts ∙ ap (λ (l : List Finding). l ++ one.verdicts) i.verdicts ∙ sym (findings_snoc c.loop-one.yielded one);
-      done = All-push IsDone c.loop-one.yielded one i.done apart.done;
-      rest = append_assoc c.loop-one.yielded (one ∷ []) _ ∙ at;
+    let at = ap (λ (l : List DoneRecord). c.loop-share.yielded ++ l) (sym step.0) ∙ i.rest in record {
+      passes = apart.passes ∙ ap (λ (l : List PassRecord). l ++ share.pass ∷ []) i.passes ∙ sym (map-append (λ (d : DoneRecord). d.pass) c.loop-share.yielded (share ∷ []));
+      verdicts = apart.verdicts ∙ ap (λ (l : List Finding). l ++ share.verdicts) i.verdicts ∙ sym (findings_snoc c.loop-share.yielded share);
+      done = All-push IsDone c.loop-share.yielded share i.done apart.done;
+      rest = append_assoc c.loop-share.yielded (share ∷ []) _ ∙ at;
     }
 
--- all parts were taken apart
-whole : (c : After-drop-one-iterator-2) → c.loop-one.yielded ≡ c.args.done.items
+-- after the loop, all shares were taken apart
+whole : (c : After-drop-share-iterator-2) → c.loop-share.yielded ≡ c.args.done.items
 whole c =
-    let i = c.loop-one.invariant in
-    let none = nil_from_length c.loop-one.one-iterator.rest.items (sym c.loop-one.one-iterator.rest.ok.0 ∙ c.in-None.ensures.steps.0) in
-    sym (append-nil c.loop-one.yielded) ∙ ap (λ (l : List DoneRecord). c.loop-one.yielded ++ l) (sym none) ∙ i.rest
+    let i = c.loop-share.invariant in
+    let none = nil_from_length c.loop-share.share-iterator.rest.items (sym c.loop-share.share-iterator.rest.ok.0 ∙ c.in-None.ensures.steps.0) in
+    sym (append-nil c.loop-share.yielded) ∙ ap (λ (l : List DoneRecord). c.loop-share.yielded ++ l) (sym none) ∙ i.rest
 
-passes_are : (c : After-drop-one-iterator-2) → c.loop-one.passes.items ≡ passes_of c.args.done.items
-passes_are c = c.loop-one.invariant.passes ∙ ap passes_of (whole c)
+passes_are : (c : After-drop-share-iterator-2) → c.loop-share.passes.items ≡ passes_of c.args.done.items
+passes_are c = c.loop-share.invariant.passes ∙ ap passes_of (whole c)
 
-verdicts_are : (c : After-drop-one-iterator-2) → c.loop-one.verdicts.items ≡ all_findings c.args.done.items
-verdicts_are c = c.loop-one.invariant.verdicts ∙ ap all_findings (whole c)
+verdicts_are : (c : After-drop-share-iterator-2) → c.loop-share.verdicts.items ≡ all_findings c.args.done.items
+verdicts_are c = c.loop-share.invariant.verdicts ∙ ap all_findings (whole c)
 
-all_done : (c : After-drop-one-iterator-2) (k : ℕ) (d : DoneRecord) → k < length c.args.done.items → IsDone (get_or c.args.done.items k d)
-all_done c = subst (λ (ds : List DoneRecord). (k : ℕ) (d : DoneRecord) → k < length ds → IsDone (get_or ds k d)) (whole c) c.loop-one.invariant.done
+all_done : (c : After-drop-share-iterator-2) (k : ℕ) (d : DoneRecord) → k < length c.args.done.items → IsDone (get_or c.args.done.items k d)
+all_done c = subst (λ (ds : List DoneRecord). (k : ℕ) (d : DoneRecord) → k < length ds → IsDone (get_or ds k d)) (whole c) c.loop-share.invariant.done
 
-all_of : (c : After-drop-one-iterator-2) (k : ℕ) (v : Finding) → k < length (all_findings c.args.done.items) → (get_or (all_findings c.args.done.items) k v).recording ≡ c.args.r.now
-all_of c = recordings c.args.r.now c.requires.parts.0 c.args.claims c.args.done.items (all_done c) c.requires.parts.1
+all_of : (c : After-drop-share-iterator-2) (k : ℕ) (v : Finding) → k < length (all_findings c.args.done.items) → (get_or (all_findings c.args.done.items) k v).recording ≡ c.args.r.now
+all_of c = recordings c.args.r.now c.requires.shares.0 c.args.claims c.args.done.items (all_done c) c.requires.shares.1
 
 pub finish-ledger-requires-clause-all : goal.finish-ledger-requires-clause-all
 finish-ledger-requires-clause-all c =
-    c.loop-one.passes.ok.0 ∙ ap length (passes_are c) ∙ length-map c.args.done.items (λ (d : DoneRecord). d.pass) ∙ sym c.args.done.ok.0 ∙ c.requires.all
+    c.loop-share.passes.ok.0 ∙ ap length (passes_are c) ∙ length-map c.args.done.items (λ (d : DoneRecord). d.pass) ∙ sym c.args.done.ok.0 ∙ c.requires.all
 
 pub finish-ledger-requires-clause-book : goal.finish-ledger-requires-clause-book
 finish-ledger-requires-clause-book c =
     subst (λ (ps : List PassRecord). (k : ℕ) (p : PassRecord) → k < length ps → (get_or ps k p).book ≡ c.args.claims) (sym (passes_are c))
-    (books c.args.r.now c.requires.parts.0 c.args.claims c.args.done.items c.requires.parts.1)
+    (books c.args.r.now c.requires.shares.0 c.args.claims c.args.done.items c.requires.shares.1)
 
-back : (c : After-finish-ledger) → AllBack (last_of c.args.r.now) c.requires.parts.0 (passes_of c.args.done.items) (all_findings c.args.done.items)
+back : (c : After-finish-ledger) → AllBack (last_of c.args.r.now) c.requires.shares.0 (passes_of c.args.done.items) (all_findings c.args.done.items)
 back c =
     let f = c.finish-ledger.ensures in
     let ds : List DoneRecord = c.args.done.items in
-    let cut : ℕ = c.requires.parts.0 in
-    let parts = c.requires.parts.1 in
+    let cut : ℕ = c.requires.shares.0 in
+    let shares = c.requires.shares.1 in
     let done = all_done c.before in
     let passes = passes_are c.before in
     let count = c.requires.all in
     let len = c.args.done.ok.0 in
     let some = f.workers.0 in
-    let first = first_part c.args.r.now cut c.args.claims ds (omega arith) done parts in
+    let first = first_share c.args.r.now cut c.args.claims ds (omega arith) done shares in
     let taken = f.whole (subst SomeEnded (sym passes) first.ended) ∙ first.jobs in record {
       some = first.cut_some;
-      done = pieces c.args.r.now cut c.args.claims ds done parts;
+      done = pieces c.args.r.now cut c.args.claims ds done shares;
       each = λ x. subst (λ (ps : List PassRecord). times x (all_taken ps) ≡ once_below x c.finish-ledger.result.taken) passes (f.taken x) ∙ ap (once_below x) taken;
       shown_reported = subst (λ (ps : List PassRecord). All (λ x. Contains (all_reported ps) x) (all_shown ps)) passes f.shown;
     }
@@ -86,11 +86,11 @@ returns-clause-recordings c =
 
 pub returns-clause-whole : goal.returns-clause-whole
 returns-clause-whole c fault is =
-    no_fault c.args.r.now c.requires.parts.0 (passes_of c.args.done.items) (all_findings c.args.done.items) (back c) fault
+    no_fault c.args.r.now c.requires.shares.0 (passes_of c.args.done.items) (all_findings c.args.done.items) (back c) fault
     (subst (λ (vs : List Finding). IsCollectFault c.args.r.now vs fault) (verdicts_are c.before) is)
 
 pub returns-clause-gathered : goal.returns-clause-gathered
 returns-clause-gathered c lawful findings verdict is =
     let least = subst (λ (ps : List PassRecord). IsLeastOf (all_reported ps) c.finish-ledger.result.least) (passes_are c.before) c.finish-ledger.ensures.least in
-    answered c.args.r.now c.requires.parts.0 c.args.done.items (back c) (all_of c.before) c.finish-ledger.result.least least lawful
+    answered c.args.r.now c.requires.shares.0 c.args.done.items (back c) (all_of c.before) c.finish-ledger.result.least least lawful
     (subst (λ (vs : List Finding). All IsTrueFinding vs) (verdicts_are c.before) findings) verdict is

@@ -4,10 +4,10 @@ use Rattle.oberon_check.specs.Work.{IsDone}
 use Rattle.oberon_check.specs.Gathering.{passes_of, all_findings}
 use Rattle.oberon_check.proofs.gathering.all_verdicts.Given as goal
 
-abbrev pub invariant-loop-one : goal.invariant-loop-one
-invariant-loop-one l = record {
+abbrev pub invariant-loop-share : goal.invariant-loop-share
+invariant-loop-share l = record {
   passes : l.passes.items ≡ passes_of l.yielded;
   verdicts : l.verdicts.items ≡ all_findings l.yielded;
   done : All IsDone l.yielded;
-  rest : l.yielded ++ l.one-iterator.rest.items ≡ l.fn.done.items;
+  rest : l.yielded ++ l.share-iterator.rest.items ≡ l.fn.done.items;
 }

@@ -1,12 +1,12 @@
 use Rattle.std.proofs.Common.{◌≡◌, ◌+◌, ◌*◌, min, refl, arith}
 use Rattle.oberon_format.specs.Recording.{last_of}
-use Rattle.oberon_check.proofs.Runs.{job_passed, job_run}
+use Rattle.oberon_check.proofs.Runs.{job_skipped, job_run}
 use Rattle.oberon_check.proofs.worker.do_job.Goals as goal
 use Rattle.oberon_check.proofs.worker.do_job.Goals.{then-cut-last, else-cut-last}
 
-pub returns-then-is_passed_over : goal.returns-then-is_passed_over
-returns-then-is_passed_over c =
-    job_passed c.args.r.now c.args.cut c.args.job _ _ _ c.is_passed_over.ensures.looked (c.is_passed_over.ensures.shown c.if-is_passed_over.true)
+pub returns-then-is_skipped : goal.returns-then-is_skipped
+returns-then-is_skipped c =
+    job_skipped c.args.r.now c.args.cut c.args.job _ _ _ c.is_skipped.ensures.looked (c.is_skipped.ensures.shown c.if-is_skipped.true)
 
 pub returns : goal.returns
 returns c =
@@ -14,4 +14,4 @@ returns c =
     let below = c.requires.job in
     let end : c.if-cut-last.end ≡ min (c.args.job * c.args.cut + c.args.cut) (last_of c.args.r.now) =
     elim c.if-cut-last.branch [ then-cut-last w ↦ (let t = w.if-cut-last.true in let e = w.end-is in omega arith) | else-cut-last w ↦ (let t = w.if-cut-last.false in let e = w.end-is in omega arith) ] in
-    job_run c.args.r.now c.args.cut c.args.job _ _ _ _ _ _ _ c.is_passed_over.ensures.looked refl end c.in_ok-replay_run.ensures
+    job_run c.args.r.now c.args.cut c.args.job _ _ _ _ _ _ _ c.is_skipped.ensures.looked refl end c.in_ok-replay_run.ensures

@@ -15,14 +15,14 @@ loop-result-preserved c =
     let step = c.in-Some.ensures.steps in
     let at = ap (λ (l : List Answer). c.loop-result.yielded ++ l) (sym step.0) ∙ i.rest in
     let P : Answer → Type 0 = λ x. IfOk x (IsShareOf c.args.r.now 1 c.args.claims.now) in
-    let part : P c.in-Some.result = next_of P _ _ _ _ at c.requires in
-    let one : IsShareOf c.args.r.now 1 c.args.claims.now c.in_ok-one.one = subst P c.in_ok-one.was part in
+    let share : P c.in-Some.result = next_of P _ _ _ _ at c.requires in
+    let mine : IsShareOf c.args.r.now 1 c.args.claims.now c.in_ok-share.share = subst P c.in_ok-share.was share in
     let p = c.in_ok-push.ensures.items in
-    let l = length-append c.loop-result.done.items (c.in_ok-one.one ∷ []) in
+    let l = length-append c.loop-result.done.items (c.in_ok-share.share ∷ []) in
     let l' = length-append c.loop-result.yielded (c.in-Some.result ∷ []) in
     let l'' = ap length p in record {
-      parts = subst (λ (ss : List DoneRecord). (k : ℕ) (d : DoneRecord) → k < length ss → IsShareOf c.args.r.now 1 c.args.claims.now (get_or ss k d)) (sym p)
-          (All-push (IsShareOf c.args.r.now 1 c.args.claims.now) _ _ i.parts one);
+      shares = subst (λ (ss : List DoneRecord). (k : ℕ) (d : DoneRecord) → k < length ss → IsShareOf c.args.r.now 1 c.args.claims.now (get_or ss k d)) (sym p)
+          (All-push (IsShareOf c.args.r.now 1 c.args.claims.now) _ _ i.shares mine);
       count = omega arith;
       rest = append_assoc c.loop-result.yielded (c.in-Some.result ∷ []) _ ∙ at;
     }

@@ -5,7 +5,7 @@ use Rattle.check_tests.proofs.tests.passes.all_done.Given as goal
 
 abbrev pub invariant-loop-result : goal.invariant-loop-result
 invariant-loop-result l = record {
-  parts : All (IsShareOf l.r 1 l.claims) l.done.items;
+  shares : All (IsShareOf l.r 1 l.claims) l.done.items;
   count : length l.done.items ≡ length l.yielded;
   rest : l.yielded ++ l.result-iterator.rest.items ≡ l.fn.results.items;
 }

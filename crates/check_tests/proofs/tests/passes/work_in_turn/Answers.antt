@@ -16,14 +16,14 @@ loop-pass-preserved c =
     let i = c.loop-pass.invariant in
     let step = c.in-Some.ensures.steps in
     let at = ap (λ (l : List PassRecord). c.loop-pass.yielded ++ l) (sym step.0) ∙ i.rest in
-    let w = c.in_ok-one.ensures in
-    let one : IsShareOf c.args.r.now c.args.cut c.args.claims.now c.in_ok-one.one = record { recording_is = w.recording; cut_is = w.cut; book_is = w.book } in
+    let w = c.in_ok-share.ensures in
+    let mine : IsShareOf c.args.r.now c.args.cut c.args.claims.now c.in_ok-share.share = record { recording_is = w.recording; cut_is = w.cut; book_is = w.book } in
     let p = c.in_ok-push.ensures.items in
-    let l = length-append c.loop-pass.done.items (c.in_ok-one.one ∷ []) in
+    let l = length-append c.loop-pass.done.items (c.in_ok-share.share ∷ []) in
     let l' = length-append c.loop-pass.yielded (c.in-Some.pass ∷ []) in
     let l'' = ap length p in record {
-      parts = subst (λ (ss : List DoneRecord). (k : ℕ) (d : DoneRecord) → k < length ss → IsShareOf c.args.r.now c.args.cut c.args.claims.now (get_or ss k d)) (sym p)
-          (All-push (IsShareOf c.args.r.now c.args.cut c.args.claims.now) _ _ i.parts one);
+      shares = subst (λ (ss : List DoneRecord). (k : ℕ) (d : DoneRecord) → k < length ss → IsShareOf c.args.r.now c.args.cut c.args.claims.now (get_or ss k d)) (sym p)
+          (All-push (IsShareOf c.args.r.now c.args.cut c.args.claims.now) _ _ i.shares mine);
       count = omega arith;
       rest = append_assoc c.loop-pass.yielded (c.in-Some.pass ∷ []) _ ∙ at;
     }

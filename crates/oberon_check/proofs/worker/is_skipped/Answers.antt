@@ -1,6 +1,6 @@
 use Rattle.std.proofs.Common.{ltb-true, true≢false, sym}
 use Rattle.oberon_check.proofs.Runs.{looked, after_shown}
-use Rattle.oberon_check.proofs.worker.is_passed_over.Goals as goal
+use Rattle.oberon_check.proofs.worker.is_skipped.Goals as goal
 
 pub returns-in-Some-clause-looked : goal.returns-in-Some-clause-looked
 returns-in-Some-clause-looked c = looked c.look.result c.args.pass.now c.look.new.pass c.look.ensures.joins c.look.ensures.stays

@@ -1,5 +1,5 @@
--- Verdicts of segments and parts of workers may cross threads. They are spelled out, since a `search` that goes down through
--- all of a part's fields runs out of steps.
+-- Segment verdicts and workers' shares may move to another thread. This is proved field by field, since a `search` through all
+-- fields of a share runs out of steps.
 use denote.Param.Send.{IsSend, sendable, view_send}
 use Rattle.std.proofs.Crossing.{crosses, Vec-send}
 use Rattle.oberon_claims.proofs.pass.Pass.TheSendSync.{the_send as pass_send}
