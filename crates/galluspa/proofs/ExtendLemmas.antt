@@ -1,5 +1,5 @@
 -- A recording's next checkpoint, in the words of a caller.
-use Rattle.std.proofs.Common.{◌≡◌, ◌∙◌, ℕ, List, [], ◌∷◌, ap, map, refl, subst, sym}
+use Rattle.std.proofs.Common.{◌≡◌, ◌∙◌, ℕ, List, [], ◌∷◌, ap, inr, map, refl, subst, sym}
 use Rattle.risc_devices.proofs.InputLemmas.{same_input}
 use Rattle.risc_model.specs.declared.event.Event.{Event}
 use Rattle.oberon_format.proofs.One.{same_event}
@@ -11,8 +11,8 @@ use Rattle.oberon_format.specs.declared.layout.TheConstants.{VERSION}
 use Rattle.oberon_session.specs.Extended.{IsExtended, IsNext, IsTooMuch, outcome_of}
 use Rattle.oberon_session.specs.declared.claim.Claim.{Claim}
 use Rattle.oberon_session.specs.declared.extend_fault.ExtendFault.{ExtendFault}
-use Rattle.galluspa.specs.Extend.{CanFollow, HasTooMuch, IsExtension, IsWhole, claim_of}
-use Rattle.galluspa.specs.Raw.{AreEvents, raw_input}
+use Rattle.galluspa.specs.Extend.{CanFollow, DoesNotFollow, HasTooMuch, IsExtension, claim_of}
+use Rattle.galluspa.specs.Raw.{AreEvents, IsWhole, raw_input}
 use Rattle.galluspa.specs.declared.extend.Unrecorded.{Unrecorded}
 use Rattle.galluspa.specs.declared.extend.Unrecorded.TheVariants as refusal
 use Rattle.galluspa.specs.declared.raw.RawState.{RawState}
@@ -77,6 +77,15 @@ module _ (text : List ℕ) (inputs : List RawInput) (events : List Event) (state
         subst (λ (o : Outcome). IsTooMuch full.recording events state.count o fault) outcome
         (subst (λ (n : ℕ). IsTooMuch full.recording events n (outcome_of claim) fault) count full.too_much);
   }
+
+  pub out-of-place : IsFull text events claim ExtendFault.Order → DoesNotFollow text inputs state words
+  out-of-place full = inr (inr (record {
+    recording = full.recording;
+    is_text = full.is_text;
+    events = events;
+    are_events = are;
+    misplaced = λ next. full.too_much (subst (λ (n : ℕ). IsNext full.recording events n) (sym count) next);
+  }))
 
   pub unextended : HasOneRecording → (why : Unrecorded) → IsNoMore text events claim why → IsUnextended text inputs state words sent why
   unextended one refusal.Range full = λ can.

@@ -11,11 +11,9 @@ use Rattle.risc_model.specs.MachineState.{State}
 use Rattle.risc_model.specs.Replay.{run_of, sent_of}
 use Rattle.risc_model.specs.declared.event.Event.{Event}
 use Rattle.risc_model.specs.declared.inputs.TheConstants.{MAX_COUNT}
-use Rattle.galluspa.specs.Advance.{HasRun}
 use Rattle.galluspa.specs.Laws.{JoinLaw}
-use Rattle.galluspa.specs.Raw.{AreEvents, raw_input, state_of}
+use Rattle.galluspa.specs.Raw.{raw_input, state_of}
 use Rattle.galluspa.specs.declared.raw.RawInput.{RawInput}
-use Rattle.galluspa.specs.declared.raw.RawState.{RawState}
 use Rattle.galluspa.proofs.FrameLemmas.{frame_law-holds}
 
 -- what holds of the count of each input holds of the count at each place of its events

@@ -1,7 +1,7 @@
 -- The lemmas of this crate.
 mod WordLemmas
 mod RawLemmas
-mod Pushing
+mod FirstLemmas
 mod TruthLemmas
 mod FrameLemmas
 mod InputLemmas

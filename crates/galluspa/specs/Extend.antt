@@ -1,5 +1,5 @@
 -- A recording that a caller makes while a machine runs: how it begins, and its next checkpoint.
-use Rattle.std.specs.Prelude.{ℕ, ◌≡◌, ◌<◌, List, length}
+use Rattle.std.specs.Prelude.{ℕ, ◌≡◌, ◌⊎◌, List}
 use Rattle.oberon_format.specs.Defined.{Outcome}
 use Rattle.oberon_format.specs.Recording.{RecordingParts}
 use Rattle.oberon_format.specs.Text.{Text, TextIn}
@@ -9,20 +9,9 @@ use Rattle.oberon_session.specs.declared.extend_fault.ExtendFault.{ExtendFault}
 use Rattle.risc_model.specs.declared.event.Event.{Event}
 use Rattle.galluspa.specs.declared.raw.RawState.{RawState}
 use Rattle.galluspa.specs.declared.raw.RawInput.{RawInput}
-use Rattle.galluspa.specs.declared.words.TheConstants.{WORDS}
-use Rattle.galluspa.specs.Raw.{AreDevices, AreEvents, IsCpu, state_of}
-
--- such bytes are there, but they are more than there is room for: so many are needed
-abbrev pub NeedsRoom : (List ℕ → Type 0) → ℕ → ℕ → Type 0
-NeedsRoom Is room needed = (text : List ℕ) × Is text × (needed ≡ length text) × (room < needed)
+use Rattle.galluspa.specs.Raw.{AreEvents, AreNoEvents, IsWhole, state_of}
 
 -- ---- the beginning
-
--- a state with as many words as a memory has, each number in its range
-pub record IsWhole (state : RawState) (words : List ℕ) : Type 0 where
-  pub whole : length words ≡ WORDS
-  pub cpu : IsCpu state
-  pub devices : AreDevices state
 
 -- a recording can begin with the state: it is at count 0
 pub record CanBegin (state : RawState) (words : List ℕ) : Type 0 where
@@ -51,6 +40,18 @@ pub record CanFollow (text : List ℕ) (inputs : List RawInput) (state : RawStat
   pub events : List Event
   pub are_events : AreEvents inputs events
   pub next : IsNext recording events state.count
+
+-- the bytes are a recording, and the inputs are in order, but they and the state do not come next
+pub record IsOutOfPlace (text : List ℕ) (inputs : List RawInput) (state : RawState) : Type 0 where
+  pub recording : RecordingParts
+  pub is_text : Text text recording
+  pub events : List Event
+  pub are_events : AreEvents inputs events
+  pub misplaced : ¬ (IsNext recording events state.count)
+
+-- why a checkpoint does not follow: the state or the words are out of their ranges, the inputs are, or all of it does not come next
+abbrev pub DoesNotFollow : List ℕ → List RawInput → RawState → List ℕ → Type 0
+DoesNotFollow text inputs state words = ¬ (IsWhole state words) ⊎ (AreNoEvents inputs ⊎ IsOutOfPlace text inputs state)
 
 -- the second bytes are the recording that the first are, with these inputs and a checkpoint more, which claims this
 pub record IsExtension (text : List ℕ) (inputs : List RawInput) (state : RawState) (words sent new_text : List ℕ) : Type 0 where

@@ -1,5 +1,6 @@
 -- What a caller in C gets. Read it in this order:
 pub mod Raw
+pub mod Room
 pub mod Advance
 pub mod Claim
 pub mod Record

@@ -1,5 +1,5 @@
 -- A machine in the memory of a caller in C: its state as plain numbers, its words, and its inputs (this project's own choice).
-use Rattle.std.specs.Prelude.{ℕ, ◌≡◌, ◌<◌, ◌≤◌, List, map, take}
+use Rattle.std.specs.Prelude.{ℕ, ◌≡◌, ◌<◌, ◌≤◌, List, All, drop, length, map, take}
 use Rattle.risc_core.specs.declared.branch.TheConstants.{COUNTER_END}
 use Rattle.risc_core.specs.Flags.{flags_of}
 use Rattle.risc_devices.specs.DeviceState.{AreParts, DeviceState, state_of_parts}
@@ -9,6 +9,7 @@ use Rattle.risc_model.specs.InputOrder.{AreOrdered}
 use Rattle.risc_model.specs.MachineState.{CpuState, State}
 use Rattle.galluspa.specs.declared.raw.RawState.{RawState}
 use Rattle.galluspa.specs.declared.raw.RawInput.{RawInput}
+use Rattle.galluspa.specs.declared.words.TheConstants.{WORDS}
 
 -- the processor
 abbrev pub cpu_of : RawState → CpuState
@@ -30,6 +31,17 @@ AreDevices s = (s.leds < 256) × (s.key_count ≤ 16) × AreParts s.rate s.phase
 abbrev pub state_of : RawState → List ℕ → State
 state_of s words = record { cpu = cpu_of s; devices = devices_of s; words = words }
 
+-- a state with as many words as a memory has, each number in its range
+pub record IsWhole (state : RawState) (words : List ℕ) : Type 0 where
+  pub whole : length words ≡ WORDS
+  pub cpu : IsCpu state
+  pub devices : AreDevices state
+
+-- a state as a call writes it: the next call takes it, and the bytes after its key codes are 0
+pub record IsWritten (state : RawState) (words : List ℕ) : Type 0 where
+  pub is_whole : IsWhole state words
+  pub padded : All (λ key. key ≡ 0) (drop state.key_count state.keys)
+
 -- an event as a caller writes it
 abbrev pub raw_input : Event → RawInput
 raw_input e = record { count = e.count; kind = kind_of e.input; value = value_of e.input }
@@ -38,6 +50,10 @@ raw_input e = record { count = e.count; kind = kind_of e.input; value = value_of
 pub record AreEvents (inputs : List RawInput) (events : List Event) : Type 0 where
   pub written : map raw_input events ≡ inputs
   pub ordered : AreOrdered events
+
+-- a caller's inputs are in their ranges and in order
+abbrev pub AreInOrder : List RawInput → Type 0
+AreInOrder inputs = (events : List Event) × AreEvents inputs events
 
 -- no list of events in order is written so
 abbrev pub AreNoEvents : List RawInput → Type 0

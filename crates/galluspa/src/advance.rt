@@ -1,9 +1,10 @@
 //! A run of a machine in the memory of a caller.
-ghost use Rattle.std.specs.Prelude.{◌≡◌, ◌≢◌, ◌≤◌, IfErr, IfNone, IfOk, IfSome, OnErr, OnOk, length, map, take};
+ghost use Rattle.std.specs.Prelude.{◌≡◌, ◌≢◌, ◌≤◌, IfErr, IfNone, IfOk, IfSome, OnErr, OnOk, drop, length, map, take};
 ghost use Rattle.galluspa.specs.Advance.{HasRun, IsInRange, SendsMore};
-ghost use Rattle.galluspa.specs.Raw.{AreEvents, AreNoEvents, raw_input};
+ghost use Rattle.galluspa.specs.Raw.{AreEvents, AreNoEvents, IsWhole, IsWritten, raw_input};
 ghost use Rattle.risc_devices.specs.InputKind.{IsInput};
 
+use crate::front::copy_to_front;
 use crate::raw::{RawInput, RawState, cpu_of, devices_of, state_of};
 use crate::refusal::{DONE, NO_ROOM, OUT_OF_MEMORY, OUT_OF_RANGE, Refusal};
 use crate::words::{WORDS, copy_words, paged};
@@ -65,10 +66,15 @@ fn run(
 ) -> Result<Vec<u8>, Refusal>
     ensures run { IfOk result (λ sent. HasRun inputs.now to state.old words.old state.new words.new sent.items) }
     ensures room { IfOk result (λ sent. length sent.items ≤ room) }
+    ensures written { IfOk result (λ sent. IsWritten state.new words.new) }
     ensures unchanged { OnErr result ((state.new ≡ state.old) × (words.new ≡ words.old)) }
     ensures no_room { IfErr result (λ refusal.
         refusal ≡ Refusal.Room → SendsMore inputs.now to state.old words.old room) }
     ensures in_range { OnOk result (IsInRange inputs.now to state.old words.old) }
+    ensures room_in_range { IfErr result (λ refusal.
+        refusal ≡ Refusal.Room → IsInRange inputs.now to state.old words.old) }
+    ensures forward { IfErr result (λ refusal. refusal ≢ Refusal.Range → state.old.count ≤ to) }
+    ensures whole { IfErr result (λ refusal. refusal ≢ Refusal.Range → IsWhole state.old words.old) }
     ensures range { IfErr result (λ refusal.
         refusal ≡ Refusal.Range → ¬ (IsInRange inputs.now to state.old words.old)) }
 {
@@ -110,17 +116,20 @@ pub fn advance(
     ensures run { result ≡ DONE →
         HasRun inputs.now to state.old words.old state.new words.new (take sent_count.new sent.new) }
     ensures room { result ≡ DONE → sent_count.new ≤ length sent.old }
+    ensures rest { drop sent_count.new sent.new ≡ drop sent_count.new sent.old }
+    ensures written { result ≡ DONE → IsWritten state.new words.new }
     ensures unchanged { result ≢ DONE → (state.new ≡ state.old) × (words.new ≡ words.old) }
     ensures unsent { result ≢ DONE → (sent.new ≡ sent.old) × (sent_count.new ≡ sent_count.old) }
     ensures no_room { result ≡ NO_ROOM → SendsMore inputs.now to state.old words.old (length sent.old) }
-    ensures in_range { result ≡ DONE → IsInRange inputs.now to state.old words.old }
+    ensures in_range { result ≢ OUT_OF_RANGE → result ≢ OUT_OF_MEMORY → IsInRange inputs.now to state.old words.old }
+    ensures forward { result ≢ OUT_OF_RANGE → state.old.count ≤ to }
+    ensures whole { result ≢ OUT_OF_RANGE → IsWhole state.old words.old }
     ensures range { result ≡ OUT_OF_RANGE → ¬ (IsInRange inputs.now to state.old words.old) }
     ensures codes { result ≤ OUT_OF_MEMORY }
 {
     match run(alloc, state, words, inputs, to, sent.len()) {
         Ok(bytes) => {
-            let (front, _) = sent.split_at_mut(bytes.len());
-            front.copy_from_slice(&bytes);
+            copy_to_front(&bytes, sent);
             *sent_count = bytes.len();
             DONE
         }

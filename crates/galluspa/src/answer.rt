@@ -1,5 +1,7 @@
 //! An answer of bytes with its status, and how it gets into a caller's memory.
-ghost use Rattle.std.specs.Prelude.{◌≡◌, ◌<◌, ◌≤◌, length, take, vec_len};
+ghost use Rattle.std.specs.Prelude.{◌≡◌, ◌<◌, ◌≤◌, drop, length, take, vec_len};
+
+use crate::front::copy_to_front;
 
 /// Bytes with their status.
 #[derive(Drop)]
@@ -15,14 +17,14 @@ pub struct Answer {
 pub fn put(answer: &Answer, out: &mut [u8], status: &mut u8) -> usize
     ensures len { result ≡ vec_len answer.now.bytes }
     ensures bytes { 0 < result → result ≤ length out.old → take result out.new ≡ answer.now.bytes.items }
+    ensures rest { drop result out.new ≡ drop result out.old }
     ensures status { 0 < result → result ≤ length out.old → status.new ≡ answer.now.status }
     ensures no_room { length out.old < result → (out.new ≡ out.old) × (status.new ≡ status.old) }
     ensures empty { result ≡ 0 → (out.new ≡ out.old) × (status.new ≡ status.old) }
 {
     let len = answer.bytes.len();
     if len > 0 && len <= out.len() {
-        let (front, _) = out.split_at_mut(len);
-        front.copy_from_slice(&answer.bytes);
+        copy_to_front(&answer.bytes, out);
         *status = answer.status;
     }
     len

@@ -1,6 +1,7 @@
 //! What a checkpoint of a recording claims, in the memory of a caller.
 ghost use Rattle.std.specs.Prelude.{◌≡◌, ◌≢◌, ◌≤◌, length};
 ghost use Rattle.galluspa.specs.Claim.{HasNoCheckpoint, IsClaim, IsNoRecording};
+ghost use Rattle.galluspa.specs.Raw.{IsWritten};
 
 use crate::raw::{RawState, state_of};
 use crate::refusal::{DONE, NO_CHECKPOINT, NO_RECORDING, NO_ROOM, OUT_OF_MEMORY, OUT_OF_RANGE};
@@ -12,7 +13,9 @@ use std::alloc::Global;
 /// Writes what checkpoint `at` of a recording claims; or returns the number of a refusal, and writes nothing.
 pub fn claim(alloc: Global, text: &[u8], at: u32, state: &mut RawState, words: &mut [u32]) -> u8
     ensures claim { result ≡ DONE → IsClaim text.now at state.new words.new }
+    ensures written { result ≡ DONE → IsWritten state.new words.new }
     ensures unchanged { result ≢ DONE → (state.new ≡ state.old) × (words.new ≡ words.old) }
+    ensures in_range { result ≢ OUT_OF_RANGE → length words.old ≡ WORDS }
     ensures range { result ≡ OUT_OF_RANGE → length words.old ≢ WORDS }
     ensures no_recording { result ≡ NO_RECORDING → IsNoRecording text.now }
     ensures no_checkpoint { result ≡ NO_CHECKPOINT → HasNoCheckpoint text.now at }

@@ -1,13 +1,16 @@
 //! Recordings that a caller makes while a machine runs: how one begins, and its next checkpoint.
-ghost use Rattle.std.specs.Prelude.{◌≡◌, ◌≢◌, ◌<◌, ◌≤◌, ◌⊎◌, IfErr, IfNone, IfOk, IfSome, length, take};
+ghost use Rattle.std.specs.Prelude.{◌≡◌, ◌≢◌, ◌<◌, ◌≤◌, ◌⊎◌, IfErr, IfNone, IfOk, IfSome, drop, length, take};
 ghost use Rattle.risc_core.specs.declared.branch.TheConstants.{COUNTER_END};
 ghost use Rattle.oberon_session.specs.Extended.{outcome_of};
 ghost use Rattle.oberon_session.specs.declared.extend_fault.ExtendFault.{ExtendFault};
 ghost use Rattle.galluspa.specs.Claim.{IsNoRecording};
-ghost use Rattle.galluspa.specs.Extend.{CanBegin, CanFollow, HasTooMuch, IsBeginning, IsExtension, IsWhole, NeedsRoom, claim_of};
+ghost use Rattle.galluspa.specs.Extend.{CanBegin, CanFollow, DoesNotFollow, HasTooMuch, IsBeginning, IsExtension, claim_of};
+ghost use Rattle.galluspa.specs.Raw.{AreInOrder, IsWhole};
+ghost use Rattle.galluspa.specs.Room.{NeedsRoom};
 ghost use Rattle.galluspa.specs.inner.Extending.{IsMore, IsNoMore, IsUnextended, unextended};
 
 use crate::advance::inputs_of;
+use crate::front::copy_to_front;
 use crate::raw::{RawInput, RawState, cpu_of, devices_of};
 use crate::refusal::{
     DONE, NO_RECORDING, NO_ROOM, OUT_OF_MEMORY, OUT_OF_RANGE, Refusal, TOO_MANY_CHECKPOINTS,
@@ -70,6 +73,7 @@ fn claim_of<'a>(state: &RawState, words: &'a [u32], sent: &'a [u8]) -> Option<Cl
 fn beginning(alloc: Global, state: &RawState, words: &[u32]) -> Result<Vec<u8>, Unrecorded>
     ensures beginning { IfOk result (λ bytes. IsBeginning state.now words.now bytes.items) }
     ensures whole { IfOk result (λ _. CanBegin state.now words.now) }
+    ensures in_range { IfErr result (λ refusal. refusal ≢ Unrecorded.Range → CanBegin state.now words.now) }
     ensures range { IfErr result (λ refusal. refusal ≡ Unrecorded.Range → ¬ (CanBegin state.now words.now)) }
     ensures refusal { IfErr result (λ refusal. (refusal ≡ Unrecorded.Range) ⊎ (refusal ≡ Unrecorded.Memory)) }
 {
@@ -138,6 +142,11 @@ fn extension(
     ensures extension { IfOk result (λ bytes. IsExtension text.now inputs.now state.now words.now sent.now bytes.items) }
     ensures follows { IfOk result (λ _. CanFollow text.now inputs.now state.now words.now) }
     ensures refused { IfErr result (IsUnextended text.now inputs.now state.now words.now sent.now) }
+    ensures whole { IfErr result (λ refusal. refusal ≢ Unrecorded.Range → IsWhole state.now words.now) }
+    ensures ordered { IfErr result (λ refusal.
+        refusal ≢ Unrecorded.Range → refusal ≢ Unrecorded.Memory → AreInOrder inputs.now) }
+    ensures reason { IfErr result (λ refusal.
+        refusal ≡ Unrecorded.Range → DoesNotFollow text.now inputs.now state.now words.now) }
 {
     let Some(claim) = claim_of(state, words, sent) else {
         return Err(Unrecorded::Range);
@@ -158,6 +167,7 @@ fn extension(
 fn put(bytes: &[u8], out: &mut [u8], out_count: &mut usize) -> u8
     ensures done { result ≡ DONE → (out_count.new ≤ length out.old) × (take out_count.new out.new ≡ bytes.now) }
     ensures no_room { result ≡ NO_ROOM → (out_count.new ≡ length bytes.now) × (length out.old < out_count.new) }
+    ensures rest { drop out_count.new out.new ≡ drop out_count.new out.old }
     ensures unchanged { result ≢ DONE → out.new ≡ out.old }
     ensures codes { (result ≡ DONE) ⊎ (result ≡ NO_ROOM) }
 {
@@ -165,8 +175,7 @@ fn put(bytes: &[u8], out: &mut [u8], out_count: &mut usize) -> u8
     if bytes.len() > out.len() {
         return NO_ROOM;
     }
-    let (front, _) = out.split_at_mut(bytes.len());
-    front.copy_from_slice(bytes);
+    copy_to_front(bytes, out);
     DONE
 }
 
@@ -181,10 +190,11 @@ pub fn begin(
 ) -> u8
     ensures begun { result ≡ DONE → IsBeginning state.now words.now (take out_count.new out.new) }
     ensures room { result ≡ DONE → out_count.new ≤ length out.old }
+    ensures rest { drop out_count.new out.new ≡ drop out_count.new out.old }
     ensures no_room { result ≡ NO_ROOM → NeedsRoom (IsBeginning state.now words.now) (length out.old) out_count.new }
     ensures unchanged { result ≢ DONE → out.new ≡ out.old }
     ensures uncounted { result ≢ DONE → result ≢ NO_ROOM → out_count.new ≡ out_count.old }
-    ensures in_range { result ≡ DONE → CanBegin state.now words.now }
+    ensures in_range { result ≢ OUT_OF_RANGE → CanBegin state.now words.now }
     ensures range { result ≡ OUT_OF_RANGE → ¬ (CanBegin state.now words.now) }
     ensures codes { result ≤ OUT_OF_MEMORY }
 {
@@ -209,12 +219,16 @@ pub fn extend(
 ) -> u8
     ensures extended { result ≡ DONE → IsExtension text.now inputs.now state.now words.now sent.now (take out_count.new out.new) }
     ensures room { result ≡ DONE → out_count.new ≤ length out.old }
+    ensures rest { drop out_count.new out.new ≡ drop out_count.new out.old }
     ensures no_room { result ≡ NO_ROOM →
         NeedsRoom (IsExtension text.now inputs.now state.now words.now sent.now) (length out.old) out_count.new }
     ensures unchanged { result ≢ DONE → out.new ≡ out.old }
     ensures uncounted { result ≢ DONE → result ≢ NO_ROOM → out_count.new ≡ out_count.old }
-    ensures in_range { result ≡ DONE → CanFollow text.now inputs.now state.now words.now }
+    ensures in_range { result ≤ NO_ROOM → result ≢ OUT_OF_RANGE → CanFollow text.now inputs.now state.now words.now }
+    ensures whole { result ≢ OUT_OF_RANGE → IsWhole state.now words.now }
+    ensures ordered { result ≢ OUT_OF_RANGE → result ≢ OUT_OF_MEMORY → AreInOrder inputs.now }
     ensures range { result ≡ OUT_OF_RANGE → ¬ (CanFollow text.now inputs.now state.now words.now) }
+    ensures reason { result ≡ OUT_OF_RANGE → DoesNotFollow text.now inputs.now state.now words.now }
     ensures no_recording { result ≡ NO_RECORDING → IsNoRecording text.now }
     ensures inputs { result ≡ TOO_MANY_INPUTS → HasTooMuch text.now inputs.now state.now words.now sent.now ExtendFault.Inputs }
     ensures checkpoints { result ≡ TOO_MANY_CHECKPOINTS →

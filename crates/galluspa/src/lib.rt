@@ -11,20 +11,23 @@
 //! accepted (`record_law`).
 #![tactic(auto)]
 
-ghost use Rattle.std.specs.Prelude.{◌≡◌, ◌≢◌, ◌<◌, ◌≤◌, length, take};
+ghost use Rattle.std.specs.Prelude.{◌≡◌, ◌≢◌, ◌<◌, ◌≤◌, drop, length, take};
 ghost use Rattle.oberon_check.specs.Headline.{IsLineOf};
 ghost use Rattle.oberon_session.specs.declared.extend_fault.ExtendFault.{ExtendFault};
 ghost use Rattle.galluspa.specs.Advance.{HasRun, IsInRange, SendsMore};
 ghost use Rattle.galluspa.specs.Claim.{HasNoCheckpoint, IsClaim, IsNoRecording};
-ghost use Rattle.galluspa.specs.Extend.{CanBegin, CanFollow, HasTooMuch, IsBeginning, IsExtension, NeedsRoom};
+ghost use Rattle.galluspa.specs.Extend.{CanBegin, CanFollow, DoesNotFollow, HasTooMuch, IsBeginning, IsExtension};
 ghost use Rattle.galluspa.specs.Migrate.{IsMigration};
+ghost use Rattle.galluspa.specs.Raw.{AreInOrder, IsWhole, IsWritten};
 ghost use Rattle.galluspa.specs.Record.{IsRecord};
+ghost use Rattle.galluspa.specs.Room.{IsAnswer, NeedsRoom};
 
 mod advance;
 mod answer;
 mod check;
 mod claim;
 mod extend;
+mod front;
 mod laws;
 mod migrate;
 mod raw;
@@ -55,6 +58,8 @@ pub extern "C" fn galluspa_check(
     status: &mut u8,
 ) -> usize
     ensures line { 0 < result → result ≤ length line.old → IsLineOf text.now (take result line.new) status.new }
+    ensures rest { drop result line.new ≡ drop result line.old }
+    ensures needed { length line.old < result → NeedsRoom (IsAnswer (IsLineOf text.now)) (length line.old) result }
     ensures no_room { length line.old < result → (line.new ≡ line.old) × (status.new ≡ status.old) }
     ensures no_memory { result ≡ 0 → (line.new ≡ line.old) × (status.new ≡ status.old) }
 {
@@ -76,6 +81,8 @@ pub extern "C" fn galluspa_record(
     status: &mut u8,
 ) -> usize
     ensures recording { 0 < result → result ≤ length out.old → IsRecord session.now (take result out.new) status.new }
+    ensures rest { drop result out.new ≡ drop result out.old }
+    ensures needed { length out.old < result → NeedsRoom (IsAnswer (IsRecord session.now)) (length out.old) result }
     ensures no_room { length out.old < result → (out.new ≡ out.old) × (status.new ≡ status.old) }
     ensures no_memory { result ≡ 0 → (out.new ≡ out.old) × (status.new ≡ status.old) }
 {
@@ -97,6 +104,8 @@ pub extern "C" fn galluspa_migrate(
     status: &mut u8,
 ) -> usize
     ensures migrated { 0 < result → result ≤ length out.old → IsMigration text.now (take result out.new) status.new }
+    ensures rest { drop result out.new ≡ drop result out.old }
+    ensures needed { length out.old < result → NeedsRoom (IsAnswer (IsMigration text.now)) (length out.old) result }
     ensures no_room { length out.old < result → (out.new ≡ out.old) × (status.new ≡ status.old) }
     ensures no_memory { result ≡ 0 → (out.new ≡ out.old) × (status.new ≡ status.old) }
 {
@@ -121,7 +130,9 @@ pub extern "C" fn galluspa_claim(
     words: &mut [u32],
 ) -> u8
     ensures claim { result ≡ DONE → IsClaim text.now at state.new words.new }
+    ensures written { result ≡ DONE → IsWritten state.new words.new }
     ensures unchanged { result ≢ DONE → (state.new ≡ state.old) × (words.new ≡ words.old) }
+    ensures in_range { result ≢ OUT_OF_RANGE → length words.old ≡ WORDS }
     ensures range { result ≡ OUT_OF_RANGE → length words.old ≢ WORDS }
     ensures no_recording { result ≡ NO_RECORDING → IsNoRecording text.now }
     ensures no_checkpoint { result ≡ NO_CHECKPOINT → HasNoCheckpoint text.now at }
@@ -149,10 +160,14 @@ pub extern "C" fn galluspa_advance(
     ensures run { result ≡ DONE →
         HasRun inputs.now to state.old words.old state.new words.new (take sent_count.new sent.new) }
     ensures room { result ≡ DONE → sent_count.new ≤ length sent.old }
+    ensures rest { drop sent_count.new sent.new ≡ drop sent_count.new sent.old }
+    ensures written { result ≡ DONE → IsWritten state.new words.new }
     ensures unchanged { result ≢ DONE → (state.new ≡ state.old) × (words.new ≡ words.old) }
     ensures unsent { result ≢ DONE → (sent.new ≡ sent.old) × (sent_count.new ≡ sent_count.old) }
     ensures no_room { result ≡ NO_ROOM → SendsMore inputs.now to state.old words.old (length sent.old) }
-    ensures in_range { result ≡ DONE → IsInRange inputs.now to state.old words.old }
+    ensures in_range { result ≢ OUT_OF_RANGE → result ≢ OUT_OF_MEMORY → IsInRange inputs.now to state.old words.old }
+    ensures forward { result ≢ OUT_OF_RANGE → state.old.count ≤ to }
+    ensures whole { result ≢ OUT_OF_RANGE → IsWhole state.old words.old }
     ensures range { result ≡ OUT_OF_RANGE → ¬ (IsInRange inputs.now to state.old words.old) }
     ensures codes { result ≤ OUT_OF_MEMORY }
 {
@@ -175,10 +190,11 @@ pub extern "C" fn galluspa_begin(
 ) -> u8
     ensures begun { result ≡ DONE → IsBeginning state.now words.now (take out_count.new out.new) }
     ensures room { result ≡ DONE → out_count.new ≤ length out.old }
+    ensures rest { drop out_count.new out.new ≡ drop out_count.new out.old }
     ensures no_room { result ≡ NO_ROOM → NeedsRoom (IsBeginning state.now words.now) (length out.old) out_count.new }
     ensures unchanged { result ≢ DONE → out.new ≡ out.old }
     ensures uncounted { result ≢ DONE → result ≢ NO_ROOM → out_count.new ≡ out_count.old }
-    ensures in_range { result ≡ DONE → CanBegin state.now words.now }
+    ensures in_range { result ≢ OUT_OF_RANGE → CanBegin state.now words.now }
     ensures range { result ≡ OUT_OF_RANGE → ¬ (CanBegin state.now words.now) }
     ensures codes { result ≤ OUT_OF_MEMORY }
 {
@@ -207,12 +223,16 @@ pub extern "C" fn galluspa_extend(
 ) -> u8
     ensures extended { result ≡ DONE → IsExtension text.now inputs.now state.now words.now sent.now (take out_count.new out.new) }
     ensures room { result ≡ DONE → out_count.new ≤ length out.old }
+    ensures rest { drop out_count.new out.new ≡ drop out_count.new out.old }
     ensures no_room { result ≡ NO_ROOM →
         NeedsRoom (IsExtension text.now inputs.now state.now words.now sent.now) (length out.old) out_count.new }
     ensures unchanged { result ≢ DONE → out.new ≡ out.old }
     ensures uncounted { result ≢ DONE → result ≢ NO_ROOM → out_count.new ≡ out_count.old }
-    ensures in_range { result ≡ DONE → CanFollow text.now inputs.now state.now words.now }
+    ensures in_range { result ≤ NO_ROOM → result ≢ OUT_OF_RANGE → CanFollow text.now inputs.now state.now words.now }
+    ensures whole { result ≢ OUT_OF_RANGE → IsWhole state.now words.now }
+    ensures ordered { result ≢ OUT_OF_RANGE → result ≢ OUT_OF_MEMORY → AreInOrder inputs.now }
     ensures range { result ≡ OUT_OF_RANGE → ¬ (CanFollow text.now inputs.now state.now words.now) }
+    ensures reason { result ≡ OUT_OF_RANGE → DoesNotFollow text.now inputs.now state.now words.now }
     ensures no_recording { result ≡ NO_RECORDING → IsNoRecording text.now }
     ensures inputs { result ≡ TOO_MANY_INPUTS → HasTooMuch text.now inputs.now state.now words.now sent.now ExtendFault.Inputs }
     ensures checkpoints { result ≡ TOO_MANY_CHECKPOINTS →

@@ -1,10 +1,11 @@
 //! A machine's state and its inputs in the memory of a caller: plain numbers in the layout of C.
-ghost use Rattle.std.specs.Prelude.{◌≡◌, ◌≤◌, ◌<◌, ◌^◌, ◌↔◌, ℕ, IfSome, IsSome, length, slice_index, take};
+ghost use Rattle.std.specs.Prelude.{◌≡◌, ◌≤◌, ◌<◌, ◌^◌, ◌↔◌, ◌++◌, ◌-◌, ℕ, All, IfSome, IsSome, drop, length, replicate, slice_index};
 ghost use Rattle.risc_core.specs.declared.branch.TheConstants.{COUNTER_END};
 ghost use Rattle.risc_core.specs.Flags.{flags_of};
 ghost use Rattle.risc_model.specs.MachineState.{cpu_state};
 ghost use Rattle.galluspa.specs.Raw.{AreDevices, IsCpu, cpu_of, devices_of};
 
+use crate::front::copy_to_front;
 use risc_core::COUNTER_END;
 use risc_devices::Devices;
 use risc_model::{Cpu, Flags};
@@ -115,20 +116,24 @@ pub fn devices_of(state: &RawState) -> Option<Devices>
 /// Key codes, with zeros after them.
 fn sixteen(codes: &[u8]) -> [u8; 16]
     requires { length codes.now ≤ 16 }
-    ensures { take (length codes.now) result ≡ codes.now }
+    ensures { result ≡ codes.now ++ replicate (16 - length codes.now) 0 }
 {
     let mut keys = [0; 16];
-    let (front, _) = keys.split_at_mut(codes.len());
-    front.copy_from_slice(codes);
+    copy_to_front(codes, &mut keys);
     keys
 }
 
 /// The state of a processor and devices at a count.
-#[tactic(auto, using(risc_core::proofs::FlagsLemmas::flags_back, crate::proofs::RawLemmas::devices_back))]
+#[tactic(auto, using(risc_core::proofs::FlagsLemmas::flags_back, crate::proofs::RawLemmas::devices_back, crate::proofs::RawLemmas::parts_fit))]
 pub fn state_of(count: u64, cpu: &Cpu, devices: &Devices) -> RawState
+    requires counter { cpu.now.pc < COUNTER_END }
+    requires stop { cpu.now.stop ≤ 4 }
     ensures count { result.count ≡ count }
     ensures cpu { cpu_of result ≡ cpu_state cpu.now }
     ensures devices { devices_of result ≡ devices.now }
+    ensures cpu_range { IsCpu result }
+    ensures devices_range { AreDevices result }
+    ensures padded { All (λ key. key ≡ 0) (drop result.key_count result.keys) }
 {
     let codes = devices.keys();
     RawState {

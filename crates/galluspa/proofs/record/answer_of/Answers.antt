@@ -1,4 +1,4 @@
-use Rattle.std.proofs.Common.{List, ℕ, ◌<◌, length, inl, refl, subst, rules}
+use Rattle.std.proofs.Common.{ℕ, ◌<◌, length, inl, refl, subst, rules}
 use Rattle.oberon_format.specs.Defined.{IsTrueAt}
 use Rattle.oberon_format.specs.Recording.{RecordingParts}
 use Rattle.oberon_format.specs.Text.{TextIn}
