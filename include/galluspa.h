@@ -1,10 +1,13 @@
 /* Galluspa for C: checks, records and migrates recordings of the RISC5 workstation, runs the proved emulator, and makes a recording
  * while an emulator runs.
  *
- * Each function takes all that it needs in the caller's memory and keeps nothing: there are no handles, nothing has to be freed,
- * and calls from several threads are independent. Within one call no two pieces of memory overlap, except two that are only
- * read, and no pointer is NULL, not even that of an empty piece. Nothing else is asked: each number is tested, and one that is
- * out of its range is refused.
+ * The caller owns all memory. Each function works on the caller's buffers and keeps nothing: there are no handles, nothing has to be
+ * freed, and threads may call at the same time. Within one call no two buffers may overlap, unless both are only read, and no pointer
+ * may be NULL, not even that of an empty buffer. Nothing else is asked of the caller: each number is tested, and one that is out of
+ * its range is refused.
+ *
+ * A function that writes an answer writes it to the front of the buffer, and leaves the bytes after it as they were. A call that is
+ * refused writes nothing, except the length that is needed if there is too little room.
  *
  * A recording and a session are bytes in the formats of docs/formats.md. docs/from-c.md is a walk through this header. */
 #ifndef GALLUSPA_H
@@ -19,24 +22,25 @@ extern "C" {
 
 enum {
     GALLUSPA_WORDS = 262144,     /* words of memory: 1 MiB */
-    GALLUSPA_LONGEST = 118310056 /* bytes of the longest recording. Of a longer file the first GALLUSPA_LONGEST + 1 bytes suffice */
+    GALLUSPA_LONGEST = 118310056 /* bytes of the longest recording. Of a longer file, pass the first GALLUSPA_LONGEST + 1 bytes */
 };
 
 /* What galluspa_claim, galluspa_advance, galluspa_begin and galluspa_extend return. */
 enum {
     GALLUSPA_DONE = 0,
-    GALLUSPA_OUT_OF_RANGE = 1,   /* a number is out of its range, a length is wrong, or inputs are out of order */
-    GALLUSPA_NO_ROOM = 2,        /* there are more bytes than there is room for */
-    GALLUSPA_OUT_OF_MEMORY = 3,
-    GALLUSPA_NO_RECORDING = 4,   /* the bytes are no recording */
-    GALLUSPA_NO_CHECKPOINT = 5,  /* the recording has no such checkpoint */
+    GALLUSPA_OUT_OF_RANGE = 1,         /* a number is out of its range, a length is wrong, or inputs are out of order */
+    GALLUSPA_NO_ROOM = 2,              /* the buffer is too small */
+    GALLUSPA_OUT_OF_MEMORY = 3,        /* an allocation failed */
+    GALLUSPA_NO_RECORDING = 4,         /* the bytes are not a valid recording */
+    GALLUSPA_NO_CHECKPOINT = 5,        /* the recording has no such checkpoint */
     GALLUSPA_TOO_MANY_INPUTS = 6,      /* the recording would have more than 1,000,000 inputs */
     GALLUSPA_TOO_MANY_CHECKPOINTS = 7, /* .. more than 4,097 checkpoints */
     GALLUSPA_TOO_MUCH_OUTPUT = 8,      /* .. more than 1,048,576 bytes sent */
     GALLUSPA_TOO_MANY_PAGES = 9        /* .. more than 65,536 pages */
 };
 
-/* A machine's state without the words of its memory: 136 bytes. The fields are those of a recording's checkpoint. */
+/* The state of a machine without its memory: 136 bytes. The fields are those of a checkpoint in a recording. A function that writes
+ * a state writes each field in its range, so that you can pass it to the next call. */
 typedef struct {
     uint64_t count;     /* instructions executed so far */
     uint32_t r[16];     /* R0 to R15 */
@@ -45,61 +49,62 @@ typedef struct {
     uint32_t flags;     /* N is 8, Z 4, C 2, V 1: below 16 */
     uint32_t stop;      /* 0 while it runs; 1 float, 2 divisor, 3 fetch, 4 address: at most 4 */
     uint32_t timer;     /* milliseconds */
-    uint32_t rate;      /* instructions in a millisecond, or 0: the timer doesn't count by itself */
+    uint32_t rate;      /* instructions in a millisecond; 0 if only inputs set the timer */
     uint32_t phase;     /* instructions of the current millisecond: below rate, or 0 */
     uint32_t switches;  /* buttons (bits 11 to 8) and switches: below 4,096 */
     uint32_t leds;      /* below 256 */
     uint32_t mouse;     /* inside the mask 073FF3FF */
     uint32_t serial;    /* the byte of the serial line, and in bit 8 whether it is new: below 512 */
-    uint32_t key_count; /* key codes that wait: at most 16 */
-    uint8_t keys[16];   /* oldest first. Those from key_count on are not read, and are written as 0 */
+    uint32_t key_count; /* key codes in the queue: at most 16 */
+    uint8_t keys[16];   /* the queue, oldest first. The bytes from key_count on are not read, and are written as 0 */
 } galluspa_state;
 
-/* An input, and the count before whose instruction it comes: 16 bytes, laid out as an event of a recording. */
+/* An input, and the count of the instruction before which it comes: 16 bytes, encoded as an event of a recording. */
 typedef struct {
     uint64_t count;     /* at most 2^40 */
     uint32_t kind;      /* 1 timer, 2 switches, 3 mouse, 4 key, 5 serial */
     uint32_t value;     /* any for the timer; below 4,096 for switches; inside 073FF3FF for the mouse; else below 256 */
 } galluspa_input;
 
-/* Checks a recording: writes its verdict line, with the line feed, to the front of line, and to *status 0 accepted, 1 false or
- * 2 refused. Both are those that the program prints and exits with. Returns the length of the line, which is below 256. If that
- * is more than line_len, nothing is written. Returns 0, and writes nothing, if memory ran out. */
+/* Checks a recording: writes its verdict line, with the line feed, to line, and to *status 0 (accepted), 1 (false) or 2 (refused).
+ * The line is what the program prints, and the status what it exits with. Returns the length of the line, which is below 256; if that
+ * is more than line_len, nothing is written. Returns 0, and writes nothing, if memory runs out. */
 size_t galluspa_check(const uint8_t *text, size_t text_len, uint8_t *line, size_t line_len, uint8_t *status);
 
-/* Records a session in JSON: writes its recording to the front of out, and 0 to *status; or the line of the refusal, and 2.
- * Returns the length of what is written. If that is more than out_len, nothing is written: call again with more room. Returns 0,
- * and writes nothing, if memory ran out. */
+/* Records a session in JSON: writes its recording to out, and 0 to *status; or the line that says why it is refused, and 2. Returns
+ * the length of what it writes; if that is more than out_len, nothing is written, and you call again with more room. Returns 0, and
+ * writes nothing, if memory runs out. */
 size_t galluspa_record(const uint8_t *session, size_t session_len, uint8_t *out, size_t out_len, uint8_t *status);
 
-/* Migrates a recording: writes it, in the version of the format that is written now, to the front of out, and 0 to *status; or
- * the line of the first rule that the bytes break, and 2. It is not replayed. Returns as galluspa_record does. */
+/* Migrates a recording: writes it in the current version of the format to out, and 0 to *status; or the line of the first rule that
+ * the bytes break, and 2. The recording is not replayed. Returns as galluspa_record does. */
 size_t galluspa_migrate(const uint8_t *text, size_t text_len, uint8_t *out, size_t out_len, uint8_t *status);
 
-/* Reads what checkpoint at of a recording claims: its state and its words. words_len is GALLUSPA_WORDS. Checkpoint 0 is the first
+/* Reads what a checkpoint of a recording claims: its state, and its memory. words_len is GALLUSPA_WORDS. Checkpoint 0 is the initial
  * state. Whether the claim is true is not tested. Returns GALLUSPA_DONE; or GALLUSPA_OUT_OF_RANGE (words_len),
  * GALLUSPA_OUT_OF_MEMORY, GALLUSPA_NO_RECORDING or GALLUSPA_NO_CHECKPOINT, and then nothing is written. */
 uint8_t galluspa_claim(const uint8_t *text, size_t text_len, uint32_t at, galluspa_state *state, uint32_t *words, size_t words_len);
 
-/* Runs a machine from the count of its state up to the count to. inputs are in the order of their counts; those of counts before
- * the state's or from to on make no difference. The bytes that the machine sends are written to the front of sent, and their
- * number to *sent_count. words_len is GALLUSPA_WORDS. Returns GALLUSPA_DONE; or GALLUSPA_OUT_OF_RANGE, GALLUSPA_NO_ROOM or
+/* Runs a machine from the count of its state up to the count to. inputs are in the order of their counts; inputs before the state's
+ * count, and inputs from to on, have no effect. The bytes that the machine sends are written to sent, and their number to
+ * *sent_count. words_len is GALLUSPA_WORDS. Returns GALLUSPA_DONE; or GALLUSPA_OUT_OF_RANGE, GALLUSPA_NO_ROOM or
  * GALLUSPA_OUT_OF_MEMORY, and then nothing is written. A call copies the memory, which takes about half a millisecond. */
 uint8_t galluspa_advance(galluspa_state *state, uint32_t *words, size_t words_len, const galluspa_input *inputs, size_t inputs_len,
                          uint64_t to, uint8_t *sent, size_t sent_len, size_t *sent_count);
 
-/* Begins a recording: writes the one that has no inputs, and checkpoint 0 alone, which claims this state, to the front of out, and
- * its length to *out_count. words_len is GALLUSPA_WORDS. The state's count is 0: a recording counts from its first state. Returns
+/* Begins a recording: writes the recording that has no inputs, and checkpoint 0 alone, which claims this state, to out, and its
+ * length to *out_count. words_len is GALLUSPA_WORDS. The state's count is 0, since a recording counts from its initial state. Returns
  * GALLUSPA_DONE; or GALLUSPA_OUT_OF_RANGE, GALLUSPA_NO_ROOM (then *out_count is the length that is needed) or
  * GALLUSPA_OUT_OF_MEMORY, and then nothing else is written. */
 uint8_t galluspa_begin(const galluspa_state *state, const uint32_t *words, size_t words_len, uint8_t *out, size_t out_len,
                        size_t *out_count);
 
-/* Extends a recording by its next checkpoint: writes the recording with these inputs and one checkpoint more, which claims this
- * state and that these bytes were sent since the checkpoint before, to the front of out, and its length to *out_count. The state's
- * count is above that of the last checkpoint, and each input comes between the two: at the last checkpoint's count or later, and
- * before the state's. words_len is GALLUSPA_WORDS. Whether the claim is true is not tested; it is if galluspa_advance gave it from
- * the last checkpoint with these inputs. Returns as galluspa_begin does, or GALLUSPA_NO_RECORDING or GALLUSPA_TOO_.. */
+/* Extends a recording by its next checkpoint: writes the recording with these inputs and one more checkpoint to out, and its length
+ * to *out_count. The checkpoint claims this state, and that these bytes were sent since the checkpoint before. The state's count is
+ * above that of the last checkpoint. Each input comes between the two: at the last checkpoint's count or later, and before the
+ * state's. words_len is GALLUSPA_WORDS. Whether the claim is true is not tested; it is true if galluspa_advance returned this state
+ * and these bytes, from the last checkpoint with these inputs. Returns as galluspa_begin does, or GALLUSPA_NO_RECORDING or
+ * GALLUSPA_TOO_.. */
 uint8_t galluspa_extend(const uint8_t *text, size_t text_len, const galluspa_input *inputs, size_t inputs_len,
                         const galluspa_state *state, const uint32_t *words, size_t words_len, const uint8_t *sent, size_t sent_len,
                         uint8_t *out, size_t out_len, size_t *out_count);

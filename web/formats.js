@@ -1,13 +1,13 @@
-/* Recordings, sessions and memory images as docs/formats.md describes them. A recording is read here only once the proved library has
- * found it lawful, so that its fields can be shown and its inputs played back. A session is read by the rules of docs/formats.md, in
- * their order; tests/page compares the refusals with those of the program. */
+/* Recordings, sessions and memory images as docs/formats.md describes them. A recording is read here only after the proved library has
+ * accepted it as valid, to show its fields and to play back its inputs. A session is read by the rules of docs/formats.md, in their
+ * order; tests/page compares the refusals with those of the program. */
 "use strict";
 
 const PAGE_LIMIT = 1024, INPUT_LIMIT = 1000000, CHECKPOINT_LIMIT = 4096, LONGEST_SESSION = 67108864, DEPTH = 127;
 const MOUSE_MASK = 0x073ff3ff, PC_END = 1 << 22;
 const MOST_VALUE = { timer: 0xffffffff, switches: 0xfff, mouse: MOUSE_MASK, key: 0xff, serial: 0xff };
 
-/** Inputs in the order of their counts, 16 bytes each: the layout of a recording's events. */
+/** Inputs in the order of their counts, 16 bytes each, encoded as the events of a recording. */
 class Inputs {
   constructor(bytes = new Uint8Array(0)) {
     this.length = bytes.length / INPUT_BYTES;
@@ -42,12 +42,12 @@ class Inputs {
     return this.view.getUint32(INPUT_BYTES * at + 8, true);
   }
 
-  /** The input at a position, as a session writes it. */
+  /** Returns the input at a position, as a session writes it. */
   item(at) {
     return [this.count(at), KINDS[this.kind(at)], this.view.getUint32(INPUT_BYTES * at + 12, true)];
   }
 
-  /** The first position, from one on, whose input does not come before a count. */
+  /** Returns the first position, from `at` on, whose input does not come before a count. */
   from(count, at = 0) {
     for (let end = this.length; at < end;) {
       const middle = (at + end) >> 1;
@@ -57,7 +57,7 @@ class Inputs {
     return at;
   }
 
-  /** The bytes of the inputs from one count on and before another, counted from the first. */
+  /** Returns the bytes of the inputs from one count on and before another, with their counts relative to the first. */
   between(begin, end) {
     const [first, last] = [this.from(begin), this.from(end)], bytes = this.bytes.slice(INPUT_BYTES * first, INPUT_BYTES * last);
     const view = new DataView(bytes.buffer);
@@ -66,7 +66,7 @@ class Inputs {
   }
 }
 
-/** What a lawful recording holds: its inputs, and of each checkpoint where it is, its count and the bytes sent since the one before. */
+/** Reads a valid recording: its inputs, and for each checkpoint its offset, its count and the bytes sent since the one before. */
 function readRecording(text) {
   const view = new DataView(text.buffer, text.byteOffset, text.length);
   const [version, pages, events, checkpoints] = [4, 8, 12, 16].map((at) => view.getUint32(at, true));
@@ -81,7 +81,7 @@ function readRecording(text) {
   return { text, version, pages, claims, inputs: new Inputs(text.subarray(eventsAt, eventsAt + INPUT_BYTES * events)) };
 }
 
-/** A reader of JSON that takes and refuses what the program's reader does; numbers come as BigInt, or as null if not whole. */
+/** A reader of JSON that accepts and refuses what the program's reader does. It reads numbers as BigInt, or as null if they are not whole. */
 class JsonReader {
   constructor(text) {
     this.text = text;
@@ -178,7 +178,7 @@ class JsonReader {
   }
 }
 
-/** The text that a JSON string writes, or undefined if an escape is wrong. */
+/** Returns the text of a JSON string, or undefined if an escape is wrong. */
 function unescaped(written) {
   try {
     return JSON.parse(written);
@@ -194,13 +194,13 @@ const shapeText = (value) => (shape(typeof value === "string"), value);
 const shapeNumber = (value) => (shape(typeof value === "bigint"), value);
 const shapeItems = (value) => (shape(Array.isArray(value)), value);
 
-/** The members of an object that has exactly these. */
+/** Returns the members of an object, which has exactly these. */
 function shapeMembers(value, names) {
   shape(value instanceof Map && value.size === names.length);
   return names.map((name) => (shape(value.has(name)), value.get(name)));
 }
 
-/** The parts of a session in JSON: its first state, words, inputs, and the counts of its checkpoints. */
+/** Reads a session in JSON: its initial state, words, inputs, and the counts of its checkpoints. */
 function readSession(bytes) {
   range(bytes.length <= LONGEST_SESSION);
   const draft = shapedSession(new JsonReader(utf8Text(bytes)).document());
@@ -276,7 +276,7 @@ function bytesOfHex(digits) {
   return Uint8Array.from({ length: digits.length / 2 }, (_, at) => parseInt(digits.substr(2 * at, 2), 16));
 }
 
-/** A state at count 0 whose devices are zeros. */
+/** Returns a state at count 0 whose devices are all zeros. */
 function stateOf(registers, [h, pc, flags, rate, phase]) {
   const state = new Uint8Array(STATE_BYTES), view = new DataView(state.buffer);
   registers.forEach((value, at) => view.setUint32(AT.R + 4 * at, value, true));
@@ -284,7 +284,7 @@ function stateOf(registers, [h, pc, flags, rate, phase]) {
   return state;
 }
 
-/** The parts of a session that begins with a memory image at a byte address, and with registers written as `PC=0 R14=0x80000`. */
+/** Returns the parts of a session that begins with a memory image at a byte address, and with registers written as `PC=0 R14=0x80000`. */
 function readImage(image, address, written) {
   const start = whole(address, MEMORY_BYTES, "the address");
   if (start + image.length > MEMORY_BYTES)
@@ -304,14 +304,14 @@ function readImage(image, address, written) {
   return { state: stateOf(registers, Object.values(rest)), words, inputs: new Inputs(), checkpoints: [] };
 }
 
-/** The whole number that a text writes, decimal or hexadecimal with 0x before it. */
+/** Returns the whole number that a text writes, in decimal, or in hexadecimal after 0x. */
 function whole(text, most, what) {
   const value = /^(?:\d{1,12}|0[xX][0-9a-fA-F]{1,8})$/.test(text.trim()) ? Number(text) : NaN;
   if (!(value <= most)) throw new Refused(`${what}: ${text.trim() || "nothing"} is no whole number from 0 to ${most}`);
   return value;
 }
 
-/** A session as JSON of version 2, a page or a few inputs in each line. */
+/** Returns a session as JSON of version 2, with a page or a few inputs on each line. */
 function writeSession({ state, words, inputs, checkpoints }) {
   const unsaid = ["stop", "timer", "switches", "LEDs", "mouse", "serial", "keys"].filter((name) => field(state, AT[name]));
   if (unsaid.length) throw new Refused(`the first state has ${unsaid.join(", ")} other than 0, which a session cannot say: save the recording`);
@@ -336,7 +336,7 @@ function rows(items, inRow) {
   return `[\n    ${lines.join(",\n    ")}\n  ]`;
 }
 
-/** The pages that have a byte other than 0, without the zeros at their ends. */
+/** Returns the pages that have a byte other than 0, without the zeros at their ends. */
 function pagesOf(words) {
   const pages = [];
   for (let at = 0; at < PAGES; at++) {

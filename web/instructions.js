@@ -1,4 +1,4 @@
-/* Writes instructions in the notation of N. Wirth's The RISC Architecture, as tools/galluspa/instructions.py does; tests/page compares
+/* Writes instructions in the notation of "The RISC Architecture" by N. Wirth, as tools/galluspa/instructions.py does; tests/page compares
  * the two. */
 "use strict";
 
@@ -11,7 +11,7 @@ const ALWAYS = 7, NEVER = 15;
 const bit = (word, place) => (word >>> place & 1) === 1;
 const signed = (word, bits) => word << (32 - bits) >> (32 - bits);
 
-/** The instruction of a word at an address counted in words: its mnemonic, and what it does. */
+/** Returns the mnemonic of the instruction in a word, and what it does. `at` is its address in words. */
 function instruction(word, at) {
   if (!bit(word, 31)) return registerInstruction(word);
   return bit(word, 30) ? branchInstruction(word, at) : memoryInstruction(word);

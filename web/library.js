@@ -1,17 +1,17 @@
-/* The proved library, as a module of WebAssembly: its exports over the module's own memory (include/galluspa.h says what each does).
- * Pointers, lengths and counts cross as BigInt, since they have 64 bits. states.js, this file, formats.js, stretches.js,
- * recorder.js, machine.js and worker.js make up the worker script. */
+/* The proved library as a WebAssembly module: its exports, over the module's own memory. include/galluspa.h says what each does.
+ * Pointers, lengths and counts have 64 bits, so they are passed as BigInt. The worker script is states.js, this file, formats.js,
+ * stretches.js, recorder.js, machine.js and worker.js, in this order. */
 "use strict";
 
 const LONGEST_RECORDING = 118310056, MOST_COUNT = 2 ** 40;
 const DONE = 0, NO_ROOM = 2, NO_CHECKPOINT = 5;
 const ADVANCE_REFUSALS = ["", "a number is out of its range", "more is sent than there is room for", "no memory"];
-const RECORD_REFUSALS = ["", "a number is out of its range", "", "no memory", "the bytes are no recording", "", "the recording has all inputs that it may have",
-                         "the recording has all checkpoints that it may have", "the recording has all sent bytes that it may have",
-                         "the recording has all pages that it may have"];
+const RECORD_REFUSALS = ["", "a number is out of its range", "", "no memory", "the bytes are no recording", "", "the recording has reached its limit of inputs",
+                         "the recording has reached its limit of checkpoints", "the recording has reached its limit of sent bytes",
+                         "the recording has reached its limit of pages"];
 const RECORD_ROOM = 1 << 18, LINE_ROOM = 256;
 
-/** Bad input, or a request that cannot be met: its message is one line for the user. */
+/** Bad input, or a request that cannot be met. Its message is one line for the user. */
 class Refused extends Error {}
 
 class Library {
@@ -19,7 +19,7 @@ class Library {
     this.exports = new WebAssembly.Instance(module, {}).exports;
   }
 
-  /** Takes room for so many bytes of the module's memory, until `leave` gives it back. */
+  /** Allocates so many bytes of the module's memory; `leave` frees them. Returns their address. */
   take(length) {
     const place = Number(BigInt.asUintN(32, BigInt(this.exports.web_room(BigInt(length)))));
     if (!place) throw new Refused("no memory");
@@ -30,7 +30,7 @@ class Library {
     this.exports.web_leave(BigInt(place));
   }
 
-  /** A view of the module's memory. It is void once the memory has grown, so it is not kept. */
+  /** Returns a view of the module's memory. The view is invalid once the memory has grown, so do not keep it. */
   bytes(place, length) {
     return new Uint8Array(this.exports.memory.buffer, place, length);
   }
@@ -43,14 +43,14 @@ class Library {
     return this.exports.memory.buffer.byteLength;
   }
 
-  /** Copies bytes into room of their own. */
+  /** Copies bytes into memory that it allocates, and returns their address. */
   hold(content) {
     const place = this.take(Math.max(1, content.length));
     this.bytes(place, content.length).set(content);
     return place;
   }
 
-  /** The verdict line of a recording, and its status: 0 accepted, 1 false, 2 refused. */
+  /** Returns the verdict line of a recording, and its status: 0 accepted, 1 false, 2 refused. */
   check(recording) {
     const [text, line, status] = [this.hold(recording), this.take(LINE_ROOM), this.take(8)];
     try {
@@ -62,12 +62,12 @@ class Library {
     }
   }
 
-  /** The recording that begins with the state and the words at a place. */
+  /** Returns the recording that begins with the state and the words at an address. */
   begin(place) {
     return this.written("galluspa_begin", [place, place + STATE_BYTES, WORDS], RECORD_ROOM);
   }
 
-  /** A recording, extended by inputs and by a checkpoint that claims the state and the words at a place, and the bytes sent. */
+  /** Returns a recording extended by inputs and by a checkpoint that claims the state and the words at an address, and the bytes sent. */
   extend(recording, inputs, place, sent) {
     const held = [recording, inputs, sent].map((content) => this.hold(content));
     const [text, list, bytes] = held;
@@ -79,7 +79,7 @@ class Library {
     }
   }
 
-  /** What a function writes that says how much room it needs: it is called a second time where there was too little. */
+  /** Returns what a function writes that reports how much room it needs. If there is too little room, it is called a second time. */
   written(name, given, room) {
     const count = this.take(8);
     try {
@@ -97,7 +97,7 @@ class Library {
     }
   }
 
-  /** Writes what a checkpoint of a recording claims to a state and words; whether there is such a checkpoint. */
+  /** Writes what a checkpoint of a recording claims to a state and words. Returns whether there is such a checkpoint. */
   claim(text, length, checkpoint, state, words) {
     const given = [BigInt(text), BigInt(length), checkpoint, BigInt(state), BigInt(words), BigInt(WORDS)];
     const code = this.exports.galluspa_claim(...given) & 255;
@@ -106,7 +106,7 @@ class Library {
   }
 }
 
-/** The text of an answer that is a line, without its line feed. */
+/** Returns the text of a line without its line feed. */
 function lineOf(bytes) {
   return new TextDecoder("latin1").decode(bytes).trimEnd();
 }

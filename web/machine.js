@@ -1,8 +1,8 @@
-/* The live machine: a state and 262,144 words that the library advances, the recording that is being made, and the recording that is
- * played back, if any. Each input is stamped with the count of instructions before which it comes. */
+/* The live machine: a state and 262,144 words that the library advances, the recording in progress, and the recording that is played back,
+ * if there is one. Each input is stamped with the count of the instruction before which it comes. */
 "use strict";
 
-// The workstation's clock: 25 MHz, one instruction a cycle.
+// The clock of the workstation: 25 MHz, one instruction per cycle.
 const PER_SECOND = 25000000;
 const INPUTS_AT_ONCE = 4096, SENT_ROOM = 1 << 20, QUEUE = 16;
 const KEY = 4, SERIAL = 5, RECEIVED = 256;
@@ -11,7 +11,7 @@ const DISPLAY_AT = 4 * 237504, DISPLAY_BYTES = 98304;
 class Machine {
   constructor(library) {
     this.library = library;
-    // The state and the words lie side by side; `other` is as large, for claims to compare with.
+    // The words are next to the state. `other` has the same size, for claims to compare with.
     this.place = library.take(STATE_BYTES + MEMORY_BYTES);
     this.other = library.take(STATE_BYTES + MEMORY_BYTES);
     this.list = library.take(INPUT_BYTES * INPUTS_AT_ONCE);
@@ -41,7 +41,7 @@ class Machine {
     return field(this.state, AT[name]);
   }
 
-  /** Begins a session. `planned` are the counts of its checkpoints, which a recording's claims are compared at. */
+  /** Begins a session. `planned` are the counts of its checkpoints, at which the claims of a recording are compared. */
   begin({ state, words, inputs, checkpoints }) {
     this.state.set(state);
     this.words.set(words);
@@ -56,7 +56,7 @@ class Machine {
     this.forgetRecording();
   }
 
-  /** Begins with what a checkpoint of a recording claims; the inputs and the claims up to there begin the recording that is made. */
+  /** Begins with what a checkpoint of a recording claims. The recording in progress begins with the inputs and the claims up to there. */
   beginRecording(recording, checkpoint) {
     this.forgetRecording();
     const text = this.library.hold(recording.text);
@@ -71,7 +71,7 @@ class Machine {
     this.recorder.resume(stretch(recording, firstTable(recording), 0, checkpoint), new Uint8Array());
   }
 
-  /** Takes a kept recording up again, at the state that the machine had; or a kept session, whose inputs are played back from its first state. */
+  /** Resumes a kept recording, at the state that the machine had; or a kept session, whose inputs are played back from its initial state. */
   resume({ recording, sentSince, live, inputs, first, marks, count }) {
     if (first) return this.begin({ ...first, inputs: new Inputs(inputs), checkpoints: [...new Set([...marks, count])] });
     this.begin({ ...this.firstOf(recording), inputs: new Inputs(inputs), checkpoints: [] });
@@ -82,7 +82,7 @@ class Machine {
     this.given = 0;
   }
 
-  /** The first state of a recording, with its words. */
+  /** Returns the initial state of a recording, with its words. */
   firstOf(recording) {
     const text = this.library.hold(recording);
     try {
@@ -104,34 +104,34 @@ class Machine {
     return this.next < this.given || this.planned.some((count) => count > this.count);
   }
 
-  /** Ends the replay: from here on the inputs are the user's, and the file's later ones and its later claims are left out. */
+  /** Ends the replay: from here on the inputs are the user's, and the later inputs and claims of the file are dropped. */
   takeOver() {
     this.inputs = new Inputs(this.takenInputs);
     this.given = this.next;
     this.planned = this.planned.filter((count) => count <= this.count);
   }
 
-  /** Adds an input before the next instruction; it comes to nothing while a file's inputs are played back. */
+  /** Adds an input before the next instruction. It has no effect while the inputs of a file are played back. */
   input(kind, value) {
     if (this.isReplay || this.inputs.length >= INPUT_LIMIT) return;
     this.inputs.push(this.count, kind, value);
   }
 
-  /** Hands over what was typed and sent, as fast as the machine takes it: it queues sixteen key codes, and holds one serial byte. */
+  /** Passes on what was typed and sent, as fast as the machine takes it: it queues sixteen key codes, and holds one serial byte. */
   feed() {
     const { keys, serial } = this.waiting;
     for (let free = QUEUE - this.part("keys") - this.due(KEY); free > 0 && keys.length; free--) this.input(KEY, keys.shift());
     if (serial.length && !(this.part("serial") & RECEIVED) && !this.due(SERIAL)) this.input(SERIAL, serial.shift());
   }
 
-  /** How many inputs of a kind the next instruction will take. */
+  /** Returns how many inputs of a kind come before the next instruction. */
   due(kind) {
     let number = 0;
     for (let at = this.next; at < this.inputs.length; at++) number += this.inputs.kind(at) === kind;
     return number;
   }
 
-  /** Runs up to a count or less, and returns the bytes that were sent. */
+  /** Runs up to a count or less, and returns the bytes that the machine sent. */
   advance(to) {
     const end = this.inputs.from(to, this.next);
     const code = this.call(this.inputs.bytes.subarray(INPUT_BYTES * this.next, INPUT_BYTES * end), to);
@@ -154,7 +154,7 @@ class Machine {
     return code;
   }
 
-  /** The next count of interest: that of a checkpoint which is planned, or due by time. */
+  /** Returns the next count at which to stop: that of a checkpoint that is planned, or due by time. */
   nextStop(seconds) {
     const planned = this.planned.find((count) => count > this.count) ?? Infinity;
     const step = seconds * PER_SECOND;
@@ -165,17 +165,17 @@ class Machine {
     return this.recorder.marks;
   }
 
-  /** The bytes of the inputs that the machine has taken. */
+  /** Returns the bytes of the inputs that the machine has taken. */
   get takenInputs() {
     return this.inputs.bytes.subarray(0, INPUT_BYTES * this.next);
   }
 
-  /** Extends the recording by a checkpoint at this count, if there is a place for one; whether it is new. */
+  /** Extends the recording by a checkpoint at this count, if there is room for one. Returns whether there is a new checkpoint. */
   mark(most = CHECKPOINT_LIMIT) {
     return this.marks.length < most && this.recorder.extend(this.place, this.count, this.takenInputs);
   }
 
-  /** Compares a recording's claim at this count with the machine: its number, and the name of the first part that differs, or null. */
+  /** Compares the recording's claim at this count with the machine. Returns its number, and the name of the first part that differs, or null. */
   judge() {
     if (!this.recording) return null;
     const number = this.recording.claims.findIndex((claim) => claim.count === this.count);
@@ -192,7 +192,7 @@ class Machine {
     return { state: this.library.bytes(place, STATE_BYTES), words: this.library.bytes(place + STATE_BYTES, MEMORY_BYTES) };
   }
 
-  /** What a checkpoint of the recording claims, and what is other than at the checkpoint before. */
+  /** Returns what a checkpoint of the recording claims, and what has changed since the checkpoint before. */
   claimed(number) {
     const { text, claims } = this.recording, claim = claims[number];
     if (!claim) throw new Refused(`no checkpoint ${number}`);
@@ -206,25 +206,25 @@ class Machine {
     return { ...shown, before: before.state.slice(), steps: count - claims[number - 1].count, pages: differingPages(now.words, before.words) };
   }
 
-  /** The recording up to here, with a last checkpoint at this count; or, where there is no place for one, up to its last checkpoint. */
+  /** Returns the recording up to here, with a last checkpoint at this count; or, if there is no room for one, up to its last checkpoint. */
   recorded() {
     this.mark();
     return { text: this.recorder.text, count: this.marks.at(-1) ?? 0, full: this.recorder.full };
   }
 
-  /** The session up to here, with the checkpoints of the recording and a last one at this count. */
+  /** Returns the session up to here, with the checkpoints of the recording and a last one at this count. */
   session() {
     const { text, count } = this.recorded(), end = count < this.count ? [this.count] : [];
     const checkpoints = [...this.marks.slice(0, CHECKPOINT_LIMIT - end.length), ...end];
     return { ...this.firstOf(text), inputs: new Inputs(this.takenInputs), checkpoints };
   }
 
-  /** What the browser keeps, so that the recording in the making survives a reload. */
+  /** Returns what the browser keeps, so that the recording in progress survives a reload. */
   kept() {
     return { ...this.recorder.kept, live: copied(this.at(this.place)), inputs: this.takenInputs.slice() };
   }
 
-  /** The words around PC. */
+  /** Returns the words around PC, each with its address. */
   listing(before, after) {
     const pc = this.part("PC"), from = Math.max(0, pc - before), to = Math.min(WORDS, pc + after);
     const view = this.library.view, words = this.place + STATE_BYTES;

@@ -1,5 +1,5 @@
-/* The page's own script: it opens files, shows the machine, passes on what is typed and clicked, and saves. All work is done in two
- * workers (worker.js), so that the page never freezes. */
+/* The page's own script: it opens files, shows the machine, passes on what is typed and clicked, and saves. Two workers (worker.js) do all the
+ * work, so that the page never freezes. */
 "use strict";
 
 const el = (name) => document.getElementById(`g-${name}`);
@@ -9,7 +9,7 @@ const grouped = (number) => number.toLocaleString("en");
 
 // Workers
 
-/** A worker that answers requests; what it says unasked goes to `news`. */
+/** A worker that answers requests. Messages that answer no request go to `news`. */
 class Helper {
   constructor(module, news) {
     this.waits = new Map();
@@ -24,7 +24,7 @@ class Helper {
     return (Helper.url ??= URL.createObjectURL(source));
   }
 
-  /** Asks for something; a refusal is shown, and comes to undefined. */
+  /** Asks for something. If it is refused, the page says why, and the answer is undefined. */
   ask(ask, given = {}) {
     const id = (Helper.asked = (Helper.asked ?? 0) + 1);
     this.worker.postMessage({ id, ask, ...given });
@@ -38,14 +38,14 @@ class Helper {
     yes(data.answer);
   }
 
-  /** Ends the worker; what it was asked comes to undefined. */
+  /** Ends the worker. Requests without an answer get undefined. */
   end() {
     this.worker.terminate();
     for (const yes of this.waits.values()) yes(undefined);
   }
 }
 
-/** Unpacks what the page holds compressed: its module, or a report's recording. */
+/** Decompresses what the page contains: its module, or the recording of a report. */
 async function unpacked(name) {
   const packed = Uint8Array.from(atob(el(name).textContent), (character) => character.charCodeAt(0));
   const stream = new Blob([packed]).stream().pipeThrough(new DecompressionStream("gzip"));
@@ -60,7 +60,7 @@ function notice(text) {
   el("notice").textContent = text ?? "";
 }
 
-/** Shows a verdict line, and how it came about; or none. */
+/** Shows a verdict line and how it was computed, or clears both. */
 function verdictLine(line, status, how = "") {
   app.verdict = line === undefined ? null : { line, status };
   el("line").textContent = line ?? "";
@@ -68,7 +68,7 @@ function verdictLine(line, status, how = "") {
   el("how").textContent = how;
 }
 
-/** A button that runs a task; a task that fails says so on the page. */
+/** Runs a task on an event of a control. If the task fails, the page says so. */
 function on(name, event, task) {
   el(name).addEventListener(event, (given) => Promise.resolve(task(given)).catch((error) => notice(`${error.message ?? error}`)));
 }
@@ -82,7 +82,7 @@ async function openFile(file) {
   await openBytes(file.name, bytes);
 }
 
-/** Opens what a file holds: a recording or a session by its name or its first bytes; anything else is an image of memory. */
+/** Opens a file: a recording or a session by its name or its first bytes; anything else is a memory image. */
 async function openBytes(name, bytes) {
   await forget();
   app.name = name.replace(/\.[^.]*$/, "") || "live";
@@ -96,7 +96,7 @@ async function openBytes(name, bytes) {
   el("address").focus();
 }
 
-/** Makes the page empty. The recording in the making is kept first. */
+/** Clears the page. The recording in progress is kept first. */
 async function forget() {
   await keep();
   if (app.latest?.on) await app.live.ask("setRun", { on: false });
@@ -109,7 +109,7 @@ async function forget() {
   for (const name of ["claims", "image"]) el(name).hidden = true;
 }
 
-/** Opens a recording at a checkpoint, and has it checked. */
+/** Opens a recording at a checkpoint, and checks it. */
 async function openRecording(text, checkpoint = 0) {
   const checked = checkRecording(text);
   app.recording = text;
@@ -119,7 +119,7 @@ async function openRecording(text, checkpoint = 0) {
   if (!answer && app.verdict?.status !== 2) notice("the recording cannot be opened: no memory");
 }
 
-/** Asks the live machine; that a text is no recording says the clerk's line, and not a notice. */
+/** Asks the live machine, without a notice: the verdict line says that a file is not a recording. */
 async function quietly(ask, given) {
   const answer = await app.live.ask(ask, given);
   if (!answer) notice();
@@ -134,7 +134,8 @@ async function checkRecording(text) {
   else if (app.claims && answer.status === 0) await showClaim(app.claims.length - 1);
 }
 
-/** Has the clerk check a recording, and shows its line: that of one call over the whole. For a long one the line of its stretches comes first. */
+/** Has the clerk check a recording, and shows the line of one call over the whole. For a long recording the joined line of its stretches comes
+ * first. */
 async function checked(text) {
   verdictLine();
   const answer = await clerkDoes("check", { text });
@@ -180,7 +181,7 @@ async function showOpened({ kind, claims, version, inputs, checkpoints }) {
 
 let progressTimer = 0;
 
-/** Has the clerk do something long, with progress and a way to stop it. Stopped, or refused, it comes to undefined. */
+/** Has the clerk do something long, with progress and a way to stop it. Returns undefined if it is stopped or refused. */
 async function clerkDoes(ask, given) {
   stopClerk();
   const work = { begun: performance.now(), done: 0 };
@@ -192,7 +193,7 @@ async function clerkDoes(ask, given) {
   return answer;
 }
 
-/** What the clerk says on the way: how far it is; or what the stretches came to, and how long the whole will about take. */
+/** Takes a progress report of the clerk: the steps done; or the joined line of the stretches, and about how long the whole will take. */
 function clerkSaid(work, news) {
   if (!("steps" in news)) return notice(news.refused ?? news.broken);
   Object.assign(work, news);
@@ -231,8 +232,7 @@ let pausedBefore = null;
 const LINE_BYTES = 128, LINES = 768;
 const screens = { dots: null, isDue: false, images: new WeakMap() };
 
-/** Draws dots on a canvas, of which only the lines that are others than before are painted anew: line 0 is the lowest, and bit 0 of a byte its
- * leftmost dot. */
+/** Draws dots on a canvas, and repaints only the lines that changed. Line 0 is the lowest, and bit 0 of a byte is its leftmost dot. */
 function paint(canvas, dots) {
   const context = canvas.getContext("2d");
   if (!screens.images.has(canvas)) screens.images.set(canvas, { image: context.createImageData(1024, LINES), dots: null });
@@ -375,8 +375,8 @@ function claimParts({ number, count, steps, state, before, dots, sent, sentLengt
   canvas.setAttribute("aria-label", `The screen at checkpoint ${number}`);
   paint(canvas, dots);
   list.append(...cells(state, before, wrong));
-  const made = [paragraph(number ? `at ${grouped(count)}, ${grouped(steps)} steps on; what changed is set off` : "the first state, taken as given", "hint")];
-  if (wrong) made.push(paragraph(`False: the first part that is not what the machine has is ${wrong}.`, "wrong"));
+  const made = [paragraph(number ? `at ${grouped(count)}, after ${grouped(steps)} more steps; changes are marked` : "the initial state, taken as given", "hint")];
+  if (wrong) made.push(paragraph(`False: the first part that differs from the machine's is ${wrong}.`, "wrong"));
   made.push(canvas, list);
   if (pages.length) made.push(paragraph(`Memory changed in the pages ${rangesText(pages)}, of 1,024 bytes each.`, "hint"));
   if (!sentLength) return made;
@@ -395,7 +395,7 @@ async function runOnFrom(number) {
   el("out").textContent = el("passed").textContent = "";
   const answer = await app.live.ask("openRecording", { text: recording, checkpoint: number });
   if (!answer) return;
-  notice(number >= wrong ? `The claim of checkpoint ${number} is not known to be true: a recording that is saved from here will not end with this machine's state.` : "");
+  notice(number >= wrong ? `Checkpoint ${wrong} is false, and a recording that you save from here contains it.` : "");
   el("screen").scrollIntoView({ block: "nearest" });
   el("screen").focus({ preventScroll: true });
 }
@@ -409,7 +409,7 @@ function download(name, content, type) {
   setTimeout(() => URL.revokeObjectURL(url), 10000);
 }
 
-/** What is made of the machine once it is paused: its session or its recording. */
+/** Pauses the machine, and returns its session or its recording. */
 async function paused(ask) {
   await app.live.ask("setRun", { on: false });
   return app.live.ask(ask);
@@ -421,13 +421,13 @@ async function saveSession() {
   if (text) download(`${app.name}-live.json`, text, "application/json");
 }
 
-/** Saves the recording, and has it checked for its line. */
+/** Saves the recording, and checks it to show its verdict line. */
 async function saveRecording() {
   notice();
   const made = await paused("recording");
   if (!made) return;
   download(`${app.name}-live.orsr`, made.text, "application/octet-stream");
-  if (!made.isWhole) notice(`The recording ends with its checkpoint at ${grouped(made.count)}: ${made.full ?? "it has all checkpoints that it may have"}.`);
+  if (!made.isWhole) notice(`The recording ends with its checkpoint at ${grouped(made.count)}: ${made.full ?? "it has reached its limit of checkpoints"}.`);
   const begun = performance.now();
   if (!(await checked(made.text))) return;
   el("say").textContent = `${grouped(made.text.length)} bytes, checked in ${((performance.now() - begun) / 1000).toFixed(1)} s`;
@@ -444,7 +444,7 @@ function database() {
   });
 }
 
-/** Does something with what is kept: recordings in the making, and sessions that earlier pages kept, which have their first state. */
+/** Does something with what is kept: recordings in progress, and sessions that earlier pages kept, which have their initial state. */
 async function withKept(mode, task) {
   const opened = await database();
   try {
@@ -458,7 +458,7 @@ async function withKept(mode, task) {
   }
 }
 
-/** Keeps the recording in the making in this browser, once it has begun. */
+/** Keeps the recording in progress in this browser, once it has begun. */
 async function keep() {
   const count = app.latest ? countOf(app.latest.state) : 0;
   if (!count || app.latest.isReplay || app.keptCount === count) return;
@@ -470,7 +470,7 @@ async function keep() {
     app.keptCount = kept.count;
   } catch {
     app.keptId = null;
-    el("say").textContent += "; this browser keeps nothing, so save to a file";
+    el("say").textContent += "; this browser cannot keep the recording, so save it to a file";
   }
 }
 
@@ -489,7 +489,7 @@ function keptItem(kept) {
   };
   const inputs = kept.inputs.length / INPUT_BYTES;
   const text = `${kept.name}, of ${new Date(kept.id).toLocaleString()}: ${grouped(kept.count)} instructions, ${grouped(inputs)} inputs`;
-  return [paragraph(text), button("Take it up again", () => resume(kept)), button("Forget it", () => unkeep(kept.id))];
+  return [paragraph(text), button("Resume", () => resume(kept)), button("Forget", () => unkeep(kept.id))];
 }
 
 async function resume(kept) {
@@ -499,7 +499,7 @@ async function resume(kept) {
   if (!answer) return;
   app.keptId = kept.id;
   el("out").textContent = kept.first ? "" : kept.sent;
-  if (kept.first) notice("An earlier page kept this session without its recording: Run brings it to where it was, and records it.");
+  if (kept.first) notice("An earlier page kept this session without its recording: Run plays it back and records it.");
   el("kept").hidden = true;
   await showOpened(answer);
 }
@@ -533,7 +533,7 @@ function rerun() {
 
 const MOUSE = 3, SWITCHES = 2;
 const CHARACTERS = { Enter: 13, Backspace: 8, Tab: 9, Escape: 27, Delete: 127 };
-// The codes of a PS/2 keyboard, set 2, as Oberon's own driver reads them: E0 before some, F0 before a key that is let go.
+// The codes of a PS/2 keyboard, set 2, as Oberon's own driver reads them: E0 before some, F0 before a key that is released.
 const PS2 = Object.fromEntries(
   ("KeyA 1c KeyB 32 KeyC 21 KeyD 23 KeyE 24 KeyF 2b KeyG 34 KeyH 33 KeyI 43 KeyJ 3b KeyK 42 KeyL 4b KeyM 3a KeyN 31 KeyO 44 KeyP 4d KeyQ 15 " +
     "KeyR 2d KeyS 1b KeyT 2c KeyU 3c KeyV 2a KeyW 1d KeyX 22 KeyY 35 KeyZ 1a Digit0 45 Digit1 16 Digit2 1e Digit3 26 Digit4 25 Digit5 2e " +
@@ -544,7 +544,7 @@ const PS2 = Object.fromEntries(
 );
 const held = new Set();
 
-/** The codes of a key that goes down or up: those of its PS/2 key, or its character. */
+/** Returns the codes of a key that is pressed or released: its PS/2 codes, or its character. */
 function codesOf({ type, code, key, ctrlKey, metaKey }) {
   if (el("keys").value === "ps2") {
     const number = PS2[code];
@@ -572,14 +572,14 @@ function leaveScreen(event) {
   if (event.type === "keydown") el("mark").focus();
 }
 
-/** Lets go of all PS/2 keys, when the screen loses the focus. */
+/** Releases all PS/2 keys when the screen loses the focus. */
 function letGo() {
   for (const code of [...held]) app.live.ask("type", { codes: codesOf({ type: "keyup", code, key: "" }) });
 }
 
 const pointer = { word: 0, sent: 0 };
 
-/** The mouse word: x in bits 0 to 9, y from below in bits 12 to 21, the keys left 26, middle 25 and right 24. */
+/** Returns the mouse word: x in bits 0 to 9, y from the bottom in bits 12 to 21, the left key in bit 26, the middle one in 25, the right one in 24. */
 function mouseWord(x, y, left, middle, right) {
   return (x | (y << 12) | (left << 26) | (middle << 25) | (right << 24)) >>> 0;
 }
@@ -600,7 +600,7 @@ function pointed(event) {
   if (event.type !== "pointermove") sendPointer();
 }
 
-/** Sends the mouse word if it has changed; while the mouse moves, once a frame is enough. */
+/** Sends the mouse word if it has changed. While the mouse moves, once per frame is enough. */
 function sendPointer() {
   if (!app.latest?.on || pointer.word === pointer.sent) return;
   pointer.sent = pointer.word;
@@ -682,7 +682,7 @@ function dropFiles() {
   });
 }
 
-/** Starts the machine; whether this browser can run it. */
+/** Starts the machine. Returns whether this browser can run it. */
 async function started() {
   makeDevices();
   try {
@@ -705,7 +705,7 @@ async function begin() {
   document.body.dataset.ready = "yes";
 }
 
-/** In a report: the machine is started, with the report's recording, when it is first wanted. */
+/** Prepares the machine in a report: it is started with the report's recording at the first use. */
 function beginReport(name) {
   let opening = null;
   const again = document.getElementById("again");

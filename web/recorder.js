@@ -1,5 +1,5 @@
-/* The recording in the making: the library begins it with the machine's first state, and extends it at each checkpoint by the state where the
- * machine stands, and by the inputs and the bytes sent since the checkpoint before. So nothing is run a second time. */
+/* The recording in progress. The library begins it with the machine's initial state, and extends it at each checkpoint by the machine's state,
+ * and by the inputs and the bytes sent since the checkpoint before. So nothing is run a second time. */
 "use strict";
 
 const MOST_SENT = 1 << 20;
@@ -9,7 +9,7 @@ class Recorder {
     this.library = library;
   }
 
-  /** Begins with the state and the words at a place, whose count is 0. */
+  /** Begins with the state and the words at an address. The state's count is 0. */
   begin(place) {
     this.text = this.library.begin(place);
     this.marks = [];
@@ -18,7 +18,7 @@ class Recorder {
     this.forgetSent();
   }
 
-  /** Goes on with a recording that is kept, and with the bytes sent since its last checkpoint. */
+  /** Resumes a recording that was kept, with the bytes sent since its last checkpoint. */
   resume(text, sent) {
     const { claims, inputs } = readRecording(text);
     this.text = text;
@@ -34,15 +34,15 @@ class Recorder {
     this.sentLength = 0;
   }
 
-  /** Notes bytes that the machine sent; more than a recording may have make no difference. */
+  /** Adds bytes that the machine sent. Bytes beyond the limit of a recording are not kept: it is full then. */
   note(sent) {
     if (!sent.length || this.sentLength > MOST_SENT) return;
     this.sent.push(sent);
     this.sentLength += sent.length;
   }
 
-  /** Extends by a checkpoint at the count of the state at a place, if it is above the last one's; whether it is a new one. `inputs` are all
-   * inputs that the machine has taken. What cannot be extended is full, and stays as it is. */
+  /** Extends the recording by a checkpoint at the count of the state at an address, if that is above the last one's. `inputs` are all inputs
+   * that the machine has taken. A recording that cannot be extended is full, and stays as it is. Returns whether there is a new checkpoint. */
   extend(place, count, inputs) {
     if (this.full || count <= (this.marks.at(-1) ?? 0)) return false;
     try {
@@ -58,7 +58,7 @@ class Recorder {
     return true;
   }
 
-  /** What the browser keeps of it. */
+  /** Returns what the browser keeps of it. */
   get kept() {
     return { recording: this.text, sentSince: joined(this.sent) };
   }

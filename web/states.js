@@ -1,5 +1,5 @@
-/* How the parts of a machine's state are named and written, in the words of the program's lines and in the order in which a check
- * compares them. The notation is that of tools/galluspa/states.py. The page and the worker both use this file. */
+/* The names and the notation of the parts of a machine's state. The names are those of the program's lines, in the order in which a check
+ * compares the parts; the notation is that of tools/galluspa/states.py. The page and the worker both use this file. */
 "use strict";
 
 const STATE_BYTES = 136, WORDS = 262144, MEMORY_BYTES = 4 * WORDS, INPUT_BYTES = 16;
@@ -14,7 +14,7 @@ const REGISTERS = Array.from({ length: 16 }, (_, at) => `R${at}`);
 
 const hex = (value, digits) => value.toString(16).toUpperCase().padStart(digits, "0");
 
-/** A 32-bit field of a state. */
+/** Returns a 32-bit field of a state. */
 function field(state, at) {
   return new DataView(state.buffer, state.byteOffset).getUint32(at, true);
 }
@@ -27,7 +27,7 @@ function flagsText(value) {
   return [..."NZCV"].map((letter, at) => (value >> (3 - at) & 1 ? letter : "-")).join("");
 }
 
-/** A mouse word as its x and y, and its three keys as they lie. */
+/** Returns a mouse word as its x and y, and its three keys from left to right. */
 function mouseText(value) {
   const keys = value >> 24 & 7;
   return `${value & 0x3ff}, ${value >> 12 & 0x3ff}` + (keys ? `, keys ${keys.toString(2).padStart(3, "0")}` : "");
@@ -42,7 +42,7 @@ function serialText(value) {
   return hex(value & 255, 2) + (value >> 8 ? ", received" : "");
 }
 
-/** The parts of a state but for its memory: pairs of a name and a text. */
+/** Returns the parts of a state without its memory, as pairs of a name and a text. */
 function partsOf(state) {
   const of = (name) => field(state, AT[name]);
   return [
@@ -66,13 +66,13 @@ function equal(some, others) {
   return some.length === others.length && some.every((byte, at) => byte === others[at]);
 }
 
-/** The pages, by their number, in which two memories differ. */
+/** Returns the numbers of the pages in which two memories differ. */
 function differingPages(words, others) {
   const page = (memory, at) => memory.subarray(at * PAGE_BYTES, (at + 1) * PAGE_BYTES);
   return Array.from({ length: PAGES }, (_, at) => at).filter((at) => !equal(page(words, at), page(others, at)));
 }
 
-/** The name of the first part in which two machines differ, each with its memory and the bytes that it sent; or null. */
+/** Returns the name of the first part in which two machines differ, or null. Each has its memory and the bytes that it sent. */
 function firstDifference(one, other) {
   const starts = [...REGISTERS.map((name, at) => [name, AT.R + 4 * at]), ...Object.entries(AT).slice(1)];
   for (const [name, start] of starts) {
@@ -84,7 +84,7 @@ function firstDifference(one, other) {
   return page === undefined ? null : `page ${page}`;
 }
 
-/** Numbers that rise, with those that follow each other joined, as in 1, 4 to 7. */
+/** Returns ascending numbers as text, consecutive ones as a range, as in 1, 4 to 7. */
 function rangesText(numbers) {
   const runs = [];
   for (const number of numbers) {
@@ -94,7 +94,7 @@ function rangesText(numbers) {
   return runs.map((run) => run.join(" to ")).join(", ");
 }
 
-/** Bytes as text: line feeds and printing characters of ASCII as they are, other bytes as a backslash and two digits. */
+/** Returns bytes as text: line feeds and printable ASCII as they are, other bytes as a backslash and two digits. */
 function sentText(bytes) {
   const plain = (byte) => (byte >= 0x20 && byte < 0x7f && byte !== 0x5c) || byte === 10;
   return Array.from(bytes, (byte) => (plain(byte) ? String.fromCharCode(byte) : `\\${byte.toString(16).padStart(2, "0")}`)).join("");

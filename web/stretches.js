@@ -1,27 +1,28 @@
-/* The stretches of a recording between two of its checkpoints, as recordings of their own, and the line that theirs make. The page checks a
- * long recording by them, so that it can say how far it is. tools/galluspa/stretches.py cuts the same bytes, and docs/suites.md says why their
- * lines make the line of the whole. */
+/* Cuts a recording into stretches between two of its checkpoints, each a recording of its own, and joins their verdict lines. The page checks a
+ * long recording in this way, so that it can show its progress. tools/galluspa/stretches.py cuts the same bytes, and docs/suites.md says why the
+ * joined line is that of the whole. */
 "use strict";
 
 const HEADER_BYTES = 24, CLAIM_BYTES = 144;
 const STRETCH_STEPS = 10000000, FIRST_STEPS = 1000000;
 
-/** The places that a checkpoint changes in the table before it, each with its new page number. */
+/** Returns the page slots that a checkpoint changes in the table before it, each with its new page id. */
 function changesOf({ text, version }, { at }, table) {
   const view = new DataView(text.buffer, text.byteOffset, text.length), number = (from) => view.getUint32(from, true);
   if (version === 1) return Array.from(table, (_, place) => [place, number(at + 132 + 4 * place)]).filter(([place, page]) => page !== table[place]);
   return Array.from({ length: number(at + 140) }, (_, k) => [number(at + CLAIM_BYTES + 8 * k), number(at + CLAIM_BYTES + 4 + 8 * k)]);
 }
 
-/** The table of the page numbers of checkpoint 0. */
+/** Returns the table of checkpoint 0: the page id of each slot. */
 function firstTable(recording) {
   const table = new Uint32Array(PAGES);
   for (const [place, page] of changesOf(recording, recording.claims[0], table)) table[place] = page;
   return table;
 }
 
-/** The recording between two checkpoints, in version 2: what the first claims is its first state, its counts and inputs begin at 0 again, and
- * its pool has the pages that it names, in the order in which it names them. `table` is the table of the first, and becomes that of the last. */
+/** Returns the recording between two checkpoints, in version 2. Its initial state is what the first one claims, its counts and inputs begin at 0
+ * again, and its pool has the pages that it names, in the order in which it names them. `table` is the table of the first checkpoint, and becomes
+ * that of the last. */
 function stretch(recording, table, first, last) {
   const claims = recording.claims.slice(first, last + 1), numbers = new Map([[0, 0]]);
   const named = ([place, page]) => [place, numbers.get(page) ?? (numbers.set(page, numbers.size), numbers.size - 1)];
@@ -38,7 +39,7 @@ function stretch(recording, table, first, last) {
   return joined([header, ...pages, inputs, ...written, ...claims.slice(1).map((claim) => claim.sent)]);
 }
 
-/** A checkpoint as a stretch has it that begins at a count. */
+/** Returns the bytes of a checkpoint in a stretch that begins at a count. */
 function claimBytes({ text, version }, { at, count }, begin, changes) {
   const bytes = new Uint8Array(CLAIM_BYTES + 8 * changes.length), view = new DataView(bytes.buffer);
   bytes.set(text.subarray(at, at + (version === 1 ? 132 : 140)));
@@ -55,7 +56,8 @@ function joined(parts) {
   return whole;
 }
 
-/** What a line says of a recording of so many checkpoints and steps: null if all are true; else the first false one, with its first false part. */
+/** Returns what the verdict line of a recording with these checkpoints says: null if all are true, else the first false one with its first false
+ * part. */
 function foundBy(line, claims) {
   const [, number, count, part] = /^false checkpoint (\d+) at (\d+) part (.+)$/.exec(line) ?? [];
   if (number && claims[number]?.count === Number(count)) return { number: Number(number), part };
@@ -67,13 +69,14 @@ function acceptedLine(claims) {
   return `accepted ${claims.length - 1} checkpoints ${claims.at(-1).count} steps`;
 }
 
-/** Checks recordings by their stretches, on a machine that nothing else uses. */
+/** Checks recordings stretch by stretch, on a machine that nothing else uses. */
 class Checker {
   constructor(machine, size = STRETCH_STEPS) {
     Object.assign(this, { machine, size, library: machine.library });
   }
 
-  /** The line that the stretches of a recording make, its status, and their number. After each piece `tell` is given the steps that are done. */
+  /** Returns the joined line of the stretches of a recording, its status, and their number. After each piece it calls `tell` with the number of
+   * steps done. */
   line(recording, tell) {
     const { claims } = recording, last = claims.length - 1, table = firstTable(recording);
     let first = 0, stretches = 0;
@@ -92,14 +95,14 @@ class Checker {
     return { line: acceptedLine(claims), status: 0, stretches };
   }
 
-  /** The last checkpoint of a stretch of about so many steps. */
+  /** Returns the last checkpoint of a stretch of about so many steps. */
   end(claims, first, size) {
     let end = first + 1;
     while (end + 1 < claims.length && claims[end + 1].count - claims[first].count <= size) end++;
     return end;
   }
 
-  /** What the line of a stretch says. A long one is run in frames, and its last frame is checked as a recording of its own. */
+  /** Returns what the line of a stretch says. A long stretch is run in frames, and its last frame is checked as a recording of its own. */
   found(text, size, tell) {
     const recording = readRecording(text), { claims } = recording;
     const isRun = claims.length === 2 && claims[1].count > 2 * size && this.run(recording, size, tell);
@@ -108,7 +111,7 @@ class Checker {
     return foundBy(this.library.check(last).line, [{ count: 0 }, { count: steps }]);
   }
 
-  /** Runs a stretch of two checkpoints up to its last frame; whether it has sent what is claimed, as far as it was run. */
+  /** Runs a stretch of two checkpoints up to its last frame. Returns whether it sent what is claimed, as far as it ran. */
   run(recording, size, tell) {
     const { machine } = this, [, { count, sent }] = recording.claims;
     machine.beginRecording(recording, 0);
@@ -120,7 +123,7 @@ class Checker {
     return true;
   }
 
-  /** The recording that begins with the machine's state, and claims at its end what the stretch does; and how many steps it has. */
+  /** Returns the recording that begins with the machine's state and ends with what the stretch claims, and its number of steps. */
   lastFrame(recording) {
     const { machine, library } = this, begin = machine.count, [, { count, sent }] = recording.claims, steps = count - begin;
     library.claim(machine.text, recording.text.length, 1, machine.other, machine.other + STATE_BYTES);

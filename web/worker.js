@@ -1,10 +1,11 @@
-/* The worker script's last part: it answers the page's requests. Two workers run it: one has the live machine and records it, and one, the
- * clerk, checks, so that a long check can be stopped without touching the machine. A request is `{id, ask, ..}`, and its answer
- * `{id, answer}`, `{id, refused}`, a line for the user, or `{id, broken}`, a fault of this script. What comes unasked has no id. */
+/* The last part of the worker script: it answers the page's requests. Two workers run it. One has the live machine and records it. The other,
+ * the clerk, checks, so that a long check can be stopped without touching the machine. A request is `{id, ask, ..}`, and its answer
+ * `{id, answer}`, `{id, refused}` with a line for the user, or `{id, broken}` for a bug in this script. Messages that answer no request have no
+ * id. */
 "use strict";
 
 const FRAME_MS = 1000 / 60, BUDGET_MS = 12, FIRST_CHUNK = 200000, LAG_MS = 100;
-// Recordings of up to a second of the machine's time are checked by one call alone.
+// A recording of up to one second of the machine's time is checked by one call.
 const WHOLE_STEPS = 25000000;
 
 let library = null, machine = null;
@@ -12,7 +13,7 @@ let run = { on: false };
 
 // The live machine
 
-/** What the page shows of the machine: always its state; its dots where they changed; the listing while it is paused. */
+/** Posts what the page shows of the machine: always its state; its dots if they changed; the listing while it is paused. */
 let shownDots = null;
 function show(sent, isWhole = false) {
   const dots = machine.dots, same = !isWhole && shownDots && equalWords(shownDots, dots);
@@ -44,7 +45,7 @@ function setRun({ on, fast, goal = null, seconds }) {
   else show([]);
 }
 
-/** One turn: advances as far as the clock, or the time of a frame, lets it; stops at each checkpoint on the way. */
+/** Does one turn: advances as far as the clock, or the time of a frame, allows, and stops at each checkpoint on the way. */
 function tick() {
   if (!run.on) return;
   try {
@@ -75,7 +76,7 @@ function again(begun) {
 function clockedTurn(now) {
   const perMs = PER_SECOND / 1000;
   let to = run.clock.count + Math.floor((now - run.clock.ms) * perMs);
-  // Too slow for real time, or asleep: the lost time is given up.
+  // Too slow for real time, or suspended: the machine falls behind real time.
   if (to - machine.count > LAG_MS * perMs) {
     run.clock = { ms: now, count: machine.count };
     to = machine.count + Math.floor(FRAME_MS * perMs);
@@ -83,7 +84,7 @@ function clockedTurn(now) {
   return turnTo(to, now + LAG_MS);
 }
 
-/** Runs pieces that take about a frame, so that messages are read between them. */
+/** Runs a piece that takes about a frame, so that messages are read between two pieces. */
 function fastTurn(begun) {
   const from = machine.count, sent = turnTo(from + run.chunk, begun + BUDGET_MS), ms = performance.now() - begun;
   if (machine.count - from === run.chunk) run.chunk = Math.ceil(run.chunk * Math.min(4, Math.max(0.25, BUDGET_MS / Math.max(ms, 0.1))));
@@ -110,14 +111,14 @@ function reached() {
   if (passed) postMessage({ passed });
 }
 
-/** Records a checkpoint; one place is left for the end of the recording. That it became full is told at once. */
+/** Records a checkpoint. Room for one is left for the end of the recording. If the recording became full, the page is told at once. */
 function mark(most = CHECKPOINT_LIMIT - 1) {
   const { full } = machine.recorder, isNew = machine.mark(most);
   if (machine.recorder.full !== full) postMessage({ refused: `${machine.recorder.full}: it ends with its last checkpoint` });
   return isNew;
 }
 
-/** Opens what a file holds; what it is says its answer. */
+/** Shows what was opened, and returns what it is. */
 function opened(kind) {
   run = { on: false };
   show([], true);
@@ -192,7 +193,7 @@ const LIVE = {
 
 // The clerk
 
-/** A task that may be refused; what it is refused for says the proved function that comes after it. */
+/** Does a task that may be refused, and returns null if it is: the proved function that comes after it reports why. */
 function unlessRefused(task) {
   try {
     return task();
@@ -203,7 +204,7 @@ function unlessRefused(task) {
 }
 
 const CLERK = {
-  /** The line of one call over the whole. For a long recording the line of its stretches is posted before, with how far it is on the way. */
+  /** Returns the line of one call over the whole. For a long recording it first posts its progress stretch by stretch, and their joined line. */
   check({ text, whole = WHOLE_STEPS, size }) {
     const recording = text.length <= LONGEST_RECORDING ? unlessRefused(() => lawful(text)) : null;
     if (recording?.claims.at(-1).count > whole) unlessRefused(() => checkStretches(recording, size));
@@ -220,7 +221,7 @@ function checkStretches(recording, size) {
   postMessage({ stretches, estimate: performance.now() - begun, steps: done });
 }
 
-/** The recording of a text; refused if it is not lawful. */
+/** Reads the recording of a file. It is refused if the proved library finds it invalid. */
 function lawful(text) {
   const place = library.hold(text);
   try {
