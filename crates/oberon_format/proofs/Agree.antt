@@ -1,168 +1,310 @@
--- A file that encodes parts has their fields, and so their first fault.
-use Rattle.std.proofs.Common.{◌≡◌, ◌<◌, ◌≤◌, ◌+◌, ◌∙◌, ℕ, zero, suc, true, List, get_or, length, refl, sym, ap, subst, inl, inr, arith}
-use Rattle.std.specs.Prelude.{slice_index, slice_index_or}
-use Rattle.std.proofs.lemmas.List.{get_or-map}
+-- An encoding of parts has their fields, and so their first fault.
+use Rattle.std.proofs.Common.{◌≡◌, ◌<◌, ◌≤◌, ◌+◌, ◌-◌, ◌*◌, ◌^◌, ◌∙◌, ℕ, zero, suc, true, List, [], ◌∷◌, ◌++◌, get_or, length, take, drop, refl, sym, ap, subst, inl, inr, arith, add-zero, length-append}
+use Rattle.std.specs.Prelude.{All, slice_index, slice_range}
+use Rattle.std.specs.List.{flat_map}
+use Rattle.std.proofs.lemmas.List.{get_or-map, get_or_default}
+use Rattle.std.proofs.lemmas.List.Elements.{All-from_recursion}
+use Rattle.risc_devices.proofs.InputLemmas.{kind_fits, value_fits}
+use Rattle.risc_devices.specs.Input.{kind_of, value_of}
 use Rattle.risc_model.specs.declared.event.Event.{Event}
-use Rattle.oberon_format.specs.declared.change.Change.{Change}
-use Rattle.oberon_format.specs.declared.layout.TheConstants.{FIRST_VERSION, VERSION, PLACES, RATE_AT, PHASE_AT, CHANGE_COUNT_AT}
+use Rattle.oberon_format.specs.declared.layout.TheConstants.{FIRST_VERSION, VERSION, PLACES, CHANGE_LEN, KIND_AT, REGISTERS_AT, AUXILIARY_AT, KEYS_AT, SENT_AT, COMMON_LEN, TABLE_AT, RATE_AT, PHASE_AT, CHANGES_AT}
 use Rattle.oberon_format.specs.Changes.{changes, no_change, number_after}
-use Rattle.oberon_format.specs.CheckpointParts.{CheckpointParts, no_checkpoint}
-use Rattle.oberon_format.specs.Formed.{AreFormed}
+use Rattle.oberon_format.specs.CheckpointParts.{CheckpointParts, key_bytes, no_checkpoint}
+use Rattle.oberon_format.specs.Encoding.{long_bytes, words_bytes, event_bytes, field_words, common_bytes, change_bytes, later_words, tail_bytes, checkpoint_bytes, header_bytes, encoding}
+use Rattle.oberon_format.specs.Formed.{AreFormed, IsWritable, AreWritable}
 use Rattle.oberon_format.specs.FirstFault.{first_broken}
-use Rattle.oberon_format.specs.Layout.{version, event_offset, change_offset, change_count, later_word, start}
-use Rattle.oberon_format.specs.PartFields.{fields_in, event_fields, no_event, checkpoint_fields, changes_in}
+use Rattle.oberon_format.specs.Layout.{word_at, long_at, version, pages, events, checkpoints, page_offset, event_start, event_offset, checkpoint_size, change_offset, change_count, later_word, start}
+use Rattle.oberon_format.specs.PartFields.{fields_in, event_fields, no_event, checkpoint_fields, changes_in, start_in}
 use Rattle.oberon_format.specs.Ranges.{is_version}
 use Rattle.oberon_format.specs.Recording.{RecordingParts, checkpoint_at, table_before, output_of}
 use Rattle.oberon_format.specs.Rules.{rules}
-use Rattle.oberon_format.specs.inner.Tested.{HasNumbers, AreIn}
-use Rattle.oberon_format.specs.inner.Offsets.{EachAt, IsEvent, IsChange, IsChanged, IsCheckpoint, HasFieldsOf}
-use Rattle.oberon_format.specs.TextFields.{fields_of, event_of, checkpoint_of, change_at, change_of, number_before, page_number_of, first_fault_of}
-use Rattle.oberon_format.proofs.ChangeLemmas.{change_in, changes-make, after-same}
+use Rattle.oberon_format.specs.Text.{IsUnclocked}
+use Rattle.oberon_format.specs.TextFields.{fields_of, event_of, checkpoint_of, change_of, number_before, page_number_of, first_fault_of}
+use Rattle.oberon_format.specs.inner.Decoded.{page_at, words_from}
+use Rattle.oberon_format.proofs.Bytes.{HasBytes, bytes_left, bytes_right, long_read, words_read, word_of, parts_read, length-long_bytes, length-words_bytes}
+use Rattle.oberon_format.proofs.ChangeLemmas.{change_in, changes-few, changes-make, after-same}
+use Rattle.oberon_format.proofs.Encoded.{AreAt, encoding_parts, length-encoding, change_words, change_wide, fields_wide, header_words, header_wide, later_wide, length-changes, length-common_bytes, length-key_bytes}
 use Rattle.oberon_format.proofs.PartLemmas.{member, table_next}
-use Rattle.oberon_format.proofs.Starts.{count_encoded, start-encoded}
 use Rattle.oberon_format.proofs.RuleLemmas.{version_cases}
 use Rattle.oberon_format.proofs.SameFields.{SameFields, same_rules}
-use Rattle.oberon_format.proofs.TextLemmas.{later_second, number_second, numbers_none}
+use Rattle.oberon_format.proofs.TextLemmas.{number_first, number_second, numbers_none}
 
 -- an event at an offset has its fields there
-event_agrees : (text : List ℕ) (offset : ℕ) (e : Event) → IsEvent text offset e → event_of text offset ≡ event_fields e
-event_agrees text offset e is = λ i. record { count = is.count i; kind = is.kind i; value = is.value i }
+event_agrees : (text : List ℕ) (offset : ℕ) (e : Event) → HasBytes text offset (event_bytes e) → event_of text offset ≡ event_fields e
+unfolding event_bytes words_from
+event_agrees text offset e s =
+    let kind = kind_of e.input in
+    let value = value_of e.input in
+    let few : kind < 6 = kind_fits kind value e.input.lawful in
+    let count = long_read text offset e.count e.range (bytes_left text offset (long_bytes e.count) (words_bytes (kind ∷ value ∷ [])) s) in
+    let words = words_read text offset KIND_AT (offset + KIND_AT) 2 (kind ∷ value ∷ []) refl refl
+    (All-from_recursion (λ x. x < 2 ^ 32) (kind ∷ value ∷ []) (omega arith, (value_fits kind value e.input.lawful, tt)))
+    (bytes_right text offset (offset + KIND_AT) (long_bytes e.count) (words_bytes (kind ∷ value ∷ [])) (omega (arith, length-long_bytes e.count)) s) in
+    λ i. record { count = count i; kind = slice_index (words i) 0; value = slice_index (words i) 1 }
 
-events_agree : (v : ℕ) (text : List ℕ) (r : RecordingParts) → HasFieldsOf v text r
-    → (i : ℕ) → i < length r.inputs → (fields_of text).event i ≡ (fields_in v r).event i
-events_agree v text r is i lt =
-    let e = member r.inputs i lt in
-    event_agrees text (event_offset text i) (get_or r.inputs i e) (is.events_are_at i e lt) ∙ sym (get_or-map event_fields r.inputs i e no_event lt)
+-- what begins a checkpoint
+pub record HasCommon (text : List ℕ) (p : ℕ) (c : CheckpointParts) : Type 0 where
+  pub count : long_at text p ≡ c.count
+  pub registers : words_from text p REGISTERS_AT 16 ≡ c.cpu.r
+  pub fields : words_from text p AUXILIARY_AT 10 ≡ field_words c
+  pub keys : slice_range text (p + KEYS_AT) (p + SENT_AT) ≡ key_bytes c.devices
+  pub sent : word_at text (p + SENT_AT) ≡ length c.sent
 
--- the rate and the phase of a checkpoint at an offset
-rate_agrees : (v : ℕ) (text : List ℕ) (offset : ℕ) (before : List ℕ) (c : CheckpointParts)
-    → is_version v ≡ true → version text ≡ v → IsCheckpoint v text offset before c → later_word text (offset + RATE_AT) ≡ c.devices.rate
-rate_agrees v text offset before c known of is =
+common_agrees : (text : List ℕ) (p : ℕ) (c : CheckpointParts) → IsWritable c → HasBytes text p (common_bytes c) → HasCommon text p c
+unfolding common_bytes words_from
+common_agrees text p c fits s =
+    let a = long_bytes c.count in
+    let r = words_bytes c.cpu.r in
+    let f = words_bytes (field_words c) in
+    let k = key_bytes c.devices in
+    let n = words_bytes (length c.sent ∷ []) in
+    let s3 = bytes_left text p (a ++ r ++ f ++ k) n s in
+    let s2 = bytes_left text p (a ++ r ++ f) k s3 in
+    let s1 = bytes_left text p (a ++ r) f s2 in
+    let count = fits.formed.registers in
+    let la = length-long_bytes c.count in
+    let lr = length-words_bytes c.cpu.r in
+    let lar = length-append a r in
+    let lf : length (a ++ r ++ f) ≡ KEYS_AT = length-append (a ++ r) f ∙ omega (arith, length-words_bytes (field_words c)) in
+    let lk : length (a ++ r ++ f ++ k) ≡ SENT_AT = length-append (a ++ r ++ f) k ∙ omega (arith, length-key_bytes c.devices fits.formed.devices.keys) in
+    let keys = bytes_right text p (p + KEYS_AT) (a ++ r ++ f) k (omega arith) s3 in
+    let many : p + SENT_AT - (p + KEYS_AT) ≡ length k = omega (arith, length-key_bytes c.devices fits.formed.devices.keys) in
+    record {
+      count = long_read text p c.count fits.count (bytes_left text p a r s1);
+      registers = words_read text p REGISTERS_AT (p + REGISTERS_AT) 16 c.cpu.r refl (sym count)
+          (λ i d lt. subst (λ (x : ℕ). x < 2 ^ 32) (get_or_default c.cpu.r i 0 d lt) (fits.formed.words i)) (bytes_right text p (p + REGISTERS_AT) a r (omega arith) s1);
+      fields = words_read text p AUXILIARY_AT (p + AUXILIARY_AT) 10 (field_words c) refl refl (fields_wide c fits) (bytes_right text p (p + AUXILIARY_AT) (a ++ r) f (omega arith) s2);
+      keys = ap (λ (m : ℕ). take m (drop (p + KEYS_AT) text)) many ∙ keys.is;
+      sent = ap (λ (ws : List ℕ). slice_index ws 0) (words_read text p SENT_AT (p + SENT_AT) 1 (length c.sent ∷ []) refl refl
+          (All-from_recursion (λ x. x < 2 ^ 32) (length c.sent ∷ []) (fits.sent, tt)) (bytes_right text p (p + SENT_AT) (a ++ r ++ f ++ k) n (omega arith) s));
+    }
+
+-- the rest of a checkpoint, by the version
+rest_at : (v : ℕ) (text : List ℕ) (p : ℕ) (before : List ℕ) (c : CheckpointParts) → IsWritable c → HasBytes text p (checkpoint_bytes v before c)
+    → HasBytes text (p + COMMON_LEN) (tail_bytes v before c)
+unfolding checkpoint_bytes
+rest_at v text p before c fits s = bytes_right text p (p + COMMON_LEN) (common_bytes c) (tail_bytes v before c) (omega (arith, length-common_bytes c fits.formed)) s
+
+table_is_at : (v : ℕ) (text : List ℕ) (p : ℕ) (before : List ℕ) (c : CheckpointParts) → v ≡ FIRST_VERSION → HasBytes text (p + COMMON_LEN) (tail_bytes v before c)
+    → HasBytes text (p + TABLE_AT) (words_bytes c.table)
+unfolding tail_bytes
+table_is_at v text p before c first s = subst (HasBytes text (p + TABLE_AT)) (ap (λ (n : ℕ). tail_bytes n before c) first) s
+
+later_is_at : (v : ℕ) (text : List ℕ) (p : ℕ) (before : List ℕ) (c : CheckpointParts) → v ≡ VERSION → HasBytes text (p + COMMON_LEN) (tail_bytes v before c)
+    → HasBytes text (p + RATE_AT) (words_bytes (later_words before c) ++ flat_map change_bytes (changes before c.table))
+unfolding tail_bytes
+later_is_at v text p before c second s = subst (HasBytes text (p + RATE_AT)) (ap (λ (n : ℕ). tail_bytes n before c) second) s
+
+-- the fields that only version 2 has
+pub record HasLater (v : ℕ) (text : List ℕ) (p : ℕ) (before : List ℕ) (c : CheckpointParts) : Type 0 where
+  pub rate : later_word text (p + RATE_AT) ≡ c.devices.rate
+  pub phase : later_word text (p + PHASE_AT) ≡ c.devices.phase
+  pub count : change_count text p ≡ changes_in v before c
+
+later_agrees : (v : ℕ) (text : List ℕ) (p : ℕ) (before : List ℕ) (c : CheckpointParts) → is_version v ≡ true → version text ≡ v → IsWritable c
+    → (v ≡ FIRST_VERSION → IsUnclocked c) → HasBytes text p (checkpoint_bytes v before c) → HasLater v text p before c
+unfolding words_from
+later_agrees v text p before c known of fits unclocked s =
     elim (version_cases v known) [
-      | inl first ↦ let rate = (is.in_first first).rate in rw (of, first) (sym rate)
-      | inr second ↦ let rate = (is.in_second second).rate in rw (of, second) rate
-    ]
-
-phase_agrees : (v : ℕ) (text : List ℕ) (offset : ℕ) (before : List ℕ) (c : CheckpointParts)
-    → is_version v ≡ true → version text ≡ v → IsCheckpoint v text offset before c → later_word text (offset + PHASE_AT) ≡ c.devices.phase
-phase_agrees v text offset before c known of is =
-    elim (version_cases v known) [
-      | inl first ↦ let phase = (is.in_first first).phase in rw (of, first) (sym phase)
-      | inr second ↦ let phase = (is.in_second second).phase in rw (of, second) phase
+      | inl first ↦ let none = unclocked first in record { rate = rw (of, first) (sym none.rate); phase = rw (of, first) (sym none.phase); count = rw (of, first) refl }
+      | inr second ↦
+          let few = changes-few before c.table in
+          let words = words_bytes (later_words before c) in
+          let cs = flat_map change_bytes (changes before c.table) in
+          let later = words_read text p RATE_AT (p + RATE_AT) 3 (later_words before c) refl refl (later_wide before c fits (omega arith))
+          (bytes_left text (p + RATE_AT) words cs (later_is_at v text p before c second (rest_at v text p before c fits s))) in
+          record {
+            rate = rw (of, second) (ap (λ (ws : List ℕ). slice_index ws 0) later);
+            phase = rw (of, second) (ap (λ (ws : List ℕ). slice_index ws 1) later);
+            count = rw (of, second) (ap (λ (ws : List ℕ). slice_index ws 2) later);
+          }
     ]
 
 -- a checkpoint at an offset has its fields there
-checkpoint_agrees : (v : ℕ) (text : List ℕ) (offset : ℕ) (before : List ℕ) (c : CheckpointParts)
-    → is_version v ≡ true → version text ≡ v → IsCheckpoint v text offset before c → checkpoint_of text offset ≡ checkpoint_fields v before c
-checkpoint_agrees v text offset before c known of is =
-    let rate = rate_agrees v text offset before c known of is in
-    let phase = phase_agrees v text offset before c known of is in
-    let count = count_encoded v text offset before c known of is in
+checkpoint_agrees : (v : ℕ) (text : List ℕ) (p : ℕ) (before : List ℕ) (c : CheckpointParts) → HasCommon text p c → HasLater v text p before c
+    → checkpoint_of text p ≡ checkpoint_fields v before c
+unfolding words_from
+checkpoint_agrees v text p before c front later =
+    let word : (k : ℕ) → slice_index (words_from text p AUXILIARY_AT 10) k ≡ slice_index (field_words c) k = λ k. ap (λ (ws : List ℕ). slice_index ws k) front.fields in
     λ i. record {
-      count = is.front.count i;
-      pc = is.front.cpu.pc i;
-      flags = is.front.cpu.flags i;
-      stop = is.front.cpu.stop i;
-      switches = is.front.devices.switches i;
-      leds = is.front.devices.leds i;
-      mouse = is.front.devices.mouse i;
-      serial = is.front.devices.serial i;
-      waiting = is.front.devices.waiting i;
-      keys = is.front.devices.keys i;
-      output = is.front.sent i;
-      rate = rate i;
-      phase = phase i;
-      changes = count i;
+      count = front.count i;
+      pc = word 1 i;
+      flags = word 2 i;
+      stop = word 3 i;
+      switches = word 5 i;
+      leds = word 6 i;
+      mouse = word 7 i;
+      serial = word 8 i;
+      waiting = word 9 i;
+      keys = front.keys i;
+      output = front.sent i;
+      rate = later.rate i;
+      phase = later.phase i;
+      changes = later.count i;
     }
 
--- a change at an offset
-change_agrees : (text : List ℕ) (at : ℕ) (change : Change) → IsChange text at change → change_at text at ≡ change
-change_agrees text at change is = λ i. record { place = is.place i; number = is.number i }
-
 -- change i of a checkpoint of version 2
-changes_are_at : (text : List ℕ) (offset : ℕ) (before : List ℕ) (c : CheckpointParts) → IsChanged text offset before c → (i : ℕ) → i < length (changes before c.table)
-    → change_of text offset i ≡ change_in before c.table i
-changes_are_at text offset before c is i lt = change_agrees text (change_offset offset i) (change_in before c.table i) (is.changes i no_change lt)
+change_agrees : (v : ℕ) (text : List ℕ) (p : ℕ) (before : List ℕ) (c : CheckpointParts) → v ≡ VERSION → IsWritable c → HasBytes text p (checkpoint_bytes v before c)
+    → (i : ℕ) → i < length (changes before c.table) → change_of text p i ≡ change_in before c.table i
+unfolding change_bytes words_from
+change_agrees v text p before c second fits s i lt =
+    let cs = changes before c.table in
+    let change = change_in before c.table i in
+    let at = change_offset p i in
+    let words = words_bytes (later_words before c) in
+    let all = bytes_right text (p + RATE_AT) (p + CHANGES_AT) words (flat_map change_bytes cs) (omega (arith, length-words_bytes (later_words before c)))
+    (later_is_at v text p before c second (rest_at v text p before c fits s)) in
+    let pair : words_from text at 0 2 ≡ change_words change = words_read text at 0 at 2 (change_words change) (omega arith) refl (change_wide before c.table fits.formed.table i no_change lt)
+    (parts_read change_bytes CHANGE_LEN text (p + CHANGES_AT) cs (length-changes cs) all i no_change lt) in
+    let place : word_at text at ≡ change.place = ap (word_at text) (sym (add-zero at)) ∙ ap (λ (ws : List ℕ). slice_index ws 0) pair in
+    λ j. record { place = place j; number = slice_index (pair j) 1 }
 
--- for the checkpoints in a file of version 2, the table before each has the page ids that the file determines
-pub tables_are_at : (text : List ℕ) (cs : List CheckpointParts) (k : ℕ) → version text ≡ VERSION → AreIn text cs → k ≤ length cs → HasNumbers (table_before cs k) (number_before text k)
-unfolding number_before
-tables_are_at text cs zero is stand le p lt = numbers_none text p lt
-tables_are_at text cs (suc k) is stand le p lt =
-    let before = table_before cs k in
-    let c = slice_index_or cs k no_checkpoint in
-    let offset = start text k in
-    let changed = (stand k no_checkpoint (omega arith)).in_second is in
-    let many : change_count text offset ≡ length (changes before c.table) = later_second text (offset + CHANGE_COUNT_AT) is ∙ changed.count in
-    ap (λ (t : List ℕ). slice_index t p) (table_next cs k)
-    ∙ sym (changes-make before c.table p lt)
-    ∙ sym (after-same (change_of text offset) (change_in before c.table) (number_before text k) (slice_index before) (length (changes before c.table)) p
-    (changes_are_at text offset before c changed) (sym (tables_are_at text cs k is stand (omega arith) p lt)))
-    ∙ ap (λ (n : ℕ). number_after (change_of text offset) (number_before text k) n p) (sym many)
+module _ (v : ℕ) (text : List ℕ) (r : RecordingParts) (known : is_version v ≡ true) (fits : AreWritable r) (are : AreAt v text r) where
+  -- the numbers of the header
+  header : words_from text 0 0 6 ≡ header_words v r
+  unfolding header_bytes
+  header = words_read text 0 0 0 6 (header_words v r) refl refl (header_wide v r known fits) are.header
 
--- the page ids of a file of either version
-pages_agree : (v : ℕ) (text : List ℕ) (r : RecordingParts) → AreFormed r.checkpoints → HasFieldsOf v text r → (k p : ℕ) → k < length r.checkpoints → p < PLACES
-    → page_number_of text k p ≡ slice_index (checkpoint_at r k).table p
-pages_agree v text r formed is k p lt less =
-    let of = is.version in
-    elim (version_cases v is.known) [
-      | inl first ↦
-          let table = (formed k no_checkpoint lt).table.count in
-          let number = ((is.checkpoints_are_at k no_checkpoint lt).in_first first).table p 0 (omega arith) in
-          rw (of, first) number
-      | inr second ↦
-          let stand : AreIn text r.checkpoints = subst (λ (n : ℕ). EachAt (λ j c. IsCheckpoint n text (start text j) (table_before r.checkpoints j) c) r.checkpoints) (sym of) is.checkpoints_are_at in
-          let is_second : version text ≡ VERSION = of ∙ second in
-          number_second text k p is_second ∙ sym (tables_are_at text r.checkpoints (suc k) is_second stand (omega arith) p less)
-          ∙ ap (λ (table : List ℕ). slice_index table p) (table_next r.checkpoints k)
-    ]
+  number : (k : ℕ) → slice_index (words_from text 0 0 6) k ≡ slice_index (header_words v r) k
+  number k = ap (λ (ws : List ℕ). slice_index ws k) header
 
--- in version 1 a checkpoint has no changes, in version 2 it has those of its table
-no_change_encoded : (v : ℕ) (before : List ℕ) (c : CheckpointParts) (i : ℕ) → v ≡ FIRST_VERSION → i < changes_in v before c → ⊥
-no_change_encoded v before c i first lt =
-    let none : changes_in v before c ≡ 0 = rw first refl in
-    omega arith
+  pub version_is : version text ≡ v
+  unfolding words_from
+  version_is = number 1
 
-change_encoded : (v : ℕ) (before : List ℕ) (c : CheckpointParts) (i : ℕ) → v ≡ VERSION → i < changes_in v before c → i < length (changes before c.table)
-change_encoded v before c i second lt =
-    let all : changes_in v before c ≡ length (changes before c.table) = rw second refl in
-    omega arith
+  pub pages_are : pages text ≡ length r.pool
+  unfolding words_from
+  pages_are = number 2
 
--- the changes of a file of either version: in version 1 there are none
-changes_agree : (v : ℕ) (text : List ℕ) (r : RecordingParts) → HasFieldsOf v text r → (k i : ℕ) → k < length r.checkpoints
-    → i < changes_in v (table_before r.checkpoints k) (checkpoint_at r k)
-    → change_of text (start text k) i ≡ change_in (table_before r.checkpoints k) (checkpoint_at r k).table i
-changes_agree v text r is k i lt less =
-    elim (version_cases v is.known) [
-      | inl first ↦ absurd (no_change_encoded v (table_before r.checkpoints k) (checkpoint_at r k) i first less)
-      | inr second ↦
-          changes_are_at text (start text k) (table_before r.checkpoints k) (checkpoint_at r k) ((is.checkpoints_are_at k no_checkpoint lt).in_second second) i
-          (change_encoded v (table_before r.checkpoints k) (checkpoint_at r k) i second less)
-    ]
+  pub events_are : events text ≡ length r.inputs
+  unfolding words_from
+  events_are = number 3
 
--- all fields
-fields_agree : (v : ℕ) (text : List ℕ) (r : RecordingParts) → AreFormed r.checkpoints → HasFieldsOf v text r → SameFields (fields_of text) (fields_in v r)
-fields_agree v text r formed is =
-    let long = is.long in
-    let count = is.checkpoint_count in
-    let end = start-encoded v text r is (length r.checkpoints) (omega arith) in
-    record {
-      long = long ∙ ap (λ (k : ℕ). start text k + length (output_of r.checkpoints)) count ∙ ap (λ (n : ℕ). n + length (output_of r.checkpoints)) end;
-      first = is.magic;
-      version = is.version;
-      pages = is.page_count;
-      events = is.event_count;
-      checkpoints = is.checkpoint_count;
-      last = is.zero;
-      event = events_agree v text r is;
-      start = start-encoded v text r is;
-      checkpoint = λ k lt.
-          checkpoint_agrees v text (start text k) (table_before r.checkpoints k) (checkpoint_at r k) is.known is.version (is.checkpoints_are_at k no_checkpoint lt);
-      change = λ k i lt. changes_agree v text r is k i lt;
-      page_number = λ k p lt. pages_agree v text r formed is k p lt;
+  pub checkpoints_are : checkpoints text ≡ length r.checkpoints
+  unfolding words_from
+  checkpoints_are = number 4
+
+  -- the pages and the events
+  pub page_is : (p : ℕ) (d : List ℕ) → p < length r.pool → page_at text p ≡ get_or r.pool p d
+  page_is p d lt =
+      let page = fits.pool p d lt in
+      words_read text (page_offset p) 0 (page_offset p) 256 (get_or r.pool p d) (omega arith) (sym page.whole) page.fit (are.pages p d lt)
+
+  pub event_is : (i : ℕ) (d : Event) → i < length r.inputs → event_of text (event_offset text i) ≡ event_fields (get_or r.inputs i d)
+  event_is i d lt = ap (λ (n : ℕ). event_of text (event_start n i)) pages_are ∙ event_agrees text (event_start (length r.pool) i) (get_or r.inputs i d) (are.events i d lt)
+
+  fit : (k : ℕ) → k < length r.checkpoints → IsWritable (checkpoint_at r k)
+  fit k lt = fits.checkpoints k no_checkpoint lt
+
+  module _ (unclocked : v ≡ FIRST_VERSION → All IsUnclocked r.checkpoints) where
+    -- where the checkpoints are, and their fields
+    later_in : (k : ℕ) → k < length r.checkpoints → HasLater v text (start_in v r k) (table_before r.checkpoints k) (checkpoint_at r k)
+    later_in k lt =
+        later_agrees v text (start_in v r k) (table_before r.checkpoints k) (checkpoint_at r k) known version_is (fit k lt) (λ first. unclocked first k no_checkpoint lt)
+        (are.checkpoints k lt)
+
+    pub start_is : (k : ℕ) → k ≤ length r.checkpoints → start text k ≡ start_in v r k
+    unfolding start start_in
+    start_is zero le = rw (pages_are, events_are) refl
+    start_is (suc k) le =
+        let so_far = start_is k (omega arith) in
+        let count = ap (change_count text) so_far ∙ (later_in k (omega arith)).count in
+        ap (λ (n : ℕ). start text k + checkpoint_size (version text) n) count
+        ∙ ap (λ (n : ℕ). start text k + checkpoint_size n (changes_in v (table_before r.checkpoints k) (checkpoint_at r k))) version_is
+        ∙ ap (λ (n : ℕ). n + checkpoint_size v (changes_in v (table_before r.checkpoints k) (checkpoint_at r k))) so_far
+
+    at_start : (k : ℕ) → k < length r.checkpoints → HasBytes text (start text k) (checkpoint_bytes v (table_before r.checkpoints k) (checkpoint_at r k))
+    at_start k lt = subst (λ (p : ℕ). HasBytes text p (checkpoint_bytes v (table_before r.checkpoints k) (checkpoint_at r k))) (sym (start_is k (omega arith))) (are.checkpoints k lt)
+
+    pub later : (k : ℕ) → k < length r.checkpoints → HasLater v text (start text k) (table_before r.checkpoints k) (checkpoint_at r k)
+    later k lt = subst (λ (p : ℕ). HasLater v text p (table_before r.checkpoints k) (checkpoint_at r k)) (sym (start_is k (omega arith))) (later_in k lt)
+
+    pub common : (k : ℕ) → k < length r.checkpoints → HasCommon text (start text k) (checkpoint_at r k)
+    unfolding checkpoint_bytes
+    common k lt =
+        let c = checkpoint_at r k in
+        common_agrees text (start text k) c (fit k lt) (bytes_left text (start text k) (common_bytes c) (tail_bytes v (table_before r.checkpoints k) c) (at_start k lt))
+
+    -- in version 2 the table before each has the page ids that the file determines
+    changes_agree : (k i : ℕ) → v ≡ VERSION → k < length r.checkpoints → i < length (changes (table_before r.checkpoints k) (checkpoint_at r k).table)
+        → change_of text (start text k) i ≡ change_in (table_before r.checkpoints k) (checkpoint_at r k).table i
+    changes_agree k i second lt less = change_agrees v text (start text k) (table_before r.checkpoints k) (checkpoint_at r k) second (fit k lt) (at_start k lt) i less
+
+    tables_agree : (k p : ℕ) → v ≡ VERSION → k ≤ length r.checkpoints → p < PLACES → number_before text k p ≡ slice_index (table_before r.checkpoints k) p
+    unfolding number_before
+    tables_agree zero p second le lt = sym (numbers_none text p lt)
+    tables_agree (suc k) p second le lt =
+        let before = table_before r.checkpoints k in
+        let table = (checkpoint_at r k).table in
+        let many : change_count text (start text k) ≡ length (changes before table) =
+        (later k (omega arith)).count ∙ rw second refl in
+        ap (λ (n : ℕ). number_after (change_of text (start text k)) (number_before text k) n p) many
+        ∙ after-same (change_of text (start text k)) (change_in before table) (number_before text k) (slice_index before) (length (changes before table)) p
+        (λ i less. changes_agree k i second (omega arith) less) (tables_agree k p second (omega arith) lt)
+        ∙ changes-make before table p lt
+        ∙ ap (λ (t : List ℕ). slice_index t p) (sym (table_next r.checkpoints k))
+
+    -- the page ids of either version
+    pub numbers_agree : (k p : ℕ) → k < length r.checkpoints → p < PLACES → page_number_of text k p ≡ slice_index (checkpoint_at r k).table p
+    numbers_agree k p lt less =
+        let c = checkpoint_at r k in
+        elim (version_cases v known) [
+          | inl first ↦
+              let table = (fit k lt).formed.table in
+              let count = table.count in
+              let at = start text k in
+              let words = words_read text at TABLE_AT (at + TABLE_AT) PLACES c.table refl (sym count) table.fit
+              (table_is_at v text at (table_before r.checkpoints k) c first (rest_at v text at (table_before r.checkpoints k) c (fit k lt) (at_start k lt))) in
+              let e : at + TABLE_AT + 4 * p ≡ at + (TABLE_AT + 4 * p) = omega arith in
+              number_first text k p (version_is ∙ first)
+              ∙ ap (word_at text) e
+              ∙ sym (word_of text at TABLE_AT PLACES p 0 less)
+              ∙ ap (λ (ws : List ℕ). slice_index ws p) words
+          | inr second ↦
+              number_second text k p (version_is ∙ second) ∙ tables_agree (suc k) p second (omega arith) less
+              ∙ ap (λ (t : List ℕ). slice_index t p) (table_next r.checkpoints k)
+        ]
+
+    -- the changes of either version: in version 1 there are none
+    all_changes : (k i : ℕ) → k < length r.checkpoints → i < changes_in v (table_before r.checkpoints k) (checkpoint_at r k)
+        → change_of text (start text k) i ≡ change_in (table_before r.checkpoints k) (checkpoint_at r k).table i
+    all_changes k i lt less =
+        let before = table_before r.checkpoints k in
+        let c = checkpoint_at r k in
+        elim (version_cases v known) [
+          | inl first ↦ let none : changes_in v before c ≡ 0 = rw first refl in absurd (omega arith)
+          | inr second ↦ let all : changes_in v before c ≡ length (changes before c.table) = rw second refl in changes_agree k i second lt (omega arith)
+        ]
+
+    -- all fields
+    fields_agree : length text ≡ start_in v r (length r.checkpoints) + length (output_of r.checkpoints) → SameFields (fields_of text) (fields_in v r)
+    unfolding words_from
+    fields_agree long = record {
+      long = long;
+      first = number 0;
+      version = version_is;
+      pages = pages_are;
+      events = events_are;
+      checkpoints = checkpoints_are;
+      last = number 5;
+      event = λ i lt.
+          let d = member r.inputs i lt in
+          ap (λ (n : ℕ). event_of text (event_start n i)) pages_are ∙ event_agrees text (event_start (length r.pool) i) (get_or r.inputs i d) (are.events i d lt)
+          ∙ sym (get_or-map event_fields r.inputs i d no_event lt);
+      start = start_is;
+      checkpoint = λ k lt. checkpoint_agrees v text (start text k) (table_before r.checkpoints k) (checkpoint_at r k) (common k lt) (later k lt);
+      change = all_changes;
+      page_number = numbers_agree;
     }
 
 -- and so the first fault
-pub text_agrees : (v : ℕ) (text : List ℕ) (r : RecordingParts) → AreFormed r.checkpoints → HasFieldsOf v text r
-    → first_fault_of text ≡ first_broken (rules (fields_in v r))
-text_agrees v text r formed is = same_rules (fields_of text) (fields_in v r) (fields_agree v text r formed is)
+pub encoding_agrees : (v : ℕ) (r : RecordingParts) → is_version v ≡ true → (v ≡ FIRST_VERSION → All IsUnclocked r.checkpoints) → AreWritable r
+    → first_fault_of (encoding v r) ≡ first_broken (rules (fields_in v r))
+encoding_agrees v r known unclocked fits =
+    let formed : AreFormed r.checkpoints = λ i d lt. (fits.checkpoints i d lt).formed in
+    same_rules (fields_of (encoding v r)) (fields_in v r)
+    (fields_agree v (encoding v r) r known fits (encoding_parts v r fits.pool formed) unclocked (length-encoding v r fits.pool formed))
+
+-- an encoding has its version
+pub version_of : (v : ℕ) (r : RecordingParts) → is_version v ≡ true → AreWritable r → version (encoding v r) ≡ v
+version_of v r known fits = version_is v (encoding v r) r known fits (encoding_parts v r fits.pool (λ i d lt. (fits.checkpoints i d lt).formed))

@@ -15,8 +15,8 @@ use Rattle.oberon_format.specs.Recording.{RecordingParts}
 use Rattle.oberon_format.specs.Text.{Text}
 use Rattle.oberon_format.proofs.ChangeLemmas.{after-same}
 use Rattle.oberon_format.proofs.PartLemmas.{start_in_within, size_few}
-use Rattle.oberon_format.proofs.Encoded.{encoded_fields}
-use Rattle.oberon_format.proofs.Starts.{start-encoded}
+use Rattle.oberon_format.proofs.Encoded.{length-encoding}
+use Rattle.oberon_format.proofs.LawfulLemmas.{lawful_formed}
 use Rattle.oberon_format.proofs.Room.{start_none, named_first}
 use Rattle.oberon_format.proofs.TextLemmas.{number_where, number_else}
 use Rattle.oberon_format.proofs.LongFields.{AreFew, AgreeBelow, AgreeAt, Agree, most, faults_same, fields}
@@ -328,12 +328,8 @@ first_fault_of-take n text over within =
 -- slot of the table, and the output
 pub text_within : (text : List ℕ) (r : RecordingParts) → Text text r → length text ≤ LONGEST_TEXT
 text_within text r some =
-    let facts = encoded_fields some.version text r some.is in
     let lawful = some.is.lawful in
-    let long = facts.long in
-    let count = facts.checkpoint_count in
-    let end = start-encoded some.version text r facts (length r.checkpoints) (omega arith) in
-    let same : start text (checkpoints text) ≡ start text (length r.checkpoints) = ap (start text) count in
+    let long = ap (λ (l : List ℕ). length l) some.is.is ∙ length-encoding some.version r lawful.pool (lawful_formed r lawful) in
     let near = start_in_within some.version r (length r.checkpoints) in
     let few_pages = lawful.pages in
     let few_events = lawful.events in

@@ -3,7 +3,7 @@ use Rattle.std.proofs.Common.{◌≡◌, ◌≢◌, ◌<◌, ◌+◌, ℕ, List,
 use Rattle.std.proofs.lemmas.Bool.{cases_lt}
 use Rattle.std.proofs.lemmas.List.{get_or_append_left, get_or_push}
 use Rattle.oberon_format.specs.FirstFault.{each}
-use Rattle.oberon_format.specs.inner.Offsets.{EachAt}
+use Rattle.oberon_format.specs.inner.Decoded.{EachAt}
 
 -- after a write at i
 pub each_set : {X : Type 0} (P : ℕ → X → Type 0) (xs : List X) (i : ℕ) (v : X) → i < length xs → ((k : ℕ) (d : X) → k < i → P k (get_or xs k d)) → P i v

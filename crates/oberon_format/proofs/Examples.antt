@@ -16,7 +16,7 @@ use Rattle.oberon_format.specs.Layout.{word_at, long_at, event_start, page_numbe
 use Rattle.oberon_format.specs.PartFields.{checkpoint_fields, no_event, start_in, fault_of_parts}
 use Rattle.oberon_format.specs.Ranges.{is_count, is_output, is_event, are_keys}
 use Rattle.oberon_format.specs.Rules.{rules, checkpoint_rules, page_number_rules, change_rules, end_rules}
-use Rattle.oberon_format.specs.Encoding.{word_bytes, long_bytes, cpu_bytes, device_bytes, common_bytes, change_bytes, header_bytes}
+use Rattle.oberon_format.specs.Encoding.{word_bytes, long_bytes, common_bytes, change_bytes, header_bytes}
 use Rattle.oberon_format.specs.TextFields.{first_fault_of, number_before}
 
 -- the bytes of a header: its magic is right, and its numbers are those of its bytes
@@ -321,13 +321,13 @@ claim = record no_checkpoint {
 }
 
 fields-have-their-length : length (common_bytes claim) ≡ COMMON_LEN
-unfolding common_bytes cpu_bytes device_bytes word_bytes long_bytes
+unfolding common_bytes word_bytes long_bytes
 fields-have-their-length = refl
 
 fields-begin : take 12 (common_bytes claim) ≡ 100 ∷ 0 ∷ 0 ∷ 0 ∷ 0 ∷ 0 ∷ 0 ∷ 0 ∷ 5 ∷ 0 ∷ 0 ∷ 0 ∷ []
-unfolding common_bytes cpu_bytes device_bytes word_bytes long_bytes
+unfolding common_bytes word_bytes long_bytes
 fields-begin = refl
 
 fields-have-the-counter : word_at (common_bytes claim) COUNTER_AT ≡ 100
-unfolding common_bytes cpu_bytes device_bytes word_bytes long_bytes word_at
+unfolding common_bytes word_bytes long_bytes word_at
 fields-have-the-counter = refl

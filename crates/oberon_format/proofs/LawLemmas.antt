@@ -3,25 +3,24 @@ use Rattle.std.proofs.Common.{◌≡◌, refl, ◌<◌, ◌-◌, ◌^◌, ℕ, z
 use Rattle.std.specs.List.{flat_map}
 use Rattle.std.specs.Int.{byte_at, bytes_low_first}
 use Rattle.std.proofs.lemmas.List.Elements.{All-nil, All-cons, All-append, All-replicate}
-use Rattle.risc_devices.specs.DeviceState.{DeviceState, IsDeviceState}
 use Rattle.risc_model.specs.declared.event.Event.{Event}
-use Rattle.risc_model.specs.MachineState.{CpuState}
 use Rattle.risc_pages.specs.Tables.{zero_numbers}
-use Rattle.oberon_format.specs.declared.change.Change.{Change}
 use Rattle.oberon_format.specs.declared.layout.TheConstants.{VERSION}
+use Rattle.risc_devices.specs.Input.{kind_of, value_of}
+use Rattle.oberon_format.specs.declared.change.Change.{Change}
 use Rattle.oberon_format.specs.Changes.{changes}
-use Rattle.oberon_format.specs.CheckpointParts.{CheckpointParts, no_checkpoint}
+use Rattle.oberon_format.specs.CheckpointParts.{CheckpointParts}
 use Rattle.oberon_format.specs.Layout.{version}
 use Rattle.oberon_format.specs.Migration.{IsMigrated}
 use Rattle.oberon_format.specs.Formed.{IsFormed, AreFormed, AreWritable}
-use Rattle.oberon_format.specs.Recording.{RecordingParts, IsLawful, output_of}
-use Rattle.oberon_format.specs.Encoding.{word_bytes, long_bytes, words_bytes, event_bytes, cpu_bytes, device_bytes, common_bytes, change_bytes, changes_bytes, changed_bytes, tail_bytes, checkpoint_bytes, checkpoints_bytes, header_bytes, encoding}
+use Rattle.oberon_format.specs.Recording.{RecordingParts, IsLawful}
+use Rattle.oberon_format.specs.Encoding.{word_bytes, long_bytes, words_bytes, event_bytes, field_words, common_bytes, change_bytes, later_words, tail_bytes, checkpoint_bytes, checkpoints_bytes, header_bytes, encoding}
 use Rattle.oberon_format.specs.Text.{AreBytes, TextIn, Text}
 use Rattle.oberon_format.specs.PartFields.{fault_of_parts}
 use Rattle.oberon_format.specs.TextFields.{first_fault_of}
-use Rattle.oberon_format.proofs.Agree.{text_agrees}
+use Rattle.oberon_format.proofs.Agree.{encoding_agrees}
 use Rattle.oberon_format.proofs.One.{in_version, same_recording, same_text}
-use Rattle.oberon_format.proofs.Encoded.{encoding_has_fields, encoded, writable}
+use Rattle.oberon_format.proofs.Encoded.{encoded, header_words, writable}
 
 -- the bytes of numbers are bytes
 byte_small : (i n : ℕ) → byte_at i n < 2 ^ 8
@@ -52,63 +51,40 @@ words_are_bytes xs = all_are word_bytes xs (λ i d lt. word_are (get_or xs i d))
 
 event_are : (e : Event) → AreBytes (event_bytes e)
 unfolding event_bytes
-event_are e = join _ _ (join _ _ (long_are _) (word_are _)) (word_are _)
-
-cpu_are : (cpu : CpuState) → AreBytes (cpu_bytes cpu)
-unfolding cpu_bytes
-cpu_are cpu = join _ _ (join _ _ (join _ _ (join _ _ (words_are_bytes cpu.r) (word_are _)) (word_are _)) (word_are _)) (word_are _)
-
-device_are : (d : DeviceState) → IsDeviceState d → AreBytes (device_bytes d)
-unfolding device_bytes
-device_are d fits =
-    join _ _ (join _ _ (join _ _ (join _ _ (join _ _ (join _ _ (word_are _) (word_are _)) (word_are _)) (word_are _)) (word_are _)) (word_are _))
-    (join _ _ fits.codes (All-replicate (λ byte. byte < 2 ^ 8) (16 - length d.keys) 0 (omega arith)))
+event_are e = join _ _ (long_are _) (words_are_bytes (kind_of e.input ∷ value_of e.input ∷ []))
 
 common_are : (c : CheckpointParts) → IsFormed c → AreBytes (common_bytes c)
 unfolding common_bytes
-common_are c fits = join _ _ (join _ _ (join _ _ (long_are _) (cpu_are c.cpu)) (device_are c.devices fits.devices)) (word_are _)
+common_are c fits =
+    let keys = join _ _ fits.devices.codes (All-replicate (λ byte. byte < 2 ^ 8) (16 - length c.devices.keys) 0 (omega arith)) in
+    join _ _ (join _ _ (join _ _ (join _ _ (long_are _) (words_are_bytes c.cpu.r)) (words_are_bytes (field_words c))) keys) (words_are_bytes (length c.sent ∷ []))
 
 change_are : (change : Change) → AreBytes (change_bytes change)
 unfolding change_bytes
-change_are change = join _ _ (word_are _) (word_are _)
-
-changed_are : (before : List ℕ) (c : CheckpointParts) → AreBytes (changed_bytes before c)
-unfolding changed_bytes changes_bytes
-changed_are before c =
-    let cs = changes before c.table in
-    join _ _ (join _ _ (word_are _) (word_are _)) (join _ _ (word_are _) (all_are change_bytes cs (λ i d lt. change_are (get_or cs i d))))
+change_are change = words_are_bytes (change.place ∷ change.number ∷ [])
 
 checkpoint_are : (before : List ℕ) (c : CheckpointParts) → IsFormed c → AreBytes (checkpoint_bytes VERSION before c)
 unfolding checkpoint_bytes tail_bytes
-checkpoint_are before c fits = join _ _ (common_are c fits) (changed_are before c)
+checkpoint_are before c fits = join _ _ (common_are c fits) (join _ _ (words_are_bytes (later_words before c)) (all_are change_bytes (changes before c.table) (λ i d lt. change_are (get_or (changes before c.table) i d))))
 
-checkpoints_are : (before : List ℕ) (cs : List CheckpointParts) → ((i : ℕ) → i < length cs → IsFormed (get_or cs i no_checkpoint)) → AreBytes (checkpoints_bytes VERSION before cs)
+checkpoints_are : (before : List ℕ) (cs : List CheckpointParts) → AreFormed cs → AreBytes (checkpoints_bytes VERSION before cs)
 unfolding checkpoints_bytes
 checkpoints_are before [] fits = All-nil (λ byte. byte < 2 ^ 8)
-checkpoints_are before (c ∷ cs) fits = join _ _ (checkpoint_are before c (fits 0 (omega arith))) (checkpoints_are c.table cs (λ i lt. fits (suc i) (omega arith)))
-
-header_are : (r : RecordingParts) → AreBytes (header_bytes VERSION r)
-unfolding header_bytes
-header_are r = join _ _ (join _ _ (join _ _ (join _ _ (join _ _ (word_are _) (word_are _)) (word_are _)) (word_are _)) (word_are _)) (word_are _)
-
-output_are : (cs : List CheckpointParts) → AreFormed cs → AreBytes (output_of cs)
-output_are cs formed = all_are (λ (c : CheckpointParts). c.sent) cs (λ i d lt. (formed i d lt).bytes)
-
-encoding_are : (r : RecordingParts) → AreFormed r.checkpoints → AreBytes (encoding VERSION r)
-unfolding encoding
-encoding_are r formed =
-    join _ _ (join _ _ (join _ _ (join _ _ (header_are r) (all_are words_bytes r.pool (λ i d lt. words_are_bytes (get_or r.pool i d)))) (all_are event_bytes r.inputs (λ i d lt. event_are (get_or r.inputs i d))))
-    (checkpoints_are zero_numbers r.checkpoints (λ i lt. formed i no_checkpoint lt)))
-    (output_are r.checkpoints formed)
+checkpoints_are before (c ∷ cs) fits = join _ _ (checkpoint_are before c (fits 0 c (omega arith))) (checkpoints_are c.table cs (λ i d lt. fits (suc i) d (omega arith)))
 
 -- parts whose numbers fit are encoded in bytes
 pub text_of_parts : (r : RecordingParts) → AreWritable r → AreBytes (encoding VERSION r)
-text_of_parts r fits = encoding_are r (λ i d lt. (fits.checkpoints i d lt).formed)
+unfolding encoding header_bytes
+text_of_parts r fits =
+    let formed : AreFormed r.checkpoints = λ i d lt. (fits.checkpoints i d lt).formed in
+    let pages = all_are words_bytes r.pool (λ i d lt. words_are_bytes (get_or r.pool i d)) in
+    let events = all_are event_bytes r.inputs (λ i d lt. event_are (get_or r.inputs i d)) in
+    let output = all_are (λ (c : CheckpointParts). c.sent) r.checkpoints (λ i d lt. (formed i d lt).bytes) in
+    join _ _ (join _ _ (join _ _ (join _ _ (words_are_bytes (header_words VERSION r)) pages) events) (checkpoints_are zero_numbers r.checkpoints formed)) output
 
 -- and their encoding has their first fault
 pub fault_of_encoding : (r : RecordingParts) → AreWritable r → first_fault_of (encoding VERSION r) ≡ fault_of_parts r
-fault_of_encoding r fits =
-    text_agrees VERSION (encoding VERSION r) r (λ i d lt. (fits.checkpoints i d lt).formed) (encoding_has_fields VERSION r refl (λ first. absurd (omega arith)) fits)
+fault_of_encoding r fits = encoding_agrees VERSION r refl (λ first. absurd (omega arith)) fits
 
 -- a lawful recording has a file in the current version
 pub one_text : (r : RecordingParts) → IsLawful r → (text : List ℕ) × AreBytes text × TextIn VERSION text r

@@ -12,7 +12,6 @@ pub mod TextLemmas
 pub mod PartLemmas
 pub mod SameFields
 pub mod PartRules
-pub mod Starts
 mod SameRules
 mod LongFields
 pub mod Cut
@@ -20,10 +19,10 @@ pub mod Agree
 pub mod LawfulLemmas
 pub mod ReadLemmas
 pub mod WriteLemmas
-pub mod BytesAt
+pub mod Bytes
 pub mod Encoded
-pub mod Back
 pub mod One
+pub mod Decode
 pub mod Exists
 pub mod LawLemmas
 pub mod Named

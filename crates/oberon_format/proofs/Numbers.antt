@@ -1,8 +1,8 @@
 -- The numbers at offsets of a file.
-use Rattle.std.proofs.Common.{◌≡◌, ◌<◌, ◌≤◌, ◌+◌, ◌-◌, ◌/◌, ◌%◌, ◌^◌, ℕ, zero, suc, List, ◌++◌, length, take, drop, refl, ap, ◌∙◌, arith, add-zero}
+use Rattle.std.proofs.Common.{◌≡◌, ◌<◌, ◌+◌, ◌-◌, ◌/◌, ◌%◌, ◌^◌, ℕ, zero, suc, List, length, take, drop, refl, ap, ◌∙◌, arith, add-zero}
 use Rattle.std.specs.Prelude.{◌==◌, if◌then◌else◌}
 use Rattle.std.proofs.lemmas.Bool.Decides.{nat_tests}
-use Rattle.std.proofs.lemmas.List.{get_or-drop, get_or_append_left, take_rest}
+use Rattle.std.proofs.lemmas.List.{get_or-drop, take_rest}
 use Rattle.byteorder.specs.Endian.{little_from}
 use Rattle.oberon_format.specs.declared.ranges.TheConstants.{SERIAL_END}
 use Rattle.oberon_format.specs.Layout.{long_at, word_at}
@@ -23,14 +23,6 @@ word_at-drop offset text = ap (little_from 0 4) (take_rest text offset) ∙ litt
 pub long_at-drop : (offset : ℕ) (text : List ℕ) → little_from 0 8 (take (length text - offset) (drop offset text)) ≡ long_at text offset
 unfolding long_at
 long_at-drop offset text = ap (little_from 0 8) (take_rest text offset) ∙ little_from-drop 8 0 offset text ∙ ap (λ (k : ℕ). little_from k 8 text) (add-zero offset)
-
--- a number stays when a file grows
-pub little_from-append : (n k : ℕ) (xs ys : List ℕ) → k + n ≤ length xs → little_from k n (xs ++ ys) ≡ little_from k n xs
-little_from-append zero k xs ys h = refl
-little_from-append (suc n) k xs ys h =
-    let byte = get_or_append_left xs ys 0 k (omega arith) in
-    let rest = little_from-append n (suc k) xs ys (omega arith) in
-    rw (byte, rest) refl
 
 -- the serial line's number is that of its parts
 pub serial_whole : (serial : ℕ) → serial < SERIAL_END → serial % 2 ^ 8 + (if serial / 2 ^ 8 == 1 then 2 ^ 8 else 0) ≡ serial

@@ -1,8 +1,9 @@
 -- What is written for a list, member by member.
-use Rattle.std.proofs.Common.{◌≡◌, ◌≢◌, ◌<◌, ◌≤◌, ◌+◌, ◌∙◌, ℕ, zero, suc, List, [], ◌∷◌, ◌++◌, length, map, take, get_or, sym, ap, arith, add-one, append-nil, append_assoc, length-append}
-use Rattle.std.specs.Prelude.{slice_index}
+use Rattle.std.proofs.Common.{◌≡◌, ◌≢◌, ◌<◌, ◌≤◌, ◌+◌, ◌-◌, ◌∙◌, ℕ, zero, suc, false, refl, List, [], ◌∷◌, ◌++◌, length, map, take, get_or, sym, ap, arith, add-one, append-nil, append_assoc, length-append}
+use Rattle.std.specs.Prelude.{slice_index, slice_index_or, ◌==◌, if◌then◌else◌}
 use Rattle.std.specs.List.{flat_map}
 use Rattle.std.proofs.lemmas.List.{take_more, flat_map_more}
+use Rattle.std.proofs.lemmas.Bool.{ne_eqb}
 use Rattle.std.proofs.lemmas.Bool.Decides.{nat_tests}
 use Rattle.risc_pages.specs.Pages.{page_of, zero_page}
 use Rattle.oberon_format.specs.declared.change.Change.{Change}
@@ -16,7 +17,6 @@ use Rattle.oberon_format.specs.Recording.{RecordingParts, checkpoint_at, table_b
 use Rattle.oberon_format.specs.Encoding.{change_bytes, checkpoint_bytes, checkpoints_bytes}
 use Rattle.oberon_format.proofs.CheckpointLemmas.{checkpoint_at-is}
 use Rattle.oberon_format.proofs.PartLemmas.{start_in_next}
-use Rattle.oberon_format.proofs.Starts.{bytes_at, bytes_at-next}
 use Rattle.oberon_format.proofs.Walk.{below_stays, below_grows}
 
 -- the bytes of one member more
@@ -25,6 +25,28 @@ pub written_next : {X : Type 0} (f : X → List ℕ) (xs : List X) (k : ℕ) (d 
 written_next {X} f xs k d start out more lt so_far now =
     now ∙ ap (λ (l : List ℕ). l ++ f (get_or xs k d)) so_far ∙ flat_map_more f start (take k xs) (get_or xs k d)
     ∙ ap (λ (l : List X). start ++ flat_map f l) (sym (take_more xs k d lt))
+
+-- the table before checkpoint k of those after a table
+abbrev pub table_from : List ℕ → List CheckpointParts → ℕ → List ℕ
+table_from before cs k = if k == 0 then before else (slice_index_or cs (k - 1) no_checkpoint).table
+
+-- for all but the first it is as after the table of the first
+table_from-next : (before : List ℕ) (c : CheckpointParts) (cs : List CheckpointParts) (k : ℕ) → table_from before (c ∷ cs) (suc k) ≡ table_from c.table cs k
+table_from-next before c cs zero = refl
+table_from-next before c cs (suc k) =
+    let left : suc (suc k) - 1 ≡ suc k = omega arith in
+    let right : suc k - 1 ≡ k = omega arith in
+    let no : (suc (suc k) == 0) ≡ false = ne_eqb (suc (suc k)) 0 (omega arith) in
+    let none : (suc k == 0) ≡ false = ne_eqb (suc k) 0 (omega arith) in
+    rw (left, right, no, none) refl
+
+-- the bytes of checkpoint k of those after a table
+abbrev pub bytes_at : ℕ → List ℕ → List CheckpointParts → ℕ → List ℕ
+bytes_at v before cs k = checkpoint_bytes v (table_from before cs k) (slice_index_or cs k no_checkpoint)
+
+-- which are those after the table of the first, for all but the first
+pub bytes_at-next : (v : ℕ) (before : List ℕ) (c : CheckpointParts) (cs : List CheckpointParts) (k : ℕ) → bytes_at v before (c ∷ cs) (suc k) ≡ bytes_at v c.table cs k
+bytes_at-next v before c cs k = ap (λ (t : List ℕ). checkpoint_bytes v t (slice_index_or cs k no_checkpoint)) (table_from-next before c cs k)
 
 -- the bytes of one checkpoint more
 pub checkpoints_more : (v : ℕ) (before : List ℕ) (cs : List CheckpointParts) (k : ℕ) → k < length cs

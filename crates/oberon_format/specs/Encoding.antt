@@ -4,10 +4,9 @@ use Rattle.std.specs.List.{flat_map}
 use Rattle.byteorder.specs.Endian.{little_bytes}
 use Rattle.risc_core.specs.Flags.{flags_number}
 use Rattle.risc_pages.specs.Tables.{zero_numbers}
-use Rattle.risc_devices.specs.DeviceState.{DeviceState, serial_number}
+use Rattle.risc_devices.specs.DeviceState.{serial_number}
 use Rattle.risc_devices.specs.Input.{kind_of, value_of}
 use Rattle.risc_model.specs.declared.event.Event.{Event}
-use Rattle.risc_model.specs.MachineState.{CpuState}
 use Rattle.oberon_format.specs.declared.layout.TheConstants.{MAGIC, FIRST_VERSION}
 use Rattle.oberon_format.specs.declared.change.Change.{Change}
 use Rattle.oberon_format.specs.Changes.{changes}
@@ -26,32 +25,39 @@ abbrev pub words_bytes : List ℕ → List ℕ
 words_bytes xs = flat_map word_bytes xs
 
 unfoldable pub event_bytes : Event → List ℕ
-event_bytes e = long_bytes e.count ++ word_bytes (kind_of e.input) ++ word_bytes (value_of e.input)
+event_bytes e = long_bytes e.count ++ words_bytes (kind_of e.input ∷ value_of e.input ∷ [])
 
-unfoldable pub cpu_bytes : CpuState → List ℕ
-cpu_bytes cpu = words_bytes cpu.r ++ word_bytes cpu.h ++ word_bytes cpu.pc ++ word_bytes (flags_number cpu.flags) ++ word_bytes cpu.stop
+-- the fields of a checkpoint that are one word each, in their order
+abbrev pub field_words : CheckpointParts → List ℕ
+field_words c =
+    c.cpu.h
+    ∷ c.cpu.pc
+    ∷ flags_number c.cpu.flags
+    ∷ c.cpu.stop
+    ∷ c.devices.timer
+    ∷ c.devices.switches
+    ∷ c.devices.leds
+    ∷ c.devices.mouse
+    ∷ serial_number c.devices
+    ∷ length c.devices.keys
+    ∷ []
 
-unfoldable pub device_bytes : DeviceState → List ℕ
-device_bytes d =
-    word_bytes d.timer ++ word_bytes d.switches ++ word_bytes d.leds ++ word_bytes d.mouse ++ word_bytes (serial_number d)
-    ++ word_bytes (length d.keys) ++ key_bytes d
-
--- the fields that begin a checkpoint in either version
+-- what begins a checkpoint in either version: its count, the registers, the fields, the keys and the length of its output
 unfoldable pub common_bytes : CheckpointParts → List ℕ
-common_bytes c = long_bytes c.count ++ cpu_bytes c.cpu ++ device_bytes c.devices ++ word_bytes (length c.sent)
+common_bytes c =
+    long_bytes c.count ++ words_bytes c.cpu.r ++ words_bytes (field_words c) ++ key_bytes c.devices ++ words_bytes (length c.sent ∷ [])
 
 unfoldable pub change_bytes : Change → List ℕ
-change_bytes change = word_bytes change.place ++ word_bytes change.number
+change_bytes change = words_bytes (change.place ∷ change.number ∷ [])
 
-unfoldable pub changes_bytes : List Change → List ℕ
-changes_bytes cs = word_bytes (length cs) ++ flat_map change_bytes cs
+-- the fields that only version 2 has: the rate and the phase of the timer, and the number of changes from a table
+abbrev pub later_words : List ℕ → CheckpointParts → List ℕ
+later_words before c = c.devices.rate ∷ c.devices.phase ∷ length (changes before c.table) ∷ []
 
--- the rest of a checkpoint of version 2, after a table
-unfoldable pub changed_bytes : List ℕ → CheckpointParts → List ℕ
-changed_bytes before c = word_bytes c.devices.rate ++ word_bytes c.devices.phase ++ changes_bytes (changes before c.table)
-
+-- the rest of a checkpoint: its table in version 1; in version 2 these fields, and the changes from the table before
 unfoldable pub tail_bytes : ℕ → List ℕ → CheckpointParts → List ℕ
-tail_bytes version before c = if version == FIRST_VERSION then words_bytes c.table else changed_bytes before c
+tail_bytes version before c =
+    if version == FIRST_VERSION then words_bytes c.table else words_bytes (later_words before c) ++ flat_map change_bytes (changes before c.table)
 
 unfoldable pub checkpoint_bytes : ℕ → List ℕ → CheckpointParts → List ℕ
 checkpoint_bytes version before c = common_bytes c ++ tail_bytes version before c
@@ -62,9 +68,7 @@ checkpoints_bytes version before [] = []
 checkpoints_bytes version before (c ∷ cs) = checkpoint_bytes version before c ++ checkpoints_bytes version c.table cs
 
 unfoldable pub header_bytes : ℕ → RecordingParts → List ℕ
-header_bytes version r =
-    word_bytes MAGIC ++ word_bytes version ++ word_bytes (length r.pool) ++ word_bytes (length r.inputs)
-    ++ word_bytes (length r.checkpoints) ++ word_bytes 0
+header_bytes version r = words_bytes (MAGIC ∷ version ∷ length r.pool ∷ length r.inputs ∷ length r.checkpoints ∷ 0 ∷ [])
 
 unfoldable pub encoding : ℕ → RecordingParts → List ℕ
 encoding version r =

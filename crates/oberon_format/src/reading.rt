@@ -1,15 +1,14 @@
 //! Reading of a file without a fault. `rules` tests before whether it has one.
 
-ghost use Rattle.std.specs.Prelude.{◌≡◌, ◌≤◌, ◌<◌, ◌+◌, ◌*◌, ◌^◌, ℕ, All, true, length, IfOk, slice_index, slice_range, drop, map};
+ghost use Rattle.std.specs.Prelude.{◌≡◌, ◌≤◌, ◌<◌, ◌+◌, ◌*◌, ◌^◌, ℕ, All, true, length, IfOk, slice_index, map};
 ghost use Rattle.oberon_format.specs.Changes.{number_after};
 ghost use Rattle.oberon_format.specs.CheckpointParts.{checkpoint_parts};
-ghost use Rattle.oberon_format.specs.Layout.{word_at, version, pages, events, checkpoints, page_number_offset, change_offset, later_word, change_count, start, output_offset};
-ghost use Rattle.oberon_format.specs.Recording.{output_of};
+ghost use Rattle.oberon_format.specs.Layout.{word_at, version, pages, events, checkpoints, page_number_offset, change_offset, change_count, start, output_offset};
 ghost use Rattle.oberon_format.specs.Ranges.{in_ranges, are_keys};
 ghost use Rattle.oberon_format.specs.Rules.{prior_number};
-ghost use Rattle.oberon_format.specs.inner.Tested.{IsSized, Meets, HasNumbers, AreIn};
+ghost use Rattle.oberon_format.specs.inner.Tested.{IsSized, Meets, HasNumbers};
 ghost use Rattle.oberon_format.specs.Text.{Text};
-ghost use Rattle.oberon_format.specs.inner.Offsets.{EachAt, AreWords, IsPageAt, IsEvent, IsEventAt, IsCpu, IsDevices, HasCommonFields};
+ghost use Rattle.oberon_format.specs.inner.Decoded.{EachAt, IsEvent, IsEventAt, checkpoint_from, checkpoints_at, cpu_at, devices_at, pages_at, words_from};
 ghost use Rattle.oberon_format.specs.TextFields.{fields_of, checkpoint_of, change_of, page_number_of, AnswersText};
 ghost use Rattle.risc_devices.specs.InputKind.{IsInput};
 ghost use Rattle.risc_model.specs.MachineState.{cpu_state};
@@ -65,14 +64,14 @@ fn recording_of(alloc: Global, text: &[u8], output: usize) -> Result<Recording, 
     Ok(Recording::from_lawful(pool, inputs, checkpoints))
 }
 
-/// Returns the words from an offset on.
-fn words_at<const N: usize>(text: &[u8], offset: usize) -> [u32; N]
-    requires { offset + 4 * N ≤ length text.now }
-    ensures { AreWords text.now offset result }
+/// Returns the words of the part at an offset, from an offset in this part on.
+fn words_from<const N: usize>(text: &[u8], offset: usize, from: usize) -> [u32; N]
+    requires { offset + (from + 4 * N) ≤ length text.now }
+    ensures { result ≡ words_from text.now offset from N }
 {
     let mut words = [0; N];
     for i in 0..N {
-        words[i] = u32_at(text, offset + 4 * i);
+        words[i] = u32_at(text, offset + (from + 4 * i));
     }
     words
 }
@@ -80,11 +79,11 @@ fn words_at<const N: usize>(text: &[u8], offset: usize) -> [u32; N]
 /// Returns the pages of a file.
 fn pool_of(alloc: Global, text: &[u8]) -> Result<Pool, AllocError>
     requires { IsSized text.now }
-    ensures { IfOk result (λ pool. (length pool ≡ pages text.now) × EachAt (IsPageAt text.now) pool) }
+    ensures { IfOk result (λ pool. pool ≡ pages_at text.now (pages text.now)) }
 {
     let mut pool = Pool::with_capacity(alloc, page_count(text))?;
     for p in 0..page_count(text) as usize {
-        let words = words_at(text, page_start(p));
+        let words = words_from(text, page_start(p), 0);
         words_fit(&words);
         pool.push(Page { words })?;
     }
@@ -137,13 +136,12 @@ fn inputs_of(alloc: Global, text: &[u8]) -> Result<Inputs, AllocError>
 }
 
 /// Returns the processor of the checkpoint at an offset.
-#[tactic(auto, using(risc_core::proofs::FlagsLemmas::number_back))]
 fn cpu_of(text: &[u8], offset: usize) -> Cpu
     requires room { offset + CHANGES_AT ≤ length text.now }
     requires ranges { in_ranges (checkpoint_of text.now offset) ≡ true }
-    ensures { IsCpu text.now offset (cpu_state result) }
+    ensures { cpu_state result ≡ cpu_at text.now offset }
 {
-    let r = words_at(text, offset + REGISTERS_AT);
+    let r = words_from(text, offset, REGISTERS_AT);
     words_fit(&r);
     Cpu {
         r,
@@ -159,9 +157,7 @@ fn devices_of(text: &[u8], offset: usize) -> Devices
     requires room { offset + CHANGES_AT ≤ length text.now }
     requires ranges { in_ranges (checkpoint_of text.now offset) ≡ true }
     requires keys { are_keys (checkpoint_of text.now offset) ≡ true }
-    ensures devices { IsDevices text.now offset result }
-    ensures rate { result.rate ≡ later_word text.now (offset + RATE_AT) }
-    ensures phase { result.phase ≡ later_word text.now (offset + PHASE_AT) }
+    ensures { result ≡ devices_at text.now offset }
 {
     let waiting = u32_at(text, offset + WAITING_AT) as usize;
     Devices::new(
@@ -233,11 +229,7 @@ fn checkpoint_of(
     requires ranges { in_ranges (checkpoint_of text.now offset) ≡ true }
     requires keys { are_keys (checkpoint_of text.now offset) ≡ true }
     requires output { from + word_at text.now (offset + SENT_AT) ≤ length text.now }
-    ensures front { IfOk result (λ c. HasCommonFields text.now offset (checkpoint_parts c)) }
-    ensures rate { IfOk result (λ c. c.devices.rate ≡ later_word text.now (offset + RATE_AT)) }
-    ensures phase { IfOk result (λ c. c.devices.phase ≡ later_word text.now (offset + PHASE_AT)) }
-    ensures table { IfOk result (λ c. c.table ≡ table.now) }
-    ensures sent { IfOk result (λ c. c.sent.items ≡ slice_range text.now from (from + word_at text.now (offset + SENT_AT))) }
+    ensures { IfOk result (λ c. checkpoint_parts c ≡ checkpoint_from text.now offset from table.now) }
 {
     let len = u32_at(text, offset + SENT_AT) as usize;
     let sent = Vec::from_slice(alloc, &text[from..from + len])?;
@@ -254,9 +246,7 @@ fn checkpoint_of(
 fn checkpoints_of(alloc: Global, text: &[u8], output: usize) -> Result<Vec<Checkpoint>, AllocError>
     requires meets { Meets text.now }
     requires output { output ≡ output_offset text.now }
-    ensures count { IfOk result (λ list. length list.items ≡ checkpoints text.now) }
-    ensures stand { IfOk result (λ list. AreIn text.now (map checkpoint_parts list.items)) }
-    ensures output { IfOk result (λ list. drop (output_offset text.now) text.now ≡ output_of (map checkpoint_parts list.items)) }
+    ensures { IfOk result (λ list. map checkpoint_parts list.items ≡ checkpoints_at text.now (checkpoints text.now)) }
 {
     let count = checkpoint_count(text) as usize;
     let mut list = Vec::with_capacity(alloc, count)?;

@@ -2,13 +2,12 @@
 
 ghost use Rattle.std.specs.Prelude.{◌≡◌, ◌++◌, ◌+◌, ◌≤◌, length, map, IfOk, OnOk};
 ghost use Rattle.std.specs.List.{flat_map};
-ghost use Rattle.risc_model.specs.MachineState.{cpu_state};
 ghost use Rattle.risc_pages.specs.Tables.{zero_numbers};
 ghost use Rattle.oberon_format.specs.Changes.{changes};
 ghost use Rattle.oberon_format.specs.CheckpointParts.{checkpoint_parts};
 ghost use Rattle.oberon_format.specs.PartFields.{start_in};
 ghost use Rattle.oberon_format.specs.Recording.{IsLawful, output_of};
-ghost use Rattle.oberon_format.specs.Encoding.{word_bytes, long_bytes, words_bytes, event_bytes, cpu_bytes, device_bytes, common_bytes, change_bytes, changes_bytes, checkpoint_bytes, checkpoints_bytes, header_bytes, encoding};
+ghost use Rattle.oberon_format.specs.Encoding.{word_bytes, long_bytes, words_bytes, event_bytes, field_words, common_bytes, change_bytes, checkpoint_bytes, checkpoints_bytes, header_bytes, encoding};
 ghost use Rattle.oberon_format.specs.Text.{TextIn};
 
 use crate::change::change_count;
@@ -18,8 +17,7 @@ use crate::layout::{MAGIC, PLACES, VERSION, changed_len, event_start};
 use crate::recording::Recording;
 use byteorder::{ByteOrder, LittleEndian};
 use recording_limits::MAX_OUTPUT;
-use risc_devices::Devices;
-use risc_model::{Cpu, Event};
+use risc_model::Event;
 use risc_pages::{Pool, Table};
 use std::alloc::{AllocError, Global};
 
@@ -106,12 +104,9 @@ fn push_words(out: &mut Vec<u8>, numbers: &[u32]) -> Result<(), AllocError>
 fn push_header(out: &mut Vec<u8>, r: &Recording) -> Result<(), AllocError>
     ensures { OnOk result (out.new.items ≡ out.old.items ++ header_bytes VERSION r.now) }
 {
-    push_word(out, MAGIC)?;
-    push_word(out, VERSION)?;
-    push_word(out, r.pool().len())?;
-    push_word(out, r.inputs().events().len() as u32)?;
-    push_word(out, r.count())?;
-    push_word(out, 0)
+    let pages = r.pool().len();
+    let events = r.inputs().events().len() as u32;
+    push_words(out, &[MAGIC, VERSION, pages, events, r.count(), 0])
 }
 
 /// Appends the pages.
@@ -130,8 +125,7 @@ fn push_event(out: &mut Vec<u8>, event: &Event) -> Result<(), AllocError>
     ensures { OnOk result (out.new.items ≡ out.old.items ++ event_bytes event.now) }
 {
     push_long(out, event.count)?;
-    push_word(out, event.input.kind() as u32)?;
-    push_word(out, event.input.value())
+    push_words(out, &[event.input.kind() as u32, event.input.value()])
 }
 
 /// Appends the events.
@@ -144,50 +138,43 @@ fn push_events(out: &mut Vec<u8>, events: &[Event]) -> Result<(), AllocError>
     Ok(())
 }
 
-/// Appends the processor of a checkpoint.
-#[tactic(auto, unfolding(crate::specs::Encoding::cpu_bytes))]
-fn push_cpu(out: &mut Vec<u8>, cpu: &Cpu) -> Result<(), AllocError>
-    ensures { OnOk result (out.new.items ≡ out.old.items ++ cpu_bytes (cpu_state cpu.now)) }
+/// Returns the fields of a checkpoint that are one word each, in their order.
+fn field_words(checkpoint: &Checkpoint) -> [u32; 10]
+    ensures { result ≡ field_words (checkpoint_parts checkpoint.now) }
 {
-    push_words(out, &cpu.r)?;
-    push_word(out, cpu.h)?;
-    push_word(out, cpu.pc)?;
-    push_word(out, cpu.flags.number())?;
-    push_word(out, cpu.stop as u32)
+    let cpu = &checkpoint.cpu;
+    let devices = &checkpoint.devices;
+    [
+        cpu.h,
+        cpu.pc,
+        cpu.flags.number(),
+        cpu.stop as u32,
+        devices.timer(),
+        devices.switches() as u32,
+        devices.leds() as u32,
+        devices.mouse(),
+        devices.serial() as u32,
+        devices.keys().len() as u32,
+    ]
 }
 
-/// Appends the devices of a checkpoint.
-#[tactic(auto, unfolding(crate::specs::Encoding::device_bytes))]
-fn push_devices(out: &mut Vec<u8>, devices: &Devices) -> Result<(), AllocError>
-    ensures { OnOk result (out.new.items ≡ out.old.items ++ device_bytes devices.now) }
-{
-    push_word(out, devices.timer())?;
-    push_word(out, devices.switches() as u32)?;
-    push_word(out, devices.leds() as u32)?;
-    push_word(out, devices.mouse())?;
-    push_word(out, devices.serial() as u32)?;
-    push_word(out, devices.keys().len() as u32)?;
-    out.extend_from_slice(&key_bytes(devices))
-}
-
-/// Appends the fields that begin a checkpoint.
+/// Appends what begins a checkpoint.
 #[tactic(auto, unfolding(crate::specs::Encoding::common_bytes))]
 fn push_common(out: &mut Vec<u8>, checkpoint: &Checkpoint) -> Result<(), AllocError>
     requires { length checkpoint.now.sent.items ≤ MAX_OUTPUT }
     ensures { OnOk result (out.new.items ≡ out.old.items ++ common_bytes (checkpoint_parts checkpoint.now)) }
 {
     push_long(out, checkpoint.count)?;
-    push_cpu(out, &checkpoint.cpu)?;
-    push_devices(out, &checkpoint.devices)?;
-    push_word(out, checkpoint.sent.len() as u32)
+    push_words(out, &checkpoint.cpu.r)?;
+    push_words(out, &field_words(checkpoint))?;
+    out.extend_from_slice(&key_bytes(&checkpoint.devices))?;
+    push_words(out, &[checkpoint.sent.len() as u32])
 }
 
-/// Appends the number of changes from one table to another, and each of them.
-#[tactic(auto, unfolding(crate::specs::Encoding::changes_bytes))]
+/// Appends the changes from one table to another.
 fn push_changes(out: &mut Vec<u8>, before: &Table, table: &Table) -> Result<(), AllocError>
-    ensures { OnOk result (out.new.items ≡ out.old.items ++ changes_bytes (changes before.now table.now)) }
+    ensures { OnOk result (out.new.items ≡ out.old.items ++ flat_map change_bytes (changes before.now table.now)) }
 {
-    push_word(out, change_count(before, table))?;
     for p in 0..PLACES as u16 {
         if before.entry(p) != table.entry(p) {
             push_change(out, p as u32, table.entry(p))?;
@@ -201,12 +188,11 @@ fn push_changes(out: &mut Vec<u8>, before: &Table, table: &Table) -> Result<(), 
 fn push_change(out: &mut Vec<u8>, place: u32, number: u32) -> Result<(), AllocError>
     ensures { OnOk result (out.new.items ≡ out.old.items ++ change_bytes (record { place = place; number = number })) }
 {
-    push_word(out, place)?;
-    push_word(out, number)
+    push_words(out, &[place, number])
 }
 
 /// Appends a checkpoint after a table, without its output.
-#[tactic(auto, unfolding(crate::specs::Encoding::checkpoint_bytes, crate::specs::Encoding::tail_bytes, crate::specs::Encoding::changed_bytes))]
+#[tactic(auto, unfolding(crate::specs::Encoding::checkpoint_bytes, crate::specs::Encoding::tail_bytes))]
 fn push_checkpoint(
     out: &mut Vec<u8>,
     before: &Table,
@@ -215,9 +201,10 @@ fn push_checkpoint(
     requires { length checkpoint.now.sent.items ≤ MAX_OUTPUT }
     ensures { OnOk result (out.new.items ≡ out.old.items ++ checkpoint_bytes VERSION before.now (checkpoint_parts checkpoint.now)) }
 {
+    let devices = &checkpoint.devices;
+    let count = change_count(before, &checkpoint.table);
     push_common(out, checkpoint)?;
-    push_word(out, checkpoint.devices.rate())?;
-    push_word(out, checkpoint.devices.phase())?;
+    push_words(out, &[devices.rate(), devices.phase(), count])?;
     push_changes(out, before, &checkpoint.table)
 }
 

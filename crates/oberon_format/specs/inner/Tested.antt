@@ -7,15 +7,13 @@ use Rattle.oberon_format.specs.declared.ranges.TheConstants.{MAX_CHECKPOINTS}
 use Rattle.recording_limits.specs.declared.limits.TheConstants.{MAX_EVENTS, MAX_OUTPUT, MAX_PAGES}
 use Rattle.oberon_format.specs.declared.rules.End.{End}
 use Rattle.oberon_format.specs.Changes.{changes, no_change}
-use Rattle.oberon_format.specs.CheckpointParts.{CheckpointParts}
 use Rattle.oberon_format.specs.Fields.{sent_below}
 use Rattle.oberon_format.specs.FirstFault.{Rule, first_broken, each}
 use Rattle.oberon_format.specs.Layout.{word_at, version, pages, events, checkpoints, start, output_offset}
 use Rattle.oberon_format.specs.Ranges.{is_version}
 use Rattle.oberon_format.specs.PartFields.{fields_in}
-use Rattle.oberon_format.specs.Recording.{RecordingParts, table_before}
+use Rattle.oberon_format.specs.Recording.{RecordingParts}
 use Rattle.oberon_format.specs.Rules.{change_rules, event_rules, checkpoint_rules, named_len, whole}
-use Rattle.oberon_format.specs.inner.Offsets.{EachAt, IsCheckpoint}
 use Rattle.oberon_format.specs.TextFields.{fields_of, first_fault_of, checkpoint_of, number_before}
 
 -- the header is there, its version is known, its numbers of pages, events and checkpoints are within their limits, and the parts
@@ -42,10 +40,6 @@ pub record Meets (text : List ℕ) : Type 0 where
 -- a table has these page ids
 abbrev pub HasNumbers : List ℕ → (ℕ → ℕ) → Type 0
 HasNumbers table number = (p : ℕ) → p < PLACES → slice_index table p ≡ number p
-
--- these checkpoints are in a file, each at its offset and after the table of the one before
-abbrev pub AreIn : List ℕ → List CheckpointParts → Type 0
-AreIn text cs = EachAt (λ k c. IsCheckpoint (version text) text (start text k) (table_before cs k) c) cs
 
 -- the result for checkpoint k of version 1, at an offset: its fields if it meets its rules, and else its first fault
 abbrev pub IsWholeTested : List ℕ → ℕ → ℕ → ℕ → Result CheckpointFields Fault → Type 0

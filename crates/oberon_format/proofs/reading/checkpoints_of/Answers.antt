@@ -1,18 +1,19 @@
-use Rattle.std.proofs.Common.{◌≡◌, ◌<◌, ◌∙◌, ℕ, List, [], ◌∷◌, refl, ap, sym, subst, ◌++◌, map, length, length-append, arith, add-one}
-use Rattle.std.proofs.lemmas.List.{map-append, length-map}
-use Rattle.oberon_format.specs.CheckpointParts.{checkpoint_parts}
-use Rattle.oberon_format.specs.Recording.{output_of}
+use Rattle.std.proofs.Common.{◌≡◌, ◌<◌, ◌≤◌, ◌∙◌, ℕ, List, [], ◌∷◌, refl, ap, sym, ◌++◌, length-append, arith, add-one}
+use Rattle.std.proofs.lemmas.List.{map-append}
+use Rattle.std.proofs.lemmas.List.FromFn.{map-range_with_len_more}
+use Rattle.oberon_format.specs.declared.layout.TheConstants.{PLACES}
+use Rattle.oberon_format.specs.CheckpointParts.{CheckpointParts, checkpoint_parts}
 use Rattle.oberon_format.specs.Rules.{prior_number}
-use Rattle.oberon_format.specs.inner.Tested.{HasNumbers, AreIn}
-use Rattle.oberon_format.specs.TextFields.{fields_of, page_number_of}
+use Rattle.oberon_format.specs.inner.Decoded.{checkpoints_at, decoded}
+use Rattle.oberon_format.specs.TextFields.{fields_of}
+use Rattle.oberon_format.proofs.Decode.{table_made}
 use Rattle.oberon_format.proofs.RuleLemmas.{output_below_none, output_below_more}
-use Rattle.oberon_format.proofs.Output.{ranges_hold, keys_hold, changes_few, output_fits, output_more, output_all, range-none}
-use Rattle.oberon_format.proofs.ReadLemmas.{next_is_at}
+use Rattle.oberon_format.proofs.Output.{ranges_hold, keys_hold, changes_few, output_fits}
 use Rattle.oberon_format.proofs.Room.{common_there, offset_next}
-use Rattle.oberon_format.proofs.PartLemmas.{prior_more}
+use Rattle.oberon_format.proofs.PartLemmas.{prior_more, size_few}
 use Rattle.oberon_format.proofs.TextLemmas.{prior_none}
 use Rattle.oberon_format.proofs.reading.checkpoints_of.Goals as goal
-use Rattle.oberon_format.specs.Layout.{checkpoints, output_offset}
+use Rattle.oberon_format.specs.Layout.{checkpoints, version}
 
 pub loop-k-init : goal.loop-k-init
 loop-k-init c =
@@ -22,9 +23,8 @@ loop-k-init c =
       len = refl;
       offset_is = c.first_checkpoint-offset.ensures;
       table_is = prior_none (fields_of text);
-      stand = λ i d h. absurd (omega arith);
       from_is = omega arith;
-      output = range-none text (output_offset text) c.args.output c.requires.output;
+      decoded = refl;
     })
 
 pub checkpoint_of-requires-clause-room : goal.checkpoint_of-requires-clause-room
@@ -73,31 +73,51 @@ loop-k-preserved c =
     let lt : k < checkpoints text = omega arith in
     let at = c.loop-k.invariant.offset_is in
     let checkpoint = c.in_ok-checkpoint_of.field-0 in
-    let told = c.in_ok-checkpoint_of.ensures in
-    let front = rw at at told.front in
-    let rate = rw at at told.rate in
-    let phase = rw at at told.phase in
-    let sent = rw at at told.sent in
     let own = rw at at c.u32_at.ensures in
     let more = output_below_more text k in
     let items = c.loop-k.list.items in
-    let parts = map checkpoint_parts items in
-    let part = checkpoint_parts checkpoint in
-    let pushed : map checkpoint_parts (items ++ checkpoint ∷ []) ≡ parts ++ part ∷ [] = map-append checkpoint_parts items (checkpoint ∷ []) in
-    let count : length parts ≡ k = length-map items checkpoint_parts ∙ c.loop-k.invariant.len in
-    let len = ap (λ (t : List ℕ). length t) told.table ∙ c.numbers-numbers.ensures.table.count in
-    let numbers : HasNumbers part.table (page_number_of text k) = rw told.table c.advance_table.ensures in
+    let table = c.advance_table.new.table in
+    let made = table_made text table k c.numbers-numbers.ensures.table.count c.advance_table.ensures in
+    let part : checkpoint_parts checkpoint ≡ decoded text k = c.in_ok-checkpoint_of.ensures ∙ rw (at, c.loop-k.invariant.from_is, made) in
     rw c.in_ok-push.ensures.items (record {
       len = omega (arith, length-append items (checkpoint ∷ []));
       offset_is = offset_next text k c.loop-k.offset c.later_word.result c.checkpoint_len.result at c.later_word.ensures c.checkpoint_len.ensures;
       table_is = λ p less. c.advance_table.ensures p less ∙ sym (ap (λ (n : ℕ). prior_number (fields_of text) n p) (add-one k) ∙ prior_more (fields_of text) k p);
-      stand = subst (AreIn text) (sym pushed) (next_is_at text parts part k c.requires.meets lt count c.loop-k.invariant.stand front rate phase len numbers);
       from_is = omega arith;
-      output = rw own (output_more text k c.loop-k.from parts part c.requires.meets lt c.loop-k.invariant.from_is c.loop-k.invariant.output sent ∙ ap output_of (sym pushed));
+      decoded = map-append checkpoint_parts items (checkpoint ∷ [])
+          ∙ ap (λ (l : List CheckpointParts). l ++ checkpoint_parts checkpoint ∷ []) c.loop-k.invariant.decoded
+          ∙ ap (λ (x : CheckpointParts). checkpoints_at text k ++ x ∷ []) part
+          ∙ sym (map-range_with_len_more (decoded text) 0 k k (omega arith));
     })
 
-pub returns-clause-output : goal.returns-clause-output
-returns-clause-output c =
+pub overflow_add-offset : goal.overflow_add-offset
+overflow_add-offset c =
+    let lt : c.loop-k.k < checkpoints c.args.text.now = omega arith in
+    let there = common_there c.args.text.now c.loop-k.k c.requires.meets lt in
+    let offset = c.loop-k.invariant.offset_is in
+    omega arith
+
+pub overflow_add-from : goal.overflow_add-from
+overflow_add-from c =
+    let lt : c.loop-k.k < checkpoints c.args.text.now = omega arith in
+    let there = output_fits c.args.text.now c.loop-k.k c.requires.meets lt in
+    let own = rw c.loop-k.invariant.offset_is at c.u32_at.ensures in
+    let from = c.loop-k.invariant.from_is in
+    omega arith
+
+pub overflow_add-offset-in-loop-k : goal.overflow_add-offset-in-loop-k
+overflow_add-offset-in-loop-k c =
+    let lt : c.loop-k.k < checkpoints c.args.text.now = omega arith in
+    let there = common_there c.args.text.now c.loop-k.k c.requires.meets lt in
+    let offset = c.loop-k.invariant.offset_is in
+    omega arith
+
+pub overflow_add-offset-in-loop-k-2 : goal.overflow_add-offset-in-loop-k-2
+overflow_add-offset-in-loop-k-2 c =
     let text = c.args.text.now in
-    let is : c.loop-k.k ≡ checkpoints text = omega arith in
-    output_all text c.loop-k.k c.loop-k.from (map checkpoint_parts c.loop-k.list.items) c.requires.meets is c.loop-k.invariant.from_is c.loop-k.invariant.output
+    let lt : c.loop-k.k < checkpoints text = omega arith in
+    let there = common_there text c.loop-k.k c.requires.meets lt in
+    let offset = c.loop-k.invariant.offset_is in
+    let few : c.later_word.result ≤ PLACES = rw (c.later_word.ensures, offset) (changes_few text c.loop-k.k c.requires.meets lt) in
+    let size = size_few (version text) c.later_word.result few in
+    omega arith

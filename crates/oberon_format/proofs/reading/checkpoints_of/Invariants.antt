@@ -1,10 +1,9 @@
 use Rattle.std.proofs.Common.{◌≡◌, ◌+◌, length, map}
-use Rattle.std.specs.Prelude.{slice_range}
 use Rattle.oberon_format.specs.CheckpointParts.{checkpoint_parts}
 use Rattle.oberon_format.specs.Layout.{output_offset, start}
-use Rattle.oberon_format.specs.Recording.{output_of}
 use Rattle.oberon_format.specs.Rules.{prior_number}
-use Rattle.oberon_format.specs.inner.Tested.{HasNumbers, AreIn}
+use Rattle.oberon_format.specs.inner.Decoded.{checkpoints_at}
+use Rattle.oberon_format.specs.inner.Tested.{HasNumbers}
 use Rattle.oberon_format.specs.TextFields.{fields_of}
 use Rattle.oberon_format.proofs.RuleLemmas.{output_below}
 use Rattle.oberon_format.proofs.reading.checkpoints_of.Given as goal
@@ -14,7 +13,6 @@ invariant-loop-k l = record {
   len : length l.list.items ≡ l.k;
   offset_is : l.offset ≡ start l.text l.k;
   table_is : HasNumbers l.table (prior_number (fields_of l.text) l.k);
-  stand : AreIn l.text (map checkpoint_parts l.list.items);
   from_is : l.from ≡ output_offset l.text + output_below l.text l.k;
-  output : slice_range l.text (output_offset l.text) l.from ≡ output_of (map checkpoint_parts l.list.items);
+  decoded : map checkpoint_parts l.list.items ≡ checkpoints_at l.text l.k;
 }

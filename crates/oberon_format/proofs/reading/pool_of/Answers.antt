@@ -1,6 +1,22 @@
-use Rattle.std.proofs.Common.{arith}
+use Rattle.std.proofs.Common.{◌∙◌, ◌∷◌, ◌++◌, [], ℕ, List, length, ap, sym, arith}
+use Rattle.std.proofs.lemmas.List.FromFn.{length-map-range_with_len, map-range_with_len_more}
+use Rattle.oberon_format.specs.inner.Decoded.{page_at, pages_at, words_from}
 use Rattle.oberon_format.proofs.Room.{events_there}
 use Rattle.oberon_format.proofs.reading.pool_of.Goals as goal
 
-pub words_at-words-requires : goal.words_at-words-requires
-words_at-words-requires c = let there = events_there c.args.text.now c.requires in omega arith
+pub words_from-words-requires : goal.words_from-words-requires
+words_from-words-requires c = let there = events_there c.args.text.now c.requires in omega arith
+
+pub push-requires : goal.push-requires
+push-requires c =
+    let len = ap (λ (pool : List (List ℕ)). length pool) c.loop-p.invariant ∙ length-map-range_with_len (page_at c.args.text.now) 0 c.loop-p.p in
+    omega arith
+
+pub loop-p-preserved : goal.loop-p-preserved
+loop-p-preserved c =
+    let text = c.args.text.now in
+    let p = c.loop-p.p in
+    c.in_ok-push.ensures.ok
+    ∙ ap (λ (pool : List (List ℕ)). pool ++ c.words_from-words.result ∷ []) c.loop-p.invariant
+    ∙ ap (λ (page : List ℕ). pages_at text p ++ page ∷ []) (c.words_from-words.ensures ∙ ap (λ (at : ℕ). words_from text at 0 256) c.page_start.ensures)
+    ∙ sym (map-range_with_len_more (page_at text) 0 p p (omega arith))

@@ -1,6 +1,6 @@
-use Rattle.std.proofs.Common.{◌≡◌, length}
+use Rattle.std.proofs.Common.{◌≡◌}
 use Rattle.oberon_format.proofs.reading.pool_of.Given as goal
-use Rattle.oberon_format.specs.inner.Offsets.{EachAt, IsPageAt}
+use Rattle.oberon_format.specs.inner.Decoded.{pages_at}
 
 abbrev pub invariant-loop-p : goal.invariant-loop-p
-invariant-loop-p l = record { len : length l.pool ≡ l.p; each : EachAt (IsPageAt l.text) l.pool }
+invariant-loop-p l = l.pool ≡ pages_at l.text l.p

@@ -1,21 +1,21 @@
-use Rattle.std.proofs.Common.{◌≡◌, ◌∙◌, ◌++◌, ℕ, List, length, sym, ap, arith, append_assoc, append-nil}
+use Rattle.std.proofs.Common.{◌≡◌, ◌∙◌, ◌++◌, ℕ, List, sym, ap, arith, append-nil}
 use Rattle.std.specs.List.{flat_map}
 use Rattle.oberon_format.specs.declared.layout.TheConstants.{PLACES}
-use Rattle.oberon_format.specs.Changes.{changes, changes_below}
-use Rattle.oberon_format.specs.Encoding.{word_bytes, change_bytes, changes_bytes}
+use Rattle.oberon_format.specs.Changes.{changes_below}
+use Rattle.oberon_format.specs.Encoding.{change_bytes}
 use Rattle.oberon_format.proofs.WriteLemmas.{changes_skipped, changes_next}
 use Rattle.oberon_format.proofs.writing.push_changes.Goals.{then-entry+in_ok-push_change, else-entry}
 use Rattle.oberon_format.proofs.writing.push_changes.Goals as goal
 
 pub loop-p-init : goal.loop-p-init
 unfolding changes_below
-loop-p-init c = c.in_ok-push_word.ensures ∙ ap (λ (n : ℕ). c.args.out.now.items ++ word_bytes n) c.change_count.ensures ∙ sym (append-nil _)
+loop-p-init c = sym (append-nil _)
 
 pub loop-p-preserved : goal.loop-p-preserved
 loop-p-preserved c =
     let before : List ℕ = c.args.before.now in
     let table : List ℕ = c.args.table.now in
-    let start : List ℕ = c.args.out.now.items ++ word_bytes (length (changes before table)) in
+    let start : List ℕ = c.args.out.now.items in
     let p = c.loop-p.p in
     let here = c.entry.ensures.number in
     let now = c.entry-in-loop-p.ensures.number in
@@ -28,13 +28,6 @@ loop-p-preserved c =
     ]
 
 pub returns : goal.returns
-unfolding changes_bytes
 returns c =
-    let before : List ℕ = c.args.before.now in
-    let table : List ℕ = c.args.table.now in
-    let out : List ℕ = c.args.out.now.items in
-    let number = word_bytes (length (changes before table)) in
     let all : c.loop-p.p ≡ PLACES = omega arith in
-    c.loop-p.invariant
-    ∙ ap (λ (n : ℕ). out ++ number ++ flat_map change_bytes (changes_below n before table)) all
-    ∙ append_assoc out number (flat_map change_bytes (changes before table))
+    c.loop-p.invariant ∙ ap (λ (n : ℕ). c.args.out.now.items ++ flat_map change_bytes (changes_below n c.args.before.now c.args.table.now)) all

@@ -1,8 +1,8 @@
-use Rattle.std.proofs.Common.{◌≡◌, ◌++◌, length}
+use Rattle.std.proofs.Common.{◌≡◌, ◌++◌}
 use Rattle.std.specs.List.{flat_map}
-use Rattle.oberon_format.specs.Changes.{changes, changes_below}
-use Rattle.oberon_format.specs.Encoding.{word_bytes, change_bytes}
+use Rattle.oberon_format.specs.Changes.{changes_below}
+use Rattle.oberon_format.specs.Encoding.{change_bytes}
 use Rattle.oberon_format.proofs.writing.push_changes.Given as goal
 
 abbrev pub invariant-loop-p : goal.invariant-loop-p
-invariant-loop-p l = l.out.items ≡ l.fn.out.items ++ word_bytes (length (changes l.before l.table)) ++ flat_map change_bytes (changes_below l.p l.before l.table)
+invariant-loop-p l = l.out.items ≡ l.fn.out.items ++ flat_map change_bytes (changes_below l.p l.before l.table)

@@ -6,7 +6,7 @@ use Rattle.oberon_format.specs.CheckpointParts.{CheckpointParts, checkpoint_part
 use Rattle.oberon_format.specs.Recording.{table_before}
 use Rattle.oberon_format.specs.Encoding.{checkpoint_bytes, checkpoints_bytes}
 use Rattle.oberon_format.proofs.CheckpointLemmas.{checkpoint_at-is}
-use Rattle.oberon_format.proofs.Starts.{bytes_at}
+use Rattle.oberon_format.proofs.WriteLemmas.{bytes_at}
 use Rattle.oberon_format.proofs.WriteLemmas.{checkpoints_more, sent_le}
 use Rattle.oberon_format.proofs.writing.push_checkpoints.Goals as goal
 

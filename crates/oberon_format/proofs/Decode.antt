@@ -1,0 +1,417 @@
+-- What the reader makes of a file without a fault is the recording that the file encodes.
+use Rattle.std.proofs.Common.{◌≡◌, ◌<◌, ◌≤◌, ◌+◌, ◌-◌, ◌*◌, ◌^◌, ◌∙◌, ℕ, zero, suc, Bool, true, false, cond, List, [], ◌∷◌, ◌++◌, length, take, drop, get_or, refl, sym, ap, subst, inl, inr, arith, add-zero, length-append}
+use Rattle.std.specs.Prelude.{All, slice_index, slice_range, ◌==◌}
+use Rattle.std.specs.List.{flat_map}
+use Rattle.std.proofs.lemmas.Bool.{cases_lt, ltb-true, leb-true}
+use Rattle.std.proofs.lemmas.List.{get_or_default, get_or_past}
+use Rattle.std.proofs.lemmas.List.Elements.{All-take, All-drop}
+use Rattle.std.proofs.lemmas.List.FromFn.{length-map-range_with_len, get_or-map-range_with_len, fill_by_all, map-range_with_len_more}
+use Rattle.byteorder.specs.Numbers.{little_from-lt}
+use Rattle.risc_core.proofs.FlagsLemmas.{number_back}
+use Rattle.risc_devices.specs.DeviceState.{is_phase}
+use Rattle.risc_devices.specs.Input.{kind_of, value_of}
+use Rattle.risc_devices.specs.InputKind.{is_mouse}
+use Rattle.risc_model.specs.declared.event.Event.{Event}
+use Rattle.risc_pages.specs.Pages.{IsPage, ArePages}
+use Rattle.oberon_format.specs.declared.change.Change.{Change}
+use Rattle.oberon_format.specs.declared.layout.TheConstants.{FIRST_VERSION, VERSION, PLACES, CHANGE_LEN, KIND_AT, REGISTERS_AT, AUXILIARY_AT, COUNTER_AT, FLAGS_AT, STOP_AT, TIMER_AT, SWITCHES_AT, LEDS_AT, MOUSE_AT, SERIAL_AT, WAITING_AT, KEYS_AT, SENT_AT, COMMON_LEN, TABLE_AT, RATE_AT, PHASE_AT, CHANGE_COUNT_AT, CHANGES_AT, NUMBER_AT}
+use Rattle.oberon_format.specs.declared.ranges.TheConstants.{FLAGS_END, SWITCHES_END, LEDS_END, SERIAL_END, MAX_KEYS}
+use Rattle.oberon_format.specs.Changes.{changes, no_change}
+use Rattle.oberon_format.specs.CheckpointParts.{CheckpointParts, key_bytes, no_checkpoint}
+use Rattle.oberon_format.specs.Encoding.{long_bytes, words_bytes, event_bytes, field_words, common_bytes, change_bytes, later_words, tail_bytes, checkpoint_bytes, header_bytes}
+use Rattle.oberon_format.specs.Formed.{IsFormed, AreFormed, IsWritable, AreWritable}
+use Rattle.oberon_format.specs.Layout.{word_at, long_at, version, pages, events, checkpoints, page_offset, page_number_offset, change_offset, event_offset, later_word, checkpoint_size, change_count, start, output_offset}
+use Rattle.oberon_format.specs.PartFields.{changes_in, start_in}
+use Rattle.oberon_format.specs.Ranges.{in_ranges, are_keys}
+use Rattle.oberon_format.specs.Recording.{RecordingParts, IsLawful, checkpoint_at, table_before, output_of}
+use Rattle.oberon_format.specs.Text.{AreBytes, IsUnclocked, Text}
+use Rattle.oberon_format.specs.TextFields.{change_of, checkpoint_of, first_fault_of, number_before, page_number_of}
+use Rattle.oberon_format.specs.inner.Decoded.{EachAt, IsEventAt, decoded, page_at, pages_at, checkpoints_at, table_at, words_from}
+use Rattle.oberon_format.specs.inner.Tested.{HasNumbers, Meets}
+use Rattle.oberon_format.proofs.Agree.{encoding_agrees}
+use Rattle.oberon_format.proofs.Bytes.{HasBytes, IsBytes, all_bytes, bytes_join, length-long_bytes, length-words_bytes, length-words_from, long_back, parts_back, word_of, words_back}
+use Rattle.oberon_format.proofs.ChangeLemmas.{after-bounded, after-same, change_in, lawful-are}
+use Rattle.oberon_format.proofs.Encoded.{AreAt, header_words, length-changes, length-common_bytes, length-key_bytes, parts_encoding}
+use Rattle.oberon_format.proofs.Keys.{keys-are_at, length-range}
+use Rattle.oberon_format.proofs.LawfulLemmas.{faultless_lawful}
+use Rattle.oberon_format.proofs.Numbers.{serial_whole}
+use Rattle.oberon_format.proofs.Output.{keys_hold, output_all, output_fits, output_more, range-none, ranges_hold}
+use Rattle.oberon_format.proofs.PartLemmas.{table_next}
+use Rattle.oberon_format.proofs.ReadLemmas.{changes_lawful, events_ordered}
+use Rattle.oberon_format.proofs.Room.{common_there, changes_there, events_there, whole_there}
+use Rattle.oberon_format.proofs.RuleLemmas.{and_left, and_right, output_below, output_below_more, output_below_none, version_cases}
+use Rattle.oberon_format.proofs.TextLemmas.{later_first, later_second, number_first, number_second, numbers_none}
+
+-- numbers of bytes fit
+word_fits : (text : List ℕ) (offset : ℕ) → AreBytes text → word_at text offset < 2 ^ 32
+unfolding word_at
+word_fits text offset bytes = little_from-lt offset 4 text (all_bytes text bytes)
+
+pub long_fits : (text : List ℕ) (offset : ℕ) → AreBytes text → long_at text offset < 2 ^ 64
+unfolding long_at
+long_fits text offset bytes = little_from-lt offset 8 text (all_bytes text bytes)
+
+-- the words that only version 2 has fit, and so do page ids of either version
+later_fits : (text : List ℕ) (offset : ℕ) → AreBytes text → later_word text offset < 2 ^ 32
+later_fits text offset bytes = go (version text == FIRST_VERSION)
+  where
+    go : (b : Bool) → cond b 0 (word_at text offset) < 2 ^ 32
+    go true = omega arith
+    go false = word_fits text offset bytes
+
+before_fits : (text : List ℕ) (k p : ℕ) → AreBytes text → number_before text k p ≤ 2 ^ 32 - 1
+unfolding number_before
+before_fits text zero p bytes = omega arith
+before_fits text (suc k) p bytes =
+    after-bounded (change_of text (start text k)) (number_before text k) (change_count text (start text k)) p (2 ^ 32 - 1)
+    (λ i lt. let fits = word_fits text (change_offset (start text k) i + NUMBER_AT) bytes in omega arith) (before_fits text k p bytes)
+
+number_fits : (text : List ℕ) (k p : ℕ) → AreBytes text → page_number_of text k p < 2 ^ 32
+number_fits text k p bytes = go (version text == FIRST_VERSION)
+  where
+    go : (b : Bool) → cond b (word_at text (page_number_offset (start text k) p)) (number_before text (suc k) p) < 2 ^ 32
+    go true = word_fits text (page_number_offset (start text k) p) bytes
+    go false = let fits = before_fits text (suc k) p bytes in omega arith
+
+words_fit : (text : List ℕ) (offset from n i : ℕ) → AreBytes text → slice_index (words_from text offset from n) i < 2 ^ 32
+words_fit text offset from n i bytes =
+    let len = length-words_from text offset from n in
+    elim (cases_lt i n) [
+      | inl less ↦ rw (word_of text offset from n i 0 less) (word_fits text (offset + (from + 4 * i)) bytes)
+      | inr more ↦ rw (get_or_past (words_from text offset from n) i 0 (omega arith)) (omega arith)
+    ]
+
+-- a table
+length-table_at : (text : List ℕ) (k : ℕ) → length (table_at text k) ≡ PLACES
+unfolding table_at
+length-table_at text k = length-map-range_with_len (page_number_of text k) 0 PLACES
+
+table_of : (text : List ℕ) (k p d : ℕ) → p < PLACES → get_or (table_at text k) p d ≡ page_number_of text k p
+unfolding table_at
+table_of text k p d lt = get_or-map-range_with_len (page_number_of text k) 0 PLACES p p d lt (omega arith)
+
+pub table_made : (text table : List ℕ) (k : ℕ) → length table ≡ PLACES → HasNumbers table (page_number_of text k) → table ≡ table_at text k
+unfolding table_at
+table_made text table k len has = fill_by_all (page_number_of text k) table PLACES 0 len has
+
+-- what the ranges of a checkpoint's fields say
+record Small (text : List ℕ) (offset : ℕ) : Type 0 where
+  flags : word_at text (offset + FLAGS_AT) < FLAGS_END
+  phase : is_phase (later_word text (offset + RATE_AT)) (later_word text (offset + PHASE_AT)) ≡ true
+  switches : word_at text (offset + SWITCHES_AT) < SWITCHES_END
+  leds : word_at text (offset + LEDS_AT) < LEDS_END
+  mouse : is_mouse (word_at text (offset + MOUSE_AT)) ≡ true
+  serial : word_at text (offset + SERIAL_AT) < SERIAL_END
+  keys : word_at text (offset + WAITING_AT) ≤ MAX_KEYS
+
+small : (text : List ℕ) (offset : ℕ) → in_ranges (checkpoint_of text offset) ≡ true → are_keys (checkpoint_of text offset) ≡ true → Small text offset
+small text offset ranges keys =
+    let of_serial = and_left _ _ ranges in
+    let of_mouse = and_left _ _ of_serial in
+    let of_leds = and_left _ _ of_mouse in
+    let of_switches = and_left _ _ of_leds in
+    let of_phase = and_left _ _ of_switches in
+    record {
+      flags = ltb-true _ _ (and_right _ _ (and_left _ _ (and_left _ _ of_phase)));
+      phase = and_right _ _ of_phase;
+      switches = ltb-true _ _ (and_right _ _ of_switches);
+      leds = ltb-true _ _ (and_right _ _ of_leds);
+      mouse = and_right _ _ of_mouse;
+      serial = ltb-true _ _ (and_right _ _ of_serial);
+      keys = leb-true _ _ (and_left _ _ keys);
+    }
+
+module _ (text : List ℕ) (bytes : AreBytes text) (meets : Meets text) where
+  each_byte : IsBytes text
+  each_byte = all_bytes text bytes
+
+  module _ (k : ℕ) (lt : k < checkpoints text) where
+    abbrev o : ℕ
+    o = start text k
+
+    abbrev c : CheckpointParts
+    c = decoded text k
+
+    few : Small text o
+    few = small text o (ranges_hold text k meets lt) (keys_hold text k meets lt)
+
+    room : o + CHANGES_AT ≤ length text
+    room = common_there text k meets lt
+
+    keys_len : length c.devices.keys ≡ word_at text (o + WAITING_AT)
+    keys_len =
+        let keys = few.keys in
+        let there = room in
+        omega (arith, length-range text (o + KEYS_AT) (o + KEYS_AT + word_at text (o + WAITING_AT)) (omega arith) (omega arith))
+
+    sent_len : length c.sent ≡ word_at text (o + SENT_AT)
+    sent_len =
+        let from = output_offset text + output_below text k in
+        let there = output_fits text k meets lt in
+        omega (arith, length-range text from (from + word_at text (o + SENT_AT)) (omega arith) there)
+
+    -- its parts are as their types guarantee, and fit
+    formed : IsFormed c
+    formed = record {
+      registers = length-words_from text o REGISTERS_AT 16;
+      words = λ a. words_fit text o REGISTERS_AT 16 a bytes;
+      auxiliary = word_fits text (o + AUXILIARY_AT) bytes;
+      devices =
+          let keys = few.keys in
+          let len = keys_len in
+          record {
+            timer = word_fits text (o + TIMER_AT) bytes;
+            rate = later_fits text (o + RATE_AT) bytes;
+            phase = few.phase;
+            switches = few.switches;
+            leds = few.leds;
+            mouse = few.mouse;
+            serial = omega arith;
+            keys = omega arith;
+            codes = All-take (λ code. code < 2 ^ 8) (o + KEYS_AT + word_at text (o + WAITING_AT) - (o + KEYS_AT)) (drop (o + KEYS_AT) text)
+                (All-drop (λ code. code < 2 ^ 8) (o + KEYS_AT) text bytes);
+          };
+      table = record {
+        count = length-table_at text k;
+        fit = λ p d less. let len = length-table_at text k in rw (table_of text k p d (omega arith)) (number_fits text k p bytes);
+      };
+      bytes = let from = output_offset text + output_below text k in
+          All-take (λ byte. byte < 2 ^ 8) (from + word_at text (o + SENT_AT) - from) (drop from text) (All-drop (λ byte. byte < 2 ^ 8) from text bytes);
+    }
+
+    fits : IsWritable c
+    fits = record {
+      formed = formed;
+      count = long_fits text o bytes;
+      counter = word_fits text (o + COUNTER_AT) bytes;
+      stop = word_fits text (o + STOP_AT) bytes;
+      sent = let len = sent_len in let small = word_fits text (o + SENT_AT) bytes in omega arith;
+    }
+
+    -- the fields that begin it are in the file
+    fields_are : words_from text o AUXILIARY_AT 10 ≡ field_words c
+    unfolding words_from
+    fields_are =
+        let flags = sym (number_back (word_at text (o + FLAGS_AT)) few.flags) in
+        let serial = sym (serial_whole (word_at text (o + SERIAL_AT)) few.serial) in
+        let waiting = sym keys_len in
+        λ i.
+        word_at text (o + AUXILIARY_AT) ∷ word_at text (o + COUNTER_AT) ∷ flags i ∷ word_at text (o + STOP_AT) ∷ word_at text (o + TIMER_AT)
+        ∷ word_at text (o + SWITCHES_AT) ∷ word_at text (o + LEDS_AT) ∷ word_at text (o + MOUSE_AT) ∷ serial i ∷ waiting i ∷ []
+
+    common_back : HasBytes text o (common_bytes c)
+    unfolding common_bytes words_from
+    common_back =
+        let there = room in
+        let len = length-words_from text o REGISTERS_AT 16 in
+        let a = long_bytes c.count in
+        let r = words_bytes c.cpu.r in
+        let f = words_bytes (field_words c) in
+        let ks = key_bytes c.devices in
+        let n = words_bytes (length c.sent ∷ []) in
+        let fields = subst (λ (ws : List ℕ). HasBytes text (o + AUXILIARY_AT) (words_bytes ws)) fields_are (words_back text o AUXILIARY_AT (o + AUXILIARY_AT) 10 refl each_byte (omega arith)) in
+        let sent = subst (λ (x : ℕ). HasBytes text (o + SENT_AT) (words_bytes (x ∷ []))) (sym sent_len) (words_back text o SENT_AT (o + SENT_AT) 1 refl each_byte (omega arith)) in
+        let many : length ks ≡ o + SENT_AT - (o + KEYS_AT) = omega (arith, length-key_bytes c.devices formed.devices.keys) in
+        let keys : HasBytes text (o + KEYS_AT) ks = record {
+          is = ap (λ (m : ℕ). take m (drop (o + KEYS_AT) text)) many ∙ rw keys_len (keys-are_at text o room (keys_hold text k meets lt));
+        } in
+        let la = length-long_bytes c.count in
+        let lr = length-words_bytes c.cpu.r in
+        let lar = length-append a r in
+        let lf : length (a ++ r ++ f) ≡ KEYS_AT = length-append (a ++ r) f ∙ omega (arith, length-words_bytes (field_words c)) in
+        let lk : length (a ++ r ++ f ++ ks) ≡ SENT_AT = length-append (a ++ r ++ f) ks ∙ omega arith in
+        let s1 = bytes_join text o (o + REGISTERS_AT) a r (omega arith) (long_back text o each_byte (omega arith)) (words_back text o REGISTERS_AT (o + REGISTERS_AT) 16 refl each_byte (omega arith)) in
+        let s2 = bytes_join text o (o + AUXILIARY_AT) (a ++ r) f (omega arith) s1 fields in
+        let s3 = bytes_join text o (o + KEYS_AT) (a ++ r ++ f) ks (omega arith) s2 keys in
+        bytes_join text o (o + SENT_AT) (a ++ r ++ f ++ ks) n (omega arith) s3 sent
+
+    -- and so is its table in version 1
+    whole_back : version text ≡ FIRST_VERSION → HasBytes text (o + TABLE_AT) (words_bytes c.table)
+    whole_back first =
+        let there = whole_there text k meets lt first in
+        let len = length-words_from text o TABLE_AT PLACES in
+        let table : words_from text o TABLE_AT PLACES ≡ table_at text k = table_made text (words_from text o TABLE_AT PLACES) k len (λ p less.
+        let e : o + (TABLE_AT + 4 * p) ≡ page_number_offset o p = omega arith in
+        word_of text o TABLE_AT PLACES p 0 less ∙ ap (word_at text) e ∙ sym (number_first text k p first)) in
+        subst (λ (ws : List ℕ). HasBytes text (o + TABLE_AT) (words_bytes ws)) table (words_back text o TABLE_AT (o + TABLE_AT) PLACES refl each_byte (omega arith))
+
+    -- and its changes in version 2, after a table that has the page ids before it
+    changes_are : version text ≡ VERSION → (before : List ℕ) → HasNumbers before (number_before text k)
+        → (length (changes before c.table) ≡ change_count text o) × ((i : ℕ) → i < change_count text o → change_in before c.table i ≡ change_of text o i)
+    unfolding number_before
+    changes_are second before has =
+        lawful-are (change_of text o) (change_count text o) before c.table (changes_lawful text k before meets lt second has) (λ p less.
+        table_of text k p 0 less ∙ number_second text k p second
+        ∙ after-same (change_of text o) (change_of text o) (number_before text k) (slice_index before) (change_count text o) p (λ i _. refl) (sym (has p less)))
+
+    changed_back : version text ≡ VERSION → (before : List ℕ) → HasNumbers before (number_before text k)
+        → HasBytes text (o + RATE_AT) (words_bytes (later_words before c) ++ flat_map change_bytes (changes before c.table))
+    unfolding words_from change_bytes
+    changed_back second before has =
+        let there = changes_there text k meets lt second in
+        let cs = changes before c.table in
+        let are = changes_are second before has in
+        let len = are.0 in
+        let room = common_there text k meets lt in
+        let rate = sym (later_second text (o + RATE_AT) second) in
+        let phase = sym (later_second text (o + PHASE_AT) second) in
+        let count = sym (later_second text (o + CHANGE_COUNT_AT) second) ∙ sym len in
+        let words : words_from text o RATE_AT 3 ≡ later_words before c = λ i. rate i ∷ phase i ∷ count i ∷ [] in
+        let later = subst (λ (ws : List ℕ). HasBytes text (o + RATE_AT) (words_bytes ws)) words (words_back text o RATE_AT (o + RATE_AT) 3 refl each_byte (omega arith)) in
+        let each : EachAt (λ i x. HasBytes text (o + CHANGES_AT + CHANGE_LEN * i) (change_bytes x)) cs = λ i d less.
+        (let at = change_offset o i in
+        let is : get_or cs i d ≡ change_of text o i = get_or_default cs i d no_change less ∙ are.1 i (omega arith) in
+        let place = sym (ap (word_at text) (sym (add-zero at))) in
+        subst (λ (x : Change). HasBytes text at (change_bytes x)) (sym is)
+        (subst (λ (x : ℕ). HasBytes text at (words_bytes (x ∷ word_at text (at + NUMBER_AT) ∷ []))) place (words_back text at 0 at 2 (omega arith) each_byte (omega arith)))) in
+        bytes_join text (o + RATE_AT) (o + CHANGES_AT) (words_bytes (later_words before c)) (flat_map change_bytes cs) (omega (arith, length-words_bytes (later_words before c)))
+        later (parts_back change_bytes CHANGE_LEN text (o + CHANGES_AT) cs (length-changes cs) each)
+
+    abbrev v : ℕ
+    v = version text
+
+    tail_back : (before : List ℕ) → (v ≡ VERSION → HasNumbers before (number_before text k)) → HasBytes text (o + COMMON_LEN) (tail_bytes v before c)
+    unfolding tail_bytes
+    tail_back before has =
+        elim (version_cases v meets.sized.known) [
+          | inl first ↦ subst (HasBytes text (o + COMMON_LEN)) (ap (λ (n : ℕ). tail_bytes n before c) (sym first)) (whole_back first)
+          | inr second ↦ subst (HasBytes text (o + COMMON_LEN)) (ap (λ (n : ℕ). tail_bytes n before c) (sym second)) (changed_back second before (has second))
+        ]
+
+    checkpoint_back : (before : List ℕ) → (v ≡ VERSION → HasNumbers before (number_before text k)) → HasBytes text o (checkpoint_bytes v before c)
+    unfolding checkpoint_bytes
+    checkpoint_back before has = bytes_join text o (o + COMMON_LEN) (common_bytes c) (tail_bytes v before c) (omega (arith, length-common_bytes c formed)) common_back (tail_back before has)
+
+    count_back : (before : List ℕ) → (v ≡ VERSION → HasNumbers before (number_before text k)) → changes_in v before c ≡ change_count text o
+    count_back before has =
+        elim (version_cases v meets.sized.known) [
+          | inl first ↦ rw first refl
+          | inr second ↦ let all = (changes_are second before (has second)).0 ∙ later_second text (o + CHANGE_COUNT_AT) second in rw second all
+        ]
+
+    unclocked : v ≡ FIRST_VERSION → IsUnclocked c
+    unclocked first = record { rate = later_first text (o + RATE_AT) first; phase = later_first text (o + PHASE_AT) first }
+
+  -- the checkpoints
+  length-checkpoints_at : (n : ℕ) → length (checkpoints_at text n) ≡ n
+  length-checkpoints_at n = length-map-range_with_len (decoded text) 0 n
+
+  checkpoint_is : (n k : ℕ) (d : CheckpointParts) → k < n → get_or (checkpoints_at text n) k d ≡ decoded text k
+  checkpoint_is n k d lt = get_or-map-range_with_len (decoded text) 0 n k k d lt (omega arith)
+
+  numbers_before : (n k : ℕ) → k < n → version text ≡ VERSION → HasNumbers (table_before (checkpoints_at text n) k) (number_before text k)
+  numbers_before n zero lt second p less = numbers_none text p less
+  numbers_before n (suc k) lt second p less =
+      ap (λ (t : List ℕ). slice_index t p) (table_next (checkpoints_at text n) k ∙ ap (λ (x : CheckpointParts). x.table) (checkpoint_is n k no_checkpoint (omega arith)))
+      ∙ table_of text k p 0 less ∙ number_second text k p second
+
+  outputs : (n : ℕ) → n ≤ checkpoints text → slice_range text (output_offset text) (output_offset text + output_below text n) ≡ output_of (checkpoints_at text n)
+  outputs zero le = let none = output_below_none text in range-none text (output_offset text) (output_offset text + output_below text 0) (omega arith)
+  outputs (suc n) le =
+      let from = output_offset text + output_below text n in
+      let more = output_below_more text n in
+      let next : n + 1 ≡ suc n = omega arith in
+      let end : output_offset text + output_below text (suc n) ≡ from + word_at text (start text n + SENT_AT) = ap (λ (m : ℕ). output_offset text + output_below text m) (sym next) ∙ omega arith in
+      ap (slice_range text (output_offset text)) end
+      ∙ output_more text n from (checkpoints_at text n) (decoded text n) meets (omega arith) refl (outputs n (omega arith)) refl
+      ∙ ap output_of (sym (map-range_with_len_more (decoded text) 0 n n (omega arith)) ∙ ap (checkpoints_at text) next)
+
+  -- with its events they make the recording
+  module _ (inputs : List Event) (count : length inputs ≡ events text) (each_event : EachAt (IsEventAt text) inputs) where
+    abbrev K : ℕ
+    K = checkpoints text
+
+    abbrev r : RecordingParts
+    r = record { pool = pages_at text (pages text); inputs = inputs; checkpoints = checkpoints_at text K }
+
+    pages_len : length r.pool ≡ pages text
+    pages_len = length-map-range_with_len (page_at text) 0 (pages text)
+
+    page_is : (p : ℕ) (d : List ℕ) → p < length r.pool → page_at text p ≡ get_or r.pool p d
+    page_is p d lt = let len = pages_len in sym (get_or-map-range_with_len (page_at text) 0 (pages text) p p d (omega arith) (omega arith))
+
+    all_pages : ArePages r.pool
+    all_pages p d lt = subst IsPage (page_is p d lt) (record {
+      whole = length-words_from text (page_offset p) 0 256;
+      fit = λ i e less. subst (λ (x : ℕ). x < 2 ^ 32) (get_or_default (page_at text p) i 0 e less) (words_fit text (page_offset p) 0 256 i bytes);
+    })
+
+    inside : (k : ℕ) → k < length r.checkpoints → k < K
+    inside k lt = let len = length-checkpoints_at K in omega arith
+
+    all_formed : AreFormed r.checkpoints
+    all_formed k d lt = subst IsFormed (sym (checkpoint_is K k d (inside k lt))) (formed k (inside k lt))
+
+    writes : AreWritable r
+    writes =
+        let np = pages_len in
+        let nk = length-checkpoints_at K in
+        let a = word_fits text 8 bytes in
+        let b = word_fits text 12 bytes in
+        let e = word_fits text 16 bytes in
+        record {
+          pool = all_pages;
+          pages = omega arith;
+          events = omega arith;
+          few = omega arith;
+          checkpoints = λ k d lt. subst IsWritable (sym (checkpoint_is K k d (inside k lt))) (fits k (inside k lt));
+        }
+
+    start_back : (k : ℕ) → k ≤ K → start_in (version text) r k ≡ start text k
+    unfolding start start_in
+    start_back zero le = rw (pages_len, count) refl
+    start_back (suc k) le =
+        let so_far = start_back k (omega arith) in
+        let here = checkpoint_is K k no_checkpoint (omega arith) in
+        let size : changes_in (version text) (table_before r.checkpoints k) (checkpoint_at r k) ≡ change_count text (start text k) =
+        ap (changes_in (version text) (table_before r.checkpoints k)) here ∙ count_back k (omega arith) (table_before r.checkpoints k) (numbers_before K k (omega arith)) in
+        ap (λ (m : ℕ). start_in (version text) r k + checkpoint_size (version text) m) size ∙ ap (λ (m : ℕ). m + checkpoint_size (version text) (change_count text (start text k))) so_far
+
+    event_back : (i : ℕ) (d : Event) → i < length inputs → HasBytes text (event_offset text i) (event_bytes (get_or inputs i d))
+    unfolding event_bytes words_from
+    event_back i d lt =
+        let at = event_offset text i in
+        let e = get_or inputs i d in
+        let is = each_event i d lt in
+        let there = events_there text meets.sized in
+        let kind = is.kind in
+        let value = is.value in
+        let words : words_from text at KIND_AT 2 ≡ kind_of e.input ∷ value_of e.input ∷ [] = λ j. kind j ∷ value j ∷ [] in
+        bytes_join text at (at + KIND_AT) (long_bytes e.count) (words_bytes (kind_of e.input ∷ value_of e.input ∷ [])) (omega (arith, length-long_bytes e.count))
+        (subst (λ (x : ℕ). HasBytes text at (long_bytes x)) is.count (long_back text at each_byte (omega arith)))
+        (subst (λ (ws : List ℕ). HasBytes text (at + KIND_AT) (words_bytes ws)) words (words_back text at KIND_AT (at + KIND_AT) 2 refl each_byte (omega arith)))
+
+    are_at : AreAt (version text) text r
+    unfolding header_bytes words_from
+    are_at =
+        let sized = meets.sized in
+        let header = sized.header in
+        let there = events_there text sized in
+        let magic = meets.magic_is in
+        let last = meets.zero_is in
+        let np = sym pages_len in
+        let ne = sym count in
+        let nk = sym (length-checkpoints_at K) in
+        let words : words_from text 0 0 6 ≡ header_words (version text) r = λ i. magic i ∷ version text ∷ np i ∷ ne i ∷ nk i ∷ last i ∷ [] in
+        record {
+          header = subst (λ (ws : List ℕ). HasBytes text 0 (words_bytes ws)) words (words_back text 0 0 0 6 refl each_byte (omega arith));
+          pages = λ p d lt. subst (λ (ws : List ℕ). HasBytes text (page_offset p) (words_bytes ws)) (page_is p d lt)
+              (let len = pages_len in words_back text (page_offset p) 0 (page_offset p) 256 (omega arith) each_byte (omega arith));
+          events = λ i d lt. rw pages_len (event_back i d lt);
+          checkpoints = λ k lt.
+              let less = inside k lt in
+              rw (start_back k (omega arith), checkpoint_is K k no_checkpoint less) (checkpoint_back k less (table_before r.checkpoints k) (numbers_before K k less));
+          output = rw (length-checkpoints_at K, start_back K (omega arith))
+              (output_all text K (output_offset text + output_below text K) (checkpoints_at text K) meets refl refl (outputs K (omega arith)));
+        }
+
+    pub decoded_is : IsLawful r × Text text r
+    decoded_is =
+        let v = version text in
+        let known = meets.sized.known in
+        let is = parts_encoding v r all_pages all_formed text are_at in
+        let all_unclocked : v ≡ FIRST_VERSION → All IsUnclocked r.checkpoints = λ first k d lt.
+        subst IsUnclocked (sym (checkpoint_is K k d (inside k lt))) (unclocked k (inside k lt) first) in
+        let faultless = sym (encoding_agrees v r known all_unclocked writes) ∙ ap first_fault_of (sym is) ∙ meets.faultless in
+        let lawful = faultless_lawful v r known all_pages (events_ordered text inputs meets count each_event) all_formed faultless in
+        (lawful, record { version = v; is = record { lawful = lawful; known = known; unclocked = all_unclocked; is = is } })
