@@ -1,13 +1,14 @@
 -- An encoding of parts has their fields, and so their first fault.
 use Rattle.std.proofs.Common.{◌≡◌, ◌<◌, ◌≤◌, ◌+◌, ◌-◌, ◌*◌, ◌^◌, ◌∙◌, ℕ, zero, suc, true, List, [], ◌∷◌, ◌++◌, get_or, length, take, drop, refl, sym, ap, subst, inl, inr, arith, add-zero, length-append}
-use Rattle.std.specs.Prelude.{All, slice_index, slice_range}
+use Rattle.std.specs.Prelude.{All, nat_le, slice_index, slice_range}
 use Rattle.std.specs.List.{flat_map}
 use Rattle.std.proofs.lemmas.List.{get_or-map, get_or_default}
 use Rattle.std.proofs.lemmas.List.Elements.{All-from_recursion}
 use Rattle.risc_devices.proofs.InputLemmas.{kind_fits, value_fits}
 use Rattle.risc_devices.specs.Input.{kind_of, value_of}
 use Rattle.risc_model.specs.declared.event.Event.{Event}
-use Rattle.oberon_format.specs.declared.layout.TheConstants.{FIRST_VERSION, VERSION, PLACES, CHANGE_LEN, KIND_AT, REGISTERS_AT, AUXILIARY_AT, KEYS_AT, SENT_AT, COMMON_LEN, TABLE_AT, RATE_AT, PHASE_AT, CHANGES_AT}
+use Rattle.oberon_format.specs.declared.fault.Fault.TheVariants as fault
+use Rattle.oberon_format.specs.declared.layout.TheConstants.{HEADER_LEN, FIRST_VERSION, VERSION, PLACES, CHANGE_LEN, KIND_AT, REGISTERS_AT, AUXILIARY_AT, KEYS_AT, SENT_AT, COMMON_LEN, TABLE_AT, RATE_AT, PHASE_AT, CHANGES_AT}
 use Rattle.oberon_format.specs.Changes.{changes, no_change, number_after}
 use Rattle.oberon_format.specs.CheckpointParts.{CheckpointParts, key_bytes, no_checkpoint}
 use Rattle.oberon_format.specs.Encoding.{long_bytes, words_bytes, event_bytes, field_words, common_bytes, change_bytes, later_words, tail_bytes, checkpoint_bytes, header_bytes, encoding}
@@ -26,7 +27,7 @@ use Rattle.oberon_format.proofs.ChangeLemmas.{change_in, changes-few, changes-ma
 use Rattle.oberon_format.proofs.Encoded.{AreAt, encoding_parts, length-encoding, change_words, change_wide, fields_wide, header_words, header_wide, later_wide, length-changes, length-common_bytes, length-key_bytes}
 use Rattle.oberon_format.proofs.PartLemmas.{member, table_next}
 use Rattle.oberon_format.proofs.RuleLemmas.{version_cases}
-use Rattle.oberon_format.proofs.SameFields.{SameFields, same_rules}
+use Rattle.oberon_format.proofs.SameFields.{SameFields, same_parts, same_rules}
 use Rattle.oberon_format.proofs.TextLemmas.{number_first, number_second, numbers_none}
 
 -- an event at an offset has its fields there
@@ -280,21 +281,21 @@ module _ (v : ℕ) (text : List ℕ) (r : RecordingParts) (known : is_version v 
     fields_agree : length text ≡ start_in v r (length r.checkpoints) + length (output_of r.checkpoints) → SameFields (fields_of text) (fields_in v r)
     unfolding words_from
     fields_agree long = record {
-      long = long;
       first = number 0;
       version = version_is;
       pages = pages_are;
       events = events_are;
       checkpoints = checkpoints_are;
       last = number 5;
-      event = λ i lt.
-          let d = member r.inputs i lt in
-          ap (λ (n : ℕ). event_of text (event_start n i)) pages_are ∙ event_agrees text (event_start (length r.pool) i) (get_or r.inputs i d) (are.events i d lt)
-          ∙ sym (get_or-map event_fields r.inputs i d no_event lt);
-      start = start_is;
-      checkpoint = λ k lt. checkpoint_agrees v text (start text k) (table_before r.checkpoints k) (checkpoint_at r k) (common k lt) (later k lt);
-      change = all_changes;
-      page_number = numbers_agree;
+      header = ap (λ (n : ℕ). first_broken ((nat_le HEADER_LEN n, fault.Short n) ∷ [])) long;
+      parts = λ _. same_parts (fields_of text) (fields_in v r) (record {
+        long = long;
+        event = λ i lt. let d = member r.inputs i lt in event_is i d lt ∙ sym (get_or-map event_fields r.inputs i d no_event lt);
+        start = start_is;
+        checkpoint = λ k lt. checkpoint_agrees v text (start text k) (table_before r.checkpoints k) (checkpoint_at r k) (common k lt) (later k lt);
+        change = all_changes;
+        page_number = numbers_agree;
+      });
     }
 
 -- and so the first fault

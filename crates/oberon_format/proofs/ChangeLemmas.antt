@@ -1,5 +1,5 @@
 -- The changes between two tables: they are lawful, they make the second table from the first, and no other lawful changes do.
-use Rattle.std.proofs.Common.{◌≡◌, ◌≢◌, ◌<◌, ◌≤◌, ◌+◌, ◌∙◌, ℕ, zero, suc, List, [], ◌∷◌, ◌++◌, length, append-nil, refl, sym, ap, subst, ⊎_elim, arith, add-one, eq-eqb, length-append}
+use Rattle.std.proofs.Common.{◌≡◌, ◌≢◌, ◌<◌, ◌≤◌, ◌+◌, ◌∙◌, ℕ, zero, suc, List, [], ◌∷◌, ◌++◌, length, append-nil, refl, sym, ap, subst, ⊎_elim, ◌⊎◌, inl, inr, arith, add-one, eq-eqb, length-append}
 use Rattle.std.specs.Prelude.{slice_index, slice_index_or, ◌==◌, if◌then◌else◌}
 use Rattle.std.proofs.lemmas.Bool.{cases_eq, cases_lt, cond-true, cond-false, ne_eqb}
 use Rattle.std.proofs.lemmas.Bool.Decides.{nat_tests}
@@ -90,13 +90,18 @@ places_rise change prior_number n i (suc j) lawful less lt =
     (λ (at : j ≤ i). let e : i ≡ j = omega arith in subst (λ (k : ℕ). (change k).place < (change (suc j)).place) (sym e) next)
     (cases_lt i j)
 
--- changes of slots below n of a table, which has their page ids
+-- one of n changes is of a slot
+abbrev pub IsOf : (ℕ → Change) → ℕ → ℕ → Type 0
+IsOf change n p = (i : ℕ) × (i < n) × ((change i).place ≡ p)
+
+-- changes of slots below n of a table, which has their page ids: all where it differs from another
 pub record AreBelow (before table : List ℕ) (n : ℕ) (cs : List Change) : Type 0 where
   pub few : length cs ≤ n
   pub below : (i : ℕ) → i < length cs → (member_of cs i).place < n
   pub rises : (i : ℕ) → i < length cs → place_floor (member_of cs) i ≤ (member_of cs i).place
   pub differs : (i : ℕ) → i < length cs → slice_index table (member_of cs i).place ≢ slice_index before (member_of cs i).place
   pub new : (i : ℕ) → i < length cs → (member_of cs i).number ≡ slice_index table (member_of cs i).place
+  pub all : (p : ℕ) → p < n → slice_index before p ≢ slice_index table p → IsOf (member_of cs) (length cs) p
 
 -- the change of a slot
 abbrev pub change_to : List ℕ → ℕ → Change
@@ -147,13 +152,16 @@ floor_end before table n cs (suc i) are e =
     let below = are.below i (omega arith) in
     omega arith
 
-are_next : (before table : List ℕ) (n : ℕ) (cs : List Change) → AreBelow before table n cs → AreBelow before table (suc n) cs
-are_next before table n cs are = let few = are.few in record {
+are_next : (before table : List ℕ) (n : ℕ) (cs : List Change) → slice_index before n ≡ slice_index table n → AreBelow before table n cs → AreBelow before table (suc n) cs
+are_next before table n cs same are = let few = are.few in record {
   few = omega arith;
   below = λ i lt. let one = are.below i lt in omega arith;
   rises = are.rises;
   differs = are.differs;
   new = are.new;
+  all = λ p lt ne. ⊎_elim (λ (less : p < n). are.all p less ne)
+      (λ (more : n ≤ p). let e : n ≡ p = omega arith in absurd (ne (subst (λ (q : ℕ). slice_index before q ≡ slice_index table q) e same)))
+      (cases_lt p n);
 }
 
 are_more : (before table : List ℕ) (n : ℕ) (cs : List Change) → slice_index before n ≢ slice_index table n → AreBelow before table n cs
@@ -161,15 +169,21 @@ are_more : (before table : List ℕ) (n : ℕ) (cs : List Change) → slice_inde
 are_more before table n cs ne are =
     let c = change_to table n in
     let few = are.few in
+    let long : length (cs ++ c ∷ []) ≡ suc (length cs) = omega (arith, length-append cs (c ∷ [])) in
     record {
-      few = omega (arith, length-append cs (c ∷ []));
+      few = omega arith;
       below = push_each (λ (i : ℕ) (x : Change). x.place < suc n) cs c (λ i lt. let one = are.below i lt in omega arith) (omega arith);
       rises = λ i lt.
-          let floor = floor_left cs c i (omega (arith, length-append cs (c ∷ []))) in
+          let floor = floor_left cs c i (omega arith) in
           subst (λ (m : ℕ). m ≤ (member_of (cs ++ c ∷ []) i).place) floor
           (push_each (λ (j : ℕ) (x : Change). place_floor (member_of cs) j ≤ x.place) cs c are.rises (floor_end before table n cs (length cs) are refl) i lt);
       differs = push_each (λ (i : ℕ) (x : Change). slice_index table x.place ≢ slice_index before x.place) cs c are.differs (λ e. ne (sym e));
       new = push_each (λ (i : ℕ) (x : Change). x.number ≡ slice_index table x.place) cs c are.new refl;
+      all = λ p lt other. ⊎_elim (λ (less : p < n).
+          let at = are.all p less other in
+          (at.0, omega (arith, at.1), ap (λ (x : Change). x.place) (get_or_append_left cs (c ∷ []) no_change at.0 at.1) ∙ at.2))
+          (λ (more : n ≤ p). (length cs, omega arith, ap (λ (x : Change). x.place) (get_or_push cs c no_change (length cs) refl) ∙ omega arith))
+          (cases_lt p n);
     }
 
 pub are_below : (before table : List ℕ) (n : ℕ) → AreBelow before table n (changes_below n before table)
@@ -180,10 +194,11 @@ are_below before table zero = record {
   rises = λ i lt. absurd (omega arith);
   differs = λ i lt. absurd (omega arith);
   new = λ i lt. absurd (omega arith);
+  all = λ p lt ne. absurd (omega arith);
 }
 are_below before table (suc n) =
     let are = are_below before table n in
-    ⊎_elim (λ (e : slice_index before n ≡ slice_index table n). subst (AreBelow before table (suc n)) (sym (below_same n before table e)) (are_next before table n _ are))
+    ⊎_elim (λ (e : slice_index before n ≡ slice_index table n). subst (AreBelow before table (suc n)) (sym (below_same n before table e)) (are_next before table n _ e are))
     (λ (ne : slice_index before n ≢ slice_index table n). subst (AreBelow before table (suc n)) (sym (below_more n before table ne)) (are_more before table n _ ne are))
     (cases_eq (slice_index before n) (slice_index table n))
 
@@ -200,168 +215,93 @@ changes-lawful before table =
     let are = are_below before table PLACES in
     record { rises = are.rises; inside = are.below; differs = λ i lt e. are.differs i lt (sym (are.new i lt) ∙ e) }
 
--- applying the changes of slots below n gives the second table below n, and leaves the first from there on
-pub record AreMade (before table : List ℕ) (n : ℕ) (cs : List Change) : Type 0 where
-  pub made : (p : ℕ) → p < n → number_after (member_of cs) (slice_index before) (length cs) p ≡ slice_index table p
-  pub left : (p : ℕ) → n ≤ p → number_after (member_of cs) (slice_index before) (length cs) p ≡ slice_index before p
-
-made_next : (before table : List ℕ) (n : ℕ) (cs : List Change) → slice_index before n ≡ slice_index table n → AreMade before table n cs
-    → AreMade before table (suc n) cs
-made_next before table n cs e are = record {
-  made = λ p lt.
-      ⊎_elim (λ (less : p < n). are.made p less)
-      (λ (more : n ≤ p).
-      let same : n ≡ p = omega arith in
-      subst (λ (q : ℕ). number_after (member_of cs) (slice_index before) (length cs) q ≡ slice_index table q) same (are.left n (omega arith) ∙ e))
-      (cases_lt p n);
-  left = λ p le. are.left p (omega arith);
-}
-
--- one more change at the end
-after_push : (cs : List Change) (c : Change) (prior_number : ℕ → ℕ) (p : ℕ)
-    → number_after (member_of (cs ++ c ∷ [])) prior_number (length (cs ++ c ∷ [])) p ≡ (if c.place == p then c.number else number_after (member_of cs) prior_number (length cs) p)
-unfolding number_after
-after_push cs c prior_number p =
-    let more = member_of (cs ++ c ∷ []) in
-    let last : more (length cs) ≡ c = get_or_push cs c no_change (length cs) refl in
-    let len : length (cs ++ c ∷ []) ≡ suc (length cs) = omega (arith, length-append cs (c ∷ [])) in
-    let first : number_after more prior_number (length cs) p ≡ number_after (member_of cs) prior_number (length cs) p =
-    after-same more (member_of cs) prior_number prior_number (length cs) p (λ i lt. get_or_append_left cs (c ∷ []) no_change i lt) refl in
-    ap (λ (n : ℕ). number_after more prior_number n p) len
-    ∙ ap (λ (x : Change). if x.place == p then x.number else number_after more prior_number (length cs) p) last
-    ∙ ap (λ (x : ℕ). if c.place == p then c.number else x) first
-
-push_here : (cs : List Change) (c : Change) (prior_number : ℕ → ℕ) (p : ℕ) → c.place ≡ p
-    → number_after (member_of (cs ++ c ∷ [])) prior_number (length (cs ++ c ∷ [])) p ≡ c.number
-push_here cs c prior_number p e = after_push cs c prior_number p ∙ cond-true (c.place == p) _ _ (eq-eqb _ _ e)
-
-push_other : (cs : List Change) (c : Change) (prior_number : ℕ → ℕ) (p : ℕ) → c.place ≢ p
-    → number_after (member_of (cs ++ c ∷ [])) prior_number (length (cs ++ c ∷ [])) p ≡ number_after (member_of cs) prior_number (length cs) p
-push_other cs c prior_number p ne = after_push cs c prior_number p ∙ cond-false (c.place == p) _ _ (ne_eqb _ _ ne)
-
-made_more : (before table : List ℕ) (n : ℕ) (cs : List Change) → AreMade before table n cs → AreMade before table (suc n) (cs ++ change_to table n ∷ [])
-made_more before table n cs are =
-    let c = change_to table n in
-    record {
-      made = λ p lt.
-          ⊎_elim (λ (less : p < n). push_other cs c (slice_index before) p (omega arith) ∙ are.made p less)
-          (λ (more : n ≤ p). let same : n ≡ p = omega arith in push_here cs c (slice_index before) p same ∙ ap (slice_index table) same)
-          (cases_lt p n);
-      left = λ p le. push_other cs c (slice_index before) p (omega arith) ∙ are.left p (omega arith);
-    }
-
-are_made : (before table : List ℕ) (n : ℕ) → AreMade before table n (changes_below n before table)
-unfolding changes_below
-are_made before table zero = record { made = λ p lt. absurd (omega arith); left = λ p le. after_none (member_of []) (slice_index before) p }
-are_made before table (suc n) =
-    let are = are_made before table n in
-    ⊎_elim (λ (e : slice_index before n ≡ slice_index table n). subst (AreMade before table (suc n)) (sym (below_same n before table e)) (made_next before table n _ e are))
-    (λ (ne : slice_index before n ≢ slice_index table n). subst (AreMade before table (suc n)) (sym (below_more n before table ne)) (made_more before table n _ are))
-    (cases_eq (slice_index before n) (slice_index table n))
-
 -- applying the changes gives the table
 pub changes-make : (before table : List ℕ) (p : ℕ) → p < PLACES
     → number_after (change_in before table) (slice_index before) (length (changes before table)) p ≡ slice_index table p
-changes-make before table p lt = (are_made before table PLACES).made p lt
+changes-make before table p lt =
+    let are = are_below before table PLACES in
+    let change = change_in before table in
+    let n = length (changes before table) in
+    ⊎_elim (λ (e : slice_index before p ≡ slice_index table p).
+    after_untouched change (slice_index before) n p (λ i less here. are.differs i less (subst (λ (q : ℕ). slice_index table q ≡ slice_index before q) (sym here) (sym e))) ∙ e)
+    (λ (ne : slice_index before p ≢ slice_index table p).
+    let at = are.all p lt ne in
+    after_touched change (slice_index before) n at.0 p at.1 at.2 (λ i above below. let rise = places_rise change (slice_index before) n at.0 i (changes-lawful before table) above below in omega (arith, at.2))
+    ∙ are.new at.0 at.1
+    ∙ ap (slice_index table) at.2)
+    (cases_eq (slice_index before p) (slice_index table p))
 
--- the changes of slots below n are the first of some changes, of which all others have slots from n on
-pub record AreFirst (change : ℕ → Change) (count n : ℕ) (cs : List Change) : Type 0 where
-  pub few : length cs ≤ count
-  pub same : (i : ℕ) → i < length cs → member_of cs i ≡ change i
-  pub below : (i : ℕ) → i < length cs → (change i).place < n
-  pub above : (i : ℕ) → length cs ≤ i → i < count → n ≤ (change i).place
+-- lawful changes that make a table from another
+record Make (before table : List ℕ) (change : ℕ → Change) (n : ℕ) : Type 0 where
+  lawful : AreLawful change (slice_index before) n
+  makes : (p : ℕ) → p < PLACES → slice_index table p ≡ number_after change (slice_index before) n p
 
--- if the next change is that of slot n
-first_more : (change : ℕ → Change) (prior_number : ℕ → ℕ) (count n : ℕ) (table : List ℕ) (cs : List Change) → AreLawful change prior_number count
-    → slice_index table n ≡ number_after change prior_number count n
-    → length cs < count → (change (length cs)).place ≡ n → AreFirst change count n cs → AreFirst change count (suc n) (cs ++ change_to table n ∷ [])
-first_more change prior_number count n table cs lawful is lt here are =
-    let m = length cs in
-    let c = change_to table n in
-    let number : (change m).number ≡ slice_index table n =
-    sym (is ∙ after_touched change prior_number count m n lt here (λ i above below. let r = places_rise change prior_number count m i lawful above below in omega arith)) in
-    let one : c ≡ change m = λ x. record { place = sym here x; number = sym number x } in
-    record {
-      few = omega (arith, length-append cs (c ∷ []));
-      same = push_each (λ (i : ℕ) (x : Change). x ≡ change i) cs c are.same one;
-      below = push_each (λ (i : ℕ) (x : Change). (change i).place < suc n) cs c (λ i less. let b = are.below i less in omega arith) (omega arith);
-      above = λ i le less.
-          let past : m < i = omega (arith, length-append cs (c ∷ [])) in
-          let r = places_rise change prior_number count m i lawful past less in
-          omega arith;
-    }
+-- one of n changes is of a slot, or none
+find : (change : ℕ → Change) (n p : ℕ) → IsOf change n p ⊎ ((i : ℕ) → i < n → (change i).place ≢ p)
+find change zero p = inr (λ i lt. absurd (omega arith))
+find change (suc n) p =
+    ⊎_elim (λ (e : (change n).place ≡ p). inl (n, omega arith, e))
+    (λ (ne : (change n).place ≢ p). ⊎_elim (λ (at : IsOf change n p). inl (at.0, omega (arith, at.1), at.2))
+    (λ (away : (i : ℕ) → i < n → (change i).place ≢ p). inr (λ i lt. ⊎_elim (λ (less : i < n). away i less)
+    (λ (more : n ≤ i). let e : n ≡ i = omega arith in subst (λ (j : ℕ). (change j).place ≢ p) e ne) (cases_lt i n)))
+    (find change n p))
+    (cases_eq (change n).place p)
 
--- if no change is that of slot n
-first_next : (change : ℕ → Change) (count n : ℕ) (cs : List Change) → ((i : ℕ) → i < count → (change i).place ≢ n) → AreFirst change count n cs
-    → AreFirst change count (suc n) cs
-first_next change count n cs away are = record {
-  few = are.few;
-  same = are.same;
-  below = λ i lt. let b = are.below i lt in omega arith;
-  above = λ i le lt. let a = are.above i le lt in let ne = away i lt in omega arith;
-}
+module _ (before table : List ℕ) (change : ℕ → Change) (n : ℕ) (make : Make before table change n) where
+  -- each has the page id of the table, which differs from the one before
+  made_number : (i : ℕ) → i < n → (change i).number ≡ slice_index table (change i).place
+  made_number i lt =
+      sym (make.makes (change i).place (make.lawful.inside i lt)
+      ∙ after_touched change (slice_index before) n i (change i).place lt refl (λ j above below. let rise = places_rise change (slice_index before) n i j make.lawful above below in omega arith))
 
--- no change is that of slot n, if the next one is not
-first_away : (change : ℕ → Change) (prior_number : ℕ → ℕ) (count n : ℕ) (cs : List Change) → AreLawful change prior_number count → AreFirst change count n cs
-    → (length cs < count → (change (length cs)).place ≢ n)
-    → (i : ℕ) → i < count → (change i).place ≢ n
-first_away change prior_number count n cs lawful are ne i lt =
-    ⊎_elim (λ (less : i < length cs). let b = are.below i less in omega arith)
-    (λ (more : length cs ≤ i).
-    ⊎_elim (λ (past : length cs < i).
-    let a = are.above (length cs) (omega arith) (omega arith) in
-    let r = places_rise change prior_number count (length cs) i lawful past lt in
-    omega arith)
-    (λ (at : i ≤ length cs). let e : length cs ≡ i = omega arith in subst (λ (j : ℕ). (change j).place ≢ n) e (ne (omega arith)))
-    (cases_lt (length cs) i))
-    (cases_lt i (length cs))
+  made_differs : (i : ℕ) → i < n → slice_index before (change i).place ≢ slice_index table (change i).place
+  made_differs i lt e = make.lawful.differs i lt (made_number i lt ∙ sym e)
 
-first_step : (change : ℕ → Change) (count n : ℕ) (before table : List ℕ) → AreLawful change (slice_index before) count
-    → slice_index table n ≡ number_after change (slice_index before) count n
-    → AreFirst change count n (changes_below n before table) → AreFirst change count (suc n) (changes_below (suc n) before table)
-first_step change count n before table lawful is are =
-    let prior_number = slice_index before in
-    let cs = changes_below n before table in
-    let m = length cs in
-    let away = λ (ne : m < count → (change m).place ≢ n).
-    (let none = first_away change prior_number count n cs lawful are ne in
-    let left : prior_number n ≡ slice_index table n = sym (is ∙ after_untouched change prior_number count n none) in
-    subst (AreFirst change count (suc n)) (sym (below_same n before table left)) (first_next change count n cs none are)) in
-    ⊎_elim (λ (lt : m < count).
-    ⊎_elim (λ (here : (change m).place ≡ n).
-    let number : slice_index table n ≡ (change m).number =
-    is ∙ after_touched change prior_number count m n lt here (λ i above below. let r = places_rise change prior_number count m i lawful above below in omega arith) in
-    let differs : prior_number n ≢ slice_index table n = λ e. lawful.differs m lt (sym number ∙ sym e ∙ ap prior_number (sym here)) in
-    subst (AreFirst change count (suc n)) (sym (below_more n before table differs)) (first_more change prior_number count n table cs lawful is lt here are))
-    (λ (ne : (change m).place ≢ n). away (λ _. ne))
-    (cases_eq (change m).place n))
-    (λ (ge : count ≤ m). away (λ lt. absurd (omega arith)))
-    (cases_lt m count)
+  -- and they are of all slots where the tables differ
+  made_all : (p : ℕ) → p < PLACES → slice_index before p ≢ slice_index table p → IsOf change n p
+  made_all p lt ne =
+      ⊎_elim (λ (at : IsOf change n p). at)
+      (λ (away : (i : ℕ) → i < n → (change i).place ≢ p). absurd (ne (sym (make.makes p lt ∙ after_untouched change (slice_index before) n p away))))
+      (find change n p)
 
-are_first : (change : ℕ → Change) (count n : ℕ) (before table : List ℕ) → n ≤ PLACES → AreLawful change (slice_index before) count
-    → ((p : ℕ) → p < PLACES → slice_index table p ≡ number_after change (slice_index before) count p) → AreFirst change count n (changes_below n before table)
-unfolding changes_below
-are_first change count zero before table le lawful is = record {
-  few = omega arith;
-  same = λ i lt. absurd (omega arith);
-  below = λ i lt. absurd (omega arith);
-  above = λ i least lt. omega arith;
-}
-are_first change count (suc n) before table le lawful is =
-    first_step change count n before table lawful (is n (omega arith)) (are_first change count n before table (omega arith) lawful is)
+-- the next of one list is not of an earlier slot than the next of another, if those before are the same
+next_low : (before table : List ℕ) (a b : ℕ → Change) (n m i : ℕ) → Make before table a n → Make before table b m → i < n → ((j : ℕ) → j < i → a j ≡ b j)
+    → (i < m) × ((b i).place ≤ (a i).place)
+next_low before table a b n m i x y lt same =
+    let at = made_all before table b m y (a i).place (x.lawful.inside i lt) (made_differs before table a n x i lt) in
+    let j = at.0 in
+    let less = at.1 in
+    let is = at.2 in
+    let late : i ≤ j = ⊎_elim (λ (under : j < i).
+    let rise = places_rise a (slice_index before) n j i x.lawful under lt in
+    let e = ap (λ (c : Change). c.place) (same j under) in
+    absurd (omega arith)) (λ (over : i ≤ j). over) (cases_lt j i) in (
+      omega arith,
+      ⊎_elim (λ (under : i < j). let rise = places_rise b (slice_index before) m i j y.lawful under less in omega arith)
+          (λ (over : j ≤ i). let e : i ≡ j = omega arith in let here = ap (λ (k : ℕ). (b k).place) e in omega arith) (cases_lt i j),
+    )
+
+same_so_far : (before table : List ℕ) (a b : ℕ → Change) (n m i : ℕ) → Make before table a n → Make before table b m → i ≤ n → (i ≤ m) × ((j : ℕ) → j < i → a j ≡ b j)
+same_so_far before table a b n m zero x y le = (omega arith, λ j lt. absurd (omega arith))
+same_so_far before table a b n m (suc i) x y le =
+    let so_far = same_so_far before table a b n m i x y (omega arith) in
+    let low = next_low before table a b n m i x y (omega arith) so_far.1 in
+    let low' = next_low before table b a m n i y x low.0 (λ j lt. sym (so_far.1 j lt)) in
+    let place : (a i).place ≡ (b i).place = omega (arith, low.1, low'.1) in
+    let number = made_number before table a n x i (omega arith) ∙ ap (slice_index table) place ∙ sym (made_number before table b m y i low.0) in
+    let here : a i ≡ b i = λ k. record { place = place k; number = number k } in
+    (omega (arith, low.0), λ j lt. ⊎_elim (λ (less : j < i). so_far.1 j less) (λ (more : i ≤ j). let e : i ≡ j = omega arith in subst (λ (k : ℕ). a k ≡ b k) e here) (cases_lt j i))
 
 -- lawful changes are the changes to the table that they make
 pub lawful-are : (change : ℕ → Change) (n : ℕ) (before table : List ℕ) → AreLawful change (slice_index before) n
     → ((p : ℕ) → p < PLACES → slice_index table p ≡ number_after change (slice_index before) n p)
     → (length (changes before table) ≡ n) × ((i : ℕ) → i < n → change_in before table i ≡ change i)
 lawful-are change n before table lawful is =
-    let are = are_first change n PLACES before table (omega arith) lawful is in
-    let few = are.few in
-    let all : length (changes before table) ≡ n =
-    ⊎_elim (λ (lt : length (changes before table) < n).
-    let inside = lawful.inside (length (changes before table)) lt in
-    let above = are.above (length (changes before table)) (omega arith) lt in
-    absurd (omega arith))
-    (λ (ge : n ≤ length (changes before table)). omega arith)
-    (cases_lt (length (changes before table)) n) in
-    (all, λ i lt. are.same i (omega arith))
+    let m = length (changes before table) in
+    let x : Make before table change n = record { lawful = lawful; makes = is } in
+    let y : Make before table (change_in before table) m = record { lawful = changes-lawful before table; makes = λ p lt. sym (changes-make before table p lt) } in
+    let there = same_so_far before table change (change_in before table) n m n x y (omega arith) in
+    let back = same_so_far before table (change_in before table) change m n m y x (omega arith) in
+    let long = there.0 in
+    let short = back.0 in
+    (omega arith, λ i lt. sym (there.1 i lt))

@@ -1,25 +1,28 @@
 -- How long the file of a recording can be, and that a file that is cut after that many bytes has the first fault of the whole.
-use Rattle.std.proofs.Common.{◌≡◌, ◌≤◌, ◌<◌, ◌+◌, ◌-◌, ◌*◌, ◌==◌, ◌∙◌, ℕ, zero, suc, if◌then◌else◌, sym, subst, Bool, true, false, List, arith, refl, ap, ap₂, drop, length, take}
-use Rattle.std.proofs.lemmas.Bool.{eqb-true, leb-true, leb-false}
+use Rattle.std.proofs.Common.{◌≡◌, ◌≤◌, ◌<◌, ◌+◌, ◌-◌, ◌*◌, ◌==◌, ◌∙◌, ℕ, zero, suc, if◌then◌else◌, sym, subst, Bool, true, false, List, [], ◌∷◌, None, Some, inl, inr, arith, refl, ap, ap₂, drop, length, take}
+use Rattle.std.proofs.lemmas.Bool.{cases_lt, eqb-true, le-leb, leb-true, leb-false, ne_eqb}
 use Rattle.std.proofs.lemmas.List.{drop-take, get_or-take, length-take, take-take}
 use Rattle.std.specs.Prelude.{nat_le, slice_range}
-use Rattle.oberon_format.specs.FirstFault.{first_broken}
+use Rattle.oberon_format.specs.FirstFault.{each, first_broken}
+use Rattle.oberon_format.specs.declared.fault.Fault.TheVariants as fault
 use Rattle.oberon_format.specs.declared.fields.CheckpointFields.{CheckpointFields}
-use Rattle.oberon_format.specs.declared.layout.TheConstants.{LONGEST_TEXT, MAGIC_AT, VERSION_AT, PAGES_AT, EVENTS_AT, CHECKPOINTS_AT, LAST_AT, KIND_AT, VALUE_AT, COUNTER_AT, FLAGS_AT, STOP_AT, SWITCHES_AT, LEDS_AT, MOUSE_AT, SERIAL_AT, WAITING_AT, KEYS_AT, SENT_AT, RATE_AT, PHASE_AT, CHANGE_COUNT_AT, NUMBER_AT, FIRST_VERSION, PLACES, CHANGES_AT, CHANGE_LEN, EVENT_LEN}
+use Rattle.oberon_format.specs.declared.layout.TheConstants.{LONGEST_TEXT, HEADER_LEN, MAGIC_AT, VERSION_AT, PAGES_AT, EVENTS_AT, CHECKPOINTS_AT, LAST_AT, KIND_AT, VALUE_AT, COUNTER_AT, FLAGS_AT, STOP_AT, SWITCHES_AT, LEDS_AT, MOUSE_AT, SERIAL_AT, WAITING_AT, KEYS_AT, SENT_AT, RATE_AT, PHASE_AT, CHANGE_COUNT_AT, NUMBER_AT, FIRST_VERSION, PLACES, CHANGES_AT, CHANGE_LEN, EVENT_LEN}
+use Rattle.recording_limits.specs.declared.limits.TheConstants.{MAX_OUTPUT}
 use Rattle.oberon_format.specs.Changes.{number_after}
-use Rattle.oberon_format.specs.Fields.{Fields, total}
-use Rattle.oberon_format.specs.Layout.{version, pages, events, checkpoints, event_offset, event_start, long_at, page_number_offset, change_offset, checkpoint_size, change_count, later_word, start, word_at}
-use Rattle.oberon_format.specs.Rules.{named_len, rules}
-use Rattle.oberon_format.specs.TextFields.{change_at, change_of, checkpoint_of, event_of, fields_of, first_fault_of, number_before, page_number_of}
+use Rattle.oberon_format.specs.Fields.{Fields, sent_below, total}
+use Rattle.oberon_format.specs.Layout.{version, events, checkpoints, event_offset, event_start, long_at, page_number_offset, change_offset, checkpoint_size, change_count, later_word, start, word_at}
 use Rattle.oberon_format.specs.Recording.{RecordingParts}
+use Rattle.oberon_format.specs.Rules.{checkpoint_rules, count_before, named_len, whole}
 use Rattle.oberon_format.specs.Text.{Text}
+use Rattle.oberon_format.specs.TextFields.{change_at, change_of, checkpoint_of, event_of, fields_of, first_fault_of, number_before, page_number_of}
 use Rattle.oberon_format.proofs.ChangeLemmas.{after-same}
-use Rattle.oberon_format.proofs.PartLemmas.{start_in_within, size_few}
 use Rattle.oberon_format.proofs.Encoded.{length-encoding}
 use Rattle.oberon_format.proofs.LawfulLemmas.{lawful_formed}
-use Rattle.oberon_format.proofs.Room.{start_none, named_first}
+use Rattle.oberon_format.proofs.PartLemmas.{start_in_within, size_few}
+use Rattle.oberon_format.proofs.Room.{start_next, start_none, named_first}
+use Rattle.oberon_format.proofs.RuleLemmas.{fields_hold, met_left, met_right}
+use Rattle.oberon_format.proofs.SameFields.{AreFew, Same, SameCheckpoint, SameFields, before_same, changes_within, mixed, output_within, prior_same, same_rules, sent_same, size_rules}
 use Rattle.oberon_format.proofs.TextLemmas.{number_where, number_else}
-use Rattle.oberon_format.proofs.LongFields.{AreFew, AgreeBelow, AgreeAt, Agree, most, faults_same, fields}
 
 -- numbers in bytes before the cut
 word_at-take : (n : ℕ) (text : List ℕ) (offset : ℕ) → offset + 4 ≤ n → word_at (take n text) offset ≡ word_at text offset
@@ -113,59 +116,82 @@ change_at-take n text offset within =
     let number = word_at-take n text (offset + NUMBER_AT) (omega arith) in
     λ i. record { place = at i; number = number i }
 
+-- how far a file reaches at most up to checkpoint k: no checkpoint is longer than one of version 2 that changes each slot
+abbrev most : List ℕ → ℕ → ℕ
+most text k = event_offset text (events text) + (CHANGES_AT + CHANGE_LEN * PLACES) * k
+
 -- the length that the header asks for
-named_most : (text : List ℕ) → AreFew (pages text) (events text) (checkpoints text) → named_len (fields_of text) ≤ LONGEST_TEXT
+named_most : (text : List ℕ) → AreFew (fields_of text) → named_len (fields_of text) ≤ LONGEST_TEXT
 named_most text few = go (version text == FIRST_VERSION) refl
   where
     go : (b : Bool) → (version text == FIRST_VERSION) ≡ b → named_len (fields_of text) ≤ LONGEST_TEXT
     go true is =
-        let few_pages = few.of_pages in
-        let few_events = few.of_events in
-        let few_checkpoints = few.of_checkpoints in
+        let few_pages = few.pages in
+        let few_events = few.events in
+        let few_checkpoints = few.checkpoints in
         let begin = start_none text in
         let named = named_first text (eqb-true (version text) FIRST_VERSION is) in
         omega arith
     go false is =
-        let few_pages = few.of_pages in
-        let few_events = few.of_events in
+        let few_pages = few.pages in
+        let few_events = few.events in
         let begin = start_none text in
         let named : named_len (fields_of text) ≡ start text 0 = rw is refl in
         omega arith
 
--- a cut file, and the whole, by the numbers of the header of the whole
-module _ (n : ℕ) (text : List ℕ) (over : LONGEST_TEXT < n) where
+-- a file is longer than it must be
+too_long : (end long : ℕ) → end < long → first_broken ((nat_le end long, fault.Short long) ∷ (long == end, fault.Trailing end) ∷ []) ≡ Some (fault.Trailing end)
+too_long end long over =
+    let there : nat_le end long ≡ true = le-leb _ _ (omega arith) in
+    let more : (long == end) ≡ false = ne_eqb _ _ (λ e. omega arith) in
+    rw (there, more) refl
+
+-- two files that are longer than any of a recording have as many bytes as rules ask for
+both_long : (f g : Fields) (m n : ℕ) → LONGEST_TEXT < f.long → LONGEST_TEXT < g.long → m ≤ LONGEST_TEXT → n ≤ LONGEST_TEXT → Same (size_rules m f) (size_rules n g)
+both_long f g m n over over' low low' =
+    let there : nat_le m f.long ≡ true = le-leb _ _ (omega arith) in
+    let there' : nat_le n g.long ≡ true = le-leb _ _ (omega arith) in
+    rw (there, there') refl
+
+-- what holds below k, and at k
+last_or : (P : ℕ → Type 0) (k j : ℕ) → j < suc k → ((i : ℕ) → i < k → P i) → P k → P j
+last_or P k j lt below here =
+    elim (cases_lt j k) [
+      | inl less ↦ below j less
+      | inr more ↦ let e : k ≡ j = omega arith in subst P e here
+    ]
+
+-- a cut file, and the whole
+module _ (n : ℕ) (text : List ℕ) (over : LONGEST_TEXT < n) (within : n ≤ length text) where
   abbrev cut : List ℕ
   cut = take n text
 
-  -- the files agree up to checkpoint k, or in checkpoint k
-  abbrev Below : ℕ → Type 0
-  Below k = AgreeBelow (word_at text MAGIC_AT) (version text) (pages text) (events text) (checkpoints text) (word_at text LAST_AT)
-      (length cut) (length text) (λ i. event_of cut (event_offset cut i)) (λ i. event_of text (event_offset text i)) (start cut) (start text)
-      (λ k. checkpoint_of cut (start cut k)) (λ k. checkpoint_of text (start text k)) (λ k. change_of cut (start cut k)) (λ k. change_of text (start text k))
-      (page_number_of cut) (page_number_of text) k
+  abbrev f : Fields
+  f = fields_of cut
 
-  abbrev Here : ℕ → Type 0
-  Here k = AgreeAt (word_at text MAGIC_AT) (version text) (pages text) (events text) (checkpoints text) (word_at text LAST_AT)
-      (length cut) (length text) (λ i. event_of cut (event_offset cut i)) (λ i. event_of text (event_offset text i)) (start cut) (start text)
-      (λ k. checkpoint_of cut (start cut k)) (λ k. checkpoint_of text (start text k)) (λ k. change_of cut (start cut k)) (λ k. change_of text (start text k))
-      (page_number_of cut) (page_number_of text) k
+  abbrev g : Fields
+  g = fields_of text
 
-  -- offsets of checkpoints
-  events_begin : event_offset cut (events cut) ≡ event_offset text (events text)
-  events_begin = ap₂ event_start (word_at-take n text PAGES_AT (omega arith)) (word_at-take n text EVENTS_AT (omega arith))
+  long : length cut ≡ n
+  long = simp length-take (omega arith)
 
-  -- all before checkpoint 0 agrees
+  -- all before checkpoint k agrees, and is no longer than it may be
+  record Below (k : ℕ) : Type 0 where
+    place : start cut k ≡ start text k
+    near : start text k ≤ most text k
+    checkpoints : (j : ℕ) → j < k → f.checkpoint j ≡ g.checkpoint j
+    numbers : (j p : ℕ) → j < k → p < PLACES → page_number_of cut j p ≡ page_number_of text j p
+    sent : sent_below g k ≤ MAX_OUTPUT
+
   begins : Below 0
   unfolding start total
-  begins =
-      let same = events_begin in
-      record {
-        place = same;
-        near = omega arith;
-        of_checkpoints = λ j less. absurd (omega arith);
-        of_numbers = λ j p less inside. absurd (omega arith);
-        sent = omega arith;
-      }
+  begins = record {
+    place = ap₂ event_start (word_at-take n text PAGES_AT (omega arith)) (word_at-take n text EVENTS_AT (omega arith));
+    near = omega arith;
+    checkpoints = λ j less. absurd (omega arith);
+    numbers = λ j p less inside. absurd (omega arith);
+    sent = omega arith;
+  }
 
   -- both are of one version
   first_cut : (version text == FIRST_VERSION) ≡ true → (version cut == FIRST_VERSION) ≡ true
@@ -178,21 +204,20 @@ module _ (n : ℕ) (text : List ℕ) (over : LONGEST_TEXT < n) where
   numbers_below : (k : ℕ) → Below k → (version text == FIRST_VERSION) ≡ false → (p : ℕ) → p < PLACES → number_before cut k p ≡ number_before text k p
   unfolding number_before
   numbers_below zero below later p inside = refl
-  numbers_below (suc k) below later p inside = sym (number_else cut k p (later_cut later)) ∙ below.of_numbers k p (omega arith) inside ∙ number_else text k p later
+  numbers_below (suc k) below later p inside = sym (number_else cut k p (later_cut later)) ∙ below.numbers k p (omega arith) inside ∙ number_else text k p later
 
-  module _ (few : AreFew (pages text) (events text) (checkpoints text)) (k : ℕ) (less : k < checkpoints text) (below : Below k) where
+  module _ (few : AreFew g) (k : ℕ) (less : k < checkpoints text) (below : Below k) where
     -- there is room for the longest checkpoint
-    room : start text k + (CHANGES_AT + CHANGE_LEN * PLACES) ≤ n
+    room : start text k + (CHANGES_AT + CHANGE_LEN * PLACES) ≤ LONGEST_TEXT
     room =
-        let few_pages = few.of_pages in
-        let few_events = few.of_events in
-        let few_checkpoints = few.of_checkpoints in
-        let offset = below.place in
+        let few_pages = few.pages in
+        let few_events = few.events in
+        let few_checkpoints = few.checkpoints in
         let near = below.near in
         omega arith
 
     -- what is in checkpoint k
-    fields_here : checkpoint_of cut (start cut k) ≡ checkpoint_of text (start text k)
+    fields_here : f.checkpoint k ≡ g.checkpoint k
     fields_here =
         let space = room in
         ap (checkpoint_of cut) below.place ∙ checkpoint_of-take n text (start text k) over (omega arith)
@@ -200,129 +225,145 @@ module _ (n : ℕ) (text : List ℕ) (over : LONGEST_TEXT < n) where
     count_here : change_count cut (start cut k) ≡ change_count text (start text k)
     count_here = ap (λ (c : CheckpointFields). c.changes) fields_here
 
-    change_here : (i : ℕ) → i < PLACES → change_of cut (start cut k) i ≡ change_of text (start text k) i
+    change_here : (i : ℕ) → i < PLACES → f.change k i ≡ g.change k i
     change_here i inside =
         let space = room in
         ap (λ (offset : ℕ). change_of cut offset i) below.place ∙ change_at-take n text (change_offset (start text k) i) (omega arith)
 
     -- the offset of the next checkpoint
-    offset_next : start cut (suc k) ≡ start text (suc k)
+    next_start : start cut (suc k) ≡ start text (suc k)
     unfolding start
-    offset_next = ap₂ (λ (offset size : ℕ). offset + size) below.place (ap₂ checkpoint_size (version-take n text over) count_here)
+    next_start = ap₂ (λ (offset size : ℕ). offset + size) below.place (ap₂ checkpoint_size (version-take n text over) count_here)
 
-    near_next : change_count cut (start cut k) ≤ PLACES → start cut (suc k) ≤ most (pages text) (events text) (suc k)
-    unfolding start
-    near_next few_changes =
-        let near = below.near in
-        let size = size_few (version cut) (change_count cut (start cut k)) few_changes in
-        omega arith
+    module _ (few_changes : change_count text (start text k) ≤ PLACES) where
+      near_next : start text (suc k) ≤ most text (suc k)
+      unfolding start
+      near_next =
+          let near = below.near in
+          let size = size_few (version text) (change_count text (start text k)) few_changes in
+          omega arith
 
-    -- its page ids
-    number_first : (version text == FIRST_VERSION) ≡ true → (p : ℕ) → p < PLACES → page_number_of cut k p ≡ page_number_of text k p
-    number_first first p inside =
+      -- its page ids
+      number_first : (version text == FIRST_VERSION) ≡ true → (p : ℕ) → p < PLACES → page_number_of cut k p ≡ page_number_of text k p
+      number_first first p inside =
+          let space = room in
+          number_where cut k p (first_cut first)
+          ∙ ap (λ (offset : ℕ). word_at cut (page_number_offset offset p)) below.place
+          ∙ word_at-take n text (page_number_offset (start text k) p) (omega arith)
+          ∙ sym (number_where text k p first)
+
+      number_later : (version text == FIRST_VERSION) ≡ false → (p : ℕ) → p < PLACES → page_number_of cut k p ≡ page_number_of text k p
+      unfolding number_before
+      number_later later p inside =
+          number_else cut k p (later_cut later)
+          ∙ ap (λ (m : ℕ). number_after (change_of cut (start cut k)) (number_before cut k) m p) count_here
+          ∙ after-same (change_of cut (start cut k)) (change_of text (start text k)) (number_before cut k) (number_before text k) (change_count text (start text k)) p
+          (λ i under. change_here i (omega arith)) (numbers_below k below later p inside)
+          ∙ sym (number_else text k p later)
+
+      number_here : (p : ℕ) → p < PLACES → page_number_of cut k p ≡ page_number_of text k p
+      number_here p inside = go (version text == FIRST_VERSION) refl
+        where
+          go : (b : Bool) → (version text == FIRST_VERSION) ≡ b → page_number_of cut k p ≡ page_number_of text k p
+          go true first = number_first first p inside
+          go false later = number_later later p inside
+
+    -- what rules look at in it
+    here : SameCheckpoint f g k
+    here =
         let space = room in
-        number_where cut k p (first_cut first)
-        ∙ ap (λ (offset : ℕ). word_at cut (page_number_offset offset p)) below.place
-        ∙ word_at-take n text (page_number_offset (start text k) p) (omega arith)
-        ∙ sym (number_where text k p first)
+        let at = below.place in
+        record {
+          start = below.place;
+          before = before_same f g k below.checkpoints;
+          sent = sent_same f g k below.checkpoints;
+          room = both_long f g (start cut k + CHANGES_AT) (start text k + CHANGES_AT) (omega (arith, long)) (omega arith) (omega arith) (omega arith);
+          fields = fields_here;
+          rest = λ few_changes.
+              let next = next_start in
+              let size = size_few (version text) (change_count text (start text k)) few_changes in
+              let more = start_next text k in
+              record {
+                ends = both_long f g (start cut (suc k)) (start text (suc k)) (omega (arith, long)) (omega arith) (omega arith) (omega arith);
+                prior = λ p inside. prior_same f g k p (λ j under. below.numbers j p under inside);
+                change = λ i under. change_here i (omega arith);
+                page_number = number_here few_changes;
+              };
+        }
 
-    number_later : (version text == FIRST_VERSION) ≡ false → change_count cut (start cut k) ≤ PLACES → (p : ℕ) → p < PLACES
-        → page_number_of cut k p ≡ page_number_of text k p
-    unfolding number_before
-    number_later later few_changes p inside =
-        number_else cut k p (later_cut later)
-        ∙ after-same (change_of cut (start cut k)) (change_of text (start text k)) (number_before cut k) (number_before text k) (change_count cut (start cut k)) p
-        (λ i under. change_here i (omega arith)) (numbers_below k below later p inside)
-        ∙ ap (λ (m : ℕ). number_after (change_of text (start text k)) (number_before text k) m p) count_here
-        ∙ sym (number_else text k p later)
+    -- and so all before the next one agrees, if its rules are met
+    next : first_broken (checkpoint_rules g k) ≡ None → Below (suc k)
+    unfolding total
+    next met =
+        let ranges = fields_hold g k met in
+        let few_changes = changes_within k (count_before g k) (sent_below g k) (g.checkpoint k) ranges in
+        record {
+          place = next_start;
+          near = near_next few_changes;
+          checkpoints = λ j lt. last_or (λ i. f.checkpoint i ≡ g.checkpoint i) k j lt below.checkpoints fields_here;
+          numbers = λ j p lt inside. last_or (λ i. page_number_of cut i p ≡ page_number_of text i p) k j lt (λ i under. below.numbers i p under inside) (number_here few_changes p inside);
+          sent = output_within k (count_before g k) (sent_below g k) (g.checkpoint k) ranges;
+        }
 
-    number_here : change_count cut (start cut k) ≤ PLACES → (p : ℕ) → p < PLACES → page_number_of cut k p ≡ page_number_of text k p
-    number_here few_changes p inside = go (version text == FIRST_VERSION) refl
-      where
-        go : (b : Bool) → (version text == FIRST_VERSION) ≡ b → page_number_of cut k p ≡ page_number_of text k p
-        go true first = number_first first p inside
-        go false later = number_later later few_changes p inside
+  -- so all before each checkpoint agrees, if the rules of those before it are met
+  below_met : AreFew g → (k : ℕ) → k ≤ checkpoints text → first_broken (each k (checkpoint_rules g)) ≡ None → Below k
+  unfolding each
+  below_met few zero le met = begins
+  below_met few (suc k) le met =
+      next few k (omega arith) (below_met few k (omega arith) (met_left (each k (checkpoint_rules g)) (checkpoint_rules g k) met))
+      (met_right (each k (checkpoint_rules g)) (checkpoint_rules g k) met)
 
-    -- all of checkpoint k
-    here : Here k
-    here = record {
-      of_checkpoint = fields_here;
-      place = λ few_changes. offset_next;
-      near = near_next;
-      of_changes = λ few_changes i under. change_here i (omega arith);
-      of_numbers = number_here;
-    }
-
-  -- the fields of the cut file, with the header of the whole
-  fields_cut : fields_of cut ≡ fields (word_at text MAGIC_AT) (version text) (pages text) (events text) (checkpoints text) (word_at text LAST_AT)
-      (length cut) (λ i. event_of cut (event_offset cut i)) (start cut) (λ k. checkpoint_of cut (start cut k))
-      (λ k. change_of cut (start cut k)) (page_number_of cut)
-  fields_cut =
-      let first = word_at-take n text MAGIC_AT (omega arith) in
-      let of_version = word_at-take n text VERSION_AT (omega arith) in
-      let of_pages = word_at-take n text PAGES_AT (omega arith) in
-      let of_events = word_at-take n text EVENTS_AT (omega arith) in
-      let of_checkpoints = word_at-take n text CHECKPOINTS_AT (omega arith) in
-      let last = word_at-take n text LAST_AT (omega arith) in
-      λ i. record {
-        long = length cut;
-        first = first i;
-        version = of_version i;
-        pages = of_pages i;
-        events = of_events i;
-        checkpoints = of_checkpoints i;
-        last = last i;
-        event = λ j. event_of cut (event_offset cut j);
-        start = start cut;
-        checkpoint = λ k. checkpoint_of cut (start cut k);
-        change = λ k. change_of cut (start cut k);
-        page_number = page_number_of cut;
-      }
-
-  -- both have counts within the limits
-  few_cut : AreFew (pages text) (events text) (checkpoints text) → AreFew (pages cut) (events cut) (checkpoints cut)
+  few_cut : AreFew g → AreFew f
   few_cut few =
       let of_pages = word_at-take n text PAGES_AT (omega arith) in
       let of_events = word_at-take n text EVENTS_AT (omega arith) in
       let of_checkpoints = word_at-take n text CHECKPOINTS_AT (omega arith) in
-      let few_pages = few.of_pages in
-      let few_events = few.of_events in
-      let few_checkpoints = few.of_checkpoints in
-      record { of_pages = omega arith; of_events = omega arith; of_checkpoints = omega arith }
+      let few_pages = few.pages in
+      let few_events = few.events in
+      let few_checkpoints = few.checkpoints in
+      record { pages = omega arith; events = omega arith; checkpoints = omega arith }
 
-  -- an event
-  event_same : AreFew (pages text) (events text) (checkpoints text) → (i : ℕ) → i < events text
-      → event_of cut (event_offset cut i) ≡ event_of text (event_offset text i)
+  event_same : AreFew g → (i : ℕ) → i < events text → f.event i ≡ g.event i
   event_same few i less =
       let of_pages = word_at-take n text PAGES_AT (omega arith) in
-      let few_pages = few.of_pages in
-      let few_events = few.of_events in
+      let few_pages = few.pages in
+      let few_events = few.events in
       event_of-take n text (event_offset cut i) (omega arith) ∙ ap (λ (p : ℕ). event_of text (event_start p i)) of_pages
 
-  -- what rules look at is before the cut
-  agree_cut : AreFew (pages text) (events text) (checkpoints text)
-      → Agree (word_at text MAGIC_AT) (version text) (pages text) (events text) (checkpoints text) (word_at text LAST_AT)
-      (length cut) (length text) (λ i. event_of cut (event_offset cut i)) (λ i. event_of text (event_offset text i)) (start cut) (start text)
-      (λ k. checkpoint_of cut (start cut k)) (λ k. checkpoint_of text (start text k)) (λ k. change_of cut (start cut k)) (λ k. change_of text (start text k))
-      (page_number_of cut) (page_number_of text)
-  agree_cut few = record {
-    named = subst (λ (f : Fields). named_len f ≤ LONGEST_TEXT) fields_cut (named_most cut (few_cut few));
-    named' = named_most text few;
-    of_events = event_same few;
-    begin = begins;
-    each_here = here few;
+  agree : SameFields f g
+  agree = record {
+    first = word_at-take n text MAGIC_AT (omega arith);
+    version = version-take n text over;
+    pages = word_at-take n text PAGES_AT (omega arith);
+    events = word_at-take n text EVENTS_AT (omega arith);
+    checkpoints = word_at-take n text CHECKPOINTS_AT (omega arith);
+    last = word_at-take n text LAST_AT (omega arith);
+    header = both_long f g HEADER_LEN HEADER_LEN (omega (arith, long)) (omega arith) (omega arith) (omega arith);
+    parts = λ few. record {
+      named = both_long f g (named_len (mixed f g)) (named_len g) (omega (arith, long)) (omega arith)
+          (subst (λ (m : ℕ). m ≤ LONGEST_TEXT)
+          (ap₂ (λ (v k : ℕ). if v == FIRST_VERSION then start cut k else start cut 0) (version-take n text over) (word_at-take n text CHECKPOINTS_AT (omega arith)))
+          (named_most cut (few_cut few)))
+          (named_most text few);
+      event = event_same few;
+      checkpoint = λ k less met. here few k less (below_met few k (omega arith) met);
+      ends = λ met.
+          let below = below_met few (checkpoints text) (omega arith) met in
+          let near = below.near in
+          let sent = below.sent in
+          let few_pages = few.pages in
+          let few_events = few.events in
+          let few_checkpoints = few.checkpoints in
+          let same = ap₂ (λ (a b : ℕ). a + b) below.place (sent_same f g (checkpoints text) below.checkpoints) in
+          too_long (start cut (checkpoints text) + sent_below f (checkpoints text)) (length cut) (omega (arith, long))
+          ∙ ap (λ (m : ℕ). Some (fault.Trailing m)) same
+          ∙ sym (too_long (whole g) (length text) (omega arith));
+    };
   }
 
 -- a file that is cut there has the first fault of the whole
 pub first_fault_of-take : (n : ℕ) (text : List ℕ) → LONGEST_TEXT < n → n ≤ length text → first_fault_of (take n text) ≡ first_fault_of text
-first_fault_of-take n text over within =
-    let cut : List ℕ = take n text in
-    ap (λ (f : Fields). first_broken (rules f)) (fields_cut n text over)
-    ∙ faults_same (word_at text MAGIC_AT) (version text) (pages text) (events text) (checkpoints text) (word_at text LAST_AT)
-    (length cut) (length text) (λ i. event_of cut (event_offset cut i)) (λ i. event_of text (event_offset text i)) (start cut) (start text)
-    (λ k. checkpoint_of cut (start cut k)) (λ k. checkpoint_of text (start text k)) (λ k. change_of cut (start cut k)) (λ k. change_of text (start text k))
-    (page_number_of cut) (page_number_of text) (agree_cut n text over)
-    (simp length-take (omega arith)) (omega arith)
+first_fault_of-take n text over within = same_rules (fields_of (take n text)) (fields_of text) (agree n text over within)
 
 -- the longest file has 118,310,056 bytes: 24 of the header, 65,536 pages, 1,000,000 events, 4,097 checkpoints that change each
 -- slot of the table, and the output

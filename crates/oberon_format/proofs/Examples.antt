@@ -1,5 +1,5 @@
 -- Worked examples of the definitions: each computes to the value that the format asks for.
-use Rattle.std.proofs.Common.{◌≡◌, ℕ, zero, suc, true, false, List, [], ◌∷◌, ◌+◌, ◌*◌, ◌++◌, length, take, replicate, None, Some, refl}
+use Rattle.std.proofs.Common.{◌≡◌, ℕ, zero, suc, true, false, List, [], ◌∷◌, ◌+◌, ◌*◌, ◌++◌, length, map, take, replicate, None, Some, refl}
 use Rattle.std.specs.Prelude.{slice_index}
 use Rattle.risc_devices.specs.DeviceState.{is_phase}
 use Rattle.risc_devices.specs.Input as input
@@ -19,6 +19,10 @@ use Rattle.oberon_format.specs.Rules.{rules, checkpoint_rules, page_number_rules
 use Rattle.oberon_format.specs.Encoding.{word_bytes, long_bytes, common_bytes, change_bytes, header_bytes}
 use Rattle.oberon_format.specs.TextFields.{first_fault_of, number_before}
 
+-- rows of a table: what a function is asked, and what it answers
+abbrev Answers : {A B : Type 0} → (A → B) → List (A × B) → Type 0
+Answers f rows = map (λ row. f row.0) rows ≡ map (λ row. row.1) rows
+
 -- the bytes of a header: its magic is right, and its numbers are those of its bytes
 abbrev header : List ℕ → List ℕ → List ℕ → List ℕ → List ℕ → List ℕ
 header version pages events checkpoints last = 0x4F ∷ 0x52 ∷ 0x53 ∷ 0x52 ∷ (version ++ pages ++ events ++ checkpoints ++ last)
@@ -29,101 +33,65 @@ zero_word = 0 ∷ 0 ∷ 0 ∷ 0 ∷ []
 abbrev one_word : List ℕ
 one_word = 1 ∷ 0 ∷ 0 ∷ 0 ∷ []
 
--- first faults of files
-empty-text : first_fault_of [] ≡ Some (fault.Short 0)
-unfolding rules
-empty-text = refl
-
-zeros : first_fault_of (replicate 24 0) ≡ Some (fault.Magic 0)
-unfolding rules word_at
-zeros = refl
-
-version-nine : first_fault_of (header (9 ∷ 0 ∷ 0 ∷ 0 ∷ []) zero_word zero_word one_word zero_word) ≡ Some (fault.Version 4)
-unfolding rules word_at
-version-nine = refl
-
-many-pages : first_fault_of (header one_word (1 ∷ 0 ∷ 1 ∷ 0 ∷ []) zero_word one_word zero_word) ≡ Some (fault.Limit 8)
-unfolding rules word_at
-many-pages = refl
-
-many-events : first_fault_of (header one_word zero_word (65 ∷ 66 ∷ 15 ∷ 0 ∷ []) one_word zero_word) ≡ Some (fault.Limit 12)
-unfolding rules word_at
-many-events = refl
-
-no-checkpoints : first_fault_of (header one_word zero_word zero_word zero_word zero_word) ≡ Some (fault.Limit 16)
-unfolding rules word_at
-no-checkpoints = refl
-
-last-is-one : first_fault_of (header one_word zero_word zero_word one_word one_word) ≡ Some (fault.Limit 20)
-unfolding rules word_at
-last-is-one = refl
-
-header-alone : first_fault_of (header one_word zero_word zero_word one_word zero_word) ≡ Some (fault.Short 24)
-unfolding rules word_at start
-header-alone = refl
-
--- in version 1 one checkpoint and nothing else take 4,252 bytes
-smallest-cut : first_fault_of (header one_word zero_word zero_word one_word zero_word ++ replicate 4227 0) ≡ Some (fault.Short 4251)
-unfolding rules word_at start
-smallest-cut = refl
-
--- the first checkpoint at count 1
-begins-at-one : first_fault_of (header one_word zero_word zero_word one_word zero_word ++ 1 ∷ replicate 4227 0) ≡ Some (fault.Checkpoint 24)
-unfolding rules word_at long_at start each total checkpoint_rules
-begins-at-one = refl
-
--- in version 2 they take 168 if no slot of the table is changed
 abbrev two_word : List ℕ
 two_word = 2 ∷ 0 ∷ 0 ∷ 0 ∷ []
 
-header-of-version-two : first_fault_of (header two_word zero_word zero_word one_word zero_word) ≡ Some (fault.Short 24)
+abbrev nine_word : List ℕ
+nine_word = 9 ∷ 0 ∷ 0 ∷ 0 ∷ []
+
+abbrev ten_word : List ℕ
+ten_word = 10 ∷ 0 ∷ 0 ∷ 0 ∷ []
+
+-- first faults of headers: nothing, zeros, version 9, 65,537 pages, 1,000,001 events, no checkpoint, another last number, and a
+-- header alone
+faults-of-headers : Answers first_fault_of (
+    ([], Some (fault.Short 0))
+    ∷ (replicate 24 0, Some (fault.Magic 0))
+    ∷ (header nine_word zero_word zero_word one_word zero_word, Some (fault.Version 4))
+    ∷ (header one_word (1 ∷ 0 ∷ 1 ∷ 0 ∷ []) zero_word one_word zero_word, Some (fault.Limit 8))
+    ∷ (header one_word zero_word (65 ∷ 66 ∷ 15 ∷ 0 ∷ []) one_word zero_word, Some (fault.Limit 12))
+    ∷ (header one_word zero_word zero_word zero_word zero_word, Some (fault.Limit 16))
+    ∷ (header one_word zero_word zero_word one_word one_word, Some (fault.Limit 20))
+    ∷ (header one_word zero_word zero_word one_word zero_word, Some (fault.Short 24))
+    ∷ (header two_word zero_word zero_word one_word zero_word, Some (fault.Short 24))
+    ∷ []
+    )
 unfolding rules word_at start each total checkpoint_rules
-header-of-version-two = refl
+faults-of-headers = refl
 
-smallest-cut-of-version-two : first_fault_of (header two_word zero_word zero_word one_word zero_word ++ replicate 143 0) ≡ Some (fault.Short 167)
-unfolding rules word_at start each total checkpoint_rules
-smallest-cut-of-version-two = refl
+-- in version 1 one checkpoint and nothing else take 4,252 bytes: they are cut, or the checkpoint is at count 1
+faults-of-version-one : Answers (λ body. first_fault_of (header one_word zero_word zero_word one_word zero_word ++ body)) (
+    (replicate 4227 0, Some (fault.Short 4251))
+    ∷ (1 ∷ replicate 4227 0, Some (fault.Checkpoint 24))
+    ∷ []
+    )
+unfolding rules word_at long_at start each total checkpoint_rules
+faults-of-version-one = refl
 
-smallest-of-version-two : first_fault_of (header two_word zero_word zero_word one_word zero_word ++ replicate 144 0) ≡ None
+-- in version 2 they take 168 if no slot of the table is changed: they are cut, whole, or followed by a byte
+faults-of-version-two : Answers (λ n. first_fault_of (header two_word zero_word zero_word one_word zero_word ++ replicate n 0)) (
+    (143, Some (fault.Short 167)) ∷ (144, None) ∷ (145, Some (fault.Trailing 168)) ∷ []
+    )
 unfolding rules word_at long_at start each total checkpoint_rules is_phase input.is_mouse
-smallest-of-version-two = refl
-
-byte-after-version-two : first_fault_of (header two_word zero_word zero_word one_word zero_word ++ replicate 145 0) ≡ Some (fault.Trailing 168)
-unfolding rules word_at long_at start each total checkpoint_rules is_phase input.is_mouse
-byte-after-version-two = refl
+faults-of-version-two = refl
 
 -- a checkpoint of version 2 with this rate and phase, this number of changes, and these changes, in a file without pages
 abbrev with_changes : List ℕ → List ℕ → List ℕ → List ℕ → List ℕ
 with_changes rate phase count behind = header two_word zero_word zero_word one_word zero_word ++ replicate 132 0 ++ rate ++ phase ++ count ++ behind
 
-abbrev ten_word : List ℕ
-ten_word = 10 ∷ 0 ∷ 0 ∷ 0 ∷ []
-
-phase-at-the-rate : first_fault_of (with_changes ten_word ten_word zero_word []) ≡ Some (fault.Checkpoint 24)
-unfolding rules word_at long_at start each total checkpoint_rules is_phase
-phase-at-the-rate = refl
-
-phase-below-the-rate : first_fault_of (with_changes ten_word one_word zero_word []) ≡ None
+-- a phase at its rate, and one below it; 1,025 changes, and one that is cut; slot 0 is changed to page id 0, which was there, and
+-- to page id 1, which has no page
+faults-of-changes : Answers first_fault_of (
+    (with_changes ten_word ten_word zero_word [], Some (fault.Checkpoint 24))
+    ∷ (with_changes ten_word one_word zero_word [], None)
+    ∷ (with_changes zero_word zero_word (1 ∷ 4 ∷ 0 ∷ 0 ∷ []) [], Some (fault.Checkpoint 24))
+    ∷ (with_changes zero_word zero_word one_word zero_word, Some (fault.Short 172))
+    ∷ (with_changes zero_word zero_word one_word (zero_word ++ zero_word), Some (fault.Page 168))
+    ∷ (with_changes zero_word zero_word one_word (zero_word ++ one_word), Some (fault.Page 168))
+    ∷ []
+    )
 unfolding rules word_at long_at start each total checkpoint_rules is_phase input.is_mouse
-phase-below-the-rate = refl
-
--- 1,025 changes
-many-changes : first_fault_of (with_changes zero_word zero_word (1 ∷ 4 ∷ 0 ∷ 0 ∷ []) []) ≡ Some (fault.Checkpoint 24)
-unfolding rules word_at long_at start each total checkpoint_rules is_phase input.is_mouse
-many-changes = refl
-
-changes-cut : first_fault_of (with_changes zero_word zero_word one_word zero_word) ≡ Some (fault.Short 172)
-unfolding rules word_at long_at start each total checkpoint_rules is_phase input.is_mouse
-changes-cut = refl
-
--- slot 0 is changed to page id 0, which was there, and to page id 1, which has no page
-change-to-the-same : first_fault_of (with_changes zero_word zero_word one_word (zero_word ++ zero_word)) ≡ Some (fault.Page 168)
-unfolding rules word_at long_at start each total checkpoint_rules is_phase input.is_mouse
-change-to-the-same = refl
-
-change-to-no-page : first_fault_of (with_changes zero_word zero_word one_word (zero_word ++ one_word)) ≡ Some (fault.Page 168)
-unfolding rules word_at long_at start each total checkpoint_rules is_phase input.is_mouse
-change-to-no-page = refl
+faults-of-changes = refl
 
 -- the fields of a checkpoint of version 1 that are all 0
 abbrev no_fields : CheckpointFields
@@ -146,30 +114,23 @@ of_length n = record {
   page_number = λ k j. 0;
 }
 
-whole-text : first_broken (end_rules (of_length 4252)) ≡ None
+-- whole, and with a byte after the end
+ends-of-files : Answers (λ n. first_broken (end_rules (of_length n))) ((4252, None) ∷ (4253, Some (fault.Trailing 4252)) ∷ [])
 unfolding total
-whole-text = refl
-
-byte-after-the-end : first_broken (end_rules (of_length 4253)) ≡ Some (fault.Trailing 4252)
-unfolding total
-byte-after-the-end = refl
+ends-of-files = refl
 
 -- page ids over a pool of one page: the second slot names page 2
 unknown-page : first_broken (each 3 (page_number_rules 1 5276 (slice_index (1 ∷ 2 ∷ 0 ∷ [])))) ≡ Some (fault.Page 5412)
 unfolding each
 unknown-page = refl
 
--- the page ids after a checkpoint of version 2: page 7 in slot 3
-number-that-was-changed : number_before (with_changes zero_word zero_word one_word (3 ∷ 0 ∷ 0 ∷ 0 ∷ 7 ∷ 0 ∷ 0 ∷ 0 ∷ [])) 1 3 ≡ 7
+-- the page ids after a checkpoint of version 2 that changes slot 3 to page 7
+numbers-after-a-checkpoint : Answers (number_before (with_changes zero_word zero_word one_word (3 ∷ 0 ∷ 0 ∷ 0 ∷ 7 ∷ 0 ∷ 0 ∷ 0 ∷ [])) 1) ((3, 7) ∷ (4, 0) ∷ [])
 unfolding number_before number_after start word_at
-number-that-was-changed = refl
+numbers-after-a-checkpoint = refl
 
-number-that-was-left : number_before (with_changes zero_word zero_word one_word (3 ∷ 0 ∷ 0 ∷ 0 ∷ 7 ∷ 0 ∷ 0 ∷ 0 ∷ [])) 1 4 ≡ 0
-unfolding number_before number_after start word_at
-number-that-was-left = refl
-
--- changes over a pool of one page, after slots 3 and 4 have pages 0 and 1: slot 3 after slot 4, a slot that no table has, a page
--- that is not there, and the page that was there
+-- changes over a pool of one page, after slots 3 and 4 have pages 0 and 1: lawful ones, slot 3 after slot 4, slot 3 twice, a
+-- slot that no table has, a page that is not there, and the page that was there
 abbrev had : ℕ → ℕ
 had = slice_index (0 ∷ 0 ∷ 0 ∷ 0 ∷ 1 ∷ [])
 
@@ -181,38 +142,22 @@ abbrev two_of : Change → Change → ℕ → Change
 two_of a b zero = a
 two_of a b (suc i) = b
 
-lawful-changes : first_broken (each 2 (change_rules 1 1048 had (two_of (pair 3 1) (pair 4 0)))) ≡ None
+rules-of-changes : Answers (λ (change : ℕ → Change). first_broken (each 2 (change_rules 1 1048 had change))) (
+    (two_of (pair 3 1) (pair 4 0), None)
+    ∷ (two_of (pair 4 0) (pair 3 1), Some (fault.Page 1200))
+    ∷ (two_of (pair 3 1) (pair 3 1), Some (fault.Page 1200))
+    ∷ (two_of (pair 1024 1) no_change, Some (fault.Page 1192))
+    ∷ (two_of (pair 3 2) no_change, Some (fault.Page 1192))
+    ∷ (two_of (pair 4 1) no_change, Some (fault.Page 1192))
+    ∷ []
+    )
 unfolding each
-lawful-changes = refl
+rules-of-changes = refl
 
-places-fall : first_broken (each 2 (change_rules 1 1048 had (two_of (pair 4 0) (pair 3 1)))) ≡ Some (fault.Page 1200)
-unfolding each
-places-fall = refl
-
-place-twice : first_broken (each 2 (change_rules 1 1048 had (two_of (pair 3 1) (pair 3 1)))) ≡ Some (fault.Page 1200)
-unfolding each
-place-twice = refl
-
-place-too-high : first_broken (each 1 (change_rules 1 1048 had (two_of (pair 1024 1) no_change))) ≡ Some (fault.Page 1192)
-unfolding each
-place-too-high = refl
-
-changed-to-no-page : first_broken (each 1 (change_rules 1 1048 had (two_of (pair 3 2) no_change))) ≡ Some (fault.Page 1192)
-unfolding each
-changed-to-no-page = refl
-
-changed-to-the-same : first_broken (each 1 (change_rules 1 1048 had (two_of (pair 4 1) no_change))) ≡ Some (fault.Page 1192)
-unfolding each
-changed-to-the-same = refl
-
--- the page ids after them
-changed-place : number_after (two_of (pair 3 1) (pair 4 0)) had 2 3 ≡ 1
+-- the page ids after the lawful ones
+numbers-after-changes : Answers (number_after (two_of (pair 3 1) (pair 4 0)) had 2) ((3, 1) ∷ (5, 0) ∷ [])
 unfolding number_after
-changed-place = refl
-
-place-left : number_after (two_of (pair 3 1) (pair 4 0)) had 2 5 ≡ 0
-unfolding number_after
-place-left = refl
+numbers-after-changes = refl
 
 -- and the changes between two tables, up to slot 2
 changes-between : changes_below 3 (5 ∷ 6 ∷ 7 ∷ 8 ∷ []) (5 ∷ 9 ∷ 0 ∷ 1 ∷ []) ≡ pair 1 9 ∷ pair 2 0 ∷ []
@@ -233,61 +178,41 @@ parts-at-seven :
 unfolding rules start_in each total checkpoint_rules changes_below zero_numbers is_phase
 parts-at-seven = refl
 
--- ranges
-first-count-is-zero : is_count 0 0 1 ≡ false
-first-count-is-zero = refl
+-- counts: the first is 0, they rise, and end at 2^40
+counts : Answers (λ (x : ℕ × ℕ × ℕ). is_count x.0 x.1 x.2) (
+    ((0, 0, 1), false) ∷ ((1, 10, 10), false) ∷ ((1, 10, 1099511627776), true) ∷ ((1, 10, 1099511627777), false) ∷ []
+    )
+counts = refl
 
-counts-rise : is_count 1 10 10 ≡ false
-counts-rise = refl
+-- output: checkpoint 0 has none, and 1,048,576 bytes in all is the most
+outputs : Answers (λ (x : ℕ × ℕ × ℕ). is_output x.0 x.1 x.2) (((0, 0, 1), false) ∷ ((2, 1048575, 1), true) ∷ ((2, 1048575, 2), false) ∷ [])
+outputs = refl
 
-largest-count : is_count 1 10 1099511627776 ≡ true
-largest-count = refl
-
-count-above-the-largest : is_count 1 10 1099511627777 ≡ false
-count-above-the-largest = refl
-
-nothing-sent-first : is_output 0 0 1 ≡ false
-nothing-sent-first = refl
-
-most-sent : is_output 2 1048575 1 ≡ true
-most-sent = refl
-
-too-much-sent : is_output 2 1048575 2 ≡ false
-too-much-sent = refl
-
-equal-counts-of-events : is_event 5 (record { count = 5; kind = 1; value = 0xFFFFFFFF }) ≡ true
+-- events after one at 5: at the same count, at a lower one, with switches that are too high, and of a kind that there is not
+events : Answers (is_event 5) (
+    (record { count = 5; kind = 1; value = 0xFFFFFFFF }, true)
+    ∷ (record { count = 4; kind = 1; value = 0 }, false)
+    ∷ (record { count = 5; kind = 2; value = 4096 }, false)
+    ∷ (record { count = 5; kind = 6; value = 0 }, false)
+    ∷ []
+    )
 unfolding input.is_input
-equal-counts-of-events = refl
-
-falling-count-of-event : is_event 5 (record { count = 4; kind = 1; value = 0 }) ≡ false
-falling-count-of-event = refl
-
-switches-too-high : is_event 0 (record { count = 0; kind = 2; value = 4096 }) ≡ false
-unfolding input.is_input
-switches-too-high = refl
-
-no-sixth-kind : is_event 0 (record { count = 0; kind = 6; value = 0 }) ≡ false
-unfolding input.is_input
-no-sixth-kind = refl
+events = refl
 
 sixteen-keys : are_keys (record no_fields { waiting = 16; keys = replicate 16 1 }) ≡ true
 sixteen-keys = refl
 
--- offsets of fields
-second-checkpoint : event_start 1 0 + checkpoint_size 1 0 ≡ 5276
-second-checkpoint = refl
-
-first-number-of-the-second-checkpoint : page_number_offset 5276 0 ≡ 5408
-first-number-of-the-second-checkpoint = refl
-
-second-checkpoint-of-version-two : event_start 1 0 + checkpoint_size 2 3 ≡ 1216
-second-checkpoint-of-version-two = refl
-
-second-change : change_offset 1048 1 ≡ 1200
-second-change = refl
-
-longest-text : event_start 65536 1000000 + checkpoint_size 2 1024 * 4097 + 1048576 ≡ LONGEST_TEXT
-longest-text = refl
+-- offsets of fields: the second checkpoint of version 1 after one page, its first page id, that of version 2 after three changes,
+-- its second change, and the length of the longest file
+offsets : Answers (λ (x : ℕ). x) (
+    (event_start 1 0 + checkpoint_size 1 0, 5276)
+    ∷ (page_number_offset 5276 0, 5408)
+    ∷ (event_start 1 0 + checkpoint_size 2 3, 1216)
+    ∷ (change_offset 1048 1, 1200)
+    ∷ (event_start 65536 1000000 + checkpoint_size 2 1024 * 4097 + 1048576, LONGEST_TEXT)
+    ∷ []
+    )
+offsets = refl
 
 -- numbers and their bytes
 bytes-of-a-word : word_bytes 0x40000005 ≡ 5 ∷ 0 ∷ 0 ∷ 0x40 ∷ []

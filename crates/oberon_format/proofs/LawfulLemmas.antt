@@ -34,7 +34,7 @@ use Rattle.oberon_format.specs.Recording.{RecordingParts, IsLawful, checkpoint_a
 use Rattle.oberon_format.specs.Rules.{header_rules, limit_rules, named_len, event_rules, event_floor, place_floor, prior_number, count_before, checkpoint_rules, rules}
 use Rattle.oberon_format.proofs.ChangeLemmas.{change_in, after-bounded, changes-lawful, changes-make, changes-new}
 use Rattle.oberon_format.proofs.PartLemmas.{member, event_here, before_more, sent_none, sent_more, sent_all, prior_encoded, table_next, total_rises, changes_in_few, start_in_first, start_in_rises, changed_room, ends_met}
-use Rattle.oberon_format.proofs.RuleLemmas.{any_in_end, any_in_checkpoints, AreMet, met_parts, parts_met, each_holds, each_all, and_left, and_right, version_cases, ChangedMet, whole_met, whole_meets, changed_met, changed_meets}
+use Rattle.oberon_format.proofs.RuleLemmas.{fields_hold, any_in_end, any_in_checkpoints, AreMet, met_parts, parts_met, each_holds, each_all, and_left, and_right, version_cases, ChangedMet, whole_met, whole_meets, changed_met, changed_meets}
 use Rattle.oberon_format.proofs.Tables.{change_named, change_same}
 use Rattle.oberon_format.proofs.Walk.{number_tested}
 
@@ -162,13 +162,6 @@ fields_met v r k met =
       output = and_right (is_count k (count_before f k) c.count && in_ranges c && are_keys c) (is_output k (sent_below f k) c.output) met;
     }
 
-checkpoint_met : (v : ℕ) (r : RecordingParts) (k : ℕ) → is_version v ≡ true → first_broken (checkpoint_rules (fields_in v r) k) ≡ None → FieldsMet v r k
-checkpoint_met v r k known h =
-    elim (version_cases v known) [
-      | inl first ↦ fields_met v r k (whole_met (fields_in v r) k first h).fields
-      | inr later ↦ fields_met v r k (changed_met (fields_in v r) k later h).fields
-    ]
-
 -- the page ids of a table of version 2 are those before, or those of lawful changes
 changed_numbers : (v : ℕ) (r : RecordingParts) (k p : ℕ) → v ≡ VERSION → ChangedMet (fields_in v r) k → p < PLACES
     → slice_index (table_before r.checkpoints k) p ≤ length r.pool
@@ -211,7 +204,7 @@ met_lawful v r known pages ordered formed met =
     let n = length r.checkpoints in
     let within = header_within f met.header in
     let some = within.some in
-    let each_met : (k : ℕ) → k < n → FieldsMet v r k = λ k lt. checkpoint_met v r k known (each_holds (checkpoint_rules f) n k lt met.checkpoints) in
+    let each_met : (k : ℕ) → k < n → FieldsMet v r k = λ k lt. fields_met v r k (fields_hold f k (each_holds (checkpoint_rules f) n k lt met.checkpoints)) in
     let zero_met = each_met 0 (omega arith) in
     let last = n - 1 in
     let last_met = each_met last (omega arith) in

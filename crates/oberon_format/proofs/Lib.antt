@@ -12,8 +12,6 @@ pub mod TextLemmas
 pub mod PartLemmas
 pub mod SameFields
 pub mod PartRules
-mod SameRules
-mod LongFields
 pub mod Cut
 pub mod Agree
 pub mod LawfulLemmas

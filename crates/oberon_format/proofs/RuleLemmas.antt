@@ -1,6 +1,6 @@
 -- The first broken rule of lists of rules, and what a file has if some of its rules are met.
 use Rattle.std.proofs.Common.{◌≡◌, ◌<◌, ◌≤◌, ◌+◌, ◌-◌, ℕ, zero, suc, Bool, true, false, ◌&&◌, List, [], ◌∷◌, ◌++◌, length, Some, None, refl, ap, sym, ◌∙◌, arith, add-suc, add-zero, add-one, inl, inr, ◌⊎◌, eq-eqb}
-use Rattle.std.specs.Prelude.{nat_le, ◌==◌}
+use Rattle.std.specs.Prelude.{nat_le, ◌==◌, if◌then◌else◌}
 use Rattle.std.proofs.lemmas.Bool.{cases_lt, or_cases, leb-true, le-leb, eqb-true}
 use Rattle.oberon_format.specs.declared.fault.Fault.{Fault}
 use Rattle.oberon_format.specs.declared.fault.Fault.TheVariants as fault
@@ -8,7 +8,7 @@ use Rattle.oberon_format.specs.declared.layout.TheConstants.{MAGIC, FIRST_VERSIO
 use Rattle.std.proofs.lemmas.Bool.Decides.{nat_tests}
 use Rattle.oberon_format.specs.Fields.{Fields, sent_below, total}
 use Rattle.oberon_format.specs.FirstFault.{Rule, each, first_broken}
-use Rattle.oberon_format.specs.Layout.{page_number_offset, change_offset, checkpoints, event_offset, events, long_at, start, version, word_at}
+use Rattle.oberon_format.specs.Layout.{page_number_offset, change_offset, checkpoints, event_offset, events, long_at, start, word_at}
 use Rattle.oberon_format.specs.Ranges.{is_version, is_change, is_checkpoint, is_event}
 use Rattle.oberon_format.specs.Rules.{checkpoint_rules, whole_rules, changed_rules, change_rules, place_floor, prior_number, count_before, end_rules, event_floor, event_rules, header_rules, page_number_rules, rules, whole}
 use Rattle.oberon_format.specs.inner.Tested.{IsSized, Meets}
@@ -312,11 +312,16 @@ changed_meets f k is met =
     ∙ rule_met (nat_le (f.start (suc k)) f.long) (fault.Short f.long) (each n changes) (le-leb _ _ met.ends)
     ∙ each_all changes n (λ i lt. rule_met (is_change f.pages (place_floor (f.change k) i) (prior_number f k) (f.change k i)) (fault.Page (change_offset (f.start k) i)) [] (met.each_change i lt))
 
--- the fields of a checkpoint of a file that breaks no rule are in their ranges
+-- the fields of a checkpoint that meets its rules are in their ranges
+pub fields_hold : (f : Fields) (k : ℕ) → first_broken (checkpoint_rules f k) ≡ None → is_checkpoint k (count_before f k) (sent_below f k) (f.checkpoint k) ≡ true
+unfolding checkpoint_rules
+fields_hold f k = go (f.version == FIRST_VERSION) where
+  go : (b : Bool) → first_broken (if b then whole_rules f k else changed_rules f k) ≡ None → is_checkpoint k (count_before f k) (sent_below f k) (f.checkpoint k) ≡ true
+  go true met = (rule_holds (is_checkpoint k (count_before f k) (sent_below f k) (f.checkpoint k)) (fault.Checkpoint (f.start k)) (each PLACES (page_number_rules f.pages (f.start k) (f.page_number k))) met).0
+  go false met =
+      let rest = (nat_le (f.start (suc k)) f.long, fault.Short f.long) ∷ each (f.checkpoint k).changes (change_rules f.pages (f.start k) (prior_number f k) (f.change k)) in
+      let after = (rule_holds (nat_le (f.start k + CHANGES_AT) f.long) (fault.Short f.long) ((is_checkpoint k (count_before f k) (sent_below f k) (f.checkpoint k), fault.Checkpoint (f.start k)) ∷ rest) met).1 in
+      (rule_holds (is_checkpoint k (count_before f k) (sent_below f k) (f.checkpoint k)) (fault.Checkpoint (f.start k)) rest after).0
+
 pub checkpoint_holds : (text : List ℕ) (k : ℕ) → Meets text → k < checkpoints text → is_checkpoint k (count_before (fields_of text) k) (output_below text k) (checkpoint_of text (start text k)) ≡ true
-checkpoint_holds text k meets lt =
-    let one = each_holds (checkpoint_rules (fields_of text)) (checkpoints text) k lt meets.checkpoints_meet in
-    elim (version_cases (version text) meets.sized.known) [
-      | inl first ↦ (whole_met (fields_of text) k first one).fields
-      | inr later ↦ (changed_met (fields_of text) k later one).fields
-    ]
+checkpoint_holds text k meets lt = fields_hold (fields_of text) k (each_holds (checkpoint_rules (fields_of text)) (checkpoints text) k lt meets.checkpoints_meet)

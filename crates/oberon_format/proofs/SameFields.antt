@@ -1,44 +1,48 @@
--- Files and parts with the same fields have the same first fault.
-use Rattle.std.proofs.Common.{◌≡◌, ◌<◌, ◌≤◌, ◌+◌, ◌∙◌, ℕ, zero, suc, Bool, true, false, eqb, List, [], ◌∷◌, ◌++◌, sym, ap, arith, add-one, refl}
+-- Fields that agree as far as rules look have the same first fault.
+use Rattle.std.proofs.Common.{◌≡◌, ◌<◌, ◌≤◌, ◌+◌, ◌∙◌, ℕ, zero, suc, Bool, true, false, List, [], ◌∷◌, ◌++◌, Option, Some, None, sym, ap, ap₂, arith, add-one, refl}
 use Rattle.std.specs.Prelude.{nat_le, ◌==◌, if◌then◌else◌}
+use Rattle.std.proofs.lemmas.Bool.{leb-true}
+use Rattle.std.proofs.lemmas.Bool.Decides.{nat_tests}
 use Rattle.oberon_format.specs.declared.change.Change.{Change}
 use Rattle.oberon_format.specs.declared.fault.Fault.{Fault}
 use Rattle.oberon_format.specs.declared.fault.Fault.TheVariants as fault
 use Rattle.oberon_format.specs.declared.fields.CheckpointFields.{CheckpointFields}
 use Rattle.oberon_format.specs.declared.layout.TheConstants.{FIRST_VERSION, PLACES, CHANGES_AT, LAST_AT, MAGIC, HEADER_LEN, MAGIC_AT, VERSION_AT}
+use Rattle.oberon_format.specs.declared.ranges.TheConstants.{MAX_CHECKPOINTS}
+use Rattle.recording_limits.specs.declared.limits.TheConstants.{MAX_EVENTS, MAX_OUTPUT, MAX_PAGES}
 use Rattle.oberon_format.specs.Fields.{Fields, EventFields, total, sent_below}
 use Rattle.oberon_format.specs.FirstFault.{Rule, first_broken, each}
 use Rattle.oberon_format.specs.Layout.{page_number_offset, change_offset}
-use Rattle.oberon_format.specs.Ranges.{is_event, is_change, is_version}
+use Rattle.oberon_format.specs.Ranges.{is_event, is_change, is_checkpoint, is_version}
 use Rattle.oberon_format.specs.Rules.{limit_rules, header_rules, named_len, event_rules, event_floor, offset_of_event, page_number_rules, place_floor, change_rules, prior_number, field_rules, whole_rules, changed_rules, count_before, checkpoint_rules, end_rules, rules}
 use Rattle.oberon_format.proofs.ChangeLemmas.{floor_same}
 use Rattle.oberon_format.proofs.PartLemmas.{floor_more, before_more, prior_more}
-use Rattle.oberon_format.proofs.SameRules.{same_after_prefix}
+use Rattle.oberon_format.proofs.RuleLemmas.{and_left, and_right, broken-append, met-append, met_left, met_right, rule_holds}
 use Rattle.oberon_format.proofs.Tables.{change_same}
 
--- the same numbers, and the same members as far as these go
-pub record SameFields (f g : Fields) : Type 0 where
-  pub long : f.long ≡ g.long
-  pub first : f.first ≡ g.first
-  pub version : f.version ≡ g.version
-  pub pages : f.pages ≡ g.pages
-  pub events : f.events ≡ g.events
-  pub checkpoints : f.checkpoints ≡ g.checkpoints
-  pub last : f.last ≡ g.last
-  pub event : (i : ℕ) → i < g.events → f.event i ≡ g.event i
-  pub start : (k : ℕ) → k ≤ g.checkpoints → f.start k ≡ g.start k
-  pub checkpoint : (k : ℕ) → k < g.checkpoints → f.checkpoint k ≡ g.checkpoint k
-  pub change : (k i : ℕ) → k < g.checkpoints → i < (g.checkpoint k).changes → f.change k i ≡ g.change k i
-  pub page_number : (k j : ℕ) → k < g.checkpoints → j < PLACES → f.page_number k j ≡ g.page_number k j
+-- rules with the same first fault
+abbrev pub Same : List (Rule Fault) → List (Rule Fault) → Type 0
+Same p q = first_broken p ≡ first_broken q
 
-pub same_append : (xs xs' ys ys' : List (Rule Fault)) → first_broken xs ≡ first_broken xs' → first_broken ys ≡ first_broken ys'
-    → first_broken (xs ++ ys) ≡ first_broken (xs' ++ ys')
-same_append xs xs' ys ys' a b = same_after_prefix xs xs' ys ys' a (λ _. b)
+-- the rules after some with the same first fault
+pub same_then : (front front' p q : List (Rule Fault)) → Same front front' → (first_broken front' ≡ None → Same p q) → Same (front ++ p) (front' ++ q)
+same_then front front' p q same rest = go (first_broken front') refl same
+  where
+    go : (o : Option Fault) → first_broken front' ≡ o → Same front front' → Same (front ++ p) (front' ++ q)
+    go None b a = met-append front p (a ∙ b) ∙ rest b ∙ sym (met-append front' q b)
+    go (Some fault) b a = broken-append front p fault (a ∙ b) ∙ sym (broken-append front' q fault b)
 
-pub same_each : (n : ℕ) (f g : ℕ → List (Rule Fault)) → ((i : ℕ) → i < n → first_broken (f i) ≡ first_broken (g i)) → first_broken (each n f) ≡ first_broken (each n g)
+pub same_append : (xs xs' ys ys' : List (Rule Fault)) → Same xs xs' → Same ys ys' → Same (xs ++ ys) (xs' ++ ys')
+same_append xs xs' ys ys' a b = same_then xs xs' ys ys' a (λ _. b)
+
+-- those of all numbers below n
+same_while : (n : ℕ) (f g : ℕ → List (Rule Fault)) → ((i : ℕ) → i < n → first_broken (each i g) ≡ None → Same (f i) (g i)) → Same (each n f) (each n g)
 unfolding each
-same_each zero f g h = refl
-same_each (suc n) f g h = same_append (each n f) (each n g) (f n) (g n) (same_each n f g (λ i lt. h i (omega arith))) (h n (omega arith))
+same_while zero f g h = refl
+same_while (suc n) f g h = same_then (each n f) (each n g) (f n) (g n) (same_while n f g (λ i lt. h i (omega arith))) (h n (omega arith))
+
+same_each : (n : ℕ) (f g : ℕ → List (Rule Fault)) → ((i : ℕ) → i < n → Same (f i) (g i)) → Same (each n f) (each n g)
+same_each n f g h = same_while n f g (λ i lt _. h i lt)
 
 -- what comes before an event or a checkpoint is the same
 event_floor_same : (f g : Fields) (n i : ℕ) → i < n → ((k : ℕ) → k < n → f.event k ≡ g.event k) → event_floor f i ≡ event_floor g i
@@ -88,110 +92,146 @@ changes_same pages offset n s t a b stands same =
     ap (λ (holds : Bool). first_broken ((holds, fault.Page (change_offset offset i)) ∷ [])) test)
 
 -- fields with the numbers of one and the members of the other
-mixed : Fields → Fields → Fields
-mixed f g = record g { event = f.event; start = f.start; checkpoint = f.checkpoint; change = f.change; page_number = f.page_number }
+abbrev pub mixed : Fields → Fields → Fields
+mixed f g = record g { long = f.long; event = f.event; start = f.start; checkpoint = f.checkpoint; change = f.change; page_number = f.page_number }
 
--- the header looks at two fields
-header_at : Fields → ℕ → List (Rule Fault)
-header_at g long =
-    ((nat_le HEADER_LEN g.long, fault.Short g.long)
-    ∷ (g.first == MAGIC, fault.Magic MAGIC_AT)
-    ∷ (is_version g.version, fault.Version VERSION_AT)
-    ∷ [])
-    ++ limit_rules g.pages g.events g.checkpoints
-    ++ ((g.last == 0, fault.Limit LAST_AT)
-    ∷ (nat_le long g.long, fault.Short g.long)
-    ∷ [])
+-- the rule that a file has n bytes
+abbrev pub size_rules : ℕ → Fields → List (Rule Fault)
+size_rules n f = (nat_le n f.long, fault.Short f.long) ∷ []
 
-header_same : (f g : Fields) → SameFields f g → first_broken (header_rules (mixed f g)) ≡ first_broken (header_rules g)
-unfolding mixed header_at
-header_same f g same =
-    let named : named_len (mixed f g) ≡ named_len g =
-    ap (λ (n : ℕ). if g.version == FIRST_VERSION then n else f.start 0) (same.start g.checkpoints (omega arith))
-    ∙ ap (λ (n : ℕ). if g.version == FIRST_VERSION then g.start g.checkpoints else n) (same.start 0 (omega arith)) in
-    ap (λ (n : ℕ). first_broken (header_at g n)) named
+-- counts of pages, events and checkpoints within their limits
+pub record AreFew (f : Fields) : Type 0 where
+  pub pages : f.pages ≤ MAX_PAGES
+  pub events : f.events ≤ MAX_EVENTS
+  pub checkpoints : f.checkpoints ≤ MAX_CHECKPOINTS
 
-events_same : (f g : Fields) → SameFields f g → first_broken (each g.events (event_rules (mixed f g))) ≡ first_broken (each g.events (event_rules g))
-unfolding mixed
+-- what the rules of a checkpoint look at, at first and if its changes are within their limit
+pub record SameRest (f g : Fields) (k : ℕ) : Type 0 where
+  pub ends : Same (size_rules (f.start (suc k)) f) (size_rules (g.start (suc k)) g)
+  pub prior : (p : ℕ) → p < PLACES → prior_number f k p ≡ prior_number g k p
+  pub change : (i : ℕ) → i < (g.checkpoint k).changes → f.change k i ≡ g.change k i
+  pub page_number : (p : ℕ) → p < PLACES → f.page_number k p ≡ g.page_number k p
+
+pub record SameCheckpoint (f g : Fields) (k : ℕ) : Type 0 where
+  pub start : f.start k ≡ g.start k
+  pub before : count_before f k ≡ count_before g k
+  pub sent : sent_below f k ≡ sent_below g k
+  pub room : Same (size_rules (f.start k + CHANGES_AT) f) (size_rules (g.start k + CHANGES_AT) g)
+  pub fields : f.checkpoint k ≡ g.checkpoint k
+  pub rest : (g.checkpoint k).changes ≤ PLACES → SameRest f g k
+
+-- what those after the header look at, each after the rules before it are met
+pub record SameParts (f g : Fields) : Type 0 where
+  pub named : Same (size_rules (named_len (mixed f g)) f) (size_rules (named_len g) g)
+  pub event : (i : ℕ) → i < g.events → f.event i ≡ g.event i
+  pub checkpoint : (k : ℕ) → k < g.checkpoints → first_broken (each k (checkpoint_rules g)) ≡ None → SameCheckpoint f g k
+  pub ends : first_broken (each g.checkpoints (checkpoint_rules g)) ≡ None → Same (end_rules (mixed f g)) (end_rules g)
+
+-- the same numbers, and what agrees if the counts are within their limits
+pub record SameFields (f g : Fields) : Type 0 where
+  pub first : f.first ≡ g.first
+  pub version : f.version ≡ g.version
+  pub pages : f.pages ≡ g.pages
+  pub events : f.events ≡ g.events
+  pub checkpoints : f.checkpoints ≡ g.checkpoints
+  pub last : f.last ≡ g.last
+  pub header : Same (size_rules HEADER_LEN f) (size_rules HEADER_LEN g)
+  pub parts : AreFew g → SameParts f g
+
+events_same : (f g : Fields) → SameParts f g → Same (each g.events (event_rules (mixed f g))) (each g.events (event_rules g))
 events_same f g same =
     same_each g.events (event_rules (mixed f g)) (event_rules g) (λ i lt.
     ap (λ (x : ℕ). first_broken ((is_event x (f.event i), fault.Event (offset_of_event g i)) ∷ [])) (event_floor_same (mixed f g) g g.events i lt same.event)
     ∙ ap (λ (e : EventFields). first_broken ((is_event (event_floor g i) e, fault.Event (offset_of_event g i)) ∷ [])) (same.event i lt))
 
--- the fields of a checkpoint
-fields_same : (f g : Fields) (k : ℕ) → k < g.checkpoints → SameFields f g
-    → field_rules (f.start k) k (count_before f k) (sent_below f k) (f.checkpoint k) ≡ field_rules (g.start k) k (count_before g k) (sent_below g k) (g.checkpoint k)
-fields_same f g k lt same =
-    let below = λ (i : ℕ) (less : i < k). same.checkpoint i (omega arith) in
-    ap (λ (n : ℕ). field_rules n k (count_before f k) (sent_below f k) (f.checkpoint k)) (same.start k (omega arith))
-    ∙ ap (λ (n : ℕ). field_rules (g.start k) k n (sent_below f k) (f.checkpoint k)) (before_same f g k below)
-    ∙ ap (λ (n : ℕ). field_rules (g.start k) k (count_before g k) n (f.checkpoint k)) (sent_same f g k below)
-    ∙ ap (λ (c : CheckpointFields). field_rules (g.start k) k (count_before g k) (sent_below g k) c) (same.checkpoint k lt)
+-- the rules of the fields of a checkpoint, and what they say of its changes
+abbrev rules_of_fields : Fields → ℕ → List (Rule Fault)
+rules_of_fields f k = field_rules (f.start k) k (count_before f k) (sent_below f k) (f.checkpoint k)
+
+fields_same : (f g : Fields) (k : ℕ) → SameCheckpoint f g k → Same (rules_of_fields f k) (rules_of_fields g k)
+fields_same f g k same =
+    ap (λ (n : ℕ). first_broken (field_rules n k (count_before f k) (sent_below f k) (f.checkpoint k))) same.start
+    ∙ ap (λ (n : ℕ). first_broken (field_rules (g.start k) k n (sent_below f k) (f.checkpoint k))) same.before
+    ∙ ap (λ (n : ℕ). first_broken (field_rules (g.start k) k (count_before g k) n (f.checkpoint k))) same.sent
+    ∙ ap (λ (c : CheckpointFields). first_broken (field_rules (g.start k) k (count_before g k) (sent_below g k) c)) same.fields
+
+pub changes_within : (k before sent : ℕ) (c : CheckpointFields) → is_checkpoint k before sent c ≡ true → c.changes ≤ PLACES
+changes_within k before sent c is = leb-true c.changes PLACES (and_right _ _ (and_right _ _ (and_left _ _ (and_left _ _ is))))
+
+pub output_within : (k before sent : ℕ) (c : CheckpointFields) → is_checkpoint k before sent c ≡ true → sent + c.output ≤ MAX_OUTPUT
+output_within k before sent c is = leb-true (sent + c.output) MAX_OUTPUT (and_right _ _ (and_right _ _ is))
+
+changes_few : (g : Fields) (k : ℕ) → first_broken (rules_of_fields g k) ≡ None → (g.checkpoint k).changes ≤ PLACES
+changes_few g k met =
+    changes_within k (count_before g k) (sent_below g k) (g.checkpoint k)
+    (rule_holds (is_checkpoint k (count_before g k) (sent_below g k) (g.checkpoint k)) (fault.Checkpoint (g.start k)) [] met).0
 
 -- a checkpoint of version 1
-whole_same : (f g : Fields) (k : ℕ) → k < g.checkpoints → SameFields f g → first_broken (whole_rules (mixed f g) k) ≡ first_broken (whole_rules g k)
-unfolding mixed
-whole_same f g k lt same =
-    let m = mixed f g in
-    same_append (field_rules (f.start k) k (count_before m k) (sent_below m k) (f.checkpoint k)) (field_rules (g.start k) k (count_before g k) (sent_below g k) (g.checkpoint k))
-    (each PLACES (page_number_rules g.pages (f.start k) (f.page_number k))) (each PLACES (page_number_rules g.pages (g.start k) (g.page_number k)))
-    (ap (λ (xs : List (Rule Fault)). first_broken xs) (fields_same f g k lt same))
-    (ap (λ (n : ℕ). first_broken (each PLACES (page_number_rules g.pages n (f.page_number k)))) (same.start k (omega arith))
-    ∙ numbers_same g.pages (g.start k) (f.page_number k) (g.page_number k) (λ j less. same.page_number k j lt less))
+whole_same : (f g : Fields) (k : ℕ) → SameCheckpoint f g k → Same (whole_rules (mixed f g) k) (whole_rules g k)
+whole_same f g k same =
+    same_then (rules_of_fields f k) (rules_of_fields g k) (each PLACES (page_number_rules g.pages (f.start k) (f.page_number k)))
+    (each PLACES (page_number_rules g.pages (g.start k) (g.page_number k))) (fields_same f g k same) (λ met.
+    ap (λ (n : ℕ). first_broken (each PLACES (page_number_rules g.pages n (f.page_number k)))) same.start
+    ∙ numbers_same g.pages (g.start k) (f.page_number k) (g.page_number k) (same.rest (changes_few g k met)).page_number)
 
 -- a checkpoint of version 2
-changed_same : (f g : Fields) (k : ℕ) → k < g.checkpoints → SameFields f g → first_broken (changed_rules (mixed f g) k) ≡ first_broken (changed_rules g k)
-unfolding mixed
-changed_same f g k lt same =
-    let m = mixed f g in
-    let room = λ (n : ℕ). (let xs : List (Rule Fault) = (nat_le (n + CHANGES_AT) g.long, fault.Short g.long) ∷ [] in xs) in
-    let ends = λ (n : ℕ). (let xs : List (Rule Fault) = (nat_le n g.long, fault.Short g.long) ∷ [] in xs) in
-    let fields = field_rules (f.start k) k (count_before m k) (sent_below m k) (f.checkpoint k) in
-    let fields' = field_rules (g.start k) k (count_before g k) (sent_below g k) (g.checkpoint k) in
-    let changes = each (f.checkpoint k).changes (change_rules g.pages (f.start k) (prior_number m k) (f.change k)) in
+changed_same : (f g : Fields) (k : ℕ) → SameCheckpoint f g k → Same (changed_rules (mixed f g) k) (changed_rules g k)
+changed_same f g k same =
+    let changes = each (f.checkpoint k).changes (change_rules g.pages (f.start k) (prior_number f k) (f.change k)) in
     let changes' = each (g.checkpoint k).changes (change_rules g.pages (g.start k) (prior_number g k) (g.change k)) in
-    let at = same.start k (omega arith) in
-    let next = same.start (suc k) (omega arith) in
-    let of_changes : first_broken changes ≡ first_broken changes' =
-    ap (λ (c : CheckpointFields). first_broken (each c.changes (change_rules g.pages (f.start k) (prior_number m k) (f.change k)))) (same.checkpoint k lt)
-    ∙ ap (λ (n : ℕ). first_broken (each (g.checkpoint k).changes (change_rules g.pages n (prior_number m k) (f.change k)))) at
-    ∙ changes_same g.pages (g.start k) (g.checkpoint k).changes (prior_number m k) (prior_number g k) (f.change k) (g.change k)
-    (λ p less. prior_same m g k p (λ i before. same.page_number i p (omega arith) less)) (λ i less. same.change k i lt less) in
-    let rest = same_append (ends (f.start (suc k))) (ends (g.start (suc k))) changes changes' (ap (λ (n : ℕ). first_broken (ends n)) next) of_changes in
-    let body = same_append fields fields' (ends (f.start (suc k)) ++ changes) (ends (g.start (suc k)) ++ changes') (ap (λ (xs : List (Rule Fault)). first_broken xs) (fields_same f g k lt same)) rest in
-    same_append (room (f.start k)) (room (g.start k)) (fields ++ (ends (f.start (suc k)) ++ changes)) (fields' ++ (ends (g.start (suc k)) ++ changes')) (ap (λ (n : ℕ). first_broken (room n)) at) body
+    let tail = size_rules (f.start (suc k)) f ++ changes in
+    let tail' = size_rules (g.start (suc k)) g ++ changes' in
+    same_append (size_rules (f.start k + CHANGES_AT) f) (size_rules (g.start k + CHANGES_AT) g) (rules_of_fields f k ++ tail) (rules_of_fields g k ++ tail') same.room
+    (same_then (rules_of_fields f k) (rules_of_fields g k) tail tail' (fields_same f g k same) (λ met.
+    let rest = same.rest (changes_few g k met) in
+    same_append (size_rules (f.start (suc k)) f) (size_rules (g.start (suc k)) g) changes changes' rest.ends
+    (ap (λ (c : CheckpointFields). first_broken (each c.changes (change_rules g.pages (f.start k) (prior_number f k) (f.change k)))) same.fields
+    ∙ ap (λ (n : ℕ). first_broken (each (g.checkpoint k).changes (change_rules g.pages n (prior_number f k) (f.change k)))) same.start
+    ∙ changes_same g.pages (g.start k) (g.checkpoint k).changes (prior_number f k) (prior_number g k) (f.change k) (g.change k) rest.prior rest.change)))
 
-checkpoint_same : (f g : Fields) (k : ℕ) → k < g.checkpoints → SameFields f g
-    → first_broken (checkpoint_rules (mixed f g) k) ≡ first_broken (checkpoint_rules g k)
-unfolding mixed checkpoint_rules
-checkpoint_same f g k lt same = go (g.version == FIRST_VERSION) where
-  go : (b : Bool) → first_broken (if b then whole_rules (mixed f g) k else changed_rules (mixed f g) k) ≡ first_broken (if b then whole_rules g k else changed_rules g k)
-  go true = whole_same f g k lt same
-  go false = changed_same f g k lt same
+checkpoint_same : (f g : Fields) (k : ℕ) → SameCheckpoint f g k → Same (checkpoint_rules (mixed f g) k) (checkpoint_rules g k)
+unfolding checkpoint_rules
+checkpoint_same f g k same = go (g.version == FIRST_VERSION) where
+  go : (b : Bool) → Same (if b then whole_rules (mixed f g) k else changed_rules (mixed f g) k) (if b then whole_rules g k else changed_rules g k)
+  go true = whole_same f g k same
+  go false = changed_same f g k same
 
-checkpoints_same : (f g : Fields) → SameFields f g
-    → first_broken (each g.checkpoints (checkpoint_rules (mixed f g))) ≡ first_broken (each g.checkpoints (checkpoint_rules g))
-checkpoints_same f g same = same_each g.checkpoints (checkpoint_rules (mixed f g)) (checkpoint_rules g) (λ k lt. checkpoint_same f g k lt same)
+-- the rules of the numbers in the header
+abbrev number_rules : Fields → List (Rule Fault)
+number_rules g =
+    ((g.first == MAGIC, fault.Magic MAGIC_AT) ∷ (is_version g.version, fault.Version VERSION_AT) ∷ [])
+    ++ limit_rules g.pages g.events g.checkpoints
+    ++ ((g.last == 0, fault.Limit LAST_AT) ∷ [])
 
-ends_same : (f g : Fields) → SameFields f g → first_broken (end_rules (mixed f g)) ≡ first_broken (end_rules g)
-unfolding mixed
-ends_same f g same =
-    let ends = λ (at sent : ℕ). (let xs : List (Rule Fault) = (nat_le (at + sent) g.long, fault.Short g.long) ∷ (eqb g.long (at + sent), fault.Trailing (at + sent)) ∷ [] in xs) in
-    ap (λ (n : ℕ). first_broken (ends n (sent_below f g.checkpoints))) (same.start g.checkpoints (omega arith))
-    ∙ ap (λ (n : ℕ). first_broken (ends (g.start g.checkpoints) n)) (sent_same f g g.checkpoints same.checkpoint)
+few_by : (g : Fields) → first_broken (number_rules g) ≡ None → AreFew g
+few_by g met = record { pages = grind (arith, nat_tests); events = grind (arith, nat_tests); checkpoints = grind (arith, nat_tests) }
 
-mixed_rules : (f g : Fields) → SameFields f g → first_broken (rules (mixed f g)) ≡ first_broken (rules g)
-unfolding rules mixed
+mixed_rules : (f g : Fields) → SameFields f g → Same (rules (mixed f g)) (rules g)
+unfolding rules
 mixed_rules f g same =
     let m = mixed f g in
-    let a = same_append (header_rules m) (header_rules g) (each g.events (event_rules m)) (each g.events (event_rules g)) (header_same f g same) (events_same f g same) in
-    let b = same_append (header_rules m ++ each g.events (event_rules m)) (header_rules g ++ each g.events (event_rules g)) (each g.checkpoints (checkpoint_rules m)) (each g.checkpoints (checkpoint_rules g)) a (checkpoints_same f g same) in
-    same_append (header_rules m ++ each g.events (event_rules m) ++ each g.checkpoints (checkpoint_rules m)) (header_rules g ++ each g.events (event_rules g) ++ each g.checkpoints (checkpoint_rules g)) (end_rules m) (end_rules g) b (ends_same f g same)
+    let size = size_rules HEADER_LEN f in
+    let size' = size_rules HEADER_LEN g in
+    let named = size_rules (named_len m) f in
+    let named' = size_rules (named_len g) g in
+    let numbers = number_rules g in
+    let e = each g.events (event_rules m) in
+    let e' = each g.events (event_rules g) in
+    let c = each g.checkpoints (checkpoint_rules m) in
+    let c' = each g.checkpoints (checkpoint_rules g) in
+    let h' : List (Rule Fault) = header_rules g in
+    let parts : first_broken h' ≡ None → SameParts f g = λ met. same.parts (few_by g (met_left numbers named' (met_right size' (numbers ++ named') met))) in
+    let header : Same (header_rules m) h' = same_append size size' (numbers ++ named) (numbers ++ named') same.header
+    (same_then numbers numbers named named' refl (λ met. (same.parts (few_by g met)).named)) in
+    let events = same_then (header_rules m) h' e e' header (λ met. events_same f g (parts met)) in
+    let checkpoints = same_then (header_rules m ++ e) (h' ++ e') c c' events (λ met.
+    same_while g.checkpoints (checkpoint_rules m) (checkpoint_rules g) (λ k lt so_far. checkpoint_same f g k ((parts (met_left h' e' met)).checkpoint k lt so_far))) in
+    same_then (header_rules m ++ e ++ c) (h' ++ e' ++ c') (end_rules m) (end_rules g) checkpoints (λ met.
+    (parts (met_left h' e' (met_left (h' ++ e') c' met))).ends (met_right (h' ++ e') c' met))
 
 is_mixed : (f g : Fields) → SameFields f g → f ≡ mixed f g
-unfolding mixed
 is_mixed f g same = λ i. record {
-  long = same.long i;
+  long = f.long;
   first = same.first i;
   version = same.version i;
   pages = same.pages i;
@@ -205,5 +245,42 @@ is_mixed f g same = λ i. record {
   page_number = f.page_number;
 }
 
-pub same_rules : (f g : Fields) → SameFields f g → first_broken (rules f) ≡ first_broken (rules g)
+pub same_rules : (f g : Fields) → SameFields f g → Same (rules f) (rules g)
 same_rules f g same = ap (λ (x : Fields). first_broken (rules x)) (is_mixed f g same) ∙ mixed_rules f g same
+
+-- so do fields whose members agree as far as their numbers go
+pub record SameMembers (f g : Fields) : Type 0 where
+  pub long : f.long ≡ g.long
+  pub event : (i : ℕ) → i < g.events → f.event i ≡ g.event i
+  pub start : (k : ℕ) → k ≤ g.checkpoints → f.start k ≡ g.start k
+  pub checkpoint : (k : ℕ) → k < g.checkpoints → f.checkpoint k ≡ g.checkpoint k
+  pub change : (k i : ℕ) → k < g.checkpoints → i < (g.checkpoint k).changes → f.change k i ≡ g.change k i
+  pub page_number : (k j : ℕ) → k < g.checkpoints → j < PLACES → f.page_number k j ≡ g.page_number k j
+
+same_size : (f g : Fields) (m n : ℕ) → f.long ≡ g.long → m ≡ n → Same (size_rules m f) (size_rules n g)
+same_size f g m n long same = ap₂ (λ (a b : ℕ). first_broken ((nat_le a b, fault.Short b) ∷ [])) same long
+
+pub same_parts : (f g : Fields) → SameMembers f g → SameParts f g
+same_parts f g same =
+    let last = same.start g.checkpoints (omega arith) in
+    record {
+      named = same_size f g (named_len (mixed f g)) (named_len g) same.long (ap₂ (λ (a b : ℕ). if g.version == FIRST_VERSION then a else b) last (same.start 0 (omega arith)));
+      event = same.event;
+      checkpoint = λ k lt _.
+          let below : (i : ℕ) → i < k → f.checkpoint i ≡ g.checkpoint i = λ i less. same.checkpoint i (omega arith) in
+          record {
+            start = same.start k (omega arith);
+            before = before_same f g k below;
+            sent = sent_same f g k below;
+            room = same_size f g (f.start k + CHANGES_AT) (g.start k + CHANGES_AT) same.long (ap (λ (n : ℕ). n + CHANGES_AT) (same.start k (omega arith)));
+            fields = same.checkpoint k lt;
+            rest = λ _. record {
+              ends = same_size f g (f.start (suc k)) (g.start (suc k)) same.long (same.start (suc k) (omega arith));
+              prior = λ p less. prior_same f g k p (λ i before. same.page_number i p (omega arith) less);
+              change = λ i less. same.change k i lt less;
+              page_number = λ p less. same.page_number k p lt less;
+            };
+          };
+      ends = λ _. ap₂ (λ (end long : ℕ). first_broken ((nat_le end long, fault.Short long) ∷ (long == end, fault.Trailing end) ∷ []))
+          (ap₂ (λ (a b : ℕ). a + b) last (sent_same f g g.checkpoints same.checkpoint)) same.long;
+    }
