@@ -1,4 +1,4 @@
-//! The reasons why a machine stops. When an instruction stops the machine is said at that instruction.
+//! The reasons why a machine stops. Which operation stops it is documented at `alu`, and which address at `Place`.
 
 /// Why a machine stopped. That a machine stops, its reasons and their numbers are this project's own choice.
 #[derive(Clone, Copy, Debug, PartialEq, Eq)]

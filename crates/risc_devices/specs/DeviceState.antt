@@ -23,6 +23,7 @@ pub record DeviceState : Type 0 where
 unfoldable pub is_phase : ℕ → ℕ → Bool
 is_phase rate phase = if rate == 0 then phase == 0 else nat_lt phase rate
 
+-- the same as a statement
 abbrev pub IsPhase : ℕ → ℕ → Type 0
 IsPhase rate phase = IsTrue (is_phase rate phase)
 

@@ -26,5 +26,6 @@ is_input kind value =
     || (kind == 4 && nat_lt value (2 ^ 8))
     || (kind == 5 && nat_lt value (2 ^ 8))
 
+-- the same as a statement: there is an input of this kind's number and this value
 abbrev pub IsInput : ℕ → ℕ → Type 0
 IsInput kind value = IsTrue (is_input kind value)

@@ -1,4 +1,4 @@
-//! The one refusal of this crate. What is refused, and when, is said at the calls that refuse.
+//! The refusal of a number that is out of its range. `Devices::new` and `Input::new` say when they refuse.
 use thiserror::Error;
 
 /// A number from outside is out of its range.

@@ -45,6 +45,7 @@ impl KeyQueue {
         self.waiting.as_slice()
     }
 
+    /// Reports whether no key code waits.
     #[inline]
     pub(crate) fn is_empty(&self) -> bool
         ensures { IsTrue result ↔ (self.now ≡ []) }

@@ -29,6 +29,7 @@ impl Kind {
         }
     }
 
+    /// Returns the kind's number, from 1 to 5.
     #[inline]
     pub(crate) fn number(self) -> u8
         ensures { result ≡ kind_number self }

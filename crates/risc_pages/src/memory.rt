@@ -82,7 +82,7 @@ impl<'a> Memory<'a> {
         ensures owned { OnOk result (self.new.owned ≡ slice_set self.old.owned (word_no / 256) true) }
         ensures base { self.new.base ≡ self.old.base }
         ensures err { OnErr result (self.new ≡ self.old) }
-        ensures wanting { OnErr result (slice_get self.old.owned (word_no / 256) ≡ Some false) }
+        ensures out_of_memory { OnErr result (slice_get self.old.owned (word_no / 256) ≡ Some false) }
         ensures succeeds { slice_get self.old.owned (word_no / 256) ≡ Some true → IsOk result }
     {
         let place = (word_no / 256) as usize;

@@ -20,6 +20,7 @@ pub(crate) struct Blank {
 }
 
 impl Blank {
+    /// Returns the page of zeros.
     pub(crate) fn new() -> Self {
         let page = Page { words: [0; 256] };
         Blank { page }
