@@ -123,9 +123,9 @@ known_answer words input rest old new (answer asked_for taken text own) status i
     let same_answer : Some asked_for ≡ Some request = sym is.0 ∙ asks in
     let same : asked_for ≡ request = cc in
     let consumed : Consumes (Some bytes) rest.bytes taken = rw (← known) is.1.taken in
-    let front_asked : taken ≡ take (limit_of asked_for) bytes = known_bytes _ _ _ _ consumed is.1.within is.1.whole in
-    let front : taken ≡ take (limit_of request) bytes = rw (← same) front_asked in
-    let first : IsAnswer request (take (limit_of request) bytes) text status = rw (← front, ← same, sent.1) is.2 in
+    let asked_bytes : taken ≡ take (limit_of asked_for) bytes = known_bytes _ _ _ _ consumed is.1.within is.1.whole in
+    let first_bytes : taken ≡ take (limit_of request) bytes = rw (← same) asked_bytes in
+    let first : IsAnswer request (take (limit_of request) bytes) text status = rw (← first_bytes, ← same, sent.1) is.2 in
     (text, whole_answer request bytes text status first, sent.0.0)
 known_answer words input rest old new (help text) status is (inl sent) = λ request bytes asks known held. absurd (help_asks_nothing words is.0 request asks)
 known_answer words input rest old new (failure Words) status is (inl sent) = λ request bytes asks known held.

@@ -1,4 +1,4 @@
--- What the turns of a reading loop take in all.
+-- How many bytes the turns of a reading loop take together.
 use Rattle.std.proofs.Common.{◌≡◌, ◌<◌, ◌≤◌, ◌+◌, ◌-◌, ℕ, min, List, ◌++◌, Option, arith, length, length-append, take}
 use Rattle.std.proofs.lemmas.List.{length-take}
 use Rattle.std.proofs.KnownBytes.{Consumes-trans}
@@ -14,7 +14,7 @@ fits_limit limit taken most room chunk got within is few = omega (arith, simp le
 pub more_within : (limit : ℕ) (bytes got all : List ℕ) → all ≡ bytes ++ got → length bytes + length got ≤ limit → length all ≤ limit
 more_within limit bytes got all is fits = rw is (simp length-append (omega arith))
 
--- a turn that takes a byte is paid for by it
+-- if there were at most as many turns as bytes read, the same is true after a turn that reads a byte
 pub more_counted : (turn : ℕ) (bytes got all : List ℕ) → all ≡ bytes ++ got → turn ≤ length bytes → 0 < length got → turn + 1 ≤ length all
 more_counted turn bytes got all is counted some = rw is (simp length-append (omega arith))
 

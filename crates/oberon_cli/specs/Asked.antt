@@ -22,6 +22,7 @@ whole_number low high text =
 abbrev pub number_at : ℕ → ℕ → Text → List Row → Option ℕ
 number_at low high id rows = option_and_then (whole_number low high) (one_of id rows)
 
+-- a check with the numbers of workers and of segments in a job that `clap` finds
 abbrev pub check_of : List Row → Option Request
 check_of rows = option_and_then (λ workers. option_map (λ cut. Check workers cut)
     (number_at 1 LAST_CHECKPOINT (codes "cut") rows)) (number_at 1 64 (codes "workers") rows)

@@ -1,4 +1,4 @@
--- What the program reads and writes. Read it in this order: what the arguments ask for, each answer, the whole.
+-- What the program reads and writes, in reading order: what the arguments ask for, the answer of each command, the program.
 pub mod Program
 pub mod Asked
 pub mod Record

@@ -51,5 +51,6 @@ without_commands_app = record { top = program_shape; subs = [] }
 abbrev pub replaying_app : App
 replaying_app = with_subcommand (with_subcommand without_commands_app check_app.top) record_app.top
 
+-- the whole program, with all four commands
 abbrev pub program_app : App
 program_app = with_subcommand (with_subcommand replaying_app screen_app.top) migrate_app.top

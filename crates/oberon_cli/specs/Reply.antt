@@ -21,6 +21,7 @@ failure_line Words = codes "words refused\n"
 failure_line Read = codes "read fault\n"
 failure_line Memory = codes "no memory\n"
 
+-- the status of a failure
 abbrev pub failure_status : Failure → ℕ
 failure_status Words = 4
 failure_status Read = 3
@@ -56,6 +57,7 @@ IsReplyTo words old new (failure why) = MayFail words old new why
 abbrev pub IsSentText : List ℕ → ℕ → Known → Known → ℕ → Type 0
 IsSentText text own old new status = (GainsWhole text old new × (status ≡ own)) ⊎ (GainsPrefix text old new × (status ≡ 3))
 
+-- the reply was written in full with its own status, or a prefix of it with status 3
 abbrev pub IsSent : Outcome → Known → Known → ℕ → Type 0
 IsSent outcome = IsSentText (outcome_text outcome) (outcome_status outcome)
 
@@ -63,14 +65,14 @@ IsSent outcome = IsSentText (outcome_text outcome) (outcome_status outcome)
 abbrev pub Replies : List Text → Known → Known → Known → Known → ℕ → Type 0
 Replies words input input' output output' status = (outcome : Outcome) × IsReplyTo words input input' outcome × IsSent outcome output output' status
 
--- if the arguments ask for a command, the reader's bytes are known, and nothing failed, then the command's answer to ALL of these
--- bytes was written, however many they are
+-- if the arguments ask for a command, the reader's bytes are known, and the status is not 3, then the command's answer to all of
+-- these bytes was written, however many they are
 abbrev pub AnswersAll : List Text → Known → Known → Known → ℕ → Type 0
 AnswersAll words input old new status = (request : Request) (bytes : List ℕ) → request_in words ≡ Some request → input.bytes ≡ Some bytes
     → status ≢ 3 → (text : List ℕ) × IsAnswer request bytes text status × Appends old.bytes new.bytes text
 
--- status 3 means that a read or a write failed, or an allocation, whose line was then written; and it is the status whenever a
--- read or a write is the first to fail
+-- status 3 means that a read or a write failed, or that the line `no memory` was written; and if a read or a write is the first
+-- to fail, the status is 3
 pub record IsThreeForFaults (input input' output output' : Known) (status : ℕ) : Type 0 where
   pub only : status ≡ 3 → Fails input' ⊎ (Fails output' ⊎ GainsWhole (failure_line Memory) output output')
   pub reads : input.failed ≡ false → Fails input' → status ≡ 3

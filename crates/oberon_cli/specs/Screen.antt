@@ -27,7 +27,7 @@ pub record IsMissing (r : RecordingParts) (at : ℕ) (text : List ℕ) (status :
   pub text_is : text ≡ missing_line at
   pub status_is : status ≡ 2
 
--- the answer on a recording
+-- the answer to a recording
 abbrev pub IsScreenOf : RecordingParts → ℕ → List ℕ → ℕ → Type 0
 IsScreenOf r at text status = IsClaimedScreen r at text status ⊎ IsMissing r at text status
 
@@ -37,6 +37,6 @@ pub record IsReadScreen (at : ℕ) (input text : List ℕ) (status : ℕ) : Type
   pub read : Text input recording
   pub screen : IsScreenOf recording at text status
 
--- the answer on an input: that on its recording, or the line of its first fault, whatever the checkpoint
+-- the answer to an input: the answer to its recording, or the line of its first fault. The checkpoint has no effect on that line
 abbrev pub IsScreen : ℕ → List ℕ → List ℕ → ℕ → Type 0
 IsScreen at input text status = IsReadScreen at input text status ⊎ IsLineOfFault input text status

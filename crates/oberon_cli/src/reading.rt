@@ -15,7 +15,7 @@ const CHUNK: usize = 65_536;
 pub enum ReadFault {
     /// A read failed.
     Failed,
-    /// There was no memory for the bytes.
+    /// Memory ran out.
     Memory,
 }
 

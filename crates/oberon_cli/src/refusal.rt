@@ -1,4 +1,4 @@
-//! The answer if a recording file has a fault, whatever the command.
+//! The answer of each command to a recording file with a fault.
 ghost use Rattle.std.specs.Prelude.{◌≡◌, ◌≢◌, IfOk, OnErr};
 ghost use Rattle.oberon_format.specs.Line.{fault_line};
 

@@ -18,8 +18,8 @@ const WORDS: u32 = 24_576;
 
 /// Returns the picture of the display in the memory that checkpoint `at` of a recording file claims.
 ///
-/// For a file that is refused, returns the line of its first fault, whatever `at` is. For a recording with no such checkpoint,
-/// returns the line `no checkpoint` with `at`.
+/// For a file that is refused, returns the line of its first fault; `at` has no effect on it. For a recording with no such
+/// checkpoint, returns the line `no checkpoint` with `at`.
 pub fn screen(alloc: Global, text: &[u8], at: u32) -> Result<Reply, AllocError>
     ensures { IfOk result (λ reply. IsScreen at text.now reply.text.items reply.status) }
 {

@@ -32,7 +32,7 @@ use std::thread::Threads;
 /// `rt` is the runtime whose threads a check uses; the program waits for nothing else. The arguments are read before the input.
 /// Of the input no more than one byte beyond the longest file that the command takes is read.
 ///
-/// If a read fails, for whatever cause, only `read fault` is written; if memory runs out, only `no memory`. In both cases the
+/// If a read fails, for any cause, only `read fault` is written; if memory runs out, only `no memory`. In both cases the
 /// status is 3. If a write fails, or takes nothing, a prefix of the reply was written, nothing else is written, and the status is
 /// 3. It is 3 in no other case.
 pub fn serve<'a, H: Threads + Wait + Sync, R: Source, W: Sink>(

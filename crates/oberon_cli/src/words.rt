@@ -53,7 +53,7 @@ pub enum Refusal {
     Help(Error),
     /// The program does not know them.
     Words,
-    /// There was no memory to read them.
+    /// Memory ran out while they were parsed.
     Memory,
 }
 

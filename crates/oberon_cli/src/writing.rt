@@ -9,7 +9,7 @@ use crate::sink::{Sink, WriteFault};
 /// The first call that fails ends it; then a prefix of the bytes was written, and nothing else.
 pub fn write_whole<W: Sink>(output: &mut W, text: &[u8]) -> Result<(), WriteFault>
     ensures whole { OnOk result (GainsWhole text.now (W.known output.old) (W.known output.new)) }
-    ensures front { OnErr result (GainsPrefix text.now (W.known output.old) (W.known output.new)) }
+    ensures prefix { OnErr result (GainsPrefix text.now (W.known output.old) (W.known output.new)) }
 {
     let mut done = 0;
     for _turn in 0..text.len() + 1 {

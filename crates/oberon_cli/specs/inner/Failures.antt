@@ -1,4 +1,4 @@
--- Which failure a fault means, and what a turn of reading gains.
+-- The faults of the reading loop, and what one turn of it reads.
 use Rattle.std.specs.Prelude.{ℕ, ◌≡◌, ◌<◌, ◌≤◌, ◌++◌, List, Bool, false, length}
 use Rattle.std.specs.Io.KnownBytes.{Consumes}
 use Rattle.oberon_cli.specs.Transfer.{Known, Fails, Goes}
@@ -17,7 +17,7 @@ abbrev pub failure_by : ReadFault → Failure
 failure_by fault.Failed = Read
 failure_by fault.Memory = Memory
 
--- a turn appends what it got to the bytes: at most so many, and at least one if the input has not ended
+-- one turn appends `got` to the bytes: at most `most` bytes, and at least one if the input has not ended
 abbrev pub GainsInTurn : Known → Known → List ℕ → List ℕ → ℕ → Bool → Type 0
 GainsInTurn old new bytes bytes' most ended =
     (got : List ℕ) × (bytes' ≡ bytes ++ got) × (length got ≤ most) × (ended ≡ false → 0 < length got) × Consumes old.bytes new.bytes got
