@@ -8,6 +8,6 @@ pub record IsReadMigration (input text : List ℕ) (status : ℕ) : Type 0 where
   pub migrated : IsMigrated input text
   pub status_is : status ≡ 0
 
--- the answer on an input: its migration, or the line of its first fault
+-- the answer to an input: its migrated form, or the line of its first fault
 abbrev pub IsMigration : List ℕ → List ℕ → ℕ → Type 0
 IsMigration input text status = IsReadMigration input text status ⊎ IsLineOfFault input text status
