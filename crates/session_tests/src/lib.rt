@@ -1,6 +1,6 @@
 //! Tests of `oberon_session`: sessions that are read, refused and recorded.
 //!
-//! Nothing is exported. The tests use public names alone, so that the crate itself is proved once, without them.
+//! The tests use only public names. They are in a crate of their own, so that the tested crate is proved once, without them.
 #![tactic(auto)]
 
 #[cfg(test)]

@@ -1,4 +1,4 @@
-//! The session of the documents, each fault once, and the order of faults where two rules are broken.
+//! The session of the documents, each fault at least once, and the order of faults if two rules are broken.
 
 mod parts;
 mod recorded;
@@ -9,11 +9,11 @@ use risc_model::{Cpu, Event};
 use std::alloc::Global;
 use std::process::Abort;
 
-/// How each text begins that breaks no rule before its pages.
+/// The start of a session of version 1, up to its pages, which breaks no rule.
 const START: &str =
     "{\"format\":\"oberon-session\",\"version\":1,\"start\":{\"R\":[0,0,0,0,0,0,0,0,0,0,0,0,0,0,0,0],\"H\":0,\"PC\":0,\"flags\":0},";
 
-/// What follows, and the first fault of the whole.
+/// The rest of a session after `START`, and its first fault.
 const FAULTS_AFTER_START: [(&str, SessionFault); 30] = [
     // one rule broken
     (
@@ -136,7 +136,7 @@ const FAULTS_AFTER_START: [(&str, SessionFault); 30] = [
     ),
 ];
 
-/// Whole texts that break a rule at their start.
+/// Inputs that break a rule at their start, each with its first fault.
 const FAULTS_AT_START: [(&str, SessionFault); 13] = [
     ("", SessionFault::Json),
     ("[]", SessionFault::Shape),
@@ -186,11 +186,11 @@ const FAULTS_AT_START: [(&str, SessionFault); 13] = [
     ),
 ];
 
-/// How a text of version 2 begins, up to the rate and the phase.
+/// The start of a session of version 2, up to the rate and the phase.
 const START_2: &str =
     "{\"format\":\"oberon-session\",\"version\":2,\"start\":{\"R\":[0,0,0,0,0,0,0,0,0,0,0,0,0,0,0,0],\"H\":0,\"PC\":0,\"flags\":0";
 
-/// What its first state has besides, and the first fault of the whole.
+/// The rest of its initial state, and its first fault, if there is one.
 const RATES: [(&str, Option<SessionFault>); 12] = [
     (",\"rate\":0,\"phase\":0", None),
     (",\"rate\":10,\"phase\":9", None),
@@ -223,20 +223,20 @@ fn fault_of(alloc: Global, text: &[u8]) -> Option<SessionFault> {
 const WHOLE: &str =
     "{\"format\":\"oberon-session\",\"version\":1,\"start\":{\"R\":[1,2,3,4,5,6,7,8,9,10,11,12,13,14,15,4294967295],\"H\":17,\"PC\":4194303,\"flags\":10},\"pages\":[{\"at\":0,\"hex\":\"05000040FFffffe7aA\"},{\"at\":1,\"hex\":\"\"},{\"at\":1023,\"hex\":\"01\"}],\"inputs\":[[0,\"timer\",4294967295],[0,\"switches\",4095],[3,\"mouse\",121631743],[3,\"key\",65],[1099511627776,\"serial\",255]],\"checkpoints\":[1,100,1099511627776]}";
 
-/// The recording of the session of a text.
+/// Returns the recording of the session that a text encodes.
 fn recording_of(alloc: Global, text: &str) -> Option<Recording> {
     let session = read_session(alloc, text.as_bytes()).ok()?;
     make_recording(alloc, &session).ok()
 }
 
-/// Checks that there is no part that is wrong.
+/// Checks that no part is wrong.
 fn check_parts(rt: &impl Abort, wrong: Option<&'static str>) {
     if let Some(part) = wrong {
         panic!(rt; "wrong: {part}");
     }
 }
 
-/// The processor of the first state of the whole session.
+/// Returns the processor of the initial state of `WHOLE`.
 fn first_processor(alloc: Global) -> Option<Cpu> {
     let recording = recording_of(alloc, WHOLE)?;
     if recording.count() == 0 {
@@ -245,9 +245,9 @@ fn first_processor(alloc: Global) -> Option<Cpu> {
     Some(recording.checkpoint(0).cpu)
 }
 
-/// The first register that does not have its number plus 1, or the last one if it does not have the largest number.
+/// Returns the first register that is wrong, if there is one. R0 to R14 have their number plus 1, and R15 has the largest word.
 fn another_register(registers: &[u32; 16]) -> Option<usize> {
-    let wanted = [
+    let expected = [
         1,
         2,
         3,
@@ -266,7 +266,7 @@ fn another_register(registers: &[u32; 16]) -> Option<usize> {
         0xFFFF_FFFF,
     ];
     for register in 0..16usize {
-        if registers[register] != wanted[register] {
+        if registers[register] != expected[register] {
             return Some(register);
         }
     }
@@ -283,7 +283,7 @@ fn reads_the_processor_of_a_session(rt: HostRuntime) {
     assert!(rt; cpu.flags.number() == 10);
 }
 
-/// Where the words stand that are looked at, and their values.
+/// Words of the initial memory of `WHOLE`: page slot, index in the page, and value.
 const WORDS: [(u16, u32, u32); 7] = [
     (0, 0, 0x4000_0005),
     (0, 1, 0xE7FF_FFFF),
@@ -294,7 +294,7 @@ const WORDS: [(u16, u32, u32); 7] = [
     (1023, 0, 1),
 ];
 
-/// Whether a word of the first memory, by its place and its index in the page there, is this.
+/// Reports whether the initial memory has this word in a page slot, at an index.
 fn is_first_word(recording: &Recording, place: u16, index: u32, word: u32) -> bool {
     if place >= 1024 || index >= 256 || recording.count() == 0 {
         return false;
@@ -304,7 +304,7 @@ fn is_first_word(recording: &Recording, place: u16, index: u32, word: u32) -> bo
     page_no <= pool.len() && pool.word(page_no, index) == word
 }
 
-/// The first word of the first memory that is another, by its place and its index, if there is one.
+/// Returns the page slot and the index of the first word that is wrong, if there is one.
 fn another_word(recording: &Recording) -> Option<(u16, u32)> {
     for (place, index, word) in &WORDS {
         if !is_first_word(recording, *place, *index, *word) {
@@ -314,7 +314,7 @@ fn another_word(recording: &Recording) -> Option<(u16, u32)> {
     None
 }
 
-/// How many pages the whole session has, and the first word that is another, if there is one.
+/// Returns the number of pages of `WHOLE`, and the first word that is wrong, if there is one.
 fn pages_of_whole(alloc: Global) -> Option<(u32, Option<(u16, u32)>)> {
     let recording = recording_of(alloc, WHOLE)?;
     Some((recording.pool().len(), another_word(&recording)))
@@ -330,7 +330,7 @@ fn reads_the_pages_of_a_session(rt: HostRuntime) {
     }
 }
 
-/// The counts, kinds and values of the inputs.
+/// The counts, kinds and values of the inputs of `WHOLE`.
 const INPUTS: [(u64, u8, u32); 5] = [
     (0, 1, 4_294_967_295),
     (0, 2, 4_095),
@@ -339,12 +339,12 @@ const INPUTS: [(u64, u8, u32); 5] = [
     (MAX_COUNT, 5, 255),
 ];
 
-/// Whether an event has this count, kind and value.
+/// Reports whether an event has this count, kind and value.
 fn is_event(event: &Event, count: u64, kind: u8, value: u32) -> bool {
     event.count == count && event.input.kind() == kind && event.input.value() == value
 }
 
-/// What is wrong with the inputs of the whole session, if something is.
+/// Returns what is wrong with these events as the inputs of `WHOLE`, if something is.
 fn fault_of_events(events: &[Event]) -> Option<&'static str> {
     if events.len() != INPUTS.len() {
         return Some("the number of inputs");
@@ -357,7 +357,7 @@ fn fault_of_events(events: &[Event]) -> Option<&'static str> {
     None
 }
 
-/// The same of the recording.
+/// Returns what is wrong with the inputs of the recording of `WHOLE`, if something is.
 fn fault_of_inputs(alloc: Global) -> Option<&'static str> {
     match recording_of(alloc, WHOLE) {
         Some(recording) => fault_of_events(recording.inputs().events()),
@@ -370,7 +370,7 @@ fn reads_the_inputs_of_a_session(rt: HostRuntime) {
     check_parts(&rt, fault_of_inputs(rt.alloc()));
 }
 
-/// Whether the checkpoints of the whole session stand at its counts.
+/// Reports whether the checkpoints are at the counts of `WHOLE`.
 fn has_counts(recording: &Recording) -> bool {
     recording.count() == 4
         && recording.checkpoint(0).count == 0
@@ -385,25 +385,25 @@ fn reads_the_counts_of_a_session(rt: HostRuntime) {
     assert!(rt; has_counts(&recording));
 }
 
-/// Whether this is the first fault of a text in two parts, or there is none.
-fn is_fault_behind(alloc: Global, start: &str, rest: &str, fault: Option<SessionFault>) -> bool {
+/// Reports whether the text `start` followed by `rest` has this first fault, or none.
+fn is_fault_after(alloc: Global, start: &str, rest: &str, fault: Option<SessionFault>) -> bool {
     match format!(in alloc; "{start}{rest}") {
         Ok(text) => fault_of(alloc, text.as_bytes()) == fault,
         Err(_) => false,
     }
 }
 
-/// The first rest of a text that gives another first fault, if there is one.
+/// Returns the first rest with another first fault than expected, if there is one.
 fn rest_of_another_fault(alloc: Global) -> Option<&'static str> {
     for (rest, fault) in &FAULTS_AFTER_START {
-        if !is_fault_behind(alloc, START, rest, Some(*fault)) {
+        if !is_fault_after(alloc, START, rest, Some(*fault)) {
             return Some(rest);
         }
     }
     None
 }
 
-/// The first whole text that gives another first fault, if there is one.
+/// Returns the first input with another first fault than expected, if there is one.
 fn text_of_another_fault(alloc: Global) -> Option<&'static str> {
     for (text, fault) in &FAULTS_AT_START {
         if fault_of(alloc, text.as_bytes()) != Some(*fault) {
@@ -420,15 +420,15 @@ fn gives_the_first_fault(rt: HostRuntime) {
     assert!(rt; fault_of(rt.alloc(), &[123, 255, 125]) == Some(SessionFault::Json));
 }
 
-/// Whether this is the first fault of a text of version 2 whose first state ends so, or there is none.
+/// Reports whether a session of version 2 whose initial state ends with `rest` has this first fault, or none.
 fn is_fault_of_timer(alloc: Global, rest: &str, fault: Option<SessionFault>) -> bool {
     match format!(in alloc; "{rest}}},\"pages\":[],\"inputs\":[],\"checkpoints\":[]}}") {
-        Ok(rest) => is_fault_behind(alloc, START_2, rest.as_str(), fault),
+        Ok(rest) => is_fault_after(alloc, START_2, rest.as_str(), fault),
         Err(_) => false,
     }
 }
 
-/// The first end of a first state that gives another first fault, if there is one.
+/// Returns the first row of `RATES` with another first fault than expected, if there is one.
 fn timer_of_another_fault(alloc: Global) -> Option<&'static str> {
     for (rest, fault) in &RATES {
         if !is_fault_of_timer(alloc, rest, *fault) {
@@ -443,7 +443,7 @@ fn reads_rate_and_phase(rt: HostRuntime) {
     check_parts(&rt, timer_of_another_fault(rt.alloc()));
 }
 
-/// Whether the first state of a session has this rate and this phase.
+/// Reports whether the initial state of a session has this rate and this phase.
 fn has_rate_and_phase(alloc: Global, text: &str, rate: u32, phase: u32) -> bool {
     match recording_of(alloc, text) {
         Some(recording) => {
@@ -454,40 +454,34 @@ fn has_rate_and_phase(alloc: Global, text: &str, rate: u32, phase: u32) -> bool 
     }
 }
 
-/// The same of a text in two parts.
-fn has_rate_and_phase_behind(
-    alloc: Global,
-    start: &str,
-    rest: &str,
-    rate: u32,
-    phase: u32,
-) -> bool {
+/// Reports the same of the session `start` followed by `rest`.
+fn has_rate_and_phase_after(alloc: Global, start: &str, rest: &str, rate: u32, phase: u32) -> bool {
     match format!(in alloc; "{start}{rest}") {
         Ok(text) => has_rate_and_phase(alloc, text.as_str(), rate, phase),
         Err(_) => false,
     }
 }
 
-/// What follows the start of a session without pages, inputs and checkpoints.
+/// The rest of a session without pages, inputs and checkpoints.
 const NOTHING: &str = "\"pages\":[],\"inputs\":[],\"checkpoints\":[]}";
 
-/// The same in version 2, with a timer that counts each ten instructions.
+/// The same in version 2, with ten instructions in a millisecond of the timer.
 const TIMER: &str = ",\"rate\":10,\"phase\":9},\"pages\":[],\"inputs\":[],\"checkpoints\":[]}";
 
 #[test]
 fn takes_rate_and_phase_into_the_first_state(rt: HostRuntime) {
     let alloc = rt.alloc();
     assert!(rt;
-        has_rate_and_phase_behind(alloc, START_2, TIMER, 10, 9),
+        has_rate_and_phase_after(alloc, START_2, TIMER, 10, 9),
         "version 2"
     );
     assert!(rt;
-        has_rate_and_phase_behind(alloc, START, NOTHING, 0, 0),
+        has_rate_and_phase_after(alloc, START, NOTHING, 0, 0),
         "version 1"
     );
 }
 
-/// So many copies of a text.
+/// Returns `count` copies of a text.
 fn copies_of(alloc: Global, text: &str, count: u32) -> Option<String> {
     let mut all = String::new(alloc);
     for _ in 0..count {
@@ -498,7 +492,7 @@ fn copies_of(alloc: Global, text: &str, count: u32) -> Option<String> {
     Some(all)
 }
 
-/// What follows the start of a text whose page has so many copies of a digit.
+/// Returns the rest of a session whose page has `count` copies of a digit.
 fn page_of_digits(alloc: Global, digit: &str, count: u32) -> Option<String> {
     let digits = copies_of(alloc, digit, count)?;
     let text = format!(in alloc;
@@ -507,7 +501,7 @@ fn page_of_digits(alloc: Global, digit: &str, count: u32) -> Option<String> {
     text.ok()
 }
 
-/// Digits, how many copies of them a page has, and the first fault, if there is one.
+/// A digit, the number of its copies in a page, and the first fault, if there is one.
 const DIGITS: [(&str, u32, Option<SessionFault>); 4] = [
     // as many digits as a page has, and one pair more
     ("f", 2_048, None),
@@ -517,12 +511,12 @@ const DIGITS: [(&str, u32, Option<SessionFault>); 4] = [
     ("\u{e9}", 1_025, Some(SessionFault::Range)),
 ];
 
-/// The first number of digits that gives another first fault, if there is one.
+/// Returns the first number of digits with another first fault than expected, if there is one.
 fn digits_of_another_fault(alloc: Global) -> Option<u32> {
     for (digit, count, fault) in &DIGITS {
         match page_of_digits(alloc, digit, *count) {
             Some(rest) => {
-                if !is_fault_behind(alloc, START, rest.as_str(), *fault) {
+                if !is_fault_after(alloc, START, rest.as_str(), *fault) {
                     return Some(*count);
                 }
             }
@@ -539,7 +533,7 @@ fn measures_digits_in_bytes(rt: HostRuntime) {
     }
 }
 
-/// What follows the start of a text with arrays in place of its pages, nested so deep.
+/// Returns the rest of a session that has `depth` nested arrays instead of pages.
 fn nested_arrays(alloc: Global, depth: u32) -> Option<String> {
     let open = copies_of(alloc, "[", depth)?;
     let close = copies_of(alloc, "]", depth)?;
@@ -547,19 +541,19 @@ fn nested_arrays(alloc: Global, depth: u32) -> Option<String> {
     text.ok()
 }
 
-/// Depths of arrays, with the object around them 127 and 128 at first, and the first fault.
+/// Depths of nested arrays, and the first fault. The object around them adds 1: the first two rows have depths 127 and 128.
 const DEPTHS: [(u32, SessionFault); 3] = [
     (126, SessionFault::Shape),
     (127, SessionFault::Json),
     (200, SessionFault::Json),
 ];
 
-/// The first depth that gives another first fault, if there is one.
+/// Returns the first depth with another first fault than expected, if there is one.
 fn depth_of_another_fault(alloc: Global) -> Option<u32> {
     for (depth, fault) in &DEPTHS {
         match nested_arrays(alloc, *depth) {
             Some(rest) => {
-                if !is_fault_behind(alloc, START, rest.as_str(), Some(*fault)) {
+                if !is_fault_after(alloc, START, rest.as_str(), Some(*fault)) {
                     return Some(*depth);
                 }
             }
@@ -576,8 +570,8 @@ fn takes_arrays_nested_127_deep(rt: HostRuntime) {
     }
 }
 
-/// The text of each fault.
-const TEXTS: [(SessionFault, &str); 6] = [
+/// The message of each fault.
+const MESSAGES: [(SessionFault, &str); 6] = [
     (SessionFault::Json, "the text is no JSON"),
     (
         SessionFault::Shape,
@@ -595,7 +589,7 @@ const TEXTS: [(SessionFault, &str); 6] = [
     (SessionFault::Memory, "no memory"),
 ];
 
-/// Whether a fault is shown so.
+/// Reports whether a fault has this message.
 fn is_shown(alloc: Global, fault: SessionFault, text: &str) -> bool {
     match format!(in alloc; "{fault}") {
         Ok(shown) => shown.as_str() == text,
@@ -603,9 +597,9 @@ fn is_shown(alloc: Global, fault: SessionFault, text: &str) -> bool {
     }
 }
 
-/// The text of the first fault that is shown otherwise, if there is one.
-fn text_not_shown(alloc: Global) -> Option<&'static str> {
-    for (fault, text) in &TEXTS {
+/// Returns the expected message of the first fault that has another one, if there is one.
+fn message_not_shown(alloc: Global) -> Option<&'static str> {
+    for (fault, text) in &MESSAGES {
         if !is_shown(alloc, *fault, text) {
             return Some(text);
         }
@@ -615,7 +609,7 @@ fn text_not_shown(alloc: Global) -> Option<&'static str> {
 
 #[test]
 fn shows_each_fault(rt: HostRuntime) {
-    check_parts(&rt, text_not_shown(rt.alloc()));
+    check_parts(&rt, message_not_shown(rt.alloc()));
 }
 
 /// The number and the name of each fault.
@@ -628,7 +622,7 @@ const NAMES: [(SessionFault, Option<u8>, &str); 6] = [
     (SessionFault::Memory, None, "memory"),
 ];
 
-/// The name of the first fault that has another number or another name, if there is one.
+/// Returns the name of the first fault that has another number or another name, if there is one.
 fn name_of_another_fault() -> Option<&'static str> {
     for (fault, number, name) in &NAMES {
         if fault.number() != *number || fault.name() != *name {

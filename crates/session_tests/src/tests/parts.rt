@@ -1,4 +1,4 @@
-//! Sessions that are made of their parts: the refusals in turn, and the session of the stored run.
+//! Sessions that are made of their parts: each refusal, and the session of the stored run.
 
 ghost use Rattle.std.specs.Prelude.{◌<◌, ◌^◌, All};
 
@@ -9,7 +9,7 @@ use risc_model::{Cpu, Flags, Inputs};
 use risc_pages::Page;
 use std::alloc::Global;
 
-/// The numbers of which parts are made: all else in them is 0.
+/// The numbers in the parts of a session. All else in them is 0.
 #[derive(Clone, Copy)]
 struct Numbers {
     pc: u32,
@@ -20,7 +20,7 @@ struct Numbers {
     counts: [u64; 2],
 }
 
-/// Numbers that are lawful.
+/// Numbers of a lawful session.
 const LAWFUL: Numbers = Numbers {
     pc: 4_194_303,
     stop: 0,
@@ -30,7 +30,7 @@ const LAWFUL: Numbers = Numbers {
     counts: [1, 1_099_511_627_776],
 };
 
-/// The first fault of parts with other numbers.
+/// A name, numbers, and the first fault of parts with these numbers, if there is one.
 const FAULTS: [(&str, Numbers, Option<SessionFault>); 9] = [
     ("lawful", LAWFUL, None),
     (
@@ -97,7 +97,7 @@ const FAULTS: [(&str, Numbers, Option<SessionFault>); 9] = [
     ),
 ];
 
-/// A processor whose registers and flags are 0.
+/// Returns a processor with this PC and this stop, and all else 0.
 fn cpu_at(pc: u32, stop: u8) -> Cpu {
     Cpu {
         r: [0; 16],
@@ -108,12 +108,12 @@ fn cpu_at(pc: u32, stop: u8) -> Cpu {
     }
 }
 
-/// Each word is a number of four bytes, as its type says.
+/// States that each word is below 2^32, as its type says.
 fn words_fit(words: &[u32])
     ensures { All (λ word. word < 2 ^ 32) words.now }
 {}
 
-/// A page whose first word is given, at a place.
+/// Returns a page with this first word, in a page slot.
 fn page_at(at: u16, word: u32) -> PlacedPage {
     let mut words = [0; 256];
     words[0] = word;
@@ -124,7 +124,7 @@ fn page_at(at: u16, word: u32) -> PlacedPage {
     }
 }
 
-/// The session of parts without inputs, if there is room for them, or its fault.
+/// Returns the session of parts without inputs, or its fault. Returns `None` if memory runs out.
 fn session_of(
     alloc: Global,
     numbers: &Numbers,
@@ -144,7 +144,7 @@ fn session_of(
     ))
 }
 
-/// Whether parts of these numbers have this fault, or none.
+/// Reports whether parts with these numbers have this fault, or none.
 fn has_fault(alloc: Global, numbers: &Numbers, fault: Option<SessionFault>) -> bool {
     let pages = [page_at(numbers.places[0], 1), page_at(numbers.places[1], 2)];
     match session_of(alloc, numbers, &pages, &numbers.counts) {
@@ -153,7 +153,7 @@ fn has_fault(alloc: Global, numbers: &Numbers, fault: Option<SessionFault>) -> b
     }
 }
 
-/// The first parts that have another fault.
+/// Returns the name of the first row with another fault than expected, if there is one.
 fn parts_of_another_fault(alloc: Global) -> Option<&'static str> {
     for (name, numbers, fault) in &FAULTS {
         if !has_fault(alloc, numbers, *fault) {
@@ -170,8 +170,8 @@ fn refuses_parts_by_the_rules_of_a_session(rt: HostRuntime) {
     }
 }
 
-/// The text of the recording of a session of parts: MOV R0, 5 at word 0, and a checkpoint at 100.
-fn text_of_parts(alloc: Global) -> Option<Vec<u8>> {
+/// Returns the recording file of a session made of parts: MOV R0, 5 at word 0, and a checkpoint at 100.
+fn file_of_parts(alloc: Global) -> Option<Vec<u8>> {
     let zeros = Numbers {
         pc: 0,
         rate: 0,
@@ -183,8 +183,8 @@ fn text_of_parts(alloc: Global) -> Option<Vec<u8>> {
     write(alloc, &recording).ok()
 }
 
-/// The text of the recording of the same session, read from JSON.
-fn text_of_json(alloc: Global) -> Option<Vec<u8>> {
+/// Returns the recording file of the same session, read from JSON.
+fn file_of_json(alloc: Global) -> Option<Vec<u8>> {
     let text = format!(in alloc;
         "{START}\"pages\":[{{\"at\":0,\"hex\":\"05000040\"}}],\"inputs\":[],\"checkpoints\":[100]}}"
     );
@@ -195,7 +195,7 @@ fn text_of_json(alloc: Global) -> Option<Vec<u8>> {
 #[test]
 fn records_parts_as_their_text(rt: HostRuntime) {
     let alloc = rt.alloc();
-    match (text_of_parts(alloc), text_of_json(alloc)) {
+    match (file_of_parts(alloc), file_of_json(alloc)) {
         (Some(parts), Some(json)) => {
             assert!(rt; parts.as_slice() == json.as_slice(), "the same recording");
         }

@@ -8,7 +8,7 @@ use std::alloc::Global;
 /// MOV R0, 5; a store of R0 to word 256; MOV R0, 0; a store of R0 to word 256; a jump to itself.
 const STORES: &str = "05000040000410a000000040000410a0ffffffe7";
 
-/// A program that sends a byte with each second instruction, for ever.
+/// A program that sends a byte with every second instruction, for ever.
 const SENDS: &str = "c8ff0051000010a0feffffe7";
 
 /// A program that writes to each page in rounds of 4,100 instructions, from count 2 on, and after 64 rounds sends for ever.
@@ -25,7 +25,7 @@ const SENDS: &str = "c8ff0051000010a0feffffe7";
 const FILLS: &str =
     "010000421000006400000041fc0310a20004184104001903fcffffe90100284241002943f8ffffe9c8ff0051000010a0feffffe7";
 
-/// Where the bytes of the stored run stand that are not 0.
+/// The bytes of the stored run that are not 0, with their offsets.
 const STORED_RUN: [(usize, [u8; 4]); 9] = [
     (0, [0x4F, 0x52, 0x53, 0x52]),
     (4, [2, 0, 0, 0]),
@@ -38,7 +38,7 @@ const STORED_RUN: [(usize, [u8; 4]); 9] = [
     (1_208, [5, 0, 0, 0]),
 ];
 
-/// The text of a session whose first page begins with these digits, with checkpoints at these counts.
+/// Returns the text of a session whose first page begins with these digits, with checkpoints at these counts.
 fn text_of(alloc: Global, hex: &str, counts: &str) -> Option<String> {
     let text = format!(in alloc;
         "{START}\"pages\":[{{\"at\":0,\"hex\":\"{hex}\"}}],\"inputs\":[],\"checkpoints\":[{counts}]}}"
@@ -46,13 +46,13 @@ fn text_of(alloc: Global, hex: &str, counts: &str) -> Option<String> {
     text.ok()
 }
 
-/// The recording of such a session.
+/// Returns the recording of such a session.
 fn recording_of_page(alloc: Global, hex: &str, counts: &str) -> Option<Recording> {
     let text = text_of(alloc, hex, counts)?;
     recording_of(alloc, text.as_str())
 }
 
-/// Whether there is no recording of the session of a text, for this reason.
+/// Reports whether the session of a text is refused with this fault.
 fn is_refused(alloc: Global, text: &str, fault: RecordFault) -> bool {
     match read_session(alloc, text.as_bytes()) {
         Ok(session) => make_recording(alloc, &session).err() == Some(fault),
@@ -60,7 +60,7 @@ fn is_refused(alloc: Global, text: &str, fault: RecordFault) -> bool {
     }
 }
 
-/// The same of a session whose first page begins with these digits, with checkpoints at these counts.
+/// Reports the same of a session whose first page begins with these digits, with checkpoints at these counts.
 fn is_page_refused(alloc: Global, hex: &str, counts: &str, fault: RecordFault) -> bool {
     match text_of(alloc, hex, counts) {
         Some(text) => is_refused(alloc, text.as_str(), fault),
@@ -68,7 +68,7 @@ fn is_page_refused(alloc: Global, hex: &str, counts: &str, fault: RecordFault) -
     }
 }
 
-/// The counts after each of 63 rounds of the program that fills pages, and one more.
+/// Returns the counts after each of 63 rounds of the program that fills pages, and one more count.
 fn rounds_and(alloc: Global, last: u64) -> Option<String> {
     let mut counts = String::new(alloc);
     for round in 1..64u64 {
@@ -78,13 +78,13 @@ fn rounds_and(alloc: Global, last: u64) -> Option<String> {
     format!(in alloc; "{counts}{last}").ok()
 }
 
-/// Whether place 1 has this page number at checkpoint k.
+/// Reports whether slot 1 has this page id at checkpoint k.
 fn has_number(recording: &Recording, k: u32, number: u32) -> bool {
     k < recording.count() && recording.checkpoint(k).table.entry(1) == number
 }
 
-/// The text of the stored run.
-fn stored_text() -> [u8; 1_344] {
+/// Returns the file of the stored run.
+fn stored_file() -> [u8; 1_344] {
     let mut text = [0; 1_344];
     for (place, bytes) in STORED_RUN {
         for i in 0..4 {
@@ -95,10 +95,10 @@ fn stored_text() -> [u8; 1_344] {
     text
 }
 
-/// Whether a recording is written as the text of the stored run.
+/// Reports whether a recording is encoded as the file of the stored run.
 fn is_stored_run(alloc: Global, recording: &Recording) -> bool {
     match write(alloc, recording) {
-        Ok(text) => text.as_slice() == stored_text().as_slice(),
+        Ok(text) => text.as_slice() == stored_file().as_slice(),
         Err(_) => false,
     }
 }
@@ -109,7 +109,7 @@ fn records_the_stored_run(rt: HostRuntime) {
     assert!(rt; is_stored_run(rt.alloc(), &recording));
 }
 
-/// Whether the page numbers are those of the program that stores to page 1.
+/// Reports whether the page ids are those of the program that stores to slot 1.
 fn has_changed_page(recording: &Recording) -> bool {
     recording.pool().len() == 2
         && recording.count() == 4
@@ -119,7 +119,7 @@ fn has_changed_page(recording: &Recording) -> bool {
         && has_number(recording, 3, 0)
 }
 
-/// Whether the text of a recording has this length.
+/// Reports whether the file of a recording has this length.
 fn is_written_in(alloc: Global, recording: &Recording, length: usize) -> bool {
     match write(alloc, recording) {
         Ok(text) => text.len() == length,
@@ -127,7 +127,7 @@ fn is_written_in(alloc: Global, recording: &Recording, length: usize) -> bool {
     }
 }
 
-/// What is wrong with the recording of the program that stores to page 1, if something is.
+/// Returns what is wrong with the recording of the program that stores to slot 1, if something is.
 fn fault_of_stores(alloc: Global) -> Option<&'static str> {
     let Some(recording) = recording_of_page(alloc, STORES, "2,4,5") else {
         return Some("the recording");
@@ -146,7 +146,7 @@ fn lays_a_page_that_changed(rt: HostRuntime) {
     check_parts(&rt, fault_of_stores(rt.alloc()));
 }
 
-/// Whether the timer counts each ten instructions and has this value and this phase at checkpoint k.
+/// Reports whether the timer has rate 10, this value and this phase at checkpoint k.
 fn has_timer(recording: &Recording, k: u32, timer: u32, phase: u32) -> bool {
     if k >= recording.count() {
         return false;
@@ -155,14 +155,14 @@ fn has_timer(recording: &Recording, k: u32, timer: u32, phase: u32) -> bool {
     devices.rate() == 10 && devices.timer() == timer && devices.phase() == phase
 }
 
-/// Whether a timer counts each ten instructions from phase 9 on, and is set to 100 at count 25.
+/// Reports whether the timer begins with rate 10 and phase 9, and is set to 100 at count 25.
 fn has_set_timer(recording: &Recording) -> bool {
     has_timer(recording, 0, 0, 9)
         && has_timer(recording, 1, 3, 4)
         && has_timer(recording, 2, 100, 9)
 }
 
-/// The recording of a session with such a timer.
+/// Returns the recording of a session with such a timer.
 fn timer_recording(alloc: Global) -> Option<Recording> {
     let text = format!(in alloc;
         "{START_2},\"rate\":10,\"phase\":9}},\"pages\":[],\"inputs\":[[25,\"timer\",100]],\"checkpoints\":[25,30]}}"
@@ -176,15 +176,15 @@ fn records_a_timer_that_counts(rt: HostRuntime) {
     assert!(rt; has_set_timer(&recording));
 }
 
-/// Whether the last of two checkpoints says that so many bytes were sent.
+/// Reports whether the last of two checkpoints claims that this number of bytes was sent.
 fn has_sent(recording: &Recording, sent: usize) -> bool {
     recording.count() == 2 && recording.checkpoint(1).sent.len() == sent
 }
 
-/// Counts of checkpoints up to which too many bytes are sent.
+/// Counts of checkpoints with which the program that sends passes the limit of output.
 const TOO_MUCH: [&str; 3] = ["2097154", "1099511627776", "2097152,2097154"];
 
-/// The first of these counts that does not refuse the program that sends, if there is one.
+/// Returns the first of these counts that are not refused, if there is one.
 fn counts_not_refused(alloc: Global) -> Option<&'static str> {
     for counts in &TOO_MUCH {
         if !is_page_refused(alloc, SENDS, counts, RecordFault::Output) {
@@ -201,14 +201,14 @@ fn records_as_much_output_as_there_may_be(rt: HostRuntime) {
     check_parts(&rt, counts_not_refused(rt.alloc()));
 }
 
-/// How many pages the recording has of the program that fills them, with a last checkpoint at this count.
+/// Returns the number of pages in the recording of the program that fills pages, with a last checkpoint at this count.
 fn filled_pages(alloc: Global, last: u64) -> Option<u32> {
     let counts = rounds_and(alloc, last)?;
     let recording = recording_of_page(alloc, FILLS, counts.as_str())?;
     Some(recording.pool().len())
 }
 
-/// Whether there is no such recording, for this reason.
+/// Reports whether this recording is refused with this fault.
 fn is_fill_refused(alloc: Global, last: u64, fault: RecordFault) -> bool {
     match rounds_and(alloc, last) {
         Some(counts) => is_page_refused(alloc, FILLS, counts.as_str(), fault),
@@ -236,7 +236,7 @@ const NAMES: [(RecordFault, Option<u8>, &str); 3] = [
     (RecordFault::Memory, None, "memory"),
 ];
 
-/// The name of the first fault that has another number or another name, if there is one.
+/// Returns the name of the first fault that has another number or another name, if there is one.
 fn name_of_another_fault() -> Option<&'static str> {
     for (fault, number, name) in &NAMES {
         if fault.number() != *number || fault.name() != *name {
@@ -251,14 +251,14 @@ fn numbers_and_names_faults_of_recordings(rt: HostRuntime) {
     check_parts(&rt, name_of_another_fault());
 }
 
-/// The text of each fault.
-const TEXTS: [(RecordFault, &str); 3] = [
+/// The message of each fault.
+const MESSAGES: [(RecordFault, &str); 3] = [
     (RecordFault::Output, "the session sends too much"),
     (RecordFault::Pages, "the session changes too many pages"),
     (RecordFault::Memory, "no memory"),
 ];
 
-/// Whether a fault is shown so.
+/// Reports whether a fault has this message.
 fn is_shown(alloc: Global, fault: RecordFault, text: &str) -> bool {
     match format!(in alloc; "{fault}") {
         Ok(shown) => shown.as_str() == text,
@@ -266,9 +266,9 @@ fn is_shown(alloc: Global, fault: RecordFault, text: &str) -> bool {
     }
 }
 
-/// The text of the first fault that is shown otherwise, if there is one.
-fn text_not_shown(alloc: Global) -> Option<&'static str> {
-    for (fault, text) in &TEXTS {
+/// Returns the expected message of the first fault that has another one, if there is one.
+fn message_not_shown(alloc: Global) -> Option<&'static str> {
+    for (fault, text) in &MESSAGES {
         if !is_shown(alloc, *fault, text) {
             return Some(text);
         }
@@ -278,5 +278,5 @@ fn text_not_shown(alloc: Global) -> Option<&'static str> {
 
 #[test]
 fn shows_each_fault_of_recordings(rt: HostRuntime) {
-    check_parts(&rt, text_not_shown(rt.alloc()));
+    check_parts(&rt, message_not_shown(rt.alloc()));
 }
