@@ -1,21 +1,21 @@
-//! Tests of `risc_devices`: worked examples, and each call once.
+//! Tests of `risc_devices`: worked examples, and each call at least once.
 
 use risc_devices::{Devices, Input, RangeFault, picture};
 use std::alloc::AllocError;
 use std::process::Abort;
 
-/// Devices that hold nothing, with this mouse word.
+/// Returns devices with this mouse word, and all else 0 or empty.
 fn idle(rt: &impl Abort, mouse: u32) -> Devices {
     Devices::new(0, 0, 0, 0, 0, mouse, 0, &[]).expect(rt, "the parts are in range")
 }
 
-/// Takes an input of a kind's number and a value.
+/// Takes the input with a kind's number and a value.
 fn feed(rt: &impl Abort, devices: &mut Devices, kind: u8, value: u32) {
     let input = Input::new(kind, value).expect(rt, "the input is in range");
     devices.take(input);
 }
 
-/// Kinds, values, and whether there is such an input.
+/// A kind's number, a value, and whether there is such an input.
 const INPUTS: [(u8, u32, bool); 13] = [
     (0, 0, false),
     (1, 0xFFFF_FFFF, true),
@@ -32,18 +32,18 @@ const INPUTS: [(u8, u32, bool); 13] = [
     (6, 0, false),
 ];
 
-/// Whether there is an input of a kind's number and a value exactly if it is wanted.
-fn is_taken_as_wanted(kind: u8, value: u32, is_wanted: bool) -> bool {
+/// Reports whether `Input::new` makes an input exactly if `is_input` says that there is one.
+fn is_input_made(kind: u8, value: u32, is_input: bool) -> bool {
     match Input::new(kind, value) {
-        Ok(input) => is_wanted && input.kind() == kind && input.value() == value,
-        Err(fault) => !is_wanted && fault == RangeFault && fault.number() == 1,
+        Ok(input) => is_input && input.kind() == kind && input.value() == value,
+        Err(fault) => !is_input && fault == RangeFault && fault.number() == 1,
     }
 }
 
-/// The kind and the value of the first input that is not taken as wanted, if there is one.
-fn input_taken_wrong() -> Option<(u8, u32)> {
-    for (kind, value, is_wanted) in &INPUTS {
-        if !is_taken_as_wanted(*kind, *value, *is_wanted) {
+/// Returns the kind and the value of the first row that fails, if there is one.
+fn input_made_wrong() -> Option<(u8, u32)> {
+    for (kind, value, is_input) in &INPUTS {
+        if !is_input_made(*kind, *value, *is_input) {
             return Some((*kind, *value));
         }
     }
@@ -52,22 +52,22 @@ fn input_taken_wrong() -> Option<(u8, u32)> {
 
 #[test]
 fn takes_inputs_in_their_ranges_alone(rt: HostRuntime) {
-    if let Some((kind, value)) = input_taken_wrong() {
+    if let Some((kind, value)) = input_made_wrong() {
         panic!(rt; "kind {kind}, value {value}");
     }
 }
 
-/// The first word that is read otherwise, if there is one, where these words are read in turn.
+/// Reads device words in turn, and returns the first whose value is not the expected one, if there is one.
 fn word_read_wrong(devices: &mut Devices, rows: &[(u8, u32)]) -> Option<u8> {
-    for (word, want) in rows {
-        if *word >= 16 || devices.read(*word) != *want {
+    for (word, expected) in rows {
+        if *word >= 16 || devices.read(*word) != *expected {
             return Some(*word);
         }
     }
     None
 }
 
-/// Checks that there is no word that is wrong.
+/// Checks that no word is wrong.
 fn check_words(rt: &impl Abort, wrong: Option<u8>) {
     if let Some(word) = wrong {
         panic!(rt; "word {word}");
@@ -98,11 +98,11 @@ fn keeps_sixteen_keys_of_seventeen(rt: HostRuntime) {
     for code in 1..18 {
         feed(&rt, &mut devices, 4, code);
     }
-    let want = [1, 2, 3, 4, 5, 6, 7, 8, 9, 10, 11, 12, 13, 14, 15, 16];
-    assert_eq!(rt; devices.keys(), &want[..]);
+    let expected = [1, 2, 3, 4, 5, 6, 7, 8, 9, 10, 11, 12, 13, 14, 15, 16];
+    assert_eq!(rt; devices.keys(), &expected[..]);
 }
 
-/// Words in turn, and what is read there.
+/// Device words to read in turn, each with the expected value.
 const OTHER_WORDS: [(u8, u32); 16] = [
     (0, 7),
     (1, 0xA5C),
@@ -131,7 +131,7 @@ fn reads_the_other_words(rt: HostRuntime) {
     check_words(&rt, word_read_wrong(&mut devices, &OTHER_WORDS));
 }
 
-/// Words and values that are written there in turn, the byte that is sent, and the LEDs after it.
+/// Device words and values to write in turn, each with the byte sent and the LEDs after it.
 const WRITES: [(u8, u32, Option<u8>, u8); 5] = [
     (0, 0xFFFF_FFFF, None, 0),
     (1, 0x0000_01A5, None, 0xA5),
@@ -140,7 +140,7 @@ const WRITES: [(u8, u32, Option<u8>, u8); 5] = [
     (15, 1, None, 0xA5),
 ];
 
-/// The first word whose write sends something else or leaves other LEDs, if there is one.
+/// Returns the first word whose write sends another byte or leaves other LEDs, if there is one.
 fn word_written_wrong(devices: &mut Devices) -> Option<u8> {
     for (word, value, sent, leds) in &WRITES {
         if *word >= 16 || devices.write(*word, *value) != *sent || devices.leds() != *leds {
@@ -157,7 +157,7 @@ fn writes_leds_and_sends(rt: HostRuntime) {
     assert!(rt; devices.timer() == 0 && devices.mouse() == 0);
 }
 
-/// Rate, phase, switches, mouse word, serial word and keys of devices, of which one is out of its range.
+/// Rate, phase, switches, mouse word, serial number and number of keys, one of them out of its range.
 const OUT_OF_RANGE: [(u32, u32, u16, u32, u16, usize); 6] = [
     (0, 1, 0, 0, 0, 0),
     (10, 10, 0, 0, 0, 0),
@@ -167,7 +167,7 @@ const OUT_OF_RANGE: [(u32, u32, u16, u32, u16, usize); 6] = [
     (0, 0, 0, 0, 0, 17),
 ];
 
-/// Whether there are devices of these parts, with so many keys.
+/// Reports whether `Devices::new` takes these parts, with this number of keys.
 fn has_devices(
     (rate, phase, switches, mouse, serial, keys): (u32, u32, u16, u32, u16, usize),
 ) -> bool {
@@ -185,7 +185,7 @@ fn makes_devices_of_parts_in_range_alone(rt: HostRuntime) {
     }
 }
 
-/// Whether devices have the largest parts.
+/// Reports whether each part of the devices is the largest possible.
 fn are_largest(devices: &Devices) -> bool {
     devices.timer() == 0xFFFF_FFFF
         && (devices.rate(), devices.phase()) == (10, 9)
@@ -203,17 +203,17 @@ fn makes_devices_of_the_largest_parts(rt: HostRuntime) {
     assert!(rt; are_largest(&devices), "another part");
 }
 
-/// Devices with this timer, rate and phase, and nothing else.
+/// Returns devices with this timer, rate and phase, and all else 0 or empty.
 fn timer_devices((timer, rate, phase): (u32, u32, u32)) -> Option<Devices> {
     Devices::new(timer, rate, phase, 0, 0, 0, 0, &[]).ok()
 }
 
-/// The timer, rate and phase of devices.
+/// Returns the timer, rate and phase of devices.
 fn clock_of(devices: &Devices) -> (u32, u32, u32) {
     (devices.timer(), devices.rate(), devices.phase())
 }
 
-/// The same once so many instructions were counted, one by one.
+/// Returns the timer, rate and phase after `count` calls of `tick`.
 fn counted_slowly(clock: (u32, u32, u32), count: u64) -> Option<(u32, u32, u32)> {
     let mut devices = timer_devices(clock)?;
     for _ in 0..count {
@@ -222,14 +222,14 @@ fn counted_slowly(clock: (u32, u32, u32), count: u64) -> Option<(u32, u32, u32)>
     Some(clock_of(&devices))
 }
 
-/// The same once they were counted at once.
+/// Returns the timer, rate and phase after one call of `tick_times`.
 fn counted_at_once(clock: (u32, u32, u32), count: u64) -> Option<(u32, u32, u32)> {
     let mut devices = timer_devices(clock)?;
     devices.tick_times(count);
     Some(clock_of(&devices))
 }
 
-/// Timer, rate and phase, instructions, and the three after they are counted.
+/// Timer, rate and phase; the number of instructions counted; and timer, rate and phase after that.
 const COUNTED: [((u32, u32, u32), u64, (u32, u32, u32)); 6] = [
     ((0, 10, 0), 25, (2, 10, 5)),
     ((7, 0, 0), 25, (7, 0, 0)),
@@ -243,7 +243,7 @@ const COUNTED: [((u32, u32, u32), u64, (u32, u32, u32)); 6] = [
     ),
 ];
 
-/// The first row that is counted otherwise, if there is one.
+/// Returns the first row that fails, if there is one.
 fn row_counted_wrong() -> Option<usize> {
     for (row, (before, count, after)) in COUNTED.iter().enumerate() {
         if counted_slowly(*before, *count) != Some(*after)
@@ -279,7 +279,7 @@ fn keeps_the_phase_where_the_timer_is_set(rt: HostRuntime) {
     );
 }
 
-/// Whether a picture has the head of a display's, and one byte after it that isn't 0.
+/// Reports whether the bytes are a picture in which only the byte at `at` is not 0, and is `byte`.
 fn has_dot(bytes: &[u8], at: usize, byte: u8) -> bool {
     if bytes.len() != 98_316 || !bytes.starts_with(b"P4\n1024 768\n") {
         return false;

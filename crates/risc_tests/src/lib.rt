@@ -1,6 +1,6 @@
-//! Tests of the machine's crates: `risc_core`, `risc_pages`, `risc_devices` and `risc_machine`, each in a module.
+//! Tests of `risc_core`, `risc_pages`, `risc_devices` and `risc_machine`, over their public names, each in a module.
 //!
-//! Nothing is exported. The tests use public names alone, so that the crates themselves are proved once, without them.
+//! They are in a crate of their own, so that the tested crates are proved once, without them. Nothing is exported.
 #![tactic(auto)]
 
 #[cfg(test)]

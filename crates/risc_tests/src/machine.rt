@@ -1,4 +1,4 @@
-//! Tests of `risc_machine`: worked examples, and each call once.
+//! Tests of `risc_machine`: worked examples, and each call at least once.
 ghost use Rattle.std.specs.Prelude.{◌≡◌, ◌≤◌, ◌<◌, All, IfOk, length};
 
 use risc_devices::{Devices, Input};
@@ -14,7 +14,7 @@ const JUMP: u32 = 0xE7FF_FFFF;
 /// A program that sends one byte, 41 hexadecimal.
 const SENDER: [u32; 4] = [0x5100_FFC8, 0x4000_0041, 0xA010_0000, JUMP];
 
-/// A program at word 0, word 64, and the values of R0, R1, R2 and R15 to begin with.
+/// The initial state of an example: a program at word 0, the value of word 64, and the values of R0, R1, R2 and R15.
 #[derive(Clone, Copy)]
 struct Example {
     program: [u32; 4],
@@ -22,7 +22,7 @@ struct Example {
     registers: [u32; 4],
 }
 
-/// What an example comes to. The flags are N, Z, C and V as a number.
+/// The state of an example at its end. The flags are N, Z, C and V as a number.
 #[derive(Clone, Copy, PartialEq, Eq)]
 struct Outcome {
     registers: [u32; 4],
@@ -43,7 +43,7 @@ struct Clock {
     phase: u32,
 }
 
-/// A timer that does not count by itself.
+/// A timer that does not count instructions.
 const UNCOUNTED: Clock = Clock {
     timer: 0,
     rate: 0,
@@ -57,7 +57,7 @@ fn write(page: &mut Page, place: usize, word: u32)
     page.words[place] = word;
 }
 
-/// A pool of the example's page.
+/// Returns the pool with the example's page.
 fn pool_of(alloc: Global, example: Example) -> Result<Pool, AllocError>
     ensures { IfOk result (λ pool. length pool ≡ 1) }
 {
@@ -72,7 +72,7 @@ fn pool_of(alloc: Global, example: Example) -> Result<Pool, AllocError>
     Ok(pool)
 }
 
-/// The table with page 1 at place 0 and zeros elsewhere.
+/// Returns the table with page id 1 in slot 0, and the page of zeros in the others.
 fn first_place() -> Table
     ensures { All (λ n. n ≤ 1) result }
 {
@@ -81,7 +81,7 @@ fn first_place() -> Table
     table
 }
 
-/// The example's processor.
+/// Returns the example's processor.
 fn cpu_of(example: Example) -> Cpu
     ensures pc { result.pc ≡ 0 }
     ensures stop { result.stop ≡ 0 }
@@ -106,14 +106,14 @@ fn cpu_of(example: Example) -> Cpu
     }
 }
 
-/// The example's machine.
+/// Returns the example's machine, with a timer that does not count.
 fn machine_of<'a>(alloc: Global, pool: &'a Pool, example: Example) -> Option<Machine<'a>>
     requires { length pool.now ≡ 1 }
 {
     machine_at(alloc, pool, example, UNCOUNTED)
 }
 
-/// The example's machine, with this clock.
+/// Returns the example's machine, with this clock.
 fn machine_at<'a>(
     alloc: Global,
     pool: &'a Pool,
@@ -126,7 +126,7 @@ fn machine_at<'a>(
     Machine::start(alloc, pool, &first_place(), cpu_of(example), devices).ok()
 }
 
-/// The list of inputs of these counts, kinds and values.
+/// Returns the list of inputs with these counts, kinds and values.
 fn events_of(alloc: Global, rows: &[(u64, u8, u32)]) -> Option<Vec<Event>> {
     let mut list = Vec::new(alloc);
     for (count, kind, value) in rows {
@@ -142,17 +142,17 @@ fn events_of(alloc: Global, rows: &[(u64, u8, u32)]) -> Option<Vec<Event>> {
     Some(list)
 }
 
-/// Inputs of these counts, kinds and values, which are in order.
+/// Returns the inputs with these counts, kinds and values, if they are in order.
 fn inputs_of(alloc: Global, rows: &[(u64, u8, u32)]) -> Option<Inputs> {
     Inputs::new(events_of(alloc, rows)?).ok()
 }
 
-/// N, Z, C and V as a number.
+/// Returns the flags N, Z, C and V as a number.
 fn number_of(flags: Flags) -> u8 {
     u8::from(flags.n) << 3 | u8::from(flags.z) << 2 | u8::from(flags.c) << 1 | u8::from(flags.v)
 }
 
-/// Where a machine stands that sent so many bytes.
+/// Returns the state of a machine that has sent `sent` bytes.
 fn outcome_of(machine: &Machine, sent: usize) -> Outcome {
     let cpu = *machine.cpu();
     let registers = [cpu.r[0], cpu.r[1], cpu.r[2], cpu.r[15]];
@@ -168,7 +168,7 @@ fn outcome_of(machine: &Machine, sent: usize) -> Outcome {
     }
 }
 
-/// How many bytes a machine sends in so many steps with these inputs.
+/// Runs a machine with these inputs, and returns how many bytes it sent.
 fn sent_by(
     alloc: Global,
     machine: &mut Machine<'_>,
@@ -183,7 +183,7 @@ fn sent_by(
     Some(sent.len())
 }
 
-/// What an example comes to after so many steps with these inputs.
+/// Runs an example with these inputs, and returns its state at the end.
 fn run_of(alloc: Global, example: Example, rows: &[(u64, u8, u32)], steps: u64) -> Option<Outcome> {
     let pool = pool_of(alloc, example).ok()?;
     let mut machine = machine_of(alloc, &pool, example)?;
@@ -191,16 +191,16 @@ fn run_of(alloc: Global, example: Example, rows: &[(u64, u8, u32)], steps: u64) 
     Some(outcome_of(&machine, sent))
 }
 
-/// Whether it comes to this.
-fn comes_to(
+/// Reports whether an example ends in this state.
+fn ends_as(
     alloc: Global,
     example: Example,
     rows: &[(u64, u8, u32)],
     steps: u64,
-    want: Outcome,
+    expected: Outcome,
 ) -> bool {
     match run_of(alloc, example, rows, steps) {
-        Some(outcome) => outcome == want,
+        Some(outcome) => outcome == expected,
         None => false,
     }
 }
@@ -216,7 +216,7 @@ const STILL: Outcome = Outcome {
     sent: 0,
 };
 
-/// An example with this program and these registers.
+/// Returns the example with this program and these registers.
 const fn example_of(program: [u32; 4], registers: [u32; 4]) -> Example {
     Example {
         program,
@@ -228,52 +228,58 @@ const fn example_of(program: [u32; 4], registers: [u32; 4]) -> Example {
 #[test]
 fn loads_and_links(rt: HostRuntime) {
     let timer = example_of([0x5100_FFC0, 0x8010_0000, 0, 0], [0; 4]);
-    let want = Outcome {
+    let expected = Outcome {
         registers: [7, 0xFFFF_FFC0, 0, 0],
         pc: 2,
         word_64: 0x4433_2211,
         timer: 7,
         ..STILL
     };
-    assert!(rt; comes_to(rt.alloc(), timer, &[(0, 1, 7)], 2, want), "timer");
+    assert!(rt;
+        ends_as(rt.alloc(), timer, &[(0, 1, 7)], 2, expected),
+        "timer"
+    );
     let key = example_of([0x5100_FFDD, 0x9010_0000, 0, 0], [0; 4]);
-    let want = Outcome {
+    let expected = Outcome {
         registers: [0, 0xFFFF_FFDD, 0, 0],
         flags: 4,
         timer: 0,
-        ..want
+        ..expected
     };
-    assert!(rt; comes_to(rt.alloc(), key, &[(0, 4, 0x41)], 2, want), "key");
+    assert!(rt;
+        ends_as(rt.alloc(), key, &[(0, 4, 0x41)], 2, expected),
+        "key"
+    );
     let link = example_of([0, 0, 0xD700_000F, 0], [0, 0, 0, 0x40]);
-    let want = Outcome {
+    let expected = Outcome {
         registers: [0, 0, 0, 0x0C],
         pc: 16,
         flags: 0,
-        ..want
+        ..expected
     };
-    assert!(rt; comes_to(rt.alloc(), link, &[], 3, want), "link");
+    assert!(rt; ends_as(rt.alloc(), link, &[], 3, expected), "link");
 }
 
 #[test]
 fn keeps_the_other_lanes(rt: HostRuntime) {
     let load = example_of([0x9000_0102, 0, 0, 0], [0; 4]);
-    let want = Outcome {
+    let expected = Outcome {
         registers: [0x33, 0, 0, 0],
         pc: 1,
         word_64: 0x4433_2211,
         ..STILL
     };
-    assert!(rt; comes_to(rt.alloc(), load, &[], 1, want), "load");
+    assert!(rt; ends_as(rt.alloc(), load, &[], 1, expected), "load");
     let store = example_of([0xB200_0101, 0, 0, 0], [0, 0, 0xAA, 0]);
-    let want = Outcome {
+    let expected = Outcome {
         registers: [0, 0, 0xAA, 0],
         word_64: 0x4433_AA11,
-        ..want
+        ..expected
     };
-    assert!(rt; comes_to(rt.alloc(), store, &[], 1, want), "store");
+    assert!(rt; ends_as(rt.alloc(), store, &[], 1, expected), "store");
 }
 
-/// Words that stop the machine, R1 before them, and where and by which number it stops.
+/// Instructions that stop the machine, each with the value of R1 before it, and the PC and the stop number after it.
 const STOPPERS: [(u32, u32, u32, u8); 5] = [
     (0x000C_0000, 0, 0, 1),
     (0x400B_0000, 0, 0, 2),
@@ -282,18 +288,18 @@ const STOPPERS: [(u32, u32, u32, u8); 5] = [
     (0x8010_0000, 0x20_0000, 0, 4),
 ];
 
-/// The first of these words that does not stop, or changes something else, if there is one.
+/// Returns the first of these instructions that does not stop, or changes something else, if there is one.
 fn word_that_changes_more(alloc: Global) -> Option<u32> {
     for (word, r1, pc, stop) in &STOPPERS {
         let stopper = example_of([*word, 0, 0, 0], [5, *r1, 6, 0]);
-        let want = Outcome {
+        let expected = Outcome {
             registers: [5, *r1, 6, 0],
             pc: *pc,
             stop: *stop,
             word_64: 0x4433_2211,
             ..STILL
         };
-        if !comes_to(alloc, stopper, &[(2, 1, 7)], 9, want) {
+        if !ends_as(alloc, stopper, &[(2, 1, 7)], 9, expected) {
             return Some(*word);
         }
     }
@@ -307,18 +313,18 @@ fn stops_and_changes_nothing_else(rt: HostRuntime) {
     }
 }
 
-/// The clock of these numbers.
+/// Returns the clock with these numbers.
 const fn timer_clock(timer: u32, rate: u32, phase: u32) -> Clock {
     Clock { timer, rate, phase }
 }
 
-/// The clock of a machine.
+/// Returns the clock of a machine.
 fn clock_of(machine: &Machine) -> Clock {
     let devices = machine.devices();
     timer_clock(devices.timer(), devices.rate(), devices.phase())
 }
 
-/// The clock of an example, and its R0, after one run of so many steps.
+/// Returns the clock of an example and its R0 after one run of `steps` steps.
 fn clock_after(
     alloc: Global,
     example: Example,
@@ -332,7 +338,7 @@ fn clock_after(
     Some((clock_of(&machine), machine.cpu().r[0]))
 }
 
-/// The clock of an example, and its R0, after so many single steps.
+/// Returns the clock of an example and its R0 after `steps` single steps.
 fn clock_by_steps(
     alloc: Global,
     example: Example,
@@ -349,48 +355,48 @@ fn clock_by_steps(
     Some((clock_of(&machine), machine.cpu().r[0]))
 }
 
-/// Whether an example has this clock and this R0 after so many steps, in one run and by single steps.
+/// Reports whether an example has this clock and this R0 after `steps` steps, both in one run and by single steps.
 fn counts_to(
     alloc: Global,
     example: Example,
     begin: Clock,
     steps: u64,
-    want: (Clock, u32),
+    expected: (Clock, u32),
 ) -> bool {
-    clock_after(alloc, example, begin, &[], steps) == Some(want)
-        && clock_by_steps(alloc, example, begin, steps) == Some(want)
+    clock_after(alloc, example, begin, &[], steps) == Some(expected)
+        && clock_by_steps(alloc, example, begin, steps) == Some(expected)
 }
 
 /// Timer, rate and phase of a clock.
 type Numbers = (u32, u32, u32);
 
-/// A clock, steps, and the clock and R0 after them.
+/// A clock, a number of steps, and the clock and R0 after them.
 type Counted = (Numbers, u64, Numbers, u32);
 
-/// The clock of a row.
+/// Returns the clock with these numbers, as a row has them.
 fn row_clock((timer, rate, phase): Numbers) -> Clock {
     timer_clock(timer, rate, phase)
 }
 
-/// The first row to which an example does not count, if there is one.
+/// Returns the first row that fails for an example, if there is one.
 fn row_of_another_clock(alloc: Global, example: Example, rows: &[Counted]) -> Option<usize> {
     for (row, (begin, steps, clock, r0)) in rows.iter().enumerate() {
-        let want = (row_clock(*clock), *r0);
-        if !counts_to(alloc, example, row_clock(*begin), *steps, want) {
+        let expected = (row_clock(*clock), *r0);
+        if !counts_to(alloc, example, row_clock(*begin), *steps, expected) {
             return Some(row);
         }
     }
     None
 }
 
-/// Checks that there is no row that is wrong.
+/// Checks that no row is wrong.
 fn check_rows(rt: &impl Abort, wrong: Option<usize>) {
     if let Some(row) = wrong {
         panic!(rt; "row {row}");
     }
 }
 
-/// What a jump to itself counts to.
+/// The clocks of a jump to itself.
 const COUNTED: [Counted; 4] = [
     ((0, 10, 0), 25, (2, 10, 5), 0),
     ((7, 1, 0), 3, (10, 1, 0), 0),
@@ -409,10 +415,10 @@ fn counts_each_instruction(rt: HostRuntime) {
     check_rows(&rt, row_of_another_clock(rt.alloc(), jump, &COUNTED));
 }
 
-/// Whether a jump to itself has this clock after so many steps, where the timer is set to 100 at count 25.
-fn counts_from_a_set_timer(alloc: Global, steps: u64, want: Clock) -> bool {
+/// Reports whether a jump to itself has this clock after `steps` steps, if an input sets the timer to 100 at count 25.
+fn counts_from_a_set_timer(alloc: Global, steps: u64, expected: Clock) -> bool {
     let jump = example_of([JUMP, 0, 0, 0], [0; 4]);
-    clock_after(alloc, jump, timer_clock(0, 10, 0), &[(25, 1, 100)], steps) == Some((want, 0))
+    clock_after(alloc, jump, timer_clock(0, 10, 0), &[(25, 1, 100)], steps) == Some((expected, 0))
 }
 
 #[test]
@@ -427,17 +433,18 @@ fn sets_the_timer_and_leaves_its_phase(rt: HostRuntime) {
     );
 }
 
-/// The first of the words that stop whose last clock is not this one, if there is one: that of a jump out of memory is counted.
+/// Returns the first of `STOPPERS` whose clock is wrong at the end, if there is one. A stop is not counted; the jump out of memory
+/// before a stop is.
 fn word_of_another_clock(alloc: Global) -> Option<u32> {
     for (word, r1, pc, _) in &STOPPERS {
         let stopper = example_of([*word, 0, 0, 0], [5, *r1, 6, 0]);
         let last = timer_clock(4, 10, 9);
-        let want = if *pc == 262_144 {
+        let expected = if *pc == 262_144 {
             timer_clock(5, 10, 0)
         } else {
             last
         };
-        if !counts_to(alloc, stopper, last, 5, (want, 5)) {
+        if !counts_to(alloc, stopper, last, 5, (expected, 5)) {
             return Some(*word);
         }
     }
@@ -451,7 +458,7 @@ fn counts_no_instruction_that_stops(rt: HostRuntime) {
     }
 }
 
-/// What a program counts to that reads the timer for ever.
+/// The clocks of a program that reads the timer for ever.
 const READ: [Counted; 4] = [
     ((0, 1, 0), 2, (2, 1, 0), 1),
     ((0, 1, 0), 4, (4, 1, 0), 3),
@@ -468,8 +475,8 @@ fn reads_the_timer_before_the_read_is_counted(rt: HostRuntime) {
 #[test]
 fn counts_an_instruction_that_sends(rt: HostRuntime) {
     let sender = example_of(SENDER, [0; 4]);
-    let want = (timer_clock(1, 3, 0), 0x41);
-    assert!(rt; counts_to(rt.alloc(), sender, timer_clock(0, 3, 0), 3, want));
+    let expected = (timer_clock(1, 3, 0), 0x41);
+    assert!(rt; counts_to(rt.alloc(), sender, timer_clock(0, 3, 0), 3, expected));
 }
 
 #[test]
@@ -479,34 +486,34 @@ fn runs_off_the_end_and_stays_there(rt: HostRuntime) {
         word_64: 0,
         registers: [0; 4],
     };
-    let want = Outcome {
+    let expected = Outcome {
         pc: 262_144,
         stop: 3,
         flags: 4,
         ..STILL
     };
-    assert!(rt; comes_to(rt.alloc(), empty, &[(300_000, 1, 7)], MAX_COUNT, want));
+    assert!(rt; ends_as(rt.alloc(), empty, &[(300_000, 1, 7)], MAX_COUNT, expected));
 }
 
 #[test]
 fn keeps_sixteen_of_seventeen_keys(rt: HostRuntime) {
     let jump = example_of([JUMP, 0, 0, 0], [0; 4]);
-    let want = Outcome {
+    let expected = Outcome {
         word_64: 0x4433_2211,
         keys: 16,
         ..STILL
     };
-    assert!(rt; comes_to(rt.alloc(), jump, &[(0, 4, 9); 17], 1, want));
+    assert!(rt; ends_as(rt.alloc(), jump, &[(0, 4, 9); 17], 1, expected));
 }
 
-/// Whether a run of these inputs from one count to another sends nothing.
+/// Runs a machine from one count to another, and reports whether it sends nothing.
 fn is_silent(machine: &mut Machine<'_>, inputs: &Inputs, from: u64, to: u64) -> bool
     requires { from ≤ to }
 {
     matches!(machine.run_matching(inputs, from, to, &[]), Ok(true))
 }
 
-/// Whether a machine takes keys of the counts 10 and 20 in a run from count 10 to 20, and those before count 10 are taken before.
+/// Reports whether a run from count 10 to 20 takes the key of count 10 and not the one of count 20, with inputs before both.
 fn takes_keys_by_counts(alloc: Global, machine: &mut Machine<'_>) -> bool {
     match inputs_of(alloc, &[(9, 1, 5), (10, 4, 0x41), (20, 4, 0x42)]) {
         Some(inputs) => {
@@ -520,7 +527,7 @@ fn takes_keys_by_counts(alloc: Global, machine: &mut Machine<'_>) -> bool {
     }
 }
 
-/// The same of a jump to itself.
+/// Reports this of a jump to itself.
 fn jump_takes_keys_by_counts(alloc: Global) -> bool {
     let jump = example_of([JUMP, 0, 0, 0], [0; 4]);
     let Ok(pool) = pool_of(alloc, jump) else {
@@ -537,13 +544,13 @@ fn takes_inputs_from_a_count_on(rt: HostRuntime) {
     assert!(rt; jump_takes_keys_by_counts(rt.alloc()));
 }
 
-/// Whether a machine without inputs sends these bytes in four steps, if there is room to know.
+/// Reports whether a machine without inputs sends these bytes in four steps, or returns `None` if memory runs out.
 fn sends(alloc: Global, machine: &mut Machine<'_>, expected: &[u8]) -> Option<bool> {
     let inputs = inputs_of(alloc, &[])?;
     machine.run_matching(&inputs, 0, 4, expected).ok()
 }
 
-/// The same of the example that sends.
+/// Reports this of the example that sends a byte.
 fn matches(alloc: Global, expected: &[u8]) -> Option<bool> {
     let sender = example_of(SENDER, [0; 4]);
     let pool = pool_of(alloc, sender).ok()?;
@@ -551,7 +558,7 @@ fn matches(alloc: Global, expected: &[u8]) -> Option<bool> {
     sends(alloc, &mut machine, expected)
 }
 
-/// Bytes, and whether they are what the example sends.
+/// Bytes, and whether the example sends them.
 const SENT: [(&[u8], bool); 4] = [
     (&[0x41], true),
     (&[], false),
@@ -559,7 +566,7 @@ const SENT: [(&[u8], bool); 4] = [
     (&[0x41, 0x41], false),
 ];
 
-/// The first row that is compared wrongly, if there is one.
+/// Returns the first row that fails, if there is one.
 fn row_of_another_answer(alloc: Global) -> Option<usize> {
     for (row, (expected, is_sent)) in SENT.iter().enumerate() {
         if matches(alloc, expected) != Some(*is_sent) {
@@ -572,23 +579,23 @@ fn row_of_another_answer(alloc: Global) -> Option<usize> {
 #[test]
 fn sends_a_byte_and_compares_it(rt: HostRuntime) {
     let sender = example_of(SENDER, [0; 4]);
-    let want = Outcome {
+    let expected = Outcome {
         registers: [0x41, 0xFFFF_FFC8, 0, 0],
         pc: 2,
         word_64: 0x4433_2211,
         ..STILL
     };
-    assert!(rt; comes_to(rt.alloc(), sender, &[], 2, want), "before");
-    let want = Outcome {
+    assert!(rt; ends_as(rt.alloc(), sender, &[], 2, expected), "before");
+    let expected = Outcome {
         pc: 3,
         sent: 1,
-        ..want
+        ..expected
     };
-    assert!(rt; comes_to(rt.alloc(), sender, &[], 4, want), "after");
+    assert!(rt; ends_as(rt.alloc(), sender, &[], 4, expected), "after");
     check_rows(&rt, row_of_another_answer(rt.alloc()));
 }
 
-/// Whether a machine owns the page that it stores to from its step on.
+/// Reports whether a step that stores to slot 0 makes the page there private.
 fn owns_by_a_step(machine: &mut Machine<'_>) -> bool {
     if machine.memory().owned(0) {
         return false;
@@ -596,7 +603,7 @@ fn owns_by_a_step(machine: &mut Machine<'_>) -> bool {
     matches!(machine.step(), Ok(None)) && machine.memory().owned(0)
 }
 
-/// Whether a machine is closed with the processor and the devices that it has after a store, and one page that changed.
+/// Closes a machine after its store. Reports whether processor and devices are as expected, and one page has changed.
 fn closes(machine: Machine<'_>) -> bool {
     match machine.close() {
         Ok((cpu, devices, delta)) => {
@@ -606,7 +613,7 @@ fn closes(machine: Machine<'_>) -> bool {
     }
 }
 
-/// What the example that stores does wrong, if something.
+/// Returns what is wrong with the example that stores, if something is.
 fn fault_of_stores(alloc: Global) -> Option<&'static str> {
     let stores = example_of([0xA200_0100, 0, 0, 0], [0, 0, 5, 0]);
     let Ok(pool) = pool_of(alloc, stores) else {
@@ -631,7 +638,7 @@ fn steps_and_closes(rt: HostRuntime) {
     }
 }
 
-/// The place at which inputs are out of order, if there is one, and how many inputs there are or are handed back.
+/// Returns the index at which inputs are out of order, if there is one, and the number of inputs made or handed back.
 fn wrong_place(alloc: Global, rows: &[(u64, u8, u32)]) -> Option<(Option<usize>, usize)> {
     let list = events_of(alloc, rows)?;
     match Inputs::new(list) {
@@ -640,7 +647,7 @@ fn wrong_place(alloc: Global, rows: &[(u64, u8, u32)]) -> Option<(Option<usize>,
     }
 }
 
-/// Inputs, and the place at which they are out of order, if there is one.
+/// Inputs, and the index at which they are out of order, if there is one.
 const ORDERS: [([(u64, u8, u32); 3], Option<usize>); 4] = [
     ([(0, 1, 0), (5, 1, 0), (4, 1, 0)], Some(2)),
     ([(7, 1, 0), (5, 1, 0), (6, 1, 0)], Some(1)),
@@ -648,7 +655,7 @@ const ORDERS: [([(u64, u8, u32); 3], Option<usize>); 4] = [
     ([(0, 1, 0), (0, 1, 0), (MAX_COUNT, 1, 0)], None),
 ];
 
-/// The first row that is handed back wrongly, if there is one.
+/// Returns the first row that fails, if there is one.
 fn row_of_another_order(alloc: Global) -> Option<usize> {
     for (row, (inputs, place)) in ORDERS.iter().enumerate() {
         match wrong_place(alloc, inputs) {
@@ -689,12 +696,12 @@ const SEVENTEEN_KEYS: [(u64, u8, u32); 17] = [
     (0, 4, 17),
 ];
 
-/// Whether these are all keys that can wait, with the codes from 1 on.
+/// Reports whether these are sixteen keys, with the codes 1 to 16.
 fn are_first_sixteen(keys: &[u8]) -> bool {
     keys == [1, 2, 3, 4, 5, 6, 7, 8, 9, 10, 11, 12, 13, 14, 15, 16].as_slice()
 }
 
-/// Whether a machine takes seventeen keys, and keeps the first sixteen in order.
+/// Reports whether a machine that gets seventeen keys keeps the first sixteen, in order.
 fn keeps_sixteen(alloc: Global, machine: &mut Machine<'_>) -> bool {
     match inputs_of(alloc, &SEVENTEEN_KEYS) {
         Some(inputs) => {
@@ -706,7 +713,7 @@ fn keeps_sixteen(alloc: Global, machine: &mut Machine<'_>) -> bool {
     }
 }
 
-/// The same of a jump to itself.
+/// Reports this of a jump to itself.
 fn jump_keeps_sixteen(alloc: Global) -> bool {
     let jump = example_of([JUMP, 0, 0, 0], [0; 4]);
     let Ok(pool) = pool_of(alloc, jump) else {
@@ -723,7 +730,7 @@ fn keeps_the_first_sixteen_keys_in_order(rt: HostRuntime) {
     assert!(rt; jump_keeps_sixteen(rt.alloc()));
 }
 
-/// The number of the refusal of inputs that fall, and its place.
+/// Returns the number and the index of the refusal of inputs whose counts fall.
 fn refusal_of_falling(alloc: Global) -> Option<(u8, usize)> {
     let list = events_of(alloc, &[(1, 1, 0), (0, 1, 0)])?;
     match Inputs::new(list) {
@@ -737,15 +744,15 @@ fn numbers_the_refusal_of_a_wrong_order(rt: HostRuntime) {
     assert!(rt; refusal_of_falling(rt.alloc()) == Some((1, 1)));
 }
 
-/// An example that writes its own code, the steps after which it is looked at, and what it comes to.
+/// An example that writes its own code, its number of steps, and its state after them.
 type Rewriting = (Example, u64, Outcome);
 
-/// Adds 1 to R2, stores R0 where R1 points, a word or a byte, and goes back to word 0.
+/// Adds 1 to R2, stores R0 (a word or a byte) at the address in R1, and goes back to word 0.
 const fn rewrites_what_has_run(store: u32, r0: u32) -> Example {
     example_of([0x4228_0001, store, 0xE7FF_FFFD, 0], [r0, 0, 0, 0])
 }
 
-/// R2 becomes 1, and once the addition of 1 has become one of 16, by a word or by a byte, 17 and 33.
+/// R2 becomes 1. The word store turns the addition of 1 into an addition of 16, so R2 then becomes 17 and 33.
 fn by_word() -> Rewriting {
     (
         rewrites_what_has_run(0xA010_0000, 0x4228_0010),
@@ -801,7 +808,8 @@ fn next() -> Rewriting {
     )
 }
 
-/// The store reaches word 64, and in its second round the next instruction, which has run: 1 and then 16 are added to R2.
+/// In the first round the store writes word 64, and in the second the next instruction, which has run by then. So 1 is added to R2,
+/// and then 16.
 fn next_that_has_run() -> Rewriting {
     (
         example_of(
@@ -818,10 +826,10 @@ fn next_that_has_run() -> Rewriting {
     )
 }
 
-/// A program that stores R0 where R1 points, goes there, comes back to word 2 and does the same with what R2 held.
+/// A program that stores R0 at the address in R1, branches there, comes back to word 2, and does the same with the value of R2.
 const VISITOR: [u32; 4] = [0xA010_0000, 0xC700_0001, 0x0000_0002, 0xE7FF_FFFC];
 
-/// What it comes to, if what R2 held adds 7 to R15, which was 8, and stands below the word `pc`.
+/// Returns the state at the end, if the value of R2 is an instruction that adds 7 to R15, which was 8, at the word before `pc`.
 const fn visit_outcome(r1: u32, pc: u32) -> Outcome {
     Outcome {
         registers: [0x4FF8_0007, r1, 0x4FF8_0007, 15],
@@ -831,7 +839,7 @@ const fn visit_outcome(r1: u32, pc: u32) -> Outcome {
     }
 }
 
-/// At first the visitor finds a branch back to R15, and in its second round an addition.
+/// Returns the example of `VISITOR`: in the first round it stores a branch to R15, and in the second round an addition.
 const fn visits(r1: u32, pc: u32) -> Rewriting {
     (
         example_of(VISITOR, [0xC700_000F, r1, 0x4FF8_0007, 8]),
@@ -840,7 +848,7 @@ const fn visits(r1: u32, pc: u32) -> Rewriting {
     )
 }
 
-/// All of them: the visitor goes to another page, to the page of word 1,024, to the display and to the last word.
+/// Returns all these examples. `VISITOR` goes to another page, to the page of word 1,024, to the display and to the last word.
 fn rewritings() -> [Rewriting; 9] {
     [
         by_word(),
@@ -855,7 +863,7 @@ fn rewritings() -> [Rewriting; 9] {
     ]
 }
 
-/// Whether a machine without inputs sends nothing in two runs, the first of which ends after `cut` steps.
+/// Runs a machine without inputs in two runs, the first of `cut` steps, and reports whether it sends nothing.
 fn is_silent_in_two(alloc: Global, machine: &mut Machine<'_>, cut: u64, steps: u64) -> bool {
     match inputs_of(alloc, &[]) {
         Some(inputs) => {
@@ -866,7 +874,7 @@ fn is_silent_in_two(alloc: Global, machine: &mut Machine<'_>, cut: u64, steps: u
     }
 }
 
-/// What an example comes to in two such runs.
+/// Returns the state of an example after two such runs.
 fn run_in_two(alloc: Global, example: Example, cut: u64, steps: u64) -> Option<Outcome> {
     let pool = pool_of(alloc, example).ok()?;
     let mut machine = machine_of(alloc, &pool, example)?;
@@ -877,10 +885,10 @@ fn run_in_two(alloc: Global, example: Example, cut: u64, steps: u64) -> Option<O
     }
 }
 
-/// The first row that does not come to its outcome in one run, if there is one.
+/// Returns the first row that fails in one run, if there is one.
 fn row_of_another_outcome(alloc: Global) -> Option<usize> {
-    for (row, (example, steps, want)) in rewritings().iter().enumerate() {
-        if !comes_to(alloc, *example, &[], *steps, *want) {
+    for (row, (example, steps, expected)) in rewritings().iter().enumerate() {
+        if !ends_as(alloc, *example, &[], *steps, *expected) {
             return Some(row);
         }
     }
@@ -892,12 +900,12 @@ fn runs_code_that_it_wrote(rt: HostRuntime) {
     check_rows(&rt, row_of_another_outcome(rt.alloc()));
 }
 
-/// Whether an example comes to its outcome in two runs, wherever the first of them ends.
-fn comes_to_in_two(alloc: Global, example: Example, steps: u64, want: Outcome) -> bool {
+/// Reports whether an example ends in this state in two runs, for each end of the first run.
+fn ends_as_in_two(alloc: Global, example: Example, steps: u64, expected: Outcome) -> bool {
     for cut in 0..steps {
         match run_in_two(alloc, example, cut, steps) {
             Some(outcome) => {
-                if outcome != want {
+                if outcome != expected {
                     return false;
                 }
             }
@@ -907,10 +915,10 @@ fn comes_to_in_two(alloc: Global, example: Example, steps: u64, want: Outcome) -
     true
 }
 
-/// The first row that does not come to its outcome in two runs, if there is one.
+/// Returns the first row that fails in two runs, if there is one.
 fn row_of_another_outcome_in_two(alloc: Global) -> Option<usize> {
-    for (row, (example, steps, want)) in rewritings().iter().enumerate() {
-        if !comes_to_in_two(alloc, *example, *steps, *want) {
+    for (row, (example, steps, expected)) in rewritings().iter().enumerate() {
+        if !ends_as_in_two(alloc, *example, *steps, *expected) {
             return Some(row);
         }
     }

@@ -1,4 +1,4 @@
-//! Tests of `risc_pages`: each public call once on its happy path, and what no clause says of them.
+//! Tests of `risc_pages`: each public call at least once, with enough memory, and what no contract says.
 
 ghost use Rattle.std.specs.Prelude.{IsTrue};
 ghost use Rattle.risc_pages.specs.Tables.{IsNamed};
@@ -7,7 +7,7 @@ use risc_pages::{Memory, Page, Pool, Table};
 use std::alloc::Global;
 use std::process::Abort;
 
-/// Whether each number of the table is that of a page.
+/// Reports whether each page id of the table names a page of the pool.
 fn is_named(pool: &Pool, table: &Table) -> bool
     ensures { IsTrue result → IsNamed pool.now table.now }
 {
@@ -20,12 +20,12 @@ fn is_named(pool: &Pool, table: &Table) -> bool
     true
 }
 
-/// A page that is full of a word.
+/// Returns a page with the same word everywhere.
 fn full_of(word: u32) -> Page {
     Page { words: [word; 256] }
 }
 
-/// The pool of pages that are full of these words, at most three.
+/// Returns the pool with a page full of each of these words, at most three.
 fn pool_of(alloc: Global, words: &[u32]) -> Option<Pool> {
     let mut pool = Pool::new(alloc);
     for word in words {
@@ -36,7 +36,7 @@ fn pool_of(alloc: Global, words: &[u32]) -> Option<Pool> {
     Some(pool)
 }
 
-/// The table that names these pages at these places, and else the page of zeros.
+/// Returns the table with these page ids in these slots, and the page of zeros in the others.
 fn table_of(names: &[(u16, u32)]) -> Option<Table> {
     let mut table = Table::zeros();
     for (place, page_no) in names {
@@ -48,24 +48,24 @@ fn table_of(names: &[(u16, u32)]) -> Option<Table> {
     Some(table)
 }
 
-/// Checks that there is nothing that is wrong.
+/// Checks that nothing is wrong.
 fn check_parts(rt: &impl Abort, wrong: Option<&'static str>) {
     if let Some(part) = wrong {
         panic!(rt; "wrong: {part}");
     }
 }
 
-/// Whether a pool has no page but that of zeros.
-fn has_zeros_alone(pool: &Pool) -> bool {
+/// Reports whether a pool has only the page of zeros.
+fn has_only_zeros(pool: &Pool) -> bool {
     pool.len() == 0 && pool.is_empty() && pool.word(0, 255) == 0
 }
 
 #[test]
 fn pools_begin_empty(rt: HostRuntime) {
-    assert!(rt; has_zeros_alone(&Pool::new(rt.alloc())));
+    assert!(rt; has_only_zeros(&Pool::new(rt.alloc())));
 }
 
-/// The pool of pages that are full of 5 and of 6, with room for both from the start, if it is empty until they are pushed.
+/// Returns the pool with a page full of 5 and one full of 6, made with capacity for both, if it is empty at first.
 fn two_pages(alloc: Global) -> Option<Pool> {
     let mut pool = Pool::with_capacity(alloc, 2).ok()?;
     if !pool.is_empty() || pool.push(full_of(5)).is_err() || pool.push(full_of(6)).is_err() {
@@ -74,10 +74,10 @@ fn two_pages(alloc: Global) -> Option<Pool> {
     Some(pool)
 }
 
-/// Numbers of pages, and the word that each is full of.
+/// Page ids, each with the word that the page is full of.
 const FULL: [(u32, u32); 3] = [(0, 0), (1, 5), (2, 6)];
 
-/// The first page that is not there or not full of its word, if there is one.
+/// Returns the first page id that names no page, or a page that is not full of its word, if there is one.
 fn page_of_another_word(pool: &Pool) -> Option<u32> {
     for (page_no, word) in &FULL {
         if *page_no > pool.len()
@@ -90,7 +90,7 @@ fn page_of_another_word(pool: &Pool) -> Option<u32> {
     None
 }
 
-/// The number of two pages, if there are so many, and the first of them that is wrong.
+/// Returns the number of pages of the pool with two pages, and the first page that is wrong, if there is one.
 fn two_pages_and_the_wrong_one(alloc: Global) -> Option<(u32, Option<u32>)> {
     let pool = two_pages(alloc)?;
     Some((pool.len(), page_of_another_word(&pool)))
@@ -106,7 +106,7 @@ fn pools(rt: HostRuntime) {
     }
 }
 
-/// What is wrong with a table that is set at its last place, if something is.
+/// Sets the last slot of a table, and returns what is wrong after that, if something is.
 fn fault_of_table() -> Option<&'static str> {
     let mut table = Table::zeros();
     let first = table.copy();
@@ -131,13 +131,13 @@ fn tables(rt: HostRuntime) {
     check_parts(&rt, fault_of_table());
 }
 
-/// Words of the pages of the pool of three pages.
+/// The words that the pages of the pool with three pages are full of.
 const THREE: [u32; 3] = [7, 8, 7];
 
-/// Places of a memory, and their pages of that pool: those of 7 and of 8.
+/// Slots of a memory, and the page ids in them: a page full of 7, and one full of 8.
 const NAMES: [(u16, u32); 2] = [(0, 1), (2, 2)];
 
-/// The memory of these pages at these places.
+/// Returns the memory with these pages in these slots.
 fn memory_of(alloc: Global, pool: &Pool) -> Option<Memory<'_>> {
     let table = table_of(&NAMES)?;
     if !is_named(pool, &table) {
@@ -146,7 +146,7 @@ fn memory_of(alloc: Global, pool: &Pool) -> Option<Memory<'_>> {
     Memory::from_table(alloc, pool, &table).ok()
 }
 
-/// Whether this place has a page of its own, if it is one, and no other has.
+/// Reports whether the slot `owned` has a private page, and no other slot has.
 fn are_owned(memory: &Memory<'_>, owned: Option<u16>) -> bool {
     for place in 0..1024 {
         if memory.owned(place) != (owned == Some(place)) {
@@ -156,7 +156,7 @@ fn are_owned(memory: &Memory<'_>, owned: Option<u16>) -> bool {
     true
 }
 
-/// Words of a memory that has the pages of 7 and of 8 at the places 0 and 2.
+/// Word numbers, each with the word of the memory with the pages full of 7 and of 8 in slots 0 and 2.
 const WORDS: [(u32, u32); 7] = [
     (0, 7),
     (255, 7),
@@ -167,7 +167,7 @@ const WORDS: [(u32, u32); 7] = [
     (262143, 0),
 ];
 
-/// Whether words have these values.
+/// Reports whether the words of a memory have these values.
 fn has_words(memory: &Memory<'_>, words: &[(u32, u32)]) -> bool {
     for (word_no, word) in words {
         if *word_no >= 262_144 || memory.read(*word_no) != *word {
@@ -177,7 +177,7 @@ fn has_words(memory: &Memory<'_>, words: &[(u32, u32)]) -> bool {
     true
 }
 
-/// What is not as it was to be once a word of the third page is written, and written again.
+/// Writes a word of slot 2 twice, and returns what is wrong after that, if something is.
 fn fault_of_writes(alloc: Global, memory: &mut Memory<'_>) -> Option<&'static str> {
     for value in [3, 4] {
         if memory.write(515, value).is_err() {
@@ -202,7 +202,7 @@ fn fault_of_writes(alloc: Global, memory: &mut Memory<'_>) -> Option<&'static st
     }
 }
 
-/// The same of the memory over this pool, and what is not as it was to be before.
+/// Makes a memory over this pool, and returns what is wrong with it before and after the writes, if something is.
 fn fault_of_memory(alloc: Global, pool: &Pool) -> Option<&'static str> {
     let Some(mut memory) = memory_of(alloc, pool) else {
         return Some("the memory");
@@ -216,7 +216,7 @@ fn fault_of_memory(alloc: Global, pool: &Pool) -> Option<&'static str> {
     fault_of_writes(alloc, &mut memory)
 }
 
-/// The same of the memory over the pool of three pages, which keeps its words.
+/// Returns what is wrong with the memory over the pool with three pages, or with the pool after the writes, if something is.
 fn fault_of_owning(alloc: Global) -> Option<&'static str> {
     let Some(pool) = pool_of(alloc, &THREE) else {
         return Some("the pool");
@@ -235,7 +235,7 @@ fn a_write_owns_one_page(rt: HostRuntime) {
     check_parts(&rt, fault_of_owning(rt.alloc()));
 }
 
-/// Whether the first difference of a memory from these pages at these places, each one of the pool, is this.
+/// Reports whether `place` is the first slot in which a memory differs from the table with these page ids over the pool.
 fn differs_at(memory: &Memory<'_>, pool: &Pool, names: &[(u16, u32)], place: Option<u16>) -> bool {
     match table_of(names) {
         Some(table) => is_named(pool, &table) && memory.first_difference(pool, &table) == place,
@@ -243,8 +243,8 @@ fn differs_at(memory: &Memory<'_>, pool: &Pool, names: &[(u16, u32)], place: Opt
     }
 }
 
-/// Pages of the pool of three pages, by their places, the first place at which the pages of 7 and of 8 at the places 0 and 2
-/// differ from them, and what they are.
+/// Page ids over the pool with three pages, by slot; the first slot in which the memory with the pages full of 7 and of 8 in slots
+/// 0 and 2 differs from them; and the row's name.
 const DIFFERENCES: [(&[(u16, u32)], Option<u16>, &str); 3] = [
     (&[(0, 1), (2, 2)], None, "the same pages"),
     (
@@ -255,7 +255,7 @@ const DIFFERENCES: [(&[(u16, u32)], Option<u16>, &str); 3] = [
     (&[(0, 1), (2, 1), (9, 1)], Some(2), "another page"),
 ];
 
-/// What a memory is compared with wrongly, if there is something.
+/// Returns the name of the first row that is compared wrongly, if there is one.
 fn fault_of_comparing(memory: &Memory<'_>, pool: &Pool, other: &Pool) -> Option<&'static str> {
     for (names, place, what) in &DIFFERENCES {
         if !differs_at(memory, pool, names, *place) {
@@ -268,7 +268,7 @@ fn fault_of_comparing(memory: &Memory<'_>, pool: &Pool, other: &Pool) -> Option<
     None
 }
 
-/// The same of the memory over this pool, and of the pool of pages that are full of 8, of 0 and of 7.
+/// Makes a memory over this pool, and a pool with pages full of 8, 0 and 7, and returns the first row that is compared wrongly.
 fn fault_of_pages(alloc: Global, pool: &Pool) -> Option<&'static str> {
     let Some(other) = pool_of(alloc, &[8, 0, 7]) else {
         return Some("the other pool");
@@ -279,7 +279,7 @@ fn fault_of_pages(alloc: Global, pool: &Pool) -> Option<&'static str> {
     }
 }
 
-/// The same over the pool of three pages.
+/// Returns the first row that is compared wrongly, over the pool with three pages.
 fn fault_of_three_pages(alloc: Global) -> Option<&'static str> {
     match pool_of(alloc, &THREE) {
         Some(pool) => fault_of_pages(alloc, &pool),
@@ -292,7 +292,7 @@ fn contents_are_compared(rt: HostRuntime) {
     check_parts(&rt, fault_of_three_pages(rt.alloc()));
 }
 
-/// Whether a write to the last place is the first difference of a memory over this pool.
+/// Reports whether a write to the last slot makes it the first difference of a memory over this pool.
 fn is_difference_made(alloc: Global, pool: &Pool) -> bool {
     match memory_of(alloc, pool) {
         Some(mut memory) => {
@@ -302,7 +302,7 @@ fn is_difference_made(alloc: Global, pool: &Pool) -> bool {
     }
 }
 
-/// The same over the pool of three pages.
+/// Reports the same over the pool with three pages.
 fn is_difference_made_of_three(alloc: Global) -> bool {
     match pool_of(alloc, &THREE) {
         Some(pool) => is_difference_made(alloc, &pool),
@@ -315,22 +315,22 @@ fn a_write_makes_a_difference(rt: HostRuntime) {
     assert!(rt; is_difference_made_of_three(rt.alloc()));
 }
 
-/// Words, and the values that are written there in turn. The page at place 0 holds its old words again in the end.
+/// Word numbers and values to write in turn. In the end the page in slot 0 has its old words again.
 const WRITES: [(u32, u32); 6] = [(262_143, 5), (0, 1), (512, 9), (513, 9), (0, 7), (512, 8)];
 
-/// Whether a page that changed is at this place, and has these words first and last.
+/// Reports whether a changed page is in slot `at`, and has these words 0, 1 and 255.
 fn is_change((place, page): &(u16, Page), at: u16, first: u32, second: u32, last: u32) -> bool {
     *place == at && page.words[0] == first && page.words[1] == second && page.words[255] == last
 }
 
-/// Whether these are the pages that the writes changed, in the order of their places.
+/// Reports whether these are the pages that the writes changed, in the order of their slots.
 fn are_changes(changed: &[(u16, Page)]) -> bool {
     changed.len() == 2
         && is_change(&changed[0], 2, 8, 9, 8)
         && is_change(&changed[1], 1023, 0, 0, 5)
 }
 
-/// Whether they are what a memory over this pool is left with.
+/// Makes a memory over this pool and does the writes. Reports whether `close` returns the pages that they changed.
 fn has_rising_changes(alloc: Global, pool: &Pool) -> bool {
     let Some(mut memory) = memory_of(alloc, pool) else {
         return false;
@@ -346,7 +346,7 @@ fn has_rising_changes(alloc: Global, pool: &Pool) -> bool {
     }
 }
 
-/// The same over the pool of three pages.
+/// Reports the same over the pool with three pages.
 fn has_rising_changes_of_three(alloc: Global) -> bool {
     match pool_of(alloc, &THREE) {
         Some(pool) => has_rising_changes(alloc, &pool),
