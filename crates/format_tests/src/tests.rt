@@ -1,10 +1,10 @@
 //! Worked examples: each rule broken once, and each call made once.
 
+mod files;
 mod first;
 mod migrated;
 mod parts;
 mod second;
-mod texts;
 
 use oberon_format::Fault;
 use std::alloc::Global;
@@ -49,7 +49,7 @@ fn is_shown(alloc: Global, fault: Fault, text: &str) -> bool {
 }
 
 /// Returns the text of the first fault whose text is another one, if there is one.
-fn text_not_shown(alloc: Global) -> Option<&'static str> {
+fn message_not_shown(alloc: Global) -> Option<&'static str> {
     for (fault, text) in &TEXTS {
         if !is_shown(alloc, *fault, text) {
             return Some(text);
@@ -60,7 +60,7 @@ fn text_not_shown(alloc: Global) -> Option<&'static str> {
 
 #[test]
 fn shows_each_fault(rt: HostRuntime) {
-    if let Some(text) = text_not_shown(rt.alloc()) {
+    if let Some(text) = message_not_shown(rt.alloc()) {
         panic!(rt; "not shown: {text}");
     }
 }

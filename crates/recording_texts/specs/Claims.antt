@@ -3,6 +3,7 @@ use Rattle.std.specs.Prelude.{ℕ, zero, suc, List, [], ◌∷◌, ◌++◌, ◌
 use Rattle.recording_texts.specs.Bytes.{length_number, long_bytes, padded, set_numbers, word_bytes, words_bytes}
 use Rattle.recording_texts.specs.declared.claim.Claim.{Claim}
 
+-- the page ids of all slots
 abbrev pub page_numbers : Claim → List ℕ
 page_numbers claim = set_numbers (replicate 1024 0) claim.table.now
 

@@ -1,5 +1,5 @@
--- The bytes of recordings for tests, independent of the crate that reads and writes recordings. Read it in this order: numbers,
--- the header, checkpoints, offsets of numbers to replace, whole files.
+-- The bytes of recordings for tests, independent of the crate that reads and writes recordings. In reading order: numbers, the
+-- header, checkpoints, offsets of numbers to replace, files.
 pub mod Bytes
 pub mod Header
 pub mod Claims

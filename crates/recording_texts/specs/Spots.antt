@@ -25,15 +25,18 @@ offset_in_both (Waiting of) k = offset_if of k 108
 offset_in_both (Keys of) k = offset_if of k 112
 offset_in_both _ k = None
 
+-- the offset from the start of checkpoint k, in version 1
 abbrev pub offset_in_first : Spot → ℕ → Option ℕ
 offset_in_first (Place of place) k = offset_if of k (132 + 4 * place)
 offset_in_first spot k = offset_in_both spot k
 
+-- the offset from the start of checkpoint k, in version 2
 abbrev pub offset_in_second : Spot → ℕ → Option ℕ
 offset_in_second (Rate of) k = offset_if of k 132
 offset_in_second (Phase of) k = offset_if of k 136
 offset_in_second spot k = offset_in_both spot k
 
+-- the bytes with a number written at the offset, if there is one
 abbrev pub put_if : List ℕ → Option ℕ → ℕ → List ℕ
 put_if bytes (Some place) word = put_word bytes place word
 put_if bytes None word = bytes

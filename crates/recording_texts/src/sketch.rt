@@ -5,11 +5,11 @@ ghost use Rattle.std.specs.List.{flat_map};
 ghost use Rattle.recording_texts.specs.Claims.{first_bytes, second_bytes};
 ghost use Rattle.recording_texts.specs.Header.{header_bytes};
 ghost use Rattle.recording_texts.specs.Spots.{replaced_first, replaced_second};
-ghost use Rattle.recording_texts.specs.Layout.{event_bytes, first_claims, first_text, prefix_bytes, output_bytes, page_bytes, pages_bytes, second_claims, second_text};
+ghost use Rattle.recording_texts.specs.Layout.{event_bytes, first_claims, first_file, prefix_bytes, output_bytes, page_bytes, pages_bytes, second_claims, second_file};
 
 use crate::bytes::{number_of, push_long, push_word, push_words};
 use crate::claim::Claim;
-use crate::spot::{Spot, turn_first, turn_pages, turn_second};
+use crate::spot::{Spot, replace_first, replace_pages, replace_second};
 use std::alloc::{AllocError, Global};
 
 /// An input with its count.
@@ -46,33 +46,33 @@ impl<'a> Sketch<'a> {
     }
 
     /// Returns the file of version 1, in which these numbers replace the claimed ones.
-    #[tactic(auto, unfolding(crate::specs::Layout::first_text))]
-    pub fn first_text(&self, alloc: Global, replaced: &[(Spot, u32)]) -> Result<Vec<u8>, AllocError>
-        ensures { IfOk result (λ text. text.items ≡ first_text self.now replaced.now) }
+    #[tactic(auto, unfolding(crate::specs::Layout::first_file))]
+    pub fn first_file(&self, alloc: Global, replaced: &[(Spot, u32)]) -> Result<Vec<u8>, AllocError>
+        ensures { IfOk result (λ text. text.items ≡ first_file self.now replaced.now) }
     {
-        let mut text = self.front(alloc, 1, replaced)?;
+        let mut text = self.prefix(alloc, 1, replaced)?;
         push_first_claims(alloc, &mut text, self.claims, replaced)?;
         push_output(&mut text, self.claims)?;
         Ok(text)
     }
 
     /// Returns the file of version 2, in which these numbers replace the claimed ones.
-    #[tactic(auto, unfolding(crate::specs::Layout::second_text))]
-    pub fn second_text(
+    #[tactic(auto, unfolding(crate::specs::Layout::second_file))]
+    pub fn second_file(
         &self,
         alloc: Global,
         replaced: &[(Spot, u32)],
     ) -> Result<Vec<u8>, AllocError>
-        ensures { IfOk result (λ text. text.items ≡ second_text self.now replaced.now) }
+        ensures { IfOk result (λ text. text.items ≡ second_file self.now replaced.now) }
     {
-        let mut text = self.front(alloc, 2, replaced)?;
+        let mut text = self.prefix(alloc, 2, replaced)?;
         push_second_claims(alloc, &mut text, self.claims, replaced)?;
         push_output(&mut text, self.claims)?;
         Ok(text)
     }
 
     /// Returns the header, the pages and the events.
-    fn front(
+    fn prefix(
         &self,
         alloc: Global,
         version: u32,
@@ -81,7 +81,7 @@ impl<'a> Sketch<'a> {
         ensures { IfOk result (λ text. text.items ≡ prefix_bytes version self.now replaced.now) }
     {
         let mut text = self.with_pages(alloc, version)?;
-        turn_pages(&mut text, replaced);
+        replace_pages(&mut text, replaced);
         push_events(&mut text, self.events)?;
         Ok(text)
     }
@@ -137,7 +137,7 @@ fn second_claim(
     ensures { IfOk result (λ bytes. bytes.items ≡ replaced_second k replaced.now (second_bytes before.now claim.now)) }
 {
     let mut bytes = claim.second(alloc, before)?;
-    turn_second(&mut bytes, k, replaced);
+    replace_second(&mut bytes, k, replaced);
     Ok(bytes)
 }
 
@@ -195,7 +195,7 @@ fn first_claim(
     ensures { IfOk result (λ bytes. bytes.items ≡ replaced_first k replaced.now (first_bytes claim.now)) }
 {
     let mut bytes = claim.first(alloc)?;
-    turn_first(&mut bytes, k, replaced);
+    replace_first(&mut bytes, k, replaced);
     Ok(bytes)
 }
 

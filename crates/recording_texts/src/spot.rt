@@ -97,7 +97,7 @@ fn offset_if(of: u16, k: usize, offset: usize) -> Option<usize>
 
 /// Replaces the numbers of pages, in a file that goes up to their end.
 #[tactic(auto, using(crate::proofs::Lists::one_more))]
-pub(crate) fn turn_pages(text: &mut [u8], replaced: &[(Spot, u32)])
+pub(crate) fn replace_pages(text: &mut [u8], replaced: &[(Spot, u32)])
     ensures { text.new ≡ replaced_pages replaced.now text.old }
 {
     for (spot, number) in replaced {
@@ -107,7 +107,7 @@ pub(crate) fn turn_pages(text: &mut [u8], replaced: &[(Spot, u32)])
 
 /// Replaces the numbers of checkpoint k of a file of version 1.
 #[tactic(auto, using(crate::proofs::Lists::one_more))]
-pub(crate) fn turn_first(bytes: &mut [u8], k: usize, replaced: &[(Spot, u32)])
+pub(crate) fn replace_first(bytes: &mut [u8], k: usize, replaced: &[(Spot, u32)])
     ensures { bytes.new ≡ replaced_first k replaced.now bytes.old }
 {
     for (spot, number) in replaced {
@@ -117,7 +117,7 @@ pub(crate) fn turn_first(bytes: &mut [u8], k: usize, replaced: &[(Spot, u32)])
 
 /// Replaces the numbers of checkpoint k of a file of version 2.
 #[tactic(auto, using(crate::proofs::Lists::one_more))]
-pub(crate) fn turn_second(bytes: &mut [u8], k: usize, replaced: &[(Spot, u32)])
+pub(crate) fn replace_second(bytes: &mut [u8], k: usize, replaced: &[(Spot, u32)])
     ensures { bytes.new ≡ replaced_second k replaced.now bytes.old }
 {
     for (spot, number) in replaced {

@@ -1,6 +1,6 @@
 //! A recording that is checked and a session that is recorded, by the calls of the libraries, however much memory there is.
 
-use crate::texts::stepping_text;
+use crate::files::stepping_file;
 use oberon_check::{CheckFault, FreeGate, Verdict, check_recording};
 use oberon_format::{Recording, read};
 use oberon_session::{RecordFault, Session, make_recording, read_session};
@@ -17,7 +17,7 @@ const SESSION: &str = concat!(
 
 /// Checks a recording and records a session, and prints the result of each.
 pub(crate) fn checks<H: AllocGlobal + Print + Threads + Wait + Sync>(rt: &H) -> io::Result<()> {
-    match read(rt.alloc(), &stepping_text()) {
+    match read(rt.alloc(), &stepping_file()) {
         Ok(recording) => show_check(rt, &recording)?,
         Err(fault) => println!(rt; "check: {fault} to read it")?,
     }

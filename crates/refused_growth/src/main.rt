@@ -6,12 +6,12 @@
 #![tactic(auto)]
 
 mod checks;
-mod texts;
+mod files;
 mod trial;
 
 use checks::checks;
+use files::files;
 use std::io;
-use texts::texts;
 use trial::Trial;
 
 /// A jump to itself.
@@ -32,6 +32,6 @@ const WRITER: Trial = Trial {
 fn main(rt: HostRuntime) -> io::Result<()> {
     SENDER.run(&rt)?;
     WRITER.run(&rt)?;
-    texts(&rt)?;
+    files(&rt)?;
     checks(&rt)
 }

@@ -41,7 +41,7 @@ pub(crate) fn text_gives<R: Abort + Threads + Wait + Sync>(
     crew: Crew,
     expected: (&[u8], u8),
 ) -> Result<(), Fail> {
-    let text = recording.first_text(alloc, replaced)?;
+    let text = recording.first_file(alloc, replaced)?;
     gives(rt, alloc, &text, crew, expected)
 }
 

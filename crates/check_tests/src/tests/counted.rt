@@ -118,7 +118,7 @@ fn line_of_jumps<R: Threads + Wait + Sync>(
     crew: Crew,
     jobs: u32,
 ) -> Result<(bool, bool), Fail> {
-    let text = jumps(10).first_text(alloc, &LIT_LEDS)?;
+    let text = jumps(10).first_file(alloc, &LIT_LEDS)?;
     counted_line(rt, alloc, text.as_slice(), crew, jobs)
 }
 

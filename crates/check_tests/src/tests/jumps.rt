@@ -40,9 +40,9 @@ impl Written<'_> {
     /// Returns the file.
     pub(crate) fn text(&self, alloc: Global) -> Result<Vec<u8>, AllocError> {
         if self.version == 1 {
-            self.recording.first_text(alloc, self.replaced)
+            self.recording.first_file(alloc, self.replaced)
         } else {
-            self.recording.second_text(alloc, self.replaced)
+            self.recording.second_file(alloc, self.replaced)
         }
     }
 

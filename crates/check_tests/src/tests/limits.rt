@@ -57,7 +57,7 @@ fn is_short<R: Abort + Threads + Wait + Sync>(
 
 #[test]
 fn a_file_cut_anywhere_is_short(rt: HostRuntime) -> Result<(), Fail> {
-    let text = STORED_RUN.first_text(rt.alloc(), &[])?;
+    let text = STORED_RUN.first_file(rt.alloc(), &[])?;
     assert!(rt; text.len() == 9504, "another length");
     for length in 0..text.len() {
         is_short(&rt, rt.alloc(), &text[..length])?;
@@ -80,7 +80,7 @@ fn gives_at_length<R: Abort + Threads + Wait + Sync>(
     length: usize,
     expected: (&[u8], u8),
 ) -> Result<(), Fail> {
-    let mut text = ONE_BYTE_SENT.first_text(alloc, &[])?;
+    let mut text = ONE_BYTE_SENT.first_file(alloc, &[])?;
     assert!(rt; text.len() == 13_733, "another length");
     text.resize(length, 0)?;
     gives(rt, alloc, &text, TWO, expected)
@@ -147,7 +147,7 @@ fn file_of_most_checkpoints(alloc: Global) -> Result<Vec<u8>, AllocError> {
         events: &[],
         claims: claims.as_slice(),
     };
-    recording.first_text(alloc, &[])
+    recording.first_file(alloc, &[])
 }
 
 /// The line and the status of this file.
@@ -233,7 +233,7 @@ fn run_to_the_last_count(alloc: Global, r: &Recording) -> Result<Option<&'static
 
 /// Runs the recording that a division by zero stops, and returns what has changed besides the stop.
 fn changed_after_the_stop(alloc: Global) -> Result<Option<&'static str>, Fail> {
-    let text = STOPPED.first_text(alloc, &[])?;
+    let text = STOPPED.first_file(alloc, &[])?;
     let r = read(alloc, text.as_slice())?;
     run_to_the_last_count(alloc, &r)
 }

@@ -29,7 +29,7 @@ fn timer_file(
         events: &[],
         claims: &[first, end],
     };
-    recording.second_text(alloc, &[])
+    recording.second_file(alloc, &[])
 }
 
 /// Returns the first part that differs at the end of the first segment.

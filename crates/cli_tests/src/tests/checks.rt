@@ -11,7 +11,7 @@ use std::sync::Wait;
 use std::test::Fail;
 use std::thread::Threads;
 
-/// A recording, numbers of it that are replaced, the line of its check, and the status.
+/// A recording, the numbers of it that are replaced, the verdict line, and the status.
 type Example = (Sketch<'static>, &'static [(Spot, u32)], &'static str, u8);
 
 /// The flags in their field.
@@ -93,7 +93,7 @@ const BORROW: Sketch<'static> = Sketch {
     ],
 };
 
-/// What is replaced to subtract 1 from 80000000 hexadecimal.
+/// The numbers to replace in order to subtract 1 from 80000000 hexadecimal.
 const BORROW_FROM_THE_LEAST: [(Spot, u32); 3] = [
     (Register(0, 0), 0x8000_0000),
     (Register(1, 0), 0x7FFF_FFFF),
@@ -377,7 +377,7 @@ const WRITES: &[Example] = &[
     (BYTE_STORED, &[], "accepted 1 checkpoints 1 steps\n", 0),
 ];
 
-/// Machines that jump in place.
+/// Machines that jump to themselves.
 const JUMPS_ALONE: &[Example] = &[
     (STORED_RUN, &[], "accepted 1 checkpoints 100 steps\n", 0),
     (
@@ -419,13 +419,13 @@ fn checks_jumps(rt: HostRuntime) -> Result<(), Fail> {
     check_each(&rt, JUMPS_ALONE)
 }
 
-/// Checks that each recording has its line, in both versions, whatever the number of workers and the cut.
+/// Checks that each recording has its line, in both versions, for few workers and many and for several cuts.
 fn check_each(
     rt: &(impl Abort + AllocGlobal + Threads + Wait + Sync),
     examples: &[Example],
 ) -> Result<(), Fail> {
     for (recording, turned, line, status) in examples {
-        let text = recording.first_text(rt.alloc(), turned)?;
+        let text = recording.first_file(rt.alloc(), turned)?;
         gives(rt, &[], &text, line.as_bytes(), *status);
         check_with_each(rt, &text, line, *status);
         check_migrated(rt, &text, line, *status);
@@ -433,7 +433,7 @@ fn check_each(
     Ok(())
 }
 
-/// Checks the migrated file, and that its migration is itself.
+/// Checks the migrated file, and that migrating it returns it unchanged.
 fn check_migrated(
     rt: &(impl Abort + AllocGlobal + Threads + Wait + Sync),
     text: &[u8],

@@ -90,8 +90,7 @@ impl Refusal {
     }
 }
 
-/// A writer that takes one byte a call. The call after a number of calls is refused, and no other; each flush is refused if it is
-/// to be.
+/// A writer that takes one byte a call. Only the call after a number of calls is refused; and each flush, if `flush` says so.
 #[derive(Drop)]
 struct Narrow {
     taken: Vec<u8>,
@@ -151,7 +150,7 @@ const READING: [&[&str]; 4] = [
 
 #[test]
 fn a_read_that_fails_leaves_its_line_alone(rt: HostRuntime) -> Result<(), Fail> {
-    let text = STORED_RUN.first_text(rt.alloc(), &[])?;
+    let text = STORED_RUN.first_file(rt.alloc(), &[])?;
     for words in READING {
         for why in [ErrorKind::Other, ErrorKind::Interrupted] {
             // The file takes ten calls, and its end is seen at the eleventh.
@@ -179,7 +178,7 @@ fn is_accepted<H: Abort + AllocGlobal + Threads + Wait + Sync>(
 
 #[test]
 fn a_read_that_would_fail_after_the_end_is_not_made(rt: HostRuntime) -> Result<(), Fail> {
-    let text = STORED_RUN.first_text(rt.alloc(), &[])?;
+    let text = STORED_RUN.first_file(rt.alloc(), &[])?;
     let mut input = failing_reader(&text, 11, ErrorKind::Other);
     is_accepted(&rt, &["check"], &mut input);
     assert!(rt; !input.has_failed());
@@ -188,12 +187,12 @@ fn a_read_that_would_fail_after_the_end_is_not_made(rt: HostRuntime) -> Result<(
 
 #[test]
 fn a_reader_of_one_byte_a_call_is_read_to_its_end(rt: HostRuntime) -> Result<(), Fail> {
-    let text = STORED_RUN.first_text(rt.alloc(), &[])?;
+    let text = STORED_RUN.first_file(rt.alloc(), &[])?;
     is_accepted(&rt, &[], &mut Dripping { rest: &text });
     Ok(())
 }
 
-/// Arguments, the line that they get if the input is zeros without end, and how many of these are read.
+/// Arguments, the line for an input of zeros without end, and how many zeros are read.
 const ENDLESS: [(&[&str], &str, u64); 4] = [
     (&["check"], "refused 2 magic at byte 0\n", 118_310_057),
     (&["migrate"], "refused 2 magic at byte 0\n", 118_310_057),
@@ -216,8 +215,8 @@ fn a_reader_without_end_is_read_up_to_the_limit(rt: HostRuntime) {
     }
 }
 
-/// Checks the status of these arguments over a writer that takes one byte a call, and what it has taken. A status of 3 means that
-/// it failed.
+/// Checks the status of these arguments with a writer that takes one byte a call, and what it has taken. It failed if and only if
+/// the status is 3.
 fn ends_narrow<'a, H: Abort + AllocGlobal + Threads + Wait + Sync>(
     rt: &H,
     words: &'a [&'a str],
@@ -252,8 +251,8 @@ const REFUSALS: [Refusal; 3] = [
 ];
 
 #[test]
-fn a_write_that_fails_leaves_a_prefix_of_the_text(rt: HostRuntime) -> Result<(), Fail> {
-    let text = STORED_RUN.first_text(rt.alloc(), &[])?;
+fn a_write_that_fails_leaves_a_prefix_of_the_line(rt: HostRuntime) -> Result<(), Fail> {
+    let text = STORED_RUN.first_file(rt.alloc(), &[])?;
     for calls in 0..LINE.len() {
         for refusal in REFUSALS {
             let output = refusing(rt.alloc(), calls, refusal);
@@ -264,14 +263,14 @@ fn a_write_that_fails_leaves_a_prefix_of_the_text(rt: HostRuntime) -> Result<(),
 }
 
 #[test]
-fn a_write_that_fails_leaves_a_prefix_of_a_migrated_text(rt: HostRuntime) -> Result<(), Fail> {
-    let text = STORED_RUN.first_text(rt.alloc(), &[])?;
+fn a_write_that_fails_leaves_a_prefix_of_a_migrated_file(rt: HostRuntime) -> Result<(), Fail> {
+    let text = STORED_RUN.first_file(rt.alloc(), &[])?;
     let (migrated, _) = served(&rt, &["migrate"], &text);
     for calls in [0, 1, 24, migrated.len().saturating_sub(1)] {
-        let front = migrated.get(..calls).ok_or("the text is shorter")?;
+        let prefix = migrated.get(..calls).ok_or("the text is shorter")?;
         for refusal in REFUSALS {
             let output = refusing(rt.alloc(), calls, refusal);
-            ends_narrow(&rt, &["migrate"], &text, output, (3, front));
+            ends_narrow(&rt, &["migrate"], &text, output, (3, prefix));
         }
     }
     Ok(())
@@ -279,7 +278,7 @@ fn a_write_that_fails_leaves_a_prefix_of_a_migrated_text(rt: HostRuntime) -> Res
 
 #[test]
 fn a_flush_that_fails_is_a_write_fault(rt: HostRuntime) -> Result<(), Fail> {
-    let text = STORED_RUN.first_text(rt.alloc(), &[])?;
+    let text = STORED_RUN.first_file(rt.alloc(), &[])?;
     for (flush, status) in REFUSALS.into_iter().zip([0, 3, 3]) {
         let output = Narrow {
             flush,

@@ -8,7 +8,7 @@ use std::sync::Wait;
 use std::test::Fail;
 use std::thread::Threads;
 
-/// One byte of the file of the stored run that is changed, and the line that this gives.
+/// A byte to change in the file of the stored run, and the line of the changed file.
 const CHANGED_BYTES: [(usize, u8, &str); 9] = [
     (0, 0x00, "refused 2 magic at byte 0\n"),
     (4, 0x09, "refused 3 version at byte 4\n"),
@@ -23,8 +23,8 @@ const CHANGED_BYTES: [(usize, u8, &str); 9] = [
 ];
 
 #[test]
-fn refuses_a_text_with_one_byte_changed(rt: HostRuntime) -> Result<(), Fail> {
-    let text = STORED_RUN.first_text(rt.alloc(), &[])?;
+fn refuses_a_file_with_one_byte_changed(rt: HostRuntime) -> Result<(), Fail> {
+    let text = STORED_RUN.first_file(rt.alloc(), &[])?;
     assert_eq!(rt; text.len(), 9504);
     refuse_each(&rt, text, &CHANGED_BYTES)
 }
@@ -55,7 +55,7 @@ fn refuse(rt: &(impl Abort + AllocGlobal + Threads + Wait + Sync), text: &[u8], 
     }
 }
 
-/// The same for its file of version 2.
+/// The same for the file of version 2.
 const CHANGED_BYTES_2: [(usize, u8, &str); 7] = [
     (0, 0x00, "refused 2 magic at byte 0\n"),
     (4, 0x03, "refused 3 version at byte 4\n"),
@@ -68,14 +68,14 @@ const CHANGED_BYTES_2: [(usize, u8, &str); 7] = [
 
 #[test]
 fn refuses_a_text_of_version_2_with_one_byte_changed(rt: HostRuntime) -> Result<(), Fail> {
-    let text = STORED_RUN.second_text(rt.alloc(), &[])?;
+    let text = STORED_RUN.second_file(rt.alloc(), &[])?;
     assert_eq!(rt; text.len(), 1344);
     refuse_each(&rt, text, &CHANGED_BYTES_2)
 }
 
 #[test]
 fn refuses_a_text_of_version_2_that_is_cut_or_goes_on(rt: HostRuntime) -> Result<(), Fail> {
-    let mut text = STORED_RUN.second_text(rt.alloc(), &[])?;
+    let mut text = STORED_RUN.second_file(rt.alloc(), &[])?;
     text.push(0)?;
     refuse(&rt, &text, "refused 8 trailing at byte 1344\n");
     text.truncate(1343);
@@ -84,8 +84,8 @@ fn refuses_a_text_of_version_2_that_is_cut_or_goes_on(rt: HostRuntime) -> Result
 }
 
 #[test]
-fn refuses_a_text_that_is_cut_or_goes_on(rt: HostRuntime) -> Result<(), Fail> {
-    let mut text = STORED_RUN.first_text(rt.alloc(), &[])?;
+fn refuses_a_file_that_is_cut_or_too_long(rt: HostRuntime) -> Result<(), Fail> {
+    let mut text = STORED_RUN.first_file(rt.alloc(), &[])?;
     text.push(0)?;
     refuse(&rt, &text, "refused 8 trailing at byte 9504\n");
     text.truncate(9503);
@@ -95,7 +95,7 @@ fn refuses_a_text_that_is_cut_or_goes_on(rt: HostRuntime) -> Result<(), Fail> {
     Ok(())
 }
 
-/// An input of no kind.
+/// An input whose kind does not exist.
 const BAD_EVENT_KIND: Sketch<'static> = Sketch {
     pages: &[&[0x4000_0005]],
     events: &[Event {
@@ -109,10 +109,10 @@ const BAD_EVENT_KIND: Sketch<'static> = Sketch {
 #[test]
 fn refuses_an_event_of_no_kind(rt: HostRuntime) -> Result<(), Fail> {
     let line = "refused 5 event at byte 1048\n";
-    let text = BAD_EVENT_KIND.first_text(rt.alloc(), &[])?;
+    let text = BAD_EVENT_KIND.first_file(rt.alloc(), &[])?;
     refuse(&rt, &text, line);
     check_with_each(&rt, &text, line, 2);
-    let text = BAD_EVENT_KIND.second_text(rt.alloc(), &[])?;
+    let text = BAD_EVENT_KIND.second_file(rt.alloc(), &[])?;
     refuse(&rt, &text, line);
     Ok(())
 }

@@ -20,8 +20,8 @@ fn agrees<'a, H: Abort + AllocGlobal + Threads + Wait + Sync>(
 
 #[test]
 fn migrates_a_recording(rt: HostRuntime) -> Result<(), Fail> {
-    let text = STORED_RUN.first_text(rt.alloc(), &[])?;
-    let migrated = STORED_RUN.second_text(rt.alloc(), &[])?;
+    let text = STORED_RUN.first_file(rt.alloc(), &[])?;
+    let migrated = STORED_RUN.second_file(rt.alloc(), &[])?;
     gives(&rt, &["migrate"], &text, &migrated, 0);
     // Its check and its screens are those of the original file, and its migration is itself.
     for text in [&text, &migrated] {
@@ -35,8 +35,8 @@ fn migrates_a_recording(rt: HostRuntime) -> Result<(), Fail> {
 }
 
 #[test]
-fn migrates_no_text_with_a_fault(rt: HostRuntime) -> Result<(), Fail> {
-    let mut text = STORED_RUN.first_text(rt.alloc(), &[])?;
+fn migrates_no_file_with_a_fault(rt: HostRuntime) -> Result<(), Fail> {
+    let mut text = STORED_RUN.first_file(rt.alloc(), &[])?;
     text.truncate(9503);
     gives(
         &rt,

@@ -44,13 +44,13 @@ fn refuses(rt: &(impl Abort + AllocGlobal + Threads + Wait + Sync), session: &st
 #[test]
 fn records_the_stored_run(rt: HostRuntime) -> Result<(), Fail> {
     let text = session(rt.alloc(), "05000040", "100")?;
-    let recording = STORED_RUN.second_text(rt.alloc(), &[])?;
+    let recording = STORED_RUN.second_file(rt.alloc(), &[])?;
     assert_eq!(rt; recording.len(), 1344);
     records(&rt, &text, &recording, "accepted 1 checkpoints 100 steps\n");
     Ok(())
 }
 
-/// Parts of the stored run's session that are replaced, and the lines that this gives. The last one breaks two rules.
+/// A part of the stored run's session, what replaces it, and the line of the changed session. The last row breaks two rules.
 const CHANGES: [(&str, &str, &str); 6] = [
     (
         "\"version\":1",
@@ -87,8 +87,7 @@ fn refuse_each(
     Ok(())
 }
 
-/// Members of an initial state that its version does not have, or whose numbers are out of their range, and the lines that they
-/// give.
+/// A version, members of an initial state that this version does not have or that are out of range, and the line of the session.
 const STARTS: [(&str, &str, &str); 3] = [
     ("1", ",\"rate\":10", "session refused 2 shape\n"),
     ("2", ",\"rate\":10", "session refused 2 shape\n"),
@@ -147,10 +146,10 @@ const STORED: Sketch<'static> = Sketch {
 #[test]
 fn encodes_only_pages_that_changed(rt: HostRuntime) -> Result<(), Fail> {
     let text = session(rt.alloc(), STORES, "2,4,5")?;
-    let recording = STORED.second_text(rt.alloc(), &[])?;
+    let recording = STORED.second_file(rt.alloc(), &[])?;
     assert_eq!(rt; recording.len(), 2_672);
     records(&rt, &text, &recording, "accepted 3 checkpoints 5 steps\n");
-    let first = STORED.first_text(rt.alloc(), &[])?;
+    let first = STORED.first_file(rt.alloc(), &[])?;
     assert_eq!(rt; first.len(), 18_984);
     gives(&rt, &["migrate"], &first, &recording, 0);
     Ok(())

@@ -20,7 +20,7 @@ fn one_word(alloc: Global, place: u16, word: u16, bits: u32) -> Result<Vec<u8>, 
         events: &[],
         claims: &[claim],
     };
-    recording.first_text(alloc, &[(Word(0, word), bits)])
+    recording.first_file(alloc, &[(Word(0, word), bits)])
 }
 
 #[test]
@@ -54,7 +54,7 @@ fn has_dot(rt: &impl Abort, written: &[u8], at: usize, byte: u8) {
 
 #[test]
 fn shows_no_screen(rt: HostRuntime) -> Result<(), Fail> {
-    let text = STORED_RUN.first_text(rt.alloc(), &[])?;
+    let text = STORED_RUN.first_file(rt.alloc(), &[])?;
     refuse(&rt, &text, b"no checkpoint 2\n");
     // A fault of the file is reported before a missing checkpoint.
     refuse(&rt, &[], b"refused 1 short at byte 0\n");

@@ -1,7 +1,7 @@
 //! Files of version 1: each rule broken once, and the files that are written of them.
 
-use crate::tests::texts::{
-    Turned, check_parts, check_rows, cut_text, is_fault_of, is_line, is_refused,
+use crate::tests::files::{
+    Turned, check_parts, check_rows, cut_file, is_fault_of, is_line, is_refused,
     is_refused_with_a_byte_more, put_byte, put_word, row_of_another_fault,
 };
 use oberon_format::{Checkpoint, Fault, Recording, read, write};
@@ -62,25 +62,25 @@ const SKETCHES: [Sketch<'static>; 5] = [STORED_RUN, EMPTY, EQUAL_PAGES, ONE_BYTE
 
 /// Returns the recording of a sketch, from its file of version 1.
 fn first_recording(alloc: Global, sketch: &Sketch<'_>) -> Option<Recording> {
-    let text = sketch.first_text(alloc, &[]).ok()?;
+    let text = sketch.first_file(alloc, &[]).ok()?;
     read(alloc, &text).ok()
 }
 
 /// Returns the file that is written of this recording.
-fn written_text(alloc: Global, sketch: &Sketch<'_>) -> Option<Vec<u8>> {
+fn written_file(alloc: Global, sketch: &Sketch<'_>) -> Option<Vec<u8>> {
     let recording = first_recording(alloc, sketch)?;
     write(alloc, &recording).ok()
 }
 
 /// Returns the recording of the file that is written of this one.
 fn second_recording(alloc: Global, sketch: &Sketch<'_>) -> Option<Recording> {
-    let text = written_text(alloc, sketch)?;
+    let text = written_file(alloc, sketch)?;
     read(alloc, &text).ok()
 }
 
 /// Returns the length of the file of version 1.
 fn first_length(alloc: Global, sketch: &Sketch<'_>) -> Option<usize> {
-    match sketch.first_text(alloc, &[]) {
+    match sketch.first_file(alloc, &[]) {
         Ok(text) => Some(text.len()),
         Err(_) => None,
     }
@@ -172,7 +172,7 @@ fn is_written_shorter(alloc: Global, sketch: &Sketch<'_>) -> bool {
     let Some(length) = first_length(alloc, sketch) else {
         return false;
     };
-    match written_text(alloc, sketch) {
+    match written_file(alloc, sketch) {
         Some(second) => version_of(&second) == 2 && second.len() < length,
         None => false,
     }
@@ -189,7 +189,7 @@ fn row_of_another_version(alloc: Global) -> Option<usize> {
 }
 
 #[test]
-fn writes_a_shorter_text_of_the_second_version(rt: HostRuntime) {
+fn writes_a_shorter_file_of_the_second_version(rt: HostRuntime) {
     check_rows(&rt, row_of_another_version(rt.alloc()));
 }
 
@@ -234,7 +234,7 @@ fn part_read_wrong(alloc: Global) -> Option<&'static str> {
 }
 
 #[test]
-fn reads_the_parts_of_a_text(rt: HostRuntime) {
+fn reads_the_parts_of_a_file(rt: HostRuntime) {
     check_parts(&rt, part_read_wrong(rt.alloc()));
 }
 
@@ -401,7 +401,7 @@ fn refuses_events_out_of_range(rt: HostRuntime) {
 }
 
 #[test]
-fn refuses_a_text_with_a_byte_after_it(rt: HostRuntime) {
+fn refuses_a_file_with_a_byte_after_it(rt: HostRuntime) {
     let fault = Fault::Trailing(9504);
     assert!(rt; is_refused_with_a_byte_more(rt.alloc(), 1, fault));
     assert!(rt; is_line(rt.alloc(), fault, "refused 8 trailing at byte 9504\n"));
@@ -409,7 +409,7 @@ fn refuses_a_text_with_a_byte_after_it(rt: HostRuntime) {
 
 /// Reports whether the file of the stored run is refused as short when cut at this length.
 fn is_short_at(alloc: Global, len: usize) -> bool {
-    match cut_text(alloc, 1, len) {
+    match cut_file(alloc, 1, len) {
         Ok(text) => is_fault_of(alloc, &text, Fault::Short(len as u64)),
         Err(_) => false,
     }
@@ -426,7 +426,7 @@ fn length_that_is_not_short(alloc: Global) -> Option<usize> {
 }
 
 #[test]
-fn refuses_a_text_that_is_cut(rt: HostRuntime) {
+fn refuses_a_file_that_is_cut(rt: HostRuntime) {
     if let Some(len) = length_that_is_not_short(rt.alloc()) {
         panic!(rt; "cut to {len} bytes");
     }
@@ -477,7 +477,7 @@ fn gives_the_first_of_two_faults(rt: HostRuntime) {
 }
 
 /// Returns a file with as many pages and events as there can be.
-fn most_text(alloc: Global) -> Result<Vec<u8>, AllocError> {
+fn largest_file(alloc: Global) -> Result<Vec<u8>, AllocError> {
     let mut text = vec![in alloc; 0; 83_113_116]?;
     let header = header(alloc, 1, 65_536, 1_000_000, 1)?;
     for (place, byte) in header.iter().enumerate() {
@@ -496,7 +496,7 @@ fn most_text(alloc: Global) -> Result<Vec<u8>, AllocError> {
 
 /// Returns the recording of this file.
 fn most_recording(alloc: Global) -> Option<Recording> {
-    let text = most_text(alloc).ok()?;
+    let text = largest_file(alloc).ok()?;
     read(alloc, &text).ok()
 }
 

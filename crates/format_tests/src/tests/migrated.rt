@@ -1,29 +1,29 @@
 //! Files that are migrated to the current version.
 
-use crate::tests::texts::{check_rows, cut_text, text_of};
+use crate::tests::files::{check_rows, cut_file, file_of};
 use oberon_format::{Fault, migrate};
 use recording_texts::STORED_RUN;
 use std::alloc::Global;
 
 /// Returns the migration of the file of the stored run in this version.
-fn migrated_text(alloc: Global, version: u32) -> Option<Vec<u8>> {
-    let text = text_of(alloc, version, &STORED_RUN).ok()?;
+fn migrated_file(alloc: Global, version: u32) -> Option<Vec<u8>> {
+    let text = file_of(alloc, version, &STORED_RUN).ok()?;
     migrate(alloc, &text).ok()
 }
 
 /// Reports whether that is the file of its recording in the current version.
 fn is_migrated(alloc: Global, version: u32) -> bool {
-    let Some(migrated) = migrated_text(alloc, version) else {
+    let Some(migrated) = migrated_file(alloc, version) else {
         return false;
     };
-    match STORED_RUN.second_text(alloc, &[]) {
+    match STORED_RUN.second_file(alloc, &[]) {
         Ok(second) => migrated.as_slice() == second.as_slice(),
         Err(_) => false,
     }
 }
 
 #[test]
-fn migrates_a_text_to_the_text_of_its_recording(rt: HostRuntime) {
+fn migrates_a_file_to_the_file_of_its_recording(rt: HostRuntime) {
     assert!(rt; is_migrated(rt.alloc(), 1));
     // A file in the current version is its own migration.
     assert!(rt; is_migrated(rt.alloc(), 2));
@@ -31,7 +31,7 @@ fn migrates_a_text_to_the_text_of_its_recording(rt: HostRuntime) {
 
 /// Reports whether migrating the file of the stored run, cut at this length, is refused because the file is short.
 fn is_short(alloc: Global, version: u32, len: usize) -> bool {
-    match cut_text(alloc, version, len) {
+    match cut_file(alloc, version, len) {
         Ok(text) => migrate(alloc, &text).err() == Some(Fault::Short(len as u64)),
         Err(_) => false,
     }
@@ -51,6 +51,6 @@ fn row_that_is_migrated(alloc: Global) -> Option<usize> {
 }
 
 #[test]
-fn migrates_no_text_with_a_fault(rt: HostRuntime) {
+fn migrates_no_file_with_a_fault(rt: HostRuntime) {
     check_rows(&rt, row_that_is_migrated(rt.alloc()));
 }

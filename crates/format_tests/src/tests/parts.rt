@@ -1,6 +1,6 @@
 //! Recordings made of parts: each rule that parts can break, broken once.
 
-use crate::tests::texts::check_rows;
+use crate::tests::files::check_rows;
 use oberon_format::{Checkpoint, Fault, Recording};
 use risc_devices::{Devices, Input};
 use risc_model::{Cpu, Event, Flags, Inputs};
@@ -162,7 +162,7 @@ fn row_of_another_fault(alloc: Global) -> Option<usize> {
 }
 
 #[test]
-fn refuses_parts_by_the_first_fault_of_their_text(rt: HostRuntime) {
+fn refuses_parts_by_the_first_fault_of_their_file(rt: HostRuntime) {
     check_rows(&rt, row_of_another_fault(rt.alloc()));
 }
 

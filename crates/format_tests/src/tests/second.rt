@@ -1,6 +1,6 @@
 //! Files of version 2: what is read is written again, and each rule is broken once.
 
-use crate::tests::texts::{
+use crate::tests::files::{
     Turned, check_parts, check_rows, is_fault_of, is_line, is_refused, is_refused_with_a_byte_more,
     put_words, row_of_another_fault,
 };
@@ -39,22 +39,22 @@ fn five_changes() -> Sketch<'static> {
 
 /// Returns the recording of the file of a sketch.
 fn second_recording(alloc: Global, sketch: &Sketch<'_>) -> Option<Recording> {
-    let text = sketch.second_text(alloc, &[]).ok()?;
+    let text = sketch.second_file(alloc, &[]).ok()?;
     read(alloc, &text).ok()
 }
 
 /// Returns the file that is written of the recording of the file of a sketch.
-fn text_again(alloc: Global, sketch: &Sketch<'_>) -> Option<Vec<u8>> {
+fn file_again(alloc: Global, sketch: &Sketch<'_>) -> Option<Vec<u8>> {
     let recording = second_recording(alloc, sketch)?;
     write(alloc, &recording).ok()
 }
 
 /// Reports whether the file of a sketch is the file that is written of its recording.
 fn is_written_again(alloc: Global, sketch: &Sketch<'_>) -> bool {
-    let Some(again) = text_again(alloc, sketch) else {
+    let Some(again) = file_again(alloc, sketch) else {
         return false;
     };
-    match sketch.second_text(alloc, &[]) {
+    match sketch.second_file(alloc, &[]) {
         Ok(text) => again.as_slice() == text.as_slice(),
         Err(_) => false,
     }
@@ -64,7 +64,7 @@ fn is_written_again(alloc: Global, sketch: &Sketch<'_>) -> bool {
 const SKETCHES: [Sketch<'static>; 3] = [STORED_RUN, FIVE_CHANGES, EMPTY];
 
 /// Returns the first row whose file is not written again, if there is one.
-fn row_of_another_text(alloc: Global) -> Option<usize> {
+fn row_of_another_file(alloc: Global) -> Option<usize> {
     for (row, sketch) in SKETCHES.iter().enumerate() {
         if !is_written_again(alloc, sketch) {
             return Some(row);
@@ -75,7 +75,7 @@ fn row_of_another_text(alloc: Global) -> Option<usize> {
 
 #[test]
 fn writes_what_it_reads(rt: HostRuntime) {
-    check_rows(&rt, row_of_another_text(rt.alloc()));
+    check_rows(&rt, row_of_another_file(rt.alloc()));
 }
 
 /// Slots, with their page ids in the two tables of the five changes.
@@ -249,7 +249,7 @@ fn length_of_another_fault(
 
 /// Returns the file of the five changes with these words.
 fn five_changes_with(alloc: Global, words: &[(u16, u32)]) -> Result<Vec<u8>, AllocError> {
-    let mut text = five_changes().second_text(alloc, &[])?;
+    let mut text = five_changes().second_file(alloc, &[])?;
     put_words(&mut text, words);
     Ok(text)
 }
@@ -279,7 +279,7 @@ fn cut_of_another_fault(alloc: Global) -> Option<(usize, usize)> {
 }
 
 #[test]
-fn refuses_a_text_cut_at_each_byte(rt: HostRuntime) {
+fn refuses_a_file_cut_at_each_byte(rt: HostRuntime) {
     if let Some((there, len)) = cut_of_another_fault(rt.alloc()) {
         panic!(rt; "another fault of {len} bytes of {there}");
     }

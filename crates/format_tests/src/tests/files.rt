@@ -32,15 +32,15 @@ pub(crate) fn put_words(text: &mut Vec<u8>, words: &[(u16, u32)]) {
 }
 
 /// Returns the file of a sketch in version 1 or 2.
-pub(crate) fn text_of(
+pub(crate) fn file_of(
     alloc: Global,
     version: u32,
     sketch: &Sketch<'_>,
 ) -> Result<Vec<u8>, AllocError> {
     if version == 1 {
-        sketch.first_text(alloc, &[])
+        sketch.first_file(alloc, &[])
     } else {
-        sketch.second_text(alloc, &[])
+        sketch.second_file(alloc, &[])
     }
 }
 
@@ -60,7 +60,7 @@ pub(crate) fn is_refused(
     words: &[(u16, u32)],
     fault: Fault,
 ) -> bool {
-    match text_of(alloc, version, sketch) {
+    match file_of(alloc, version, sketch) {
         Ok(mut text) => {
             put_words(&mut text, words);
             is_fault_of(alloc, &text, fault)
@@ -86,15 +86,15 @@ pub(crate) fn row_of_another_fault(
 
 /// Reports whether this is the first fault of the file of the stored run with a byte after it.
 pub(crate) fn is_refused_with_a_byte_more(alloc: Global, version: u32, fault: Fault) -> bool {
-    match text_of(alloc, version, &STORED_RUN) {
+    match file_of(alloc, version, &STORED_RUN) {
         Ok(mut text) => text.push(0).is_ok() && is_fault_of(alloc, &text, fault),
         Err(_) => false,
     }
 }
 
 /// Returns the first bytes of the file of the stored run.
-pub(crate) fn cut_text(alloc: Global, version: u32, len: usize) -> Result<Vec<u8>, AllocError> {
-    let mut text = text_of(alloc, version, &STORED_RUN)?;
+pub(crate) fn cut_file(alloc: Global, version: u32, len: usize) -> Result<Vec<u8>, AllocError> {
+    let mut text = file_of(alloc, version, &STORED_RUN)?;
     text.truncate(len);
     Ok(text)
 }

@@ -11,7 +11,7 @@ const CHANGED_LENGTH: usize = 1_216;
 
 /// Returns a file of version 1 with a page of zeros, a timer's event at count 0 and a checkpoint that is all zeros, and one byte
 /// more.
-fn sound_text() -> [u8; LENGTH + 1] {
+fn sound_file() -> [u8; LENGTH + 1] {
     let mut text = [0; LENGTH + 1];
     text[0] = b'O';
     text[1] = b'R';
@@ -26,7 +26,7 @@ fn sound_text() -> [u8; LENGTH + 1] {
 }
 
 /// Returns a file of version 2 with that page, which its checkpoint has in slot 0, and that event.
-fn changed_text() -> [u8; CHANGED_LENGTH] {
+fn changed_file() -> [u8; CHANGED_LENGTH] {
     let mut text = [0; CHANGED_LENGTH];
     text[0] = b'O';
     text[1] = b'R';
@@ -46,9 +46,9 @@ fn changed_text() -> [u8; CHANGED_LENGTH] {
 const STEPPING_LENGTH: usize = CHANGED_LENGTH + 144;
 
 /// Returns that file with a checkpoint at count 1: its first instruction is a zero, which moves R0 to itself and sets Z.
-pub(crate) fn stepping_text() -> [u8; STEPPING_LENGTH] {
+pub(crate) fn stepping_file() -> [u8; STEPPING_LENGTH] {
     let mut text = [0; STEPPING_LENGTH];
-    for (there, byte) in text.iter_mut().zip(changed_text()) {
+    for (there, byte) in text.iter_mut().zip(changed_file()) {
         *there = byte;
     }
     text[16] = 2;
@@ -99,19 +99,19 @@ const SECOND: [Broken; 7] = [
 ];
 
 /// Returns the first bytes of a file, or all that it has.
-fn front(text: &[u8], length: usize) -> &[u8] {
+fn first_bytes(text: &[u8], length: usize) -> &[u8] {
     &text[..length.min(text.len())]
 }
 
 /// Reads a file without a fault of each version, and files with each of the eight faults, and prints the result of each.
-pub(crate) fn texts<H: AllocGlobal + Print>(rt: &H) -> io::Result<()> {
-    show(rt, "sound", front(&sound_text(), LENGTH))?;
-    show(rt, "changed", &changed_text())?;
+pub(crate) fn files<H: AllocGlobal + Print>(rt: &H) -> io::Result<()> {
+    show(rt, "sound", first_bytes(&sound_file(), LENGTH))?;
+    show(rt, "changed", &changed_file())?;
     for broken in FIRST {
-        show_broken(rt, &mut sound_text(), broken)?;
+        show_broken(rt, &mut sound_file(), broken)?;
     }
     for broken in SECOND {
-        show_broken(rt, &mut changed_text(), broken)?;
+        show_broken(rt, &mut changed_file(), broken)?;
     }
     Ok(())
 }
@@ -125,7 +125,7 @@ fn show_broken<H: AllocGlobal + Print>(
     if let Some(there) = text.get_mut(place) {
         *there = byte;
     }
-    show(rt, "text", front(text, length))
+    show(rt, "text", first_bytes(text, length))
 }
 
 /// Prints the fault of a file under a name.
