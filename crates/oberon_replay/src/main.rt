@@ -16,6 +16,6 @@ fn main(rt: HostRuntime) -> ExitCode {
     };
     match texts(rt.alloc(), &words) {
         Ok(words) => run(&rt, rt.alloc(), &words, &mut rt.stdin(), output),
-        Err(wanting) => fail(output, Failure::from(wanting)),
+        Err(error) => fail(output, Failure::from(error)),
     }
 }
