@@ -1,7 +1,7 @@
 -- What private functions and the insides of types say of themselves. No public contract and no law names anything of it, so none
 -- of it has to be believed.
 pub mod Boards
-pub mod Actions
+pub mod DecodedOps
 pub mod Due
 pub mod Matched
 pub mod Entries

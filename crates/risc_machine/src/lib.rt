@@ -5,10 +5,10 @@
 #![tactic(auto)]
 
 mod act;
-mod action;
+mod decoded_op;
 mod board;
 mod clocked;
-mod code;
+mod decode_cache;
 mod destination;
 mod dispatch;
 mod due;
@@ -24,7 +24,7 @@ mod ram;
 mod registers;
 mod replay;
 mod sink;
-mod sorting;
+mod predecode;
 mod status;
 
 pub use machine::Machine;
