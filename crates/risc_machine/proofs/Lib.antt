@@ -2,7 +2,7 @@ pub mod LaneLemmas
 pub mod TimerLemmas
 pub mod DeviceLemmas
 pub mod DueLemmas
-pub mod TurnLemmas
+pub mod StepLemmas
 pub mod CountLemmas
 pub mod RangeLemmas
 pub mod KeepLemmas

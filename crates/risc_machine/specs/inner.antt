@@ -7,5 +7,5 @@ pub mod Matched
 pub mod Entries
 pub mod Frames
 pub mod Operands
-pub mod Rests
+pub mod RunExits
 pub mod Destinations

@@ -5,30 +5,30 @@
 #![tactic(auto)]
 
 mod act;
-mod decoded_op;
 mod board;
 mod clocked;
 mod decode_cache;
+mod decoded_op;
 mod destination;
 mod dispatch;
 mod due;
 mod frame;
-mod interpret;
+mod interpreter;
 mod lane;
 mod lines;
 mod machine;
-mod motion;
 mod operand;
+mod predecode;
 mod processor;
 mod ram;
 mod registers;
-mod replay;
+mod run_exit;
 mod sink;
-mod predecode;
+mod slow_step;
 mod status;
 
 pub use machine::Machine;
-pub use replay::RunFault;
+pub use run_exit::RunFault;
 pub use risc_model::{
     Cpu, Event, Flags, Inputs, MAX_COUNT, Unordered, lane_law, run_law, stop_law, stopped_law,
 };
