@@ -41,7 +41,7 @@ some_event : (es : List Event) → 0 < length es → Event
 some_event [] h = absurd (omega arith)
 some_event (x ∷ es) h = x
 
--- the place that a binary search finds
+-- the index that a binary search finds
 pub found-next : (es : List Event) (next at : ℕ) → AreOrdered es → next ≤ length es → IsPartitionPoint (λ (e : Event). nat_lt e.count at ≡ true) (λ (e : Event). nat_lt e.count at ≡ false) es next → IsNextAt es next at
 found-next es next at ordered inside found = record {
   ordered = ordered;
@@ -58,7 +58,7 @@ found-next es next at ordered inside found = record {
       omega (arith, ltb-false _ _ above);
 }
 
--- the counts behind a place
+-- the counts from an index on
 count_at-drop : (es : List Event) (p k : ℕ) → count_at (drop p es) k ≡ count_at es (p + k)
 count_at-drop es p k =
     let counts = map (λ (e : Event). e.count) es in
@@ -72,7 +72,7 @@ fed-drop (suc p) (x ∷ es) n d inside before =
     let early : x.count < n = before 0 (omega arith) in
     rw (ne_eqb x.count n (λ e. omega arith)) (fed-drop p es n d (omega arith) (λ k h. before (suc k) (omega arith)))
 
--- behind the inputs of a count nothing of it is left
+-- after the inputs of a count none of them is left
 pub fed-rest : (es : List Event) (p at : ℕ) (d : DeviceState) → IsNextAt es p (at + 1) → fed (drop p es) at d ≡ d
 fed-rest es p at d past = fed-others (drop p es) at d (λ k h same.
     let l : length (drop p es) ≡ length es - p = length-drop p es in
@@ -114,7 +114,7 @@ next-after es first next at past h inside before other =
       rest = λ k l m. let up = counts-order es past.ordered next k l m in omega arith;
     }
 
--- the first of the inputs that are left, where it has this count
+-- the first of the inputs that are left, if it has this count
 pub fed-here : (es : List Event) (p at : ℕ) (e : Event) (d : DeviceState) → p < length es → e ≡ get_or es p e → e.count ≡ at → fed (drop p es) at d ≡ fed (drop (p + 1) es) at (taken_input e.input d)
 fed-here es p at e d inside is due =
     let front : drop p es ≡ e ∷ drop (suc p) es = drop-cons es p e inside ∙ ap (λ (x : Event). x ∷ drop (suc p) es) (sym is) in

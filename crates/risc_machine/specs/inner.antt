@@ -1,5 +1,4 @@
--- What private functions and the insides of types say of themselves. No public contract and no law names anything of it, so none
--- of it has to be believed.
+-- Definitions for private functions and fields. No public contract and no law mentions them, so none of them has to be believed.
 pub mod Boards
 pub mod DecodedOps
 pub mod Due

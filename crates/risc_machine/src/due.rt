@@ -1,4 +1,4 @@
-//! The inputs that a run has still to take, by their places in the list.
+//! The inputs that a run still has to take, by their indices in the list.
 ghost use Rattle.std.specs.Prelude.{◌≡◌, ◌≤◌, ◌<◌, ◌+◌};
 ghost use Rattle.risc_model.specs.InputOrder.{AreOrdered};
 ghost use Rattle.risc_model.specs.Replay.{fed};
@@ -7,7 +7,7 @@ ghost use Rattle.risc_machine.specs.inner.Due.{IsNextAt};
 use risc_devices::Devices;
 use risc_model::Event;
 
-/// The place of the first input whose count is `at` or a later one.
+/// Returns the index of the first input whose count is `at` or later.
 pub(crate) fn first_from(events: &[Event], at: u64) -> usize
     requires { AreOrdered events.now }
     ensures { IsNextAt events.now result at }
@@ -15,7 +15,7 @@ pub(crate) fn first_from(events: &[Event], at: u64) -> usize
     events.partition_point(|event| event.count < at)
 }
 
-/// Takes the inputs of the count `at`, the first of which is at `place`. Returns the place after them.
+/// Takes the inputs of the count `at`, which begin at the index `place`. Returns the index after them.
 #[cold]
 #[inline(never)]
 pub(crate) fn take_inputs(devices: &mut Devices, events: &[Event], place: usize, at: u64) -> usize
@@ -33,7 +33,7 @@ pub(crate) fn take_inputs(devices: &mut Devices, events: &[Event], place: usize,
     events.len()
 }
 
-/// The count up to which no input comes: that of the input at a place, or `to` if this comes first.
+/// Returns the count up to which no input comes: that of the input at the index `place`, or `to` if this is earlier.
 pub(crate) fn quiet_until(events: &[Event], place: usize, at: u64, to: u64) -> u64
     requires next { IsNextAt events.now place (at + 1) }
     requires more { at < to }

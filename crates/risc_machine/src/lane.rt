@@ -3,10 +3,10 @@ ghost use Rattle.std.specs.Prelude.{◌≡◌, ◌<◌, ◌%◌, ◌^◌};
 ghost use Rattle.risc_model.specs.Lane.{lane_byte, with_lane};
 ghost use Rattle.risc_model.specs.Exec.{loaded_value, stored_word, stored_value};
 
-/// The lowest byte of a word.
+/// Masks the lowest byte of a word.
 const BYTE_MASK: u32 = 0xFF;
 
-/// The byte of `word` in a lane.
+/// Returns the byte of `word` in a lane.
 #[inline(always)]
 fn byte_in(lane: u8, word: u32) -> u32
     requires { lane < 4 }
@@ -15,7 +15,7 @@ fn byte_in(lane: u8, word: u32) -> u32
     word >> (8 * lane as u32) & BYTE_MASK
 }
 
-/// `word` with the lowest byte of `value` in a lane.
+/// Returns `word` with the lowest byte of `value` in a lane.
 #[inline(always)]
 #[tactic(auto, using(crate::proofs::LaneLemmas::with_lane_is))]
 fn with_byte(lane: u8, value: u32, word: u32) -> u32
@@ -26,7 +26,7 @@ fn with_byte(lane: u8, value: u32, word: u32) -> u32
     word & !(BYTE_MASK << shift) | (value & BYTE_MASK) << shift
 }
 
-/// What a load of `word`, or of the byte in its lane, gives.
+/// Returns what a load of `word`, or of the byte in its lane, writes to the register.
 #[inline(always)]
 pub(crate) fn loaded_value(byte: bool, lane: u8, word: u32) -> u32
     requires { lane < 4 }
@@ -35,7 +35,7 @@ pub(crate) fn loaded_value(byte: bool, lane: u8, word: u32) -> u32
     if byte { byte_in(lane, word) } else { word }
 }
 
-/// What a store of `value`, or of its lowest byte, makes of `word`.
+/// Returns `word` after a store of `value`, or of its lowest byte.
 #[inline(always)]
 pub(crate) fn stored_word(byte: bool, lane: u8, value: u32, word: u32) -> u32
     requires { lane < 4 }
@@ -48,7 +48,7 @@ pub(crate) fn stored_word(byte: bool, lane: u8, value: u32, word: u32) -> u32
     }
 }
 
-/// What a store of `value`, or of its lowest byte, hands to a device.
+/// Returns what a store of `value`, or of its lowest byte, writes to a device.
 #[inline(always)]
 pub(crate) fn stored_value(byte: bool, value: u32) -> u32
     ensures { result ≡ stored_value byte value }

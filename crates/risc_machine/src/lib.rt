@@ -1,7 +1,7 @@
 //! The interpreter: runs the RISC5 workstation of Project Oberon, one instruction at a time or from count to count.
 //!
-//! What a step and a run give is defined in `risc_model`; each contract here cites it. Instructions, memory and devices
-//! are in the crates below; this crate puts them together and keeps the loop fast.
+//! The definitions of a step and of a run are in `risc_model`, and each contract here uses them. Instructions, memory and
+//! devices are in the crates below. This crate puts them together and keeps the loop fast.
 #![tactic(auto)]
 
 mod act;
@@ -28,7 +28,7 @@ mod slow_step;
 mod status;
 
 pub use machine::Machine;
-pub use run_exit::RunFault;
 pub use risc_model::{
     Cpu, Event, Flags, Inputs, MAX_COUNT, Unordered, lane_law, run_law, stop_law, stopped_law,
 };
+pub use run_exit::RunFault;

@@ -1,15 +1,15 @@
-//! Where the bytes that a machine sends go: to the end of a vector, or into a comparison. When it sends is with its run.
+//! Sinks of the bytes that a machine sends: a vector, or a comparison with expected bytes.
 ghost use Rattle.std.specs.Prelude.{◌≡◌, ◌++◌, ◌∷◌, [], List, ℕ, Bool, true, false, IsTrue, OnOk, OnErr, ◌+◌, ◌<◌, ◌≤◌, length, ◌↔◌};
 ghost use Rattle.risc_machine.specs.inner.Matched.{HasMatched};
 
 use std::alloc::AllocError;
 
-/// Takes bytes in the order in which they are sent.
+/// Takes the bytes that a machine sends, in order.
 pub(crate) trait Sink {
-    // these bytes were taken so far
+    // the bytes that were taken so far
     ghost has_sent: { Self → List ℕ → Type 0 };
 
-    // whether taking a byte may want memory
+    // whether it may fail to take a byte, for lack of memory
     ghost can_fail: { Bool };
 
     // what stays the same
@@ -36,7 +36,7 @@ impl Sink for Vec<u8> {
     }
 }
 
-/// Compares the bytes that it takes with those that are expected.
+/// Compares the bytes that it takes with the expected ones.
 #[derive(Drop)]
 pub(crate) struct Matching<'a> {
     expected: &'a [u8],
@@ -65,7 +65,7 @@ impl<'a> Sink for Matching<'a> {
 }
 
 impl<'a> Matching<'a> {
-    /// A comparison with these bytes, none of which was sent yet.
+    /// Returns a comparison with these bytes, which has taken no byte yet.
     pub(crate) fn new(expected: &'a [u8]) -> Self
         ensures matched { HasMatched result [] }
         ensures expected { result.expected.now ≡ expected.now }
@@ -77,7 +77,7 @@ impl<'a> Matching<'a> {
         }
     }
 
-    /// Whether the bytes that were sent are all those that were expected.
+    /// Reports whether the bytes that were sent are the expected ones, and all of them.
     pub(crate) fn is_whole(&self) -> bool
         ensures { (l : List ℕ) → HasMatched self.now l → (IsTrue result ↔ (l ≡ self.now.expected.now)) }
     {

@@ -1,9 +1,9 @@
--- The inputs that a machine has still to take, by their places in the list (this project's own choice).
+-- The inputs that a run still has to take, by their indices in the list (this project's own choice).
 use Rattle.std.specs.Prelude.{ℕ, ◌≤◌, ◌<◌, List, length}
 use Rattle.risc_model.specs.declared.event.Event.{Event}
 use Rattle.risc_model.specs.InputOrder.{AreOrdered, count_at}
 
--- those before `next` have earlier counts than `at`, and those from it on don't
+-- the inputs before the index `next` have counts before `at`, and the others do not
 pub record IsNextAt (es : List Event) (next at : ℕ) : Type 0 where
   pub ordered : AreOrdered es
   pub inside : next ≤ length es
