@@ -70,10 +70,10 @@ same_byte a b fits_a fits_b bits =
 
 -- lists of one length are equal if their prefixes and the items after these are
 same_after : (n : ℕ) (xs ys : List ℕ) → length xs ≡ length ys → take n xs ≡ take n ys → ((k : ℕ) → n + k < length xs → slice_index xs (n + k) ≡ slice_index ys (n + k)) → xs ≡ ys
-same_after n xs ys lengths fronts rests =
+same_after n xs ys lengths prefixes rests =
     ext_get_or 0 xs ys lengths (λ i below. elim (cases_lt i n) as (λ _. get_or xs i 0 ≡ get_or ys i 0) [
-      | inl front ↦ sym (get_or-take n xs i 0 front) ∙ (ap (λ l. get_or l i 0) fronts ∙ get_or-take n ys i 0 front)
-      | inr behind ↦
+      | inl inside ↦ sym (get_or-take n xs i 0 inside) ∙ (ap (λ l. get_or l i 0) prefixes ∙ get_or-take n ys i 0 inside)
+      | inr beyond ↦
           let e : n + (i - n) ≡ i = omega arith in
           let there : n + (i - n) < length xs = omega arith in
           rw e at (rests (i - n) there)

@@ -14,12 +14,12 @@ use Rattle.risc_pages.specs.Delta.{AreDifferences, changed_below, differs_at}
 use Rattle.risc_pages.specs.Pages.{page_at}
 
 same_by : (r : Bool) (P : Type 0) → MatchBool r P (P → ⊥) → P → not r ≡ false
-same_by true P told h = refl
-same_by false P told h = absurd (told h)
+same_by true P decided h = refl
+same_by false P decided h = absurd (decided h)
 
 other_by : (r : Bool) (P : Type 0) → MatchBool r P (P → ⊥) → (P → ⊥) → not r ≡ true
-other_by true P told h = absurd (h told)
-other_by false P told h = refl
+other_by true P decided h = absurd (h decided)
+other_by false P decided h = refl
 
 pub differs_at-same : (base words : List ℕ) (p : ℕ) → page_at words p ≡ page_at base p → differs_at base words p ≡ false
 unfolding differs_at
@@ -54,7 +54,7 @@ places_same n base words cs h same =
 
 -- the test is true only if the pages differ
 differs_at-true : (base words : List ℕ) (p : ℕ) → differs_at base words p ≡ true → page_at words p ≡ page_at base p → ⊥
-differs_at-true base words p told same = false≢true (sym (differs_at-same base words p same) ∙ told)
+differs_at-true base words p decided same = false≢true (sym (differs_at-same base words p same) ∙ decided)
 
 range-rising : (n : ℕ) → IsStrictlyIncreasing (range_with_len 0 n)
 range-rising n k h =
