@@ -33,7 +33,10 @@ pub fn begin_recording(
     requires counter { cpu.pc < COUNTER_END }
     requires stop { cpu.stop ≤ 4 }
     requires whole { length words.now ≡ 262144 }
-    ensures { IfOk result (IsBegun (record { cpu = cpu_state cpu; devices = devices; words = words.now })) }
+    // It begins with the state.
+    ensures begun { IfOk result (IsBegun (record { cpu = cpu_state cpu; devices = devices; words = words.now })) }
+    // It is within all limits.
+    ensures lawful { IfOk result IsLawful }
 {
     let mut stored = StoredPages {
         pool: Pool::new(alloc),

@@ -133,7 +133,8 @@ fn finish(alloc: Global, inputs: &Inputs, recorder: Recorder) -> Result<Recordin
 /// The recording of parts that are known to be lawful.
 pub fn recording_of(pool: Pool, inputs: Inputs, checkpoints: Vec<Checkpoint>) -> Recording
     requires { IsLawful (parts_of pool inputs checkpoints.items) }
-    ensures { result ≡ parts_of pool inputs checkpoints.items }
+    ensures parts { result ≡ parts_of pool inputs checkpoints.items }
+    ensures lawful { IsLawful result }
 {
     match Recording::from_parts(pool, inputs, checkpoints) {
         Ok(recording) => recording,

@@ -34,8 +34,8 @@ recording_of-requires c =
     (subst (λ (l : Stored). length l.pool ≤ 1024) stored-so few)
     (subst (λ (l : Stored). ArePages l.pool) stored-so c.len-pages.ensures.pages))
 
-pub returns : goal.returns
-returns c =
+pub returns-clause-begun : goal.returns-clause-begun
+returns-clause-begun c =
     let cpu = cpu_state c.args.cpu in
     let devices = c.args.devices in
     let words : List ℕ = c.args.words.now in
@@ -47,4 +47,4 @@ returns c =
     let checkpoints = ap (map checkpoint_parts) items ∙ ap (λ (p : CheckpointParts). p ∷ []) one in
     let is : parts_of c.store_words.new.stored.pool c.no_inputs.result c.push.new.self.items ≡ begun cpu devices words c.requires.whole =
     λ i. record { pool = (stored-so i).pool; inputs = c.no_inputs.ensures i; checkpoints = checkpoints i } in
-    subst (IsBegun (record { cpu = cpu; devices = devices; words = words })) (sym (c.recording_of.ensures ∙ is)) (is-begun cpu devices words c.requires.whole)
+    subst (IsBegun (record { cpu = cpu; devices = devices; words = words })) (sym (c.recording_of.ensures.parts ∙ is)) (is-begun cpu devices words c.requires.whole)
