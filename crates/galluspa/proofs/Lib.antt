@@ -2,6 +2,7 @@
 mod WordLemmas
 mod RawLemmas
 mod FirstLemmas
+mod LineLemmas
 mod TruthLemmas
 mod FrameLemmas
 mod InputLemmas

@@ -4,20 +4,17 @@ use Rattle.risc_model.specs.declared.event.Event.{Event}
 use Rattle.risc_model.specs.Replay.{run_of, sent_of}
 use Rattle.galluspa.specs.declared.raw.RawState.{RawState}
 use Rattle.galluspa.specs.declared.raw.RawInput.{RawInput}
-use Rattle.galluspa.specs.declared.words.TheConstants.{WORDS}
-use Rattle.galluspa.specs.Raw.{AreDevices, AreEvents, IsCpu, state_of}
+use Rattle.galluspa.specs.Raw.{AreEvents, AreInOrder, IsWhole, state_of}
 
--- all that a run is given is in its range: as many words as a memory has, a count that is not below the state's, a state, and inputs in order
+-- all that a run is given is in its range: a state with its words, a count that is not below the state's, and inputs in order
 pub record IsInRange (inputs : List RawInput) (to : ℕ) (state : RawState) (words : List ℕ) : Type 0 where
-  pub whole : length words ≡ WORDS
+  pub is_whole : IsWhole state words
   pub forward : state.count ≤ to
-  pub cpu : IsCpu state
-  pub devices : AreDevices state
-  pub events : List Event
-  pub are_events : AreEvents inputs events
+  pub in_order : AreInOrder inputs
 
 -- one run from the count of a state up to a later count, with these inputs: the state after it, and the bytes that it sends
-pub record HasRun (inputs : List RawInput) (to : ℕ) (old : RawState) (old_words : List ℕ) (new : RawState) (new_words sent : List ℕ) : Type 0 where
+pub record HasRun (inputs : List RawInput) (to : ℕ) (old : RawState) (old_words : List ℕ) (new : RawState) (new_words sent : List ℕ)
+    : Type 0 where
   pub events : List Event
   pub are_events : AreEvents inputs events
   pub forward : old.count ≤ to

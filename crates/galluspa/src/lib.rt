@@ -29,6 +29,7 @@ mod claim;
 mod extend;
 mod front;
 mod laws;
+mod lengths;
 mod migrate;
 mod raw;
 mod record;
@@ -46,10 +47,11 @@ use std::alloc::Global;
 pub use words::WORDS;
 
 /// Checks a recording: writes its verdict line, with the line feed, to the front of `line`, and to `status` 0 if it is accepted,
-/// 1 if it is false and 2 if the bytes are no recording. The line and the status are those that the program prints.
+/// 1 if it is false and 2 if the bytes are no recording. The line and the status are those of the program. What is after the line
+/// stays as it was.
 ///
-/// Returns the length of the line. If that is more than `line` has room for, nothing is written. Returns 0 if memory ran out;
-/// nothing is written then, either.
+/// Returns the length of the line, which is below 256. If that is more than `line` has room for, nothing is written. Returns 0 if
+/// memory ran out; nothing is written then, either.
 #[unsafe(no_mangle)]
 pub extern "C" fn galluspa_check(
     alloc: Global,
@@ -59,6 +61,7 @@ pub extern "C" fn galluspa_check(
 ) -> usize
     ensures line { 0 < result → result ≤ length line.old → IsLineOf text.now (take result line.new) status.new }
     ensures rest { drop result line.new ≡ drop result line.old }
+    ensures short { result < 256 }
     ensures needed { length line.old < result → NeedsRoom (IsAnswer (IsLineOf text.now)) (length line.old) result }
     ensures no_room { length line.old < result → (line.new ≡ line.old) × (status.new ≡ status.old) }
     ensures no_memory { result ≡ 0 → (line.new ≡ line.old) × (status.new ≡ status.old) }
@@ -143,6 +146,8 @@ pub extern "C" fn galluspa_claim(
 
 /// Runs a machine from the count of its state up to the count `to`, with the inputs of these counts and perhaps others, and
 /// returns 0 (`DONE`). The bytes that it sends are written to the front of `sent`, and their number to `sent_count`.
+///
+/// A state that is written has each number in its range, so that the next call takes it; the same holds of `galluspa_claim`.
 ///
 /// Otherwise nothing is written, and the result is 1 (`OUT_OF_RANGE`) if `words` is not of 262,144 words, `to` is below the count
 /// of the state, a number of the state or of an input is out of its range, or the inputs' counts fall or are above 2^40; 2

@@ -124,7 +124,7 @@ fn sixteen(codes: &[u8]) -> [u8; 16]
 }
 
 /// The state of a processor and devices at a count.
-#[tactic(auto, using(risc_core::proofs::FlagsLemmas::flags_back, crate::proofs::RawLemmas::devices_back, crate::proofs::RawLemmas::parts_fit))]
+#[tactic(auto, using(risc_core::proofs::FlagsLemmas::flags_back, crate::proofs::RawLemmas::written_devices))]
 pub fn state_of(count: u64, cpu: &Cpu, devices: &Devices) -> RawState
     requires counter { cpu.now.pc < COUNTER_END }
     requires stop { cpu.now.stop ≤ 4 }
