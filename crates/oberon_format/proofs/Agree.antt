@@ -23,7 +23,7 @@ use Rattle.oberon_format.specs.Text.{IsUnclocked}
 use Rattle.oberon_format.specs.TextFields.{fields_of, event_of, checkpoint_of, change_of, number_before, page_number_of, first_fault_of}
 use Rattle.oberon_format.specs.inner.Decoded.{page_at, words_from}
 use Rattle.oberon_format.proofs.Bytes.{HasBytes, bytes_left, bytes_right, long_read, words_read, word_of, parts_read, length-long_bytes, length-words_bytes}
-use Rattle.oberon_format.proofs.ChangeLemmas.{change_in, changes-few, changes-make, after-same}
+use Rattle.oberon_format.proofs.ChangeLemmas.{change_in, changes_few, changes-make, after-same}
 use Rattle.oberon_format.proofs.Encoded.{AreAt, encoding_parts, length-encoding, change_words, change_wide, fields_wide, header_words, header_wide, later_wide, length-changes, length-common_bytes, length-key_bytes}
 use Rattle.oberon_format.proofs.PartLemmas.{member, table_next}
 use Rattle.oberon_format.proofs.RuleLemmas.{version_cases}
@@ -109,7 +109,7 @@ later_agrees v text p before c known of fits unclocked s =
     elim (version_cases v known) [
       | inl first ↦ let none = unclocked first in record { rate = rw (of, first) (sym none.rate); phase = rw (of, first) (sym none.phase); count = rw (of, first) refl }
       | inr second ↦
-          let few = changes-few before c.table in
+          let few = changes_few before c.table in
           let words = words_bytes (later_words before c) in
           let cs = flat_map change_bytes (changes before c.table) in
           let later = words_read text p RATE_AT (p + RATE_AT) 3 (later_words before c) refl refl (later_wide before c fits (omega arith))

@@ -1,20 +1,66 @@
--- Bytes at an offset of a file, and the numbers that they are.
-use Rattle.std.proofs.Common.{◌≡◌, ◌<◌, ◌≤◌, ◌+◌, ◌*◌, ◌^◌, ◌∙◌, ℕ, zero, suc, List, [], ◌∷◌, ◌++◌, length, take, drop, get_or, refl, sym, ap, subst, inl, inr, arith, add-zero, append-nil, length-append}
-use Rattle.std.specs.Prelude.{All}
+-- Bytes at an offset of a file, the numbers that they are, and what holds for each member of a list as it is filled.
+use Rattle.std.proofs.Common.{◌≡◌, ◌<◌, ◌+◌, ◌-◌, ◌/◌, ◌%◌, ◌^◌, ℕ, zero, suc, List, length, take, drop, refl, ap, ◌∙◌, arith, add-zero, ◌≢◌, [], ◌∷◌, ◌++◌, sym, subst, inl, inr, get_or, set, get_or-set_other, get_or-set_same, length-append, ◌≤◌, ◌*◌, append-nil}
+use Rattle.std.specs.Prelude.{◌==◌, if◌then◌else◌, All}
+use Rattle.std.proofs.lemmas.Bool.Decides.{nat_tests}
+use Rattle.std.proofs.lemmas.List.{get_or-drop, take_rest, get_or_append_left, get_or_push, drop-drop, drop-take, drop_at, get_or-take, get_or_past, length-drop, length-take, take-take, take_at}
+use Rattle.byteorder.specs.Endian.{little_from}
+use Rattle.oberon_format.specs.declared.ranges.TheConstants.{SERIAL_END}
+use Rattle.oberon_format.specs.Layout.{long_at, word_at}
+use Rattle.std.proofs.lemmas.Bool.{cases_lt}
+use Rattle.oberon_format.specs.FirstFault.{each}
+use Rattle.oberon_format.specs.inner.Decoded.{EachAt, words_from}
 use Rattle.std.specs.List.{flat_map}
 use Rattle.std.specs.Int.{bytes_low_first}
 use Rattle.std.proofs.Math.Seq.{take-add}
-use Rattle.std.proofs.lemmas.Bool.{cases_lt}
-use Rattle.std.proofs.lemmas.List.{drop-drop, drop-take, drop_at, get_or-drop, get_or-take, get_or_past, length-drop, length-take, take-take, take_at}
 use Rattle.std.proofs.lemmas.List.FromFn.{fill_by_all, get_or-map-range_with_len, length-map-range_with_len}
 use Rattle.std.proofs.lemmas.Nat.{le_bytes_4, le_bytes_8}
-use Rattle.byteorder.specs.Endian.{little_from}
 use Rattle.byteorder.specs.Numbers.{length-bytes_low_first, little_from-take, little_number-reads_back}
 use Rattle.oberon_format.specs.Encoding.{long_bytes, word_bytes, words_bytes}
-use Rattle.oberon_format.specs.Layout.{long_at, word_at}
 use Rattle.oberon_format.specs.Text.{AreBytes}
-use Rattle.oberon_format.specs.inner.Decoded.{EachAt, words_from}
-use Rattle.oberon_format.proofs.Numbers.{little_from-drop}
+
+-- the number at an offset in what follows an offset
+pub little_from-drop : (n k offset : ℕ) (text : List ℕ) → little_from k n (drop offset text) ≡ little_from (offset + k) n text
+little_from-drop zero k offset text = refl
+little_from-drop (suc n) k offset text =
+    let byte = get_or-drop offset text k 0 in
+    let rest = little_from-drop n (suc k) offset text in
+    let next : offset + suc k ≡ suc (offset + k) = omega arith in
+    rw (byte, rest, next) refl
+
+pub word_at-drop : (offset : ℕ) (text : List ℕ) → little_from 0 4 (take (length text - offset) (drop offset text)) ≡ word_at text offset
+unfolding word_at
+word_at-drop offset text = ap (little_from 0 4) (take_rest text offset) ∙ little_from-drop 4 0 offset text ∙ ap (λ (k : ℕ). little_from k 4 text) (add-zero offset)
+
+pub long_at-drop : (offset : ℕ) (text : List ℕ) → little_from 0 8 (take (length text - offset) (drop offset text)) ≡ long_at text offset
+unfolding long_at
+long_at-drop offset text = ap (little_from 0 8) (take_rest text offset) ∙ little_from-drop 8 0 offset text ∙ ap (λ (k : ℕ). little_from k 8 text) (add-zero offset)
+
+-- the serial line's number is that of its parts
+pub serial_whole : (serial : ℕ) → serial < SERIAL_END → serial % 2 ^ 8 + (if serial / 2 ^ 8 == 1 then 2 ^ 8 else 0) ≡ serial
+serial_whole serial h = grind (arith, nat_tests)
+
+-- after a write at i
+pub each_set : {X : Type 0} (P : ℕ → X → Type 0) (xs : List X) (i : ℕ) (v : X) → i < length xs → ((k : ℕ) (d : X) → k < i → P k (get_or xs k d)) → P i v
+    → (k : ℕ) (d : X) → k < i + 1 → P k (get_or (set xs i v) k d)
+each_set {X} P xs i v lt below here k d h =
+    elim (cases_lt k i) [
+      | inl less ↦ let ne : k ≢ i = omega arith in subst (P k) (sym (get_or-set_other xs i k v d ne)) (below k d less)
+      | inr more ↦
+          let e : i ≡ k = omega arith in
+          let Q : ℕ → Type 0 = λ (j : ℕ). P j (get_or (set xs i v) j d) in
+          subst Q e (subst (P i) (sym (get_or-set_same xs i v d lt)) here)
+    ]
+
+-- after a push
+pub each_push : {X : Type 0} (P : ℕ → X → Type 0) (xs : List X) (n : ℕ) (v : X) → length xs ≡ n → EachAt P xs → P n v → EachAt P (xs ++ v ∷ [])
+each_push {X} P xs n v len each here i d h =
+    elim (cases_lt i (length xs)) [
+      | inl less ↦ subst (P i) (sym (get_or_append_left xs (v ∷ []) d i less)) (each i d less)
+      | inr more ↦
+          let e : n ≡ i = omega (arith, length-append xs (v ∷ [])) in
+          let Q : ℕ → Type 0 = λ (j : ℕ). P j (get_or (xs ++ v ∷ []) j d) in
+          subst Q e (subst (P n) (sym (get_or_push xs v d n len)) here)
+    ]
 
 -- numbers of four bytes
 abbrev pub AreWide : List ℕ → Type 0

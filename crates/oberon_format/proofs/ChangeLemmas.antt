@@ -202,8 +202,8 @@ are_below before table (suc n) =
     (λ (ne : slice_index before n ≢ slice_index table n). subst (AreBelow before table (suc n)) (sym (below_more n before table ne)) (are_more before table n _ ne are))
     (cases_eq (slice_index before n) (slice_index table n))
 
-pub changes-few : (before table : List ℕ) → length (changes before table) ≤ PLACES
-changes-few before table = (are_below before table PLACES).few
+pub changes_few : (before table : List ℕ) → length (changes before table) ≤ PLACES
+changes_few before table = (are_below before table PLACES).few
 
 pub changes-new : (before table : List ℕ) (i : ℕ) → i < length (changes before table)
     → (change_in before table i).number ≡ slice_index table (change_in before table i).place

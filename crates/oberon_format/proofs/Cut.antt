@@ -1,7 +1,8 @@
 -- How long the file of a recording can be, and that a file that is cut after that many bytes has the first fault of the whole.
 use Rattle.std.proofs.Common.{◌≡◌, ◌≤◌, ◌<◌, ◌+◌, ◌-◌, ◌*◌, ◌==◌, ◌∙◌, ℕ, zero, suc, if◌then◌else◌, sym, subst, Bool, true, false, List, [], ◌∷◌, None, Some, inl, inr, arith, refl, ap, ap₂, drop, length, take}
-use Rattle.std.proofs.lemmas.Bool.{cases_lt, eqb-true, le-leb, leb-true, leb-false, ne_eqb}
-use Rattle.std.proofs.lemmas.List.{drop-take, get_or-take, length-take, take-take}
+use Rattle.std.proofs.lemmas.Bool.{cases_lt, eqb-true, le-leb, ne_eqb}
+use Rattle.std.proofs.lemmas.List.{drop-take, length-take, take-take}
+use Rattle.byteorder.specs.Numbers.{little_from-take}
 use Rattle.std.specs.Prelude.{nat_le, slice_range}
 use Rattle.oberon_format.specs.FirstFault.{each, first_broken}
 use Rattle.oberon_format.specs.declared.fault.Fault.TheVariants as fault
@@ -12,7 +13,7 @@ use Rattle.oberon_format.specs.Changes.{number_after}
 use Rattle.oberon_format.specs.Fields.{Fields, sent_below, total}
 use Rattle.oberon_format.specs.Layout.{version, events, checkpoints, event_offset, event_start, long_at, page_number_offset, change_offset, checkpoint_size, change_count, later_word, start, word_at}
 use Rattle.oberon_format.specs.Recording.{RecordingParts}
-use Rattle.oberon_format.specs.Rules.{checkpoint_rules, count_before, named_len, whole}
+use Rattle.oberon_format.specs.Rules.{checkpoint_rules, named_len, whole}
 use Rattle.oberon_format.specs.Text.{Text}
 use Rattle.oberon_format.specs.TextFields.{change_at, change_of, checkpoint_of, event_of, fields_of, first_fault_of, number_before, page_number_of}
 use Rattle.oberon_format.proofs.ChangeLemmas.{after-same}
@@ -21,31 +22,17 @@ use Rattle.oberon_format.proofs.LawfulLemmas.{lawful_formed}
 use Rattle.oberon_format.proofs.PartLemmas.{start_in_within, size_few}
 use Rattle.oberon_format.proofs.Room.{start_next, start_none, named_first}
 use Rattle.oberon_format.proofs.RuleLemmas.{fields_hold, met_left, met_right}
-use Rattle.oberon_format.proofs.SameFields.{AreFew, Same, SameCheckpoint, SameFields, before_same, changes_within, mixed, output_within, prior_same, same_rules, sent_same, size_rules}
+use Rattle.oberon_format.proofs.SameFields.{AreFew, Same, SameCheckpoint, SameFields, before_same, mixed, prior_same, same_rules, sent_same, size_rules}
 use Rattle.oberon_format.proofs.TextLemmas.{number_where, number_else}
 
 -- numbers in bytes before the cut
 word_at-take : (n : ℕ) (text : List ℕ) (offset : ℕ) → offset + 4 ≤ n → word_at (take n text) offset ≡ word_at text offset
 unfolding word_at
-word_at-take n text offset within =
-    let byte0 = get_or-take n text offset 0 (omega arith) in
-    let byte1 = get_or-take n text (suc offset) 0 (omega arith) in
-    let byte2 = get_or-take n text (suc (suc offset)) 0 (omega arith) in
-    let byte3 = get_or-take n text (suc (suc (suc offset))) 0 (omega arith) in
-    rw (byte0, byte1, byte2, byte3) refl
+word_at-take n text offset within = little_from-take offset 4 n text within
 
 long_at-take : (n : ℕ) (text : List ℕ) (offset : ℕ) → offset + 8 ≤ n → long_at (take n text) offset ≡ long_at text offset
 unfolding long_at
-long_at-take n text offset within =
-    let byte0 = get_or-take n text offset 0 (omega arith) in
-    let byte1 = get_or-take n text (suc offset) 0 (omega arith) in
-    let byte2 = get_or-take n text (suc (suc offset)) 0 (omega arith) in
-    let byte3 = get_or-take n text (suc (suc (suc offset))) 0 (omega arith) in
-    let byte4 = get_or-take n text (suc (suc (suc (suc offset)))) 0 (omega arith) in
-    let byte5 = get_or-take n text (suc (suc (suc (suc (suc offset))))) 0 (omega arith) in
-    let byte6 = get_or-take n text (suc (suc (suc (suc (suc (suc offset)))))) 0 (omega arith) in
-    let byte7 = get_or-take n text (suc (suc (suc (suc (suc (suc (suc offset))))))) 0 (omega arith) in
-    rw (byte0, byte1, byte2, byte3, byte4, byte5, byte6, byte7) refl
+long_at-take n text offset within = little_from-take offset 8 n text within
 
 event_of-take : (n : ℕ) (text : List ℕ) (offset : ℕ) → offset + EVENT_LEN ≤ n → event_of (take n text) offset ≡ event_of text offset
 event_of-take n text offset within =
@@ -55,19 +42,15 @@ event_of-take n text offset within =
     rw (count, kind, value) refl
 
 slice_range-take : (n : ℕ) (text : List ℕ) (from to : ℕ) → to ≤ n → slice_range (take n text) from to ≡ slice_range text from to
-slice_range-take n text from to within = go (nat_le from n) refl
-  where
-    go : (b : Bool) → nat_le from n ≡ b → slice_range (take n text) from to ≡ slice_range text from to
-    go true is =
-        let below : from ≤ n = leb-true from n is in
-        let split : n ≡ from + (n - from) = omega arith in
-        ap (λ m. take (to - from) (drop from (take m text))) split
-        ∙ ap (take (to - from)) (drop-take from (n - from) text)
-        ∙ take-take (to - from) (n - from) (drop from text) (omega arith)
-    go false is =
-        let above : n < from = leb-false from n is in
-        let none : to - from ≡ 0 = omega arith in
-        rw none refl
+slice_range-take n text from to within =
+    elim (cases_lt n from) [
+      | inl past ↦ let none : to - from ≡ 0 = omega arith in rw none refl
+      | inr here ↦
+          let split : n ≡ from + (n - from) = omega arith in
+          ap (λ m. take (to - from) (drop from (take m text))) split
+          ∙ ap (take (to - from)) (drop-take from (n - from) text)
+          ∙ take-take (to - from) (n - from) (drop from text) (omega arith)
+    ]
 
 -- a file that is cut after the header has the version of the whole
 version-take : (n : ℕ) (text : List ℕ) → LONGEST_TEXT < n → version (take n text) ≡ version text
@@ -79,35 +62,21 @@ later_word-take n text offset over within =
 
 checkpoint_of-take : (n : ℕ) (text : List ℕ) (offset : ℕ) → LONGEST_TEXT < n → offset + CHANGES_AT ≤ n → checkpoint_of (take n text) offset ≡ checkpoint_of text offset
 checkpoint_of-take n text offset over within =
-    let count = long_at-take n text offset (omega arith) in
-    let pc = word_at-take n text (offset + COUNTER_AT) (omega arith) in
-    let flags = word_at-take n text (offset + FLAGS_AT) (omega arith) in
-    let stop = word_at-take n text (offset + STOP_AT) (omega arith) in
-    let switches = word_at-take n text (offset + SWITCHES_AT) (omega arith) in
-    let leds = word_at-take n text (offset + LEDS_AT) (omega arith) in
-    let mouse = word_at-take n text (offset + MOUSE_AT) (omega arith) in
-    let serial = word_at-take n text (offset + SERIAL_AT) (omega arith) in
-    let waiting = word_at-take n text (offset + WAITING_AT) (omega arith) in
-    let keys = slice_range-take n text (offset + KEYS_AT) (offset + SENT_AT) (omega arith) in
-    let output = word_at-take n text (offset + SENT_AT) (omega arith) in
-    let rate = later_word-take n text (offset + RATE_AT) over (omega arith) in
-    let phase = later_word-take n text (offset + PHASE_AT) over (omega arith) in
-    let changes = later_word-take n text (offset + CHANGE_COUNT_AT) over (omega arith) in
     λ i. record {
-      count = count i;
-      pc = pc i;
-      flags = flags i;
-      stop = stop i;
-      switches = switches i;
-      leds = leds i;
-      mouse = mouse i;
-      serial = serial i;
-      waiting = waiting i;
-      keys = keys i;
-      output = output i;
-      rate = rate i;
-      phase = phase i;
-      changes = changes i;
+      count = long_at-take n text offset (omega arith) i;
+      pc = word_at-take n text (offset + COUNTER_AT) (omega arith) i;
+      flags = word_at-take n text (offset + FLAGS_AT) (omega arith) i;
+      stop = word_at-take n text (offset + STOP_AT) (omega arith) i;
+      switches = word_at-take n text (offset + SWITCHES_AT) (omega arith) i;
+      leds = word_at-take n text (offset + LEDS_AT) (omega arith) i;
+      mouse = word_at-take n text (offset + MOUSE_AT) (omega arith) i;
+      serial = word_at-take n text (offset + SERIAL_AT) (omega arith) i;
+      waiting = word_at-take n text (offset + WAITING_AT) (omega arith) i;
+      keys = slice_range-take n text (offset + KEYS_AT) (offset + SENT_AT) (omega arith) i;
+      output = word_at-take n text (offset + SENT_AT) (omega arith) i;
+      rate = later_word-take n text (offset + RATE_AT) over (omega arith) i;
+      phase = later_word-take n text (offset + PHASE_AT) over (omega arith) i;
+      changes = later_word-take n text (offset + CHANGE_COUNT_AT) over (omega arith) i;
     }
 
 change_at-take : (n : ℕ) (text : List ℕ) (offset : ℕ) → offset + CHANGE_LEN ≤ n → change_at (take n text) offset ≡ change_at text offset
@@ -296,13 +265,13 @@ module _ (n : ℕ) (text : List ℕ) (over : LONGEST_TEXT < n) (within : n ≤ l
     unfolding total
     next met =
         let ranges = fields_hold g k met in
-        let few_changes = changes_within k (count_before g k) (sent_below g k) (g.checkpoint k) ranges in
+        let few_changes = ranges.changes in
         record {
           place = next_start;
           near = near_next few_changes;
           checkpoints = λ j lt. last_or (λ i. f.checkpoint i ≡ g.checkpoint i) k j lt below.checkpoints fields_here;
           numbers = λ j p lt inside. last_or (λ i. page_number_of cut i p ≡ page_number_of text i p) k j lt (λ i under. below.numbers i p under inside) (number_here few_changes p inside);
-          sent = output_within k (count_before g k) (sent_below g k) (g.checkpoint k) ranges;
+          sent = ranges.within;
         }
 
   -- so all before each checkpoint agrees, if the rules of those before it are met

@@ -1,46 +1,81 @@
 -- What the reader makes of a file without a fault is the recording that the file encodes.
-use Rattle.std.proofs.Common.{◌≡◌, ◌<◌, ◌≤◌, ◌+◌, ◌-◌, ◌*◌, ◌^◌, ◌∙◌, ℕ, zero, suc, Bool, true, false, cond, List, [], ◌∷◌, ◌++◌, length, take, drop, get_or, refl, sym, ap, subst, inl, inr, arith, add-zero, length-append}
-use Rattle.std.specs.Prelude.{All, slice_index, slice_range, ◌==◌}
+use Rattle.std.proofs.Common.{◌≡◌, ◌<◌, ◌-◌, ◌∙◌, ℕ, List, [], length, sym, ap, arith, ◌≤◌, ◌+◌, ◌*◌, ◌^◌, zero, suc, Bool, true, false, cond, ◌∷◌, ◌++◌, take, drop, get_or, refl, subst, inl, inr, add-zero, length-append}
+use Rattle.std.specs.Prelude.{slice_index, nat_le, ◌==◌, if◌then◌else◌, All, slice_range}
+use Rattle.std.proofs.lemmas.List.{get_or-map, get_or_default, get_or_past}
+use Rattle.std.proofs.lemmas.Bool.{leb-true, cases_lt}
+use Rattle.risc_model.specs.declared.event.Event.{Event}
+use Rattle.risc_model.specs.InputOrder.{AreOrdered, count_at}
+use Rattle.risc_model.specs.InputOrder.{count_before as before_count}
+use Rattle.risc_model.specs.declared.inputs.TheConstants.{MAX_COUNT}
+use Rattle.oberon_format.specs.declared.fault.Fault.TheVariants as fault
+use Rattle.oberon_format.specs.declared.layout.TheConstants.{VERSION, FIRST_VERSION, PLACES, CHANGE_LEN, KIND_AT, REGISTERS_AT, AUXILIARY_AT, COUNTER_AT, FLAGS_AT, STOP_AT, TIMER_AT, SWITCHES_AT, LEDS_AT, MOUSE_AT, SERIAL_AT, WAITING_AT, KEYS_AT, SENT_AT, COMMON_LEN, TABLE_AT, RATE_AT, PHASE_AT, CHANGE_COUNT_AT, CHANGES_AT, NUMBER_AT}
+use Rattle.oberon_format.specs.Layout.{long_at, version, pages, events, checkpoints, event_offset, change_count, start, word_at, page_offset, page_number_offset, change_offset, later_word, checkpoint_size, output_offset}
+use Rattle.oberon_format.specs.Ranges.{is_event}
+use Rattle.oberon_format.specs.Rules.{event_rules, event_floor, place_floor, prior_number, count_before}
+use Rattle.oberon_format.specs.inner.Tested.{HasNumbers, Meets}
+use Rattle.oberon_format.specs.inner.Decoded.{EachAt, IsEventAt, decoded, page_at, pages_at, checkpoints_at, table_at, words_from}
+use Rattle.oberon_format.specs.TextFields.{fields_of, event_of, change_of, number_before, checkpoint_of, first_fault_of, page_number_of}
+use Rattle.oberon_format.proofs.ChangeLemmas.{AreLawful, after-bounded, after-same, change_in, lawful-are}
+use Rattle.oberon_format.proofs.PartLemmas.{member, table_next}
+use Rattle.oberon_format.proofs.RuleLemmas.{each_holds, rule_holds, and_left, and_right, FieldsMet, checkpoint_holds, output_below, output_below_more, output_below_none, version_cases}
+use Rattle.oberon_format.proofs.Walk.{change_rises, change_inside, change_differs}
+use Rattle.oberon_format.proofs.TextLemmas.{prior_is, checkpoint_changed, later_first, later_second, number_first, number_second, numbers_none}
 use Rattle.std.specs.List.{flat_map}
-use Rattle.std.proofs.lemmas.Bool.{cases_lt, ltb-true, leb-true}
-use Rattle.std.proofs.lemmas.List.{get_or_default, get_or_past}
 use Rattle.std.proofs.lemmas.List.Elements.{All-take, All-drop}
 use Rattle.std.proofs.lemmas.List.FromFn.{length-map-range_with_len, get_or-map-range_with_len, fill_by_all, map-range_with_len_more}
 use Rattle.byteorder.specs.Numbers.{little_from-lt}
 use Rattle.risc_core.proofs.FlagsLemmas.{number_back}
-use Rattle.risc_devices.specs.DeviceState.{is_phase}
 use Rattle.risc_devices.specs.Input.{kind_of, value_of}
-use Rattle.risc_devices.specs.InputKind.{is_mouse}
-use Rattle.risc_model.specs.declared.event.Event.{Event}
 use Rattle.risc_pages.specs.Pages.{IsPage, ArePages}
 use Rattle.oberon_format.specs.declared.change.Change.{Change}
-use Rattle.oberon_format.specs.declared.layout.TheConstants.{FIRST_VERSION, VERSION, PLACES, CHANGE_LEN, KIND_AT, REGISTERS_AT, AUXILIARY_AT, COUNTER_AT, FLAGS_AT, STOP_AT, TIMER_AT, SWITCHES_AT, LEDS_AT, MOUSE_AT, SERIAL_AT, WAITING_AT, KEYS_AT, SENT_AT, COMMON_LEN, TABLE_AT, RATE_AT, PHASE_AT, CHANGE_COUNT_AT, CHANGES_AT, NUMBER_AT}
-use Rattle.oberon_format.specs.declared.ranges.TheConstants.{FLAGS_END, SWITCHES_END, LEDS_END, SERIAL_END, MAX_KEYS}
 use Rattle.oberon_format.specs.Changes.{changes, no_change}
 use Rattle.oberon_format.specs.CheckpointParts.{CheckpointParts, key_bytes, no_checkpoint}
 use Rattle.oberon_format.specs.Encoding.{long_bytes, words_bytes, event_bytes, field_words, common_bytes, change_bytes, later_words, tail_bytes, checkpoint_bytes, header_bytes}
 use Rattle.oberon_format.specs.Formed.{IsFormed, AreFormed, IsWritable, AreWritable}
-use Rattle.oberon_format.specs.Layout.{word_at, long_at, version, pages, events, checkpoints, page_offset, page_number_offset, change_offset, event_offset, later_word, checkpoint_size, change_count, start, output_offset}
 use Rattle.oberon_format.specs.PartFields.{changes_in, start_in}
-use Rattle.oberon_format.specs.Ranges.{in_ranges, are_keys}
 use Rattle.oberon_format.specs.Recording.{RecordingParts, IsLawful, checkpoint_at, table_before, output_of}
 use Rattle.oberon_format.specs.Text.{AreBytes, IsUnclocked, Text}
-use Rattle.oberon_format.specs.TextFields.{change_of, checkpoint_of, first_fault_of, number_before, page_number_of}
-use Rattle.oberon_format.specs.inner.Decoded.{EachAt, IsEventAt, decoded, page_at, pages_at, checkpoints_at, table_at, words_from}
-use Rattle.oberon_format.specs.inner.Tested.{HasNumbers, Meets}
 use Rattle.oberon_format.proofs.Agree.{encoding_agrees}
-use Rattle.oberon_format.proofs.Bytes.{HasBytes, IsBytes, all_bytes, bytes_join, length-long_bytes, length-words_bytes, length-words_from, long_back, parts_back, word_of, words_back}
-use Rattle.oberon_format.proofs.ChangeLemmas.{after-bounded, after-same, change_in, lawful-are}
+use Rattle.oberon_format.proofs.Bytes.{HasBytes, IsBytes, all_bytes, bytes_join, length-long_bytes, length-words_bytes, length-words_from, long_back, parts_back, word_of, words_back, serial_whole}
 use Rattle.oberon_format.proofs.Encoded.{AreAt, header_words, length-changes, length-common_bytes, length-key_bytes, parts_encoding}
-use Rattle.oberon_format.proofs.Keys.{keys-are_at, length-range}
+use Rattle.oberon_format.proofs.Output.{keys-are_at, length-range, output_all, output_fits, output_more, range-none}
 use Rattle.oberon_format.proofs.LawfulLemmas.{faultless_lawful}
-use Rattle.oberon_format.proofs.Numbers.{serial_whole}
-use Rattle.oberon_format.proofs.Output.{keys_hold, output_all, output_fits, output_more, range-none, ranges_hold}
-use Rattle.oberon_format.proofs.PartLemmas.{table_next}
-use Rattle.oberon_format.proofs.ReadLemmas.{changes_lawful, events_ordered}
 use Rattle.oberon_format.proofs.Room.{common_there, changes_there, events_there, whole_there}
-use Rattle.oberon_format.proofs.RuleLemmas.{and_left, and_right, output_below, output_below_more, output_below_none, version_cases}
-use Rattle.oberon_format.proofs.TextLemmas.{later_first, later_second, number_first, number_second, numbers_none}
+
+-- the events of a file without a fault are in order
+count_is_at : (text : List ℕ) (es : List Event) (i : ℕ) → EachAt (IsEventAt text) es → i < length es → count_at es i ≡ long_at text (event_offset text i)
+count_is_at text es i each lt =
+    let d = member es i lt in
+    get_or-map (λ (e : Event). e.count) es i d 0 lt ∙ sym (each i d lt).count
+
+pub events_ordered : (text : List ℕ) (es : List Event) → Meets text → length es ≡ events text → EachAt (IsEventAt text) es → AreOrdered es
+events_ordered text es meets len each offset lt =
+    let f = fields_of text in
+    let here = count_is_at text es offset each lt in
+    let before : before_count es offset ≡ event_floor f offset =
+    ap (λ (n : ℕ). if offset == 0 then 0 else n) (count_is_at text es (offset - 1) each (omega arith)) in
+    let one = each_holds (event_rules f) (events text) offset (omega arith) meets.events_meet in
+    let holds = (rule_holds (is_event (event_floor f offset) (event_of text (event_offset text offset))) (fault.Event (event_offset text offset)) [] one).0 in
+    let count = long_at text (event_offset text offset) in
+    let counts = and_left _ _ holds in
+    let low = leb-true (event_floor f offset) count (and_left (nat_le (event_floor f offset) count) (nat_le count MAX_COUNT) counts) in
+    let high = leb-true count MAX_COUNT (and_right (nat_le (event_floor f offset) count) (nat_le count MAX_COUNT) counts) in
+    (omega arith, omega arith)
+
+-- the changes of a checkpoint that breaks no rule are lawful after the table before it
+pub changes_lawful : (text : List ℕ) (k : ℕ) (before : List ℕ) → Meets text → k < checkpoints text → version text ≡ VERSION → HasNumbers before (number_before text k)
+    → AreLawful (change_of text (start text k)) (slice_index before) (change_count text (start text k))
+changes_lawful text k before meets lt is has =
+    let met = checkpoint_changed text k meets lt is in
+    let change = change_of text (start text k) in
+    let inside = λ (i : ℕ) (few : i < change_count text (start text k)). change_inside (pages text) (place_floor change i) (prior_number (fields_of text) k) (change i) (met.each_change i few) in
+    record {
+      rises = λ i few. change_rises (pages text) (place_floor change i) (prior_number (fields_of text) k) (change i) (met.each_change i few);
+      inside = inside;
+      differs = λ i few e.
+          let same : (change i).number ≡ prior_number (fields_of text) k (change i).place = e ∙ has (change i).place (inside i few) ∙ sym (prior_is text k (change i).place is) in
+          change_differs (pages text) (place_floor change i) (prior_number (fields_of text) k) (change i) (met.each_change i few) same;
+    }
 
 -- numbers of bytes fit
 word_fits : (text : List ℕ) (offset : ℕ) → AreBytes text → word_at text offset < 2 ^ 32
@@ -94,33 +129,6 @@ pub table_made : (text table : List ℕ) (k : ℕ) → length table ≡ PLACES �
 unfolding table_at
 table_made text table k len has = fill_by_all (page_number_of text k) table PLACES 0 len has
 
--- what the ranges of a checkpoint's fields say
-record Small (text : List ℕ) (offset : ℕ) : Type 0 where
-  flags : word_at text (offset + FLAGS_AT) < FLAGS_END
-  phase : is_phase (later_word text (offset + RATE_AT)) (later_word text (offset + PHASE_AT)) ≡ true
-  switches : word_at text (offset + SWITCHES_AT) < SWITCHES_END
-  leds : word_at text (offset + LEDS_AT) < LEDS_END
-  mouse : is_mouse (word_at text (offset + MOUSE_AT)) ≡ true
-  serial : word_at text (offset + SERIAL_AT) < SERIAL_END
-  keys : word_at text (offset + WAITING_AT) ≤ MAX_KEYS
-
-small : (text : List ℕ) (offset : ℕ) → in_ranges (checkpoint_of text offset) ≡ true → are_keys (checkpoint_of text offset) ≡ true → Small text offset
-small text offset ranges keys =
-    let of_serial = and_left _ _ ranges in
-    let of_mouse = and_left _ _ of_serial in
-    let of_leds = and_left _ _ of_mouse in
-    let of_switches = and_left _ _ of_leds in
-    let of_phase = and_left _ _ of_switches in
-    record {
-      flags = ltb-true _ _ (and_right _ _ (and_left _ _ (and_left _ _ of_phase)));
-      phase = and_right _ _ of_phase;
-      switches = ltb-true _ _ (and_right _ _ of_switches);
-      leds = ltb-true _ _ (and_right _ _ of_leds);
-      mouse = and_right _ _ of_mouse;
-      serial = ltb-true _ _ (and_right _ _ of_serial);
-      keys = leb-true _ _ (and_left _ _ keys);
-    }
-
 module _ (text : List ℕ) (bytes : AreBytes text) (meets : Meets text) where
   each_byte : IsBytes text
   each_byte = all_bytes text bytes
@@ -132,15 +140,15 @@ module _ (text : List ℕ) (bytes : AreBytes text) (meets : Meets text) where
     abbrev c : CheckpointParts
     c = decoded text k
 
-    few : Small text o
-    few = small text o (ranges_hold text k meets lt) (keys_hold text k meets lt)
+    few : FieldsMet k (count_before (fields_of text) k) (output_below text k) (checkpoint_of text o)
+    few = checkpoint_holds text k meets lt
 
     room : o + CHANGES_AT ≤ length text
     room = common_there text k meets lt
 
     keys_len : length c.devices.keys ≡ word_at text (o + WAITING_AT)
     keys_len =
-        let keys = few.keys in
+        let keys = few.waiting in
         let there = room in
         omega (arith, length-range text (o + KEYS_AT) (o + KEYS_AT + word_at text (o + WAITING_AT)) (omega arith) (omega arith))
 
@@ -157,7 +165,7 @@ module _ (text : List ℕ) (bytes : AreBytes text) (meets : Meets text) where
       words = λ a. words_fit text o REGISTERS_AT 16 a bytes;
       auxiliary = word_fits text (o + AUXILIARY_AT) bytes;
       devices =
-          let keys = few.keys in
+          let keys = few.waiting in
           let len = keys_len in
           record {
             timer = word_fits text (o + TIMER_AT) bytes;
@@ -213,7 +221,7 @@ module _ (text : List ℕ) (bytes : AreBytes text) (meets : Meets text) where
         let sent = subst (λ (x : ℕ). HasBytes text (o + SENT_AT) (words_bytes (x ∷ []))) (sym sent_len) (words_back text o SENT_AT (o + SENT_AT) 1 refl each_byte (omega arith)) in
         let many : length ks ≡ o + SENT_AT - (o + KEYS_AT) = omega (arith, length-key_bytes c.devices formed.devices.keys) in
         let keys : HasBytes text (o + KEYS_AT) ks = record {
-          is = ap (λ (m : ℕ). take m (drop (o + KEYS_AT) text)) many ∙ rw keys_len (keys-are_at text o room (keys_hold text k meets lt));
+          is = ap (λ (m : ℕ). take m (drop (o + KEYS_AT) text)) many ∙ rw keys_len (keys-are_at text o room few.keys);
         } in
         let la = length-long_bytes c.count in
         let lr = length-words_bytes c.cpu.r in

@@ -2,6 +2,7 @@
 use Rattle.std.proofs.Common.{◌≡◌, ◌<◌, ◌≤◌, ◌+◌, ◌*◌, ◌^◌, ◌∙◌, ℕ, zero, suc, Bool, false, cond, List, [], ◌∷◌, ◌++◌, length, take, drop, get_or, refl, sym, ap, subst, inl, inr, true, arith, length-append}
 use Rattle.std.specs.Prelude.{◌==◌}
 use Rattle.std.specs.List.{flat_map}
+use Rattle.std.proofs.lemmas.Bool.{cases_lt}
 use Rattle.std.proofs.lemmas.Bool.Decides.{nat_tests}
 use Rattle.std.proofs.lemmas.List.{drop_at, get_or_default, length-replicate, take-append-drop}
 use Rattle.std.proofs.lemmas.List.Elements.{All-from_recursion}
@@ -9,7 +10,7 @@ use Rattle.risc_devices.specs.DeviceState.{DeviceState, is_phase, IsPhase}
 use Rattle.risc_devices.proofs.InputLemmas.{mouse_word_fits}
 use Rattle.risc_model.specs.declared.event.Event.{Event}
 use Rattle.risc_pages.specs.Pages.{ArePages}
-use Rattle.risc_pages.specs.Tables.{IsTable, zero_numbers}
+use Rattle.risc_pages.specs.Tables.{IsTable}
 use Rattle.oberon_format.specs.declared.change.Change.{Change}
 use Rattle.oberon_format.specs.declared.layout.TheConstants.{MAGIC, FIRST_VERSION, VERSION, HEADER_LEN, PAGE_LEN, EVENT_LEN, CHECKPOINT_LEN, COMMON_LEN, CHANGE_LEN, CHANGES_AT}
 use Rattle.oberon_format.specs.declared.ranges.TheConstants.{MAX_KEYS}
@@ -27,7 +28,6 @@ use Rattle.oberon_format.proofs.Bytes.{AreWide, HasBytes, HaveLength, bytes_whol
 use Rattle.oberon_format.proofs.ChangeLemmas.{change_in, changes-lawful, changes-new}
 use Rattle.oberon_format.proofs.LawfulLemmas.{flags_fit, lawful_formed, serial_fits}
 use Rattle.oberon_format.proofs.RuleLemmas.{version_cases}
-use Rattle.oberon_format.proofs.WriteLemmas.{bytes_at, bytes_at-next}
 use Rattle.oberon_format.proofs.WriteLemmas.{sent_le}
 
 -- the lengths of the parts
@@ -76,50 +76,16 @@ length-checkpoint_bytes v before c formed = go (v == FIRST_VERSION) where
       let all = length-parts change_bytes CHANGE_LEN (changes before c.table) (length-changes (changes before c.table)) in
       simp (length-append, length-word_bytes) (omega arith)
 
--- each offset is the one before plus the length of that checkpoint
-abbrev AreSpaced : (ℕ → ℕ) → ℕ → List ℕ → List CheckpointParts → Type 0
-AreSpaced offset v before cs = (k : ℕ) → k < length cs → offset (suc k) ≡ offset k + length (bytes_at v before cs k)
-
--- so are the offsets of all but the first
-spaced_on : (offset : ℕ → ℕ) (v : ℕ) (before : List ℕ) (c : CheckpointParts) (cs : List CheckpointParts) → AreSpaced offset v before (c ∷ cs) → AreSpaced (λ i. offset (suc i)) v c.table cs
-spaced_on offset v before c cs next i lt = next (suc i) (omega arith) ∙ ap (λ (l : List ℕ). offset (suc i) + length l) (bytes_at-next v before c cs i)
-
--- checkpoints, each of its own length
-blocks_read : (v : ℕ) (text : List ℕ) (offset : ℕ → ℕ) (before : List ℕ) (cs : List CheckpointParts) → AreSpaced offset v before cs
-    → HasBytes text (offset 0) (checkpoints_bytes v before cs) → (k : ℕ) → k < length cs → HasBytes text (offset k) (bytes_at v before cs k)
-unfolding checkpoints_bytes
-blocks_read v text offset before [] next s k lt = absurd (omega arith)
-blocks_read v text offset before (c ∷ cs) next s zero lt = bytes_left text (offset 0) (checkpoint_bytes v before c) (checkpoints_bytes v c.table cs) s
-blocks_read v text offset before (c ∷ cs) next s (suc k) lt =
-    let there = bytes_right text (offset 0) (offset 1) (checkpoint_bytes v before c) (checkpoints_bytes v c.table cs) (next 0 (omega arith)) s in
-    subst (HasBytes text (offset (suc k))) (sym (bytes_at-next v before c cs k))
-    (blocks_read v text (λ i. offset (suc i)) c.table cs (spaced_on offset v before c cs next) there k (omega arith))
-
-blocks_back : (v : ℕ) (text : List ℕ) (offset : ℕ → ℕ) (before : List ℕ) (cs : List CheckpointParts) → AreSpaced offset v before cs
-    → ((k : ℕ) → k < length cs → HasBytes text (offset k) (bytes_at v before cs k)) → HasBytes text (offset 0) (checkpoints_bytes v before cs)
-unfolding checkpoints_bytes
-blocks_back v text offset before [] next each = record { is = refl }
-blocks_back v text offset before (c ∷ cs) next each =
-    bytes_join text (offset 0) (offset 1) (checkpoint_bytes v before c) (checkpoints_bytes v c.table cs) (next 0 (omega arith)) (each 0 (omega arith))
-    (blocks_back v text (λ i. offset (suc i)) c.table cs (spaced_on offset v before c cs next)
-    (λ k lt. subst (HasBytes text (offset (suc k))) (bytes_at-next v before c cs k) (each (suc k) (omega arith))))
-
--- and the length of all of them
-length-blocks : (v : ℕ) (offset : ℕ → ℕ) (before : List ℕ) (cs : List CheckpointParts) → AreSpaced offset v before cs
-    → offset (length cs) ≡ offset 0 + length (checkpoints_bytes v before cs)
-unfolding checkpoints_bytes
-length-blocks v offset before [] next = omega arith
-length-blocks v offset before (c ∷ cs) next =
-    let rest = length-blocks v (λ i. offset (suc i)) c.table cs (spaced_on offset v before c cs next) in
-    let first = next 0 (omega arith) in
-    omega (arith, length-append (checkpoint_bytes v before c) (checkpoints_bytes v c.table cs))
+-- checkpoint k of parts
+abbrev pub bytes_of : ℕ → RecordingParts → ℕ → List ℕ
+bytes_of v r k = checkpoint_bytes v (table_before r.checkpoints k) (checkpoint_at r k)
 
 -- parts are in a file at the offsets that they have in an encoding
 pub record AreAt (v : ℕ) (text : List ℕ) (r : RecordingParts) : Type 0 where
   pub header : HasBytes text 0 (header_bytes v r)
   pub pages : EachAt (λ p page. HasBytes text (page_offset p) (words_bytes page)) r.pool
   pub events : EachAt (λ i e. HasBytes text (event_start (length r.pool) i) (event_bytes e)) r.inputs
-  pub checkpoints : (k : ℕ) → k < length r.checkpoints → HasBytes text (start_in v r k) (bytes_at v zero_numbers r.checkpoints k)
+  pub checkpoints : (k : ℕ) → k < length r.checkpoints → HasBytes text (start_in v r k) (bytes_of v r k)
   pub output : drop (start_in v r (length r.checkpoints)) text ≡ output_of r.checkpoints
 
 module _ (v : ℕ) (r : RecordingParts) (paged : ArePages r.pool) (formed : AreFormed r.checkpoints) where
@@ -133,11 +99,38 @@ module _ (v : ℕ) (r : RecordingParts) (paged : ArePages r.pool) (formed : AreF
   E = flat_map event_bytes r.inputs
 
   abbrev C : List ℕ
-  C = checkpoints_bytes v zero_numbers r.checkpoints
+  C = checkpoints_bytes v r.checkpoints (length r.checkpoints)
 
-  spaced : AreSpaced (start_in v r) v zero_numbers r.checkpoints
-  unfolding start_in
-  spaced k lt = ap (λ (n : ℕ). start_in v r k + n) (sym (length-checkpoint_bytes v (table_before r.checkpoints k) (checkpoint_at r k) (formed k no_checkpoint lt)))
+  -- checkpoints, each of its own length
+  length-blocks : (n : ℕ) → n ≤ length r.checkpoints → start_in v r n ≡ start_in v r 0 + length (checkpoints_bytes v r.checkpoints n)
+  unfolding start_in checkpoints_bytes
+  length-blocks zero le = omega arith
+  length-blocks (suc n) le =
+      let so_far = length-blocks n (omega arith) in
+      let own = length-checkpoint_bytes v (table_before r.checkpoints n) (checkpoint_at r n) (formed n no_checkpoint (omega arith)) in
+      omega (arith, length-append (checkpoints_bytes v r.checkpoints n) (bytes_of v r n))
+
+  blocks_read : (text : List ℕ) (n : ℕ) → n ≤ length r.checkpoints → HasBytes text (start_in v r 0) (checkpoints_bytes v r.checkpoints n)
+      → (k : ℕ) → k < n → HasBytes text (start_in v r k) (bytes_of v r k)
+  unfolding checkpoints_bytes
+  blocks_read text zero le s k lt = absurd (omega arith)
+  blocks_read text (suc n) le s k lt =
+      let so_far = checkpoints_bytes v r.checkpoints n in
+      elim (cases_lt k n) [
+        | inl less ↦ blocks_read text n (omega arith) (bytes_left text (start_in v r 0) so_far (bytes_of v r n) s) k less
+        | inr more ↦
+            let e : n ≡ k = omega arith in
+            subst (λ (i : ℕ). HasBytes text (start_in v r i) (bytes_of v r i)) e
+            (bytes_right text (start_in v r 0) (start_in v r n) so_far (bytes_of v r n) (length-blocks n (omega arith)) s)
+      ]
+
+  blocks_back : (text : List ℕ) (n : ℕ) → n ≤ length r.checkpoints → ((k : ℕ) → k < n → HasBytes text (start_in v r k) (bytes_of v r k))
+      → HasBytes text (start_in v r 0) (checkpoints_bytes v r.checkpoints n)
+  unfolding checkpoints_bytes
+  blocks_back text zero le each = record { is = refl }
+  blocks_back text (suc n) le each =
+      bytes_join text (start_in v r 0) (start_in v r n) (checkpoints_bytes v r.checkpoints n) (bytes_of v r n) (length-blocks n (omega arith))
+      (blocks_back text n (omega arith) (λ k lt. each k (omega arith))) (each n (omega arith))
 
   -- where each group of parts ends
   record Ends : Type 0 where
@@ -152,7 +145,7 @@ module _ (v : ℕ) (r : RecordingParts) (paged : ArePages r.pool) (formed : AreF
       let h = length-header_bytes v r in
       let p = length-parts words_bytes PAGE_LEN r.pool (length-pages r.pool paged) in
       let e = length-parts event_bytes EVENT_LEN r.inputs (length-events r.inputs) in
-      let c = length-blocks v (start_in v r) zero_numbers r.checkpoints spaced in
+      let c = length-blocks (length r.checkpoints) (omega arith) in
       record {
         header = omega arith;
         pages = omega (arith, length-append H P);
@@ -173,7 +166,7 @@ module _ (v : ℕ) (r : RecordingParts) (paged : ArePages r.pool) (formed : AreF
         pages = parts_read words_bytes PAGE_LEN text HEADER_LEN r.pool (length-pages r.pool paged) (bytes_right text 0 HEADER_LEN H P (omega (arith, ends.header)) s2);
         events = parts_read event_bytes EVENT_LEN text (page_offset (length r.pool)) r.inputs (length-events r.inputs)
             (bytes_right text 0 (page_offset (length r.pool)) (H ++ P) E (omega (arith, ends.pages)) s3);
-        checkpoints = blocks_read v text (start_in v r) zero_numbers r.checkpoints spaced (bytes_right text 0 (start_in v r 0) (H ++ P ++ E) C (omega (arith, ends.events)) s4);
+        checkpoints = blocks_read text (length r.checkpoints) (omega arith) (bytes_right text 0 (start_in v r 0) (H ++ P ++ E) C (omega (arith, ends.events)) s4);
         output = drop_at (H ++ P ++ E ++ C) (output_of r.checkpoints) (start_in v r (length r.checkpoints)) (sym ends.checkpoints);
       }
 
@@ -189,7 +182,7 @@ module _ (v : ℕ) (r : RecordingParts) (paged : ArePages r.pool) (formed : AreF
       let n = start_in v r (length r.checkpoints) in
       let p = parts_back words_bytes PAGE_LEN text HEADER_LEN r.pool (length-pages r.pool paged) are.pages in
       let e = parts_back event_bytes EVENT_LEN text (page_offset (length r.pool)) r.inputs (length-events r.inputs) are.events in
-      let c = blocks_back v text (start_in v r) zero_numbers r.checkpoints spaced are.checkpoints in
+      let c = blocks_back text (length r.checkpoints) (omega arith) are.checkpoints in
       let hp = bytes_join text 0 HEADER_LEN H P (omega (arith, ends.header)) are.header p in
       let hpe = bytes_join text 0 (page_offset (length r.pool)) (H ++ P) E (omega (arith, ends.pages)) hp e in
       let all = bytes_join text 0 (start_in v r 0) (H ++ P ++ E) C (omega (arith, ends.events)) hpe c in

@@ -1,26 +1,83 @@
--- The laws of recordings and their files.
-use Rattle.std.proofs.Common.{◌≡◌, refl, ◌<◌, ◌-◌, ◌^◌, ℕ, zero, suc, List, [], ◌∷◌, ◌++◌, length, get_or, subst, arith}
+-- The laws of recordings and their files. A file without a fault is that of a recording.
+use Rattle.std.proofs.Common.{◌≡◌, Option, Some, None, ◌<◌, ◌≤◌, ◌+◌, ◌∙◌, ℕ, zero, suc, List, [], ◌∷◌, ◌++◌, length, refl, sym, ap, arith, length-append, ◌-◌, ◌^◌, get_or, subst}
+use Rattle.std.specs.Prelude.{MatchOption, slice_index_or}
+use Rattle.risc_devices.proofs.InputLemmas.{input_of, kind_of-input_of, value_of-input_of}
+use Rattle.risc_model.specs.declared.event.Event.{Event}
+use Rattle.oberon_format.specs.declared.fault.Fault.{Fault}
+use Rattle.oberon_format.specs.declared.layout.TheConstants.{KIND_AT, VALUE_AT, VERSION}
+use Rattle.oberon_format.specs.inner.Decoded.{EachAt, IsEventAt, pages_at, checkpoints_at}
+use Rattle.oberon_format.specs.inner.Tested.{Meets}
+use Rattle.oberon_format.specs.Layout.{word_at, long_at, pages, events, checkpoints, event_offset, version}
+use Rattle.oberon_format.specs.Recording.{RecordingParts, IsLawful, table_before}
+use Rattle.oberon_format.specs.Text.{AreBytes, Text, TextIn}
+use Rattle.oberon_format.specs.TextFields.{first_fault_of}
+use Rattle.oberon_format.proofs.Agree.{encoding_agrees}
+use Rattle.oberon_format.proofs.Decode.{decoded_is, long_fits}
+use Rattle.oberon_format.proofs.Bytes.{each_push}
+use Rattle.oberon_format.proofs.Encoded.{writable, encoded, header_words}
+use Rattle.oberon_format.proofs.LawfulLemmas.{lawful_faultless}
+use Rattle.oberon_format.proofs.RuleLemmas.{none_meets, event_input}
 use Rattle.std.specs.List.{flat_map}
 use Rattle.std.specs.Int.{byte_at, bytes_low_first}
 use Rattle.std.proofs.lemmas.List.Elements.{All-nil, All-cons, All-append, All-replicate}
-use Rattle.risc_model.specs.declared.event.Event.{Event}
-use Rattle.risc_pages.specs.Tables.{zero_numbers}
-use Rattle.oberon_format.specs.declared.layout.TheConstants.{VERSION}
 use Rattle.risc_devices.specs.Input.{kind_of, value_of}
 use Rattle.oberon_format.specs.declared.change.Change.{Change}
 use Rattle.oberon_format.specs.Changes.{changes}
-use Rattle.oberon_format.specs.CheckpointParts.{CheckpointParts}
-use Rattle.oberon_format.specs.Layout.{version}
+use Rattle.oberon_format.specs.CheckpointParts.{CheckpointParts, no_checkpoint}
 use Rattle.oberon_format.specs.Migration.{IsMigrated}
 use Rattle.oberon_format.specs.Formed.{IsFormed, AreFormed, AreWritable}
-use Rattle.oberon_format.specs.Recording.{RecordingParts, IsLawful}
 use Rattle.oberon_format.specs.Encoding.{word_bytes, long_bytes, words_bytes, event_bytes, field_words, common_bytes, change_bytes, later_words, tail_bytes, checkpoint_bytes, checkpoints_bytes, header_bytes, encoding}
-use Rattle.oberon_format.specs.Text.{AreBytes, TextIn, Text}
 use Rattle.oberon_format.specs.PartFields.{fault_of_parts}
-use Rattle.oberon_format.specs.TextFields.{first_fault_of}
-use Rattle.oberon_format.proofs.Agree.{encoding_agrees}
 use Rattle.oberon_format.proofs.One.{in_version, same_recording, same_text}
-use Rattle.oberon_format.proofs.Encoded.{encoded, header_words, writable}
+
+-- the first n events
+record Events (text : List ℕ) (n : ℕ) : Type 0 where
+  list : List Event
+  count : length list ≡ n
+  stand : EachAt (IsEventAt text) list
+
+event_made : (text : List ℕ) (i : ℕ) → AreBytes text → Meets text → i < events text → (e : Event) × IsEventAt text i e
+event_made text i bytes meets lt =
+    let offset = event_offset text i in
+    let kind = word_at text (offset + KIND_AT) in
+    let value = word_at text (offset + VALUE_AT) in
+    let lawful = event_input text i meets lt in (
+      record { count = long_at text offset; input = input_of kind value lawful; range = long_fits text offset bytes },
+      record { count = refl; kind = sym (kind_of-input_of kind value lawful); value = sym (value_of-input_of kind value lawful) },
+    )
+
+events_of : (text : List ℕ) (n : ℕ) → AreBytes text → Meets text → n ≤ events text → Events text n
+events_of text zero bytes meets le = record { list = []; count = refl; stand = λ i d lt. absurd (omega arith) }
+events_of text (suc n) bytes meets le =
+    let so_far = events_of text n bytes meets (omega arith) in
+    let count = so_far.count in
+    let made = event_made text n bytes meets (omega arith) in
+    record {
+      list = so_far.list ++ made.0 ∷ [];
+      count = omega (arith, length-append so_far.list (made.0 ∷ []));
+      stand = each_push (IsEventAt text) so_far.list n made.0 so_far.count so_far.stand made.1;
+    }
+
+-- a file without a fault has a recording
+has_recording : (text : List ℕ) → AreBytes text → Meets text → (r : RecordingParts) × Text text r
+has_recording text bytes meets =
+    let es = events_of text (events text) bytes meets (omega arith) in (
+      record { pool = pages_at text (pages text); inputs = es.list; checkpoints = checkpoints_at text (checkpoints text) },
+      (decoded_is text bytes meets es.list es.count es.stand).1,
+    )
+
+-- a file has a recording or a first fault
+by_fault : (text : List ℕ) (o : Option Fault) → AreBytes text → first_fault_of text ≡ o
+    → MatchOption o ((r : RecordingParts) × Text text r) (λ fault. (r : RecordingParts) → ¬ (Text text r))
+by_fault text None bytes e = has_recording text bytes (none_meets text e)
+by_fault text (Some f) bytes e = λ r is.
+    let file = is.is in
+    let none : first_fault_of text ≡ None = ap first_fault_of file.is ∙ encoding_agrees is.version r file.known file.unclocked (writable r file.lawful) ∙ lawful_faultless is.version r file.known file.lawful in
+    absurd cc
+
+pub text_or_fault : (text : List ℕ) → AreBytes text
+    → MatchOption (first_fault_of text) ((r : RecordingParts) × Text text r) (λ fault. (r : RecordingParts) → ¬ (Text text r))
+text_or_fault text bytes = by_fault text (first_fault_of text) bytes refl
 
 -- the bytes of numbers are bytes
 byte_small : (i n : ℕ) → byte_at i n < 2 ^ 8
@@ -67,10 +124,11 @@ checkpoint_are : (before : List ℕ) (c : CheckpointParts) → IsFormed c → Ar
 unfolding checkpoint_bytes tail_bytes
 checkpoint_are before c fits = join _ _ (common_are c fits) (join _ _ (words_are_bytes (later_words before c)) (all_are change_bytes (changes before c.table) (λ i d lt. change_are (get_or (changes before c.table) i d))))
 
-checkpoints_are : (before : List ℕ) (cs : List CheckpointParts) → AreFormed cs → AreBytes (checkpoints_bytes VERSION before cs)
+checkpoints_are : (cs : List CheckpointParts) → AreFormed cs → (n : ℕ) → n ≤ length cs → AreBytes (checkpoints_bytes VERSION cs n)
 unfolding checkpoints_bytes
-checkpoints_are before [] fits = All-nil (λ byte. byte < 2 ^ 8)
-checkpoints_are before (c ∷ cs) fits = join _ _ (checkpoint_are before c (fits 0 c (omega arith))) (checkpoints_are c.table cs (λ i d lt. fits (suc i) d (omega arith)))
+checkpoints_are cs formed zero le = All-nil (λ byte. byte < 2 ^ 8)
+checkpoints_are cs formed (suc n) le =
+    join _ _ (checkpoints_are cs formed n (omega arith)) (checkpoint_are (table_before cs n) (slice_index_or cs n no_checkpoint) (formed n no_checkpoint (omega arith)))
 
 -- parts whose numbers fit are encoded in bytes
 pub text_of_parts : (r : RecordingParts) → AreWritable r → AreBytes (encoding VERSION r)
@@ -80,7 +138,7 @@ text_of_parts r fits =
     let pages = all_are words_bytes r.pool (λ i d lt. words_are_bytes (get_or r.pool i d)) in
     let events = all_are event_bytes r.inputs (λ i d lt. event_are (get_or r.inputs i d)) in
     let output = all_are (λ (c : CheckpointParts). c.sent) r.checkpoints (λ i d lt. (formed i d lt).bytes) in
-    join _ _ (join _ _ (join _ _ (join _ _ (words_are_bytes (header_words VERSION r)) pages) events) (checkpoints_are zero_numbers r.checkpoints formed)) output
+    join _ _ (join _ _ (join _ _ (join _ _ (words_are_bytes (header_words VERSION r)) pages) events) (checkpoints_are r.checkpoints formed (length r.checkpoints) (omega arith))) output
 
 -- and their encoding has their first fault
 pub fault_of_encoding : (r : RecordingParts) → AreWritable r → first_fault_of (encoding VERSION r) ≡ fault_of_parts r

@@ -3,7 +3,7 @@ use Rattle.std.proofs.Common.{◌≡◌, ◌<◌, ◌≤◌, ◌+◌, ◌-◌, �
 use Rattle.std.specs.Prelude.{slice_index, replicate, nat_le, nat_lt, if◌then◌else◌, ◌==◌}
 use Rattle.std.specs.List.{list_all}
 use Rattle.std.specs.Option.{IfNone}
-use Rattle.std.proofs.lemmas.Bool.{le-leb, lt-ltb, leb-true, ltb-true}
+use Rattle.std.proofs.lemmas.Bool.{le-leb, lt-ltb}
 use Rattle.std.proofs.lemmas.List.{drop_at, get_or_default, nil_from_length}
 use Rattle.std.proofs.lemmas.Bool.Decides.{nat_tests}
 use Rattle.risc_core.specs.declared.branch.TheConstants.{COUNTER_END}
@@ -13,8 +13,7 @@ use Rattle.risc_devices.specs.DeviceState.{DeviceState, IsDeviceState, is_phase,
 use Rattle.risc_pages.proofs.PoolLemmas.{zero_number}
 use Rattle.risc_devices.specs.InputKind.{is_input, is_mouse}
 use Rattle.risc_model.specs.declared.event.Event.{Event}
-use Rattle.risc_model.specs.InputOrder.{AreOrdered}
-use Rattle.risc_model.specs.InputOrder.{count_before as before_count}
+use Rattle.risc_model.specs.InputOrder.{AreOrdered, count_before as before_count}
 use Rattle.risc_model.specs.MachineState.{CpuState}
 use Rattle.risc_model.specs.declared.inputs.TheConstants.{MAX_COUNT}
 use Rattle.risc_pages.specs.Pages.{ArePages}
@@ -34,9 +33,8 @@ use Rattle.oberon_format.specs.Recording.{RecordingParts, IsLawful, checkpoint_a
 use Rattle.oberon_format.specs.Rules.{header_rules, limit_rules, named_len, event_rules, event_floor, place_floor, prior_number, count_before, checkpoint_rules, rules}
 use Rattle.oberon_format.proofs.ChangeLemmas.{change_in, after-bounded, changes-lawful, changes-make, changes-new}
 use Rattle.oberon_format.proofs.PartLemmas.{member, event_here, before_more, sent_none, sent_more, sent_all, prior_encoded, table_next, total_rises, changes_in_few, start_in_first, start_in_rises, changed_room, ends_met}
-use Rattle.oberon_format.proofs.RuleLemmas.{fields_hold, any_in_end, any_in_checkpoints, AreMet, met_parts, parts_met, each_holds, each_all, and_left, and_right, version_cases, ChangedMet, whole_met, whole_meets, changed_met, changed_meets}
-use Rattle.oberon_format.proofs.Tables.{change_named, change_same}
-use Rattle.oberon_format.proofs.Walk.{number_tested}
+use Rattle.oberon_format.proofs.RuleLemmas.{fields_hold, any_in_end, any_in_checkpoints, AreMet, met_parts, parts_met, each_holds, each_all, version_cases, ChangedMet, whole_met, whole_meets, changed_met, changed_meets}
+use Rattle.oberon_format.proofs.Walk.{change_named, change_same, number_tested}
 
 -- zeros are zeros
 zeros_met : (n : ℕ) → list_all (λ byte. eqb byte 0) (replicate n 0) ≡ true
@@ -133,34 +131,8 @@ bounded_count k before count h = grind (arith, nat_tests)
 first_output : (sent own : ℕ) → is_output 0 sent own ≡ true → own ≡ 0
 first_output sent own h = grind (arith, nat_tests)
 
-bounded_output : (k sent own : ℕ) → is_output k sent own ≡ true → sent + own ≤ MAX_OUTPUT
-bounded_output k sent own h = grind (arith, nat_tests)
-
 next_output : (k sent own : ℕ) → sent + own ≤ MAX_OUTPUT → is_output (k + 1) sent own ≡ true
 next_output k sent own h = grind (arith, nat_tests)
-
--- a checkpoint whose fields are in their ranges
-record FieldsMet (v : ℕ) (r : RecordingParts) (k : ℕ) : Type 0 where
-  count : is_count k (count_before (fields_in v r) k) (count_at r k) ≡ true
-  pc : nat_lt (checkpoint_at r k).cpu.pc COUNTER_END ≡ true
-  stop : nat_le (checkpoint_at r k).cpu.stop MAX_STOP ≡ true
-  output : is_output k (sent_below (fields_in v r) k) (length (checkpoint_at r k).sent) ≡ true
-
-fields_met : (v : ℕ) (r : RecordingParts) (k : ℕ)
-    → is_checkpoint k (count_before (fields_in v r) k) (sent_below (fields_in v r) k) ((fields_in v r).checkpoint k) ≡ true → FieldsMet v r k
-fields_met v r k met =
-    let f = fields_in v r in
-    let c = f.checkpoint k in
-    let keyed = and_left (is_count k (count_before f k) c.count && in_ranges c && are_keys c) (is_output k (sent_below f k) c.output) met in
-    let ranged = and_left (is_count k (count_before f k) c.count && in_ranges c) (are_keys c) keyed in
-    let ranges = and_right (is_count k (count_before f k) c.count) (in_ranges c) ranged in
-    let stopped = and_left _ _ (and_left _ _ (and_left _ _ (and_left _ _ (and_left _ _ (and_left _ _ ranges))))) in
-    record {
-      count = and_left (is_count k (count_before f k) c.count) (in_ranges c) ranged;
-      pc = and_left _ _ (and_left _ _ stopped);
-      stop = and_right _ _ stopped;
-      output = and_right (is_count k (count_before f k) c.count && in_ranges c && are_keys c) (is_output k (sent_below f k) c.output) met;
-    }
 
 -- the page ids of a table of version 2 are those before, or those of lawful changes
 changed_numbers : (v : ℕ) (r : RecordingParts) (k p : ℕ) → v ≡ VERSION → ChangedMet (fields_in v r) k → p < PLACES
@@ -204,11 +176,11 @@ met_lawful v r known pages ordered formed met =
     let n = length r.checkpoints in
     let within = header_within f met.header in
     let some = within.some in
-    let each_met : (k : ℕ) → k < n → FieldsMet v r k = λ k lt. fields_met v r k (fields_hold f k (each_holds (checkpoint_rules f) n k lt met.checkpoints)) in
+    let each_met = λ (k : ℕ) (lt : k < n). fields_hold f k (each_holds (checkpoint_rules f) n k lt met.checkpoints) in
     let zero_met = each_met 0 (omega arith) in
     let last = n - 1 in
     let last_met = each_met last (omega arith) in
-    let bound = bounded_output last (sent_below f last) (length (checkpoint_at r last).sent) last_met.output in
+    let bound = last_met.within in
     let more = sent_more f last in
     let end : last + 1 ≡ n = omega arith in
     let all : sent_below f (last + 1) ≡ length (output_of r.checkpoints) = ap (sent_below f) end ∙ sent_all v r in
@@ -229,7 +201,7 @@ met_lawful v r known pages ordered formed met =
           let own = formed k no_checkpoint lt in
           record {
             bounded = bounded_count k (count_before f k) (count_at r k) m.count;
-            cpu = record { count = own.registers; registers = own.words; auxiliary = own.auxiliary; counter = ltb-true _ _ m.pc; stops = leb-true _ _ m.stop };
+            cpu = record { count = own.registers; registers = own.words; auxiliary = own.auxiliary; counter = m.pc; stops = m.stop };
             devices = own.devices;
             table = own.table;
             named = λ j d less.

@@ -1,8 +1,8 @@
 -- The fields of parts, member by member, at the offsets of their checkpoints, and the sums of their outputs.
-use Rattle.std.proofs.Common.{◌≡◌, ◌<◌, ◌≤◌, ◌+◌, ◌-◌, ◌*◌, ◌∙◌, ℕ, Bool, true, false, List, [], ◌∷◌, get_or, length, refl, sym, ap, arith, add-one, zero, suc, inl, inr, eq-eqb, length-append}
+use Rattle.std.proofs.Common.{◌≡◌, ◌<◌, ◌≤◌, ◌+◌, ◌-◌, ◌*◌, ◌∙◌, ℕ, Bool, true, false, List, [], ◌∷◌, get_or, length, refl, sym, ap, arith, add-one, zero, suc, eq-eqb, length-append}
 use Rattle.std.specs.Prelude.{None, slice_index, slice_index_or, nat_le, ◌==◌, if◌then◌else◌}
 use Rattle.std.proofs.lemmas.List.{get_or-map}
-use Rattle.std.proofs.lemmas.Bool.{le-leb, ne_eqb, cases_lt}
+use Rattle.std.proofs.lemmas.Bool.{le-leb, ne_eqb}
 use Rattle.std.proofs.lemmas.Bool.Decides.{nat_tests}
 use Rattle.risc_model.specs.declared.event.Event.{Event}
 use Rattle.risc_pages.proofs.PoolLemmas.{zero_number}
@@ -15,7 +15,8 @@ use Rattle.oberon_format.specs.Layout.{event_start, checkpoint_size}
 use Rattle.oberon_format.specs.PartFields.{fields_in, start_in, changes_in, event_fields, no_event}
 use Rattle.oberon_format.specs.Recording.{RecordingParts, checkpoint_at, table_before, output_of}
 use Rattle.oberon_format.specs.Rules.{event_floor, count_before, prior_number, end_rules, whole}
-use Rattle.oberon_format.proofs.ChangeLemmas.{changes-few}
+use Rattle.oberon_format.proofs.ChangeLemmas.{changes_few}
+use Rattle.oberon_format.proofs.RuleLemmas.{rises}
 
 -- a member at its index
 pub member : {X : Type 0} (xs : List X) (i : ℕ) → i < length xs → X
@@ -62,19 +63,14 @@ sent_more f k = rw (add-one k) refl
 -- a sum grows with its length
 pub total_rises : (f : ℕ → ℕ) (k n : ℕ) → k ≤ n → total f k ≤ total f n
 unfolding total
-total_rises f k zero le = let e : k ≡ 0 = omega arith in rw e (omega arith)
-total_rises f k (suc n) le =
-    elim (cases_lt k (suc n)) [
-      | inl less ↦ let ih = total_rises f k n (omega arith) in omega arith
-      | inr more ↦ let e : k ≡ suc n = omega arith in rw e (omega arith)
-    ]
+total_rises f = rises (total f) (λ k. omega arith)
 
 -- a checkpoint has at most as many changes as a table has slots
 pub changes_in_few : (v : ℕ) (before : List ℕ) (c : CheckpointParts) → changes_in v before c ≤ PLACES
 changes_in_few v before c = go (v == FIRST_VERSION) where
   go : (b : Bool) → (if b then 0 else length (changes before c.table)) ≤ PLACES
   go true = omega arith
-  go false = changes-few before c.table
+  go false = changes_few before c.table
 
 -- and so it is at most this long
 pub size_few : (v changes : ℕ) → changes ≤ PLACES → checkpoint_size v changes ≤ CHANGES_AT + CHANGE_LEN * PLACES
@@ -95,12 +91,7 @@ start_in_next v r k = refl
 
 -- the offsets of checkpoints rise
 pub start_in_rises : (v : ℕ) (r : RecordingParts) (k n : ℕ) → k ≤ n → start_in v r k ≤ start_in v r n
-start_in_rises v r k zero le = let e : k ≡ 0 = omega arith in rw e (omega arith)
-start_in_rises v r k (suc n) le =
-    elim (cases_lt k (suc n)) [
-      | inl less ↦ let ih = start_in_rises v r k n (omega arith) in let next = start_in_next v r n in omega arith
-      | inr more ↦ let e : k ≡ suc n = omega arith in rw e (omega arith)
-    ]
+start_in_rises v r = rises (start_in v r) (λ k. let next = start_in_next v r k in omega arith)
 
 -- each checkpoint of version 2 has its room
 pub changed_room : (r : RecordingParts) (k : ℕ) → start_in VERSION r k + CHANGES_AT ≤ start_in VERSION r (suc k)

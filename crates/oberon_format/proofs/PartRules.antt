@@ -2,6 +2,7 @@
 use Rattle.std.proofs.Common.{◌≡◌, ◌<◌, ◌≤◌, ◌+◌, ◌∙◌, ℕ, suc, List, ◌∷◌, ◌++◌, map, get_or, length, refl, sym, ap, arith, add-one}
 use Rattle.std.specs.Prelude.{slice_index, nat_le}
 use Rattle.std.proofs.lemmas.Bool.{le-leb}
+use Rattle.std.proofs.lemmas.List.{length-map}
 use Rattle.risc_model.specs.declared.event.Event.{Event}
 use Rattle.oberon_format.specs.declared.checkpoint.Checkpoint.{Checkpoint}
 use Rattle.oberon_format.specs.declared.fault.Fault.{Fault}
@@ -53,39 +54,8 @@ rules_encoded r k lt =
     ∙ rule_met (nat_le (offset + CHANGES_AT) f.long) (fault.Short f.long) (fields ++ ends) (le-leb _ _ (omega arith))
     ∙ same_append fields fields ends left refl same
 
--- what the code knows of checkpoint k
-pub record IsAtCheckpoint (r : RecordingParts) (k pages offset before sent : ℕ) (fields : CheckpointFields) (old new : List ℕ) : Type 0 where
-  pub pages_are : pages ≡ length r.pool
-  pub offset_is : offset ≡ start_in VERSION r k
-  pub before_is : before ≡ count_before (fields_in VERSION r) k
-  pub sent_is : sent ≡ sent_below (fields_in VERSION r) k
-  pub fields_are : fields ≡ (fields_in VERSION r).checkpoint k
-  pub old_is : old ≡ table_before r.checkpoints k
-  pub new_is : new ≡ (checkpoint_at r k).table
-
--- and so what it tests are the rules of checkpoint k
-pub rules_here : (r : RecordingParts) (k pages offset before sent : ℕ) (fields : CheckpointFields) (old new : List ℕ) → k < length r.checkpoints
-    → IsAtCheckpoint r k pages offset before sent fields old new
-    → first_broken (checkpoint_rules (fields_in VERSION r) k) ≡ first_broken (encoded_rules pages offset k before sent fields old new)
-rules_here r k pages offset before sent fields old new lt are =
-    let f = fields_in VERSION r in
-    let at = start_in VERSION r k in
-    let floor = count_before f k in
-    let below = sent_below f k in
-    let c = f.checkpoint k in
-    let was = table_before r.checkpoints k in
-    let is = (checkpoint_at r k).table in
-    rules_encoded r k lt
-    ∙ sym (ap (λ (n : ℕ). first_broken (encoded_rules n offset k before sent fields old new)) are.pages_are
-    ∙ ap (λ (n : ℕ). first_broken (encoded_rules (length r.pool) n k before sent fields old new)) are.offset_is
-    ∙ ap (λ (n : ℕ). first_broken (encoded_rules (length r.pool) at k n sent fields old new)) are.before_is
-    ∙ ap (λ (n : ℕ). first_broken (encoded_rules (length r.pool) at k floor n fields old new)) are.sent_is
-    ∙ ap (λ (x : CheckpointFields). first_broken (encoded_rules (length r.pool) at k floor below x old new)) are.fields_are
-    ∙ ap (λ (t : List ℕ). first_broken (encoded_rules (length r.pool) at k floor below c t new)) are.old_is
-    ∙ ap (λ (t : List ℕ). first_broken (encoded_rules (length r.pool) at k floor below c was t)) are.new_is)
-
--- it is known of the checkpoint that Rust has at this index
-pub is_at_checkpoint : (pool : List (List ℕ)) (inputs : List Event) (checkpoints : List Checkpoint) (k : ℕ) (x : Checkpoint)
+-- what the code tests of the checkpoint that Rust has at this index are the rules of checkpoint k
+pub rules_here : (pool : List (List ℕ)) (inputs : List Event) (checkpoints : List Checkpoint) (k : ℕ) (x : Checkpoint)
     (pages offset before sent : ℕ) (fields : CheckpointFields) (old : List ℕ)
     → k < length checkpoints → x ≡ get_or checkpoints k x → pages ≡ length pool
     → offset ≡ start_in VERSION (parts_of pool inputs checkpoints) k
@@ -93,21 +63,17 @@ pub is_at_checkpoint : (pool : List (List ℕ)) (inputs : List Event) (checkpoin
     → sent ≡ sent_below (fields_in VERSION (parts_of pool inputs checkpoints)) k
     → old ≡ table_before (map checkpoint_parts checkpoints) k
     → fields ≡ checkpoint_fields VERSION old (checkpoint_parts x)
-    → IsAtCheckpoint (parts_of pool inputs checkpoints) k pages offset before sent fields old x.table
-is_at_checkpoint pool inputs checkpoints k x pages offset before sent fields old lt is count at floor below table made =
+    → (fields ≡ (fields_in VERSION (parts_of pool inputs checkpoints)).checkpoint k)
+    × (first_broken (checkpoint_rules (fields_in VERSION (parts_of pool inputs checkpoints)) k) ≡ first_broken (encoded_rules pages offset k before sent fields old x.table))
+rules_here pool inputs checkpoints k x pages offset before sent fields old lt is count at floor below table made =
     let r = parts_of pool inputs checkpoints in
     let here : checkpoint_at r k ≡ checkpoint_parts x = checkpoint_at-is checkpoints k x lt is in
-    record {
-      pages_are = count;
-      offset_is = at;
-      before_is = floor;
-      sent_is = below;
-      fields_are = made
-          ∙ ap (λ (t : List ℕ). checkpoint_fields VERSION t (checkpoint_parts x)) table
-          ∙ ap (λ (y : CheckpointParts). checkpoint_fields VERSION (table_before r.checkpoints k) y) (sym here);
-      old_is = table;
-      new_is = ap (λ (y : CheckpointParts). y.table) (sym here);
-    }
+    let own : fields ≡ (fields_in VERSION r).checkpoint k = made
+    ∙ ap (λ (t : List ℕ). checkpoint_fields VERSION t (checkpoint_parts x)) table
+    ∙ ap (λ (y : CheckpointParts). checkpoint_fields VERSION (table_before r.checkpoints k) y) (sym here) in
+    let new : x.table ≡ (checkpoint_at r k).table = ap (λ (y : CheckpointParts). y.table) (sym here) in
+    let inside : k < length r.checkpoints = omega (arith, length-map checkpoints checkpoint_parts) in
+    (own, rw (count, at, floor, below, table, new, own) (rules_encoded r k inside))
 
 -- the offset of the next checkpoint
 pub next_offset : (r : RecordingParts) (k offset size : ℕ) (fields : CheckpointFields) → offset ≡ start_in VERSION r k

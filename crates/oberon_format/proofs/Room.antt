@@ -1,13 +1,12 @@
 -- How far the parts of a file reach.
 use Rattle.std.proofs.Common.{◌≡◌, ◌<◌, ◌≤◌, ◌+◌, ◌*◌, ◌∙◌, ℕ, zero, suc, List, length, refl, ap, inl, inr, arith, add-one}
-use Rattle.std.proofs.lemmas.Bool.{cases_lt}
 use Rattle.std.proofs.lemmas.Bool.Decides.{nat_tests}
 use Rattle.oberon_format.specs.declared.layout.TheConstants.{FIRST_VERSION, VERSION, CHECKPOINT_LEN, CHANGE_LEN, CHANGES_AT}
 use Rattle.oberon_format.specs.Layout.{version, events, checkpoints, event_offset, change_offset, checkpoint_size, change_count, start, output_offset}
 use Rattle.oberon_format.specs.Rules.{named_len}
 use Rattle.oberon_format.specs.inner.Tested.{IsSized, Meets}
 use Rattle.oberon_format.specs.TextFields.{fields_of}
-use Rattle.oberon_format.proofs.RuleLemmas.{version_cases, is_first, is_later}
+use Rattle.oberon_format.proofs.RuleLemmas.{version_cases, is_first, is_later, rises}
 
 -- a checkpoint of either version has the common fields, and at least three more numbers
 pub size_least : (v n : ℕ) → CHANGES_AT ≤ checkpoint_size v n
@@ -33,12 +32,7 @@ start_more text k = ap (start text) (add-one k) ∙ start_next text k
 
 -- checkpoints follow one another
 pub start_le : (text : List ℕ) (i n : ℕ) → i ≤ n → start text i ≤ start text n
-start_le text i zero le = let e : i ≡ 0 = omega arith in rw e (omega arith)
-start_le text i (suc n) le =
-    elim (cases_lt i (suc n)) [
-      | inl less ↦ let ih = start_le text i n (omega arith) in let next = start_next text n in omega arith
-      | inr more ↦ let e : i ≡ suc n = omega arith in rw e (omega arith)
-    ]
+start_le text = rises (start text) (λ k. let next = start_next text k in omega arith)
 
 -- all those of version 1 have one length
 start_first : (text : List ℕ) (k : ℕ) → version text ≡ FIRST_VERSION → start text k ≡ start text 0 + CHECKPOINT_LEN * k

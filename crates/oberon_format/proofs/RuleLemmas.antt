@@ -1,29 +1,37 @@
 -- The first broken rule of lists of rules, and what a file has if some of its rules are met.
-use Rattle.std.proofs.Common.{◌≡◌, ◌<◌, ◌≤◌, ◌+◌, ◌-◌, ℕ, zero, suc, Bool, true, false, ◌&&◌, List, [], ◌∷◌, ◌++◌, length, Some, None, refl, ap, sym, ◌∙◌, arith, add-suc, add-zero, add-one, inl, inr, ◌⊎◌, eq-eqb}
+use Rattle.std.proofs.Common.{◌≡◌, ◌<◌, ◌≤◌, ◌+◌, ◌-◌, ℕ, zero, suc, Bool, true, false, ◌&&◌, List, [], ◌∷◌, ◌++◌, length, Option, Some, None, refl, ap, ap₂, sym, ◌∙◌, arith, add-suc, add-zero, add-one, inl, inr, ◌⊎◌, eq-eqb}
+use Rattle.std.specs.Option.{option_or}
 use Rattle.std.specs.Prelude.{nat_le, ◌==◌, if◌then◌else◌}
-use Rattle.std.proofs.lemmas.Bool.{cases_lt, or_cases, leb-true, le-leb, eqb-true}
+use Rattle.std.proofs.lemmas.Bool.{cases_lt, or_cases, leb-true, ltb-true, le-leb, eqb-true}
 use Rattle.oberon_format.specs.declared.fault.Fault.{Fault}
 use Rattle.oberon_format.specs.declared.fault.Fault.TheVariants as fault
 use Rattle.oberon_format.specs.declared.layout.TheConstants.{MAGIC, FIRST_VERSION, VERSION, MAGIC_AT, LAST_AT, KIND_AT, VALUE_AT, SENT_AT, CHANGES_AT, PLACES}
 use Rattle.std.proofs.lemmas.Bool.Decides.{nat_tests}
+use Rattle.oberon_format.specs.declared.ranges.TheConstants.{FLAGS_END, MAX_STOP, SWITCHES_END, LEDS_END, SERIAL_END, MAX_KEYS}
+use Rattle.oberon_format.specs.declared.fields.CheckpointFields.{CheckpointFields}
+use Rattle.recording_limits.specs.declared.limits.TheConstants.{MAX_OUTPUT}
+use Rattle.risc_core.specs.declared.branch.TheConstants.{COUNTER_END}
+use Rattle.risc_devices.specs.DeviceState.{is_phase}
 use Rattle.oberon_format.specs.Fields.{Fields, sent_below, total}
 use Rattle.oberon_format.specs.FirstFault.{Rule, each, first_broken}
 use Rattle.oberon_format.specs.Layout.{page_number_offset, change_offset, checkpoints, event_offset, events, long_at, start, word_at}
-use Rattle.oberon_format.specs.Ranges.{is_version, is_change, is_checkpoint, is_event}
+use Rattle.oberon_format.specs.Ranges.{is_version, is_change, is_checkpoint, is_event, is_count, is_output, in_ranges, are_keys}
 use Rattle.oberon_format.specs.Rules.{checkpoint_rules, whole_rules, changed_rules, change_rules, place_floor, prior_number, count_before, end_rules, event_floor, event_rules, header_rules, page_number_rules, rules, whole}
 use Rattle.oberon_format.specs.inner.Tested.{IsSized, Meets}
 use Rattle.oberon_format.specs.TextFields.{checkpoint_of, event_of, fields_of, first_fault_of}
-use Rattle.risc_devices.specs.InputKind.{is_input}
+use Rattle.risc_devices.specs.InputKind.{is_input, is_mouse}
+
+-- the first fault of two lists is that of the first one, or else that of the second
+first_append : (xs ys : List (Rule Fault)) → first_broken (xs ++ ys) ≡ option_or (first_broken xs) (first_broken ys)
+first_append [] ys = refl
+first_append ((true, f) ∷ xs) ys = first_append xs ys
+first_append ((false, f) ∷ xs) ys = refl
 
 pub met-append : (xs ys : List (Rule Fault)) → first_broken xs ≡ None → first_broken (xs ++ ys) ≡ first_broken ys
-met-append [] ys h = refl
-met-append ((true, f) ∷ xs) ys h = met-append xs ys h
-met-append ((false, f) ∷ xs) ys h = absurd cc
+met-append xs ys h = first_append xs ys ∙ ap (λ (o : Option Fault). option_or o (first_broken ys)) h
 
 pub broken-append : (xs ys : List (Rule Fault)) (g : Fault) → first_broken xs ≡ Some g → first_broken (xs ++ ys) ≡ Some g
-broken-append [] ys g h = absurd cc
-broken-append ((true, f) ∷ xs) ys g h = broken-append xs ys g h
-broken-append ((false, f) ∷ xs) ys g h = h
+broken-append xs ys g h = first_append xs ys ∙ ap (λ (o : Option Fault). option_or o (first_broken ys)) h
 
 pub each_none : (rules : ℕ → List (Rule Fault)) → first_broken (each 0 rules) ≡ None
 unfolding each
@@ -67,35 +75,39 @@ output_below_more text k = rw (add-one k) refl
 pub count_before_more : (text : List ℕ) (k : ℕ) → count_before (fields_of text) (k + 1) ≡ long_at text (start text k)
 count_before_more text k = grind (arith, nat_tests)
 
-pub any_in_header : (x : Fields) (f : Fault) → first_broken (header_rules x) ≡ Some f → first_broken (rules x) ≡ Some f
-unfolding rules
-any_in_header x f h =
-    let a = broken-append (header_rules x) (each x.events (event_rules x)) f h in
-    let b = broken-append (header_rules x ++ each x.events (event_rules x)) (each x.checkpoints (checkpoint_rules x)) f a in
-    broken-append (header_rules x ++ each x.events (event_rules x) ++ each x.checkpoints (checkpoint_rules x)) (end_rules x) f b
+-- the first fault of all rules is that of the header, or else of the events, of the checkpoints, or of the end
+abbrev in_order : Option Fault → Option Fault → Option Fault → Option Fault → Option Fault
+in_order header events checkpoints ends = option_or (option_or (option_or header events) checkpoints) ends
 
-pub any_in_events : (x : Fields) (f : Fault) → first_broken (header_rules x) ≡ None → first_broken (each x.events (event_rules x)) ≡ Some f → first_broken (rules x) ≡ Some f
+rules_first : (x : Fields) → first_broken (rules x)
+    ≡ in_order (first_broken (header_rules x)) (first_broken (each x.events (event_rules x))) (first_broken (each x.checkpoints (checkpoint_rules x))) (first_broken (end_rules x))
 unfolding rules
+rules_first x =
+    let h = header_rules x in
+    let e = each x.events (event_rules x) in
+    let c = each x.checkpoints (checkpoint_rules x) in
+    first_append (h ++ e ++ c) (end_rules x)
+    ∙ ap (λ (o : Option Fault). option_or o (first_broken (end_rules x))) (first_append (h ++ e) c ∙ ap (λ (o : Option Fault). option_or o (first_broken c)) (first_append h e))
+
+pub any_in_header : (x : Fields) (f : Fault) → first_broken (header_rules x) ≡ Some f → first_broken (rules x) ≡ Some f
+any_in_header x f h =
+    rules_first x ∙ ap (λ (o : Option Fault). in_order o (first_broken (each x.events (event_rules x))) (first_broken (each x.checkpoints (checkpoint_rules x))) (first_broken (end_rules x))) h
+
+any_in_events : (x : Fields) (f : Fault) → first_broken (header_rules x) ≡ None → first_broken (each x.events (event_rules x)) ≡ Some f → first_broken (rules x) ≡ Some f
 any_in_events x f h e =
-    let a = met-append (header_rules x) (each x.events (event_rules x)) h ∙ e in
-    let b = broken-append (header_rules x ++ each x.events (event_rules x)) (each x.checkpoints (checkpoint_rules x)) f a in
-    broken-append (header_rules x ++ each x.events (event_rules x) ++ each x.checkpoints (checkpoint_rules x)) (end_rules x) f b
+    rules_first x ∙ ap₂ (λ (o p : Option Fault). in_order o p (first_broken (each x.checkpoints (checkpoint_rules x))) (first_broken (end_rules x))) h e
 
 pub any_in_checkpoints : (x : Fields) (f : Fault) → first_broken (header_rules x) ≡ None → first_broken (each x.events (event_rules x)) ≡ None
     → first_broken (each x.checkpoints (checkpoint_rules x)) ≡ Some f → first_broken (rules x) ≡ Some f
-unfolding rules
 any_in_checkpoints x f h e k =
-    let a = met-append (header_rules x) (each x.events (event_rules x)) h ∙ e in
-    let b = met-append (header_rules x ++ each x.events (event_rules x)) (each x.checkpoints (checkpoint_rules x)) a ∙ k in
-    broken-append (header_rules x ++ each x.events (event_rules x) ++ each x.checkpoints (checkpoint_rules x)) (end_rules x) f b
+    rules_first x ∙ ap₂ (λ (o p : Option Fault). in_order o p (first_broken (each x.checkpoints (checkpoint_rules x))) (first_broken (end_rules x))) h e
+    ∙ ap (λ (o : Option Fault). option_or o (first_broken (end_rules x))) k
 
 pub any_in_end : (x : Fields) → first_broken (header_rules x) ≡ None → first_broken (each x.events (event_rules x)) ≡ None
     → first_broken (each x.checkpoints (checkpoint_rules x)) ≡ None → first_broken (rules x) ≡ first_broken (end_rules x)
-unfolding rules
 any_in_end x h e k =
-    let a = met-append (header_rules x) (each x.events (event_rules x)) h ∙ e in
-    let b = met-append (header_rules x ++ each x.events (event_rules x)) (each x.checkpoints (checkpoint_rules x)) a ∙ k in
-    met-append (header_rules x ++ each x.events (event_rules x) ++ each x.checkpoints (checkpoint_rules x)) (end_rules x) b
+    rules_first x ∙ ap₂ (λ (o p : Option Fault). in_order o p (first_broken (each x.checkpoints (checkpoint_rules x))) (first_broken (end_rules x))) h e
+    ∙ ap (λ (o : Option Fault). option_or o (first_broken (end_rules x))) k
 
 -- those for a file, whose variables `grind` can see
 pub in_header : (text : List ℕ) (g : Fault) → first_broken (header_rules (fields_of text)) ≡ Some g → first_fault_of text ≡ Some g
@@ -312,10 +324,60 @@ changed_meets f k is met =
     ∙ rule_met (nat_le (f.start (suc k)) f.long) (fault.Short f.long) (each n changes) (le-leb _ _ met.ends)
     ∙ each_all changes n (λ i lt. rule_met (is_change f.pages (place_floor (f.change k) i) (prior_number f k) (f.change k i)) (fault.Page (change_offset (f.start k) i)) [] (met.each_change i lt))
 
+-- what the test of a checkpoint's fields says of each
+pub record FieldsMet (k before sent : ℕ) (c : CheckpointFields) : Type 0 where
+  pub count : is_count k before c.count ≡ true
+  pub ranges : in_ranges c ≡ true
+  pub keys : are_keys c ≡ true
+  pub output : is_output k sent c.output ≡ true
+  pub within : sent + c.output ≤ MAX_OUTPUT
+  pub pc : c.pc < COUNTER_END
+  pub flags : c.flags < FLAGS_END
+  pub stop : c.stop ≤ MAX_STOP
+  pub phase : is_phase c.rate c.phase ≡ true
+  pub switches : c.switches < SWITCHES_END
+  pub leds : c.leds < LEDS_END
+  pub mouse : is_mouse c.mouse ≡ true
+  pub serial : c.serial < SERIAL_END
+  pub changes : c.changes ≤ PLACES
+  pub waiting : c.waiting ≤ MAX_KEYS
+
+pub fields_met : (k before sent : ℕ) (c : CheckpointFields) → is_checkpoint k before sent c ≡ true → FieldsMet k before sent c
+fields_met k before sent c is =
+    let to_keys = and_left (is_count k before c.count && in_ranges c && are_keys c) (is_output k sent c.output) is in
+    let to_ranges = and_left (is_count k before c.count && in_ranges c) (are_keys c) to_keys in
+    let keys = and_right (is_count k before c.count && in_ranges c) (are_keys c) to_keys in
+    let output = and_right (is_count k before c.count && in_ranges c && are_keys c) (is_output k sent c.output) is in
+    let ranges = and_right (is_count k before c.count) (in_ranges c) to_ranges in
+    let to_serial = and_left _ _ ranges in
+    let to_mouse = and_left _ _ to_serial in
+    let to_leds = and_left _ _ to_mouse in
+    let to_switches = and_left _ _ to_leds in
+    let to_phase = and_left _ _ to_switches in
+    let to_stop = and_left _ _ to_phase in
+    let to_flags = and_left _ _ to_stop in
+    record {
+      count = and_left (is_count k before c.count) (in_ranges c) to_ranges;
+      ranges = ranges;
+      keys = keys;
+      output = output;
+      within = leb-true _ _ (and_right _ _ output);
+      pc = ltb-true _ _ (and_left _ _ to_flags);
+      flags = ltb-true _ _ (and_right _ _ to_flags);
+      stop = leb-true _ _ (and_right _ _ to_stop);
+      phase = and_right _ _ to_phase;
+      switches = ltb-true _ _ (and_right _ _ to_switches);
+      leds = ltb-true _ _ (and_right _ _ to_leds);
+      mouse = and_right _ _ to_mouse;
+      serial = ltb-true _ _ (and_right _ _ to_serial);
+      changes = leb-true _ _ (and_right _ _ ranges);
+      waiting = leb-true _ _ (and_left _ _ keys);
+    }
+
 -- the fields of a checkpoint that meets its rules are in their ranges
-pub fields_hold : (f : Fields) (k : ℕ) → first_broken (checkpoint_rules f k) ≡ None → is_checkpoint k (count_before f k) (sent_below f k) (f.checkpoint k) ≡ true
+fields_true : (f : Fields) (k : ℕ) → first_broken (checkpoint_rules f k) ≡ None → is_checkpoint k (count_before f k) (sent_below f k) (f.checkpoint k) ≡ true
 unfolding checkpoint_rules
-fields_hold f k = go (f.version == FIRST_VERSION) where
+fields_true f k = go (f.version == FIRST_VERSION) where
   go : (b : Bool) → first_broken (if b then whole_rules f k else changed_rules f k) ≡ None → is_checkpoint k (count_before f k) (sent_below f k) (f.checkpoint k) ≡ true
   go true met = (rule_holds (is_checkpoint k (count_before f k) (sent_below f k) (f.checkpoint k)) (fault.Checkpoint (f.start k)) (each PLACES (page_number_rules f.pages (f.start k) (f.page_number k))) met).0
   go false met =
@@ -323,5 +385,17 @@ fields_hold f k = go (f.version == FIRST_VERSION) where
       let after = (rule_holds (nat_le (f.start k + CHANGES_AT) f.long) (fault.Short f.long) ((is_checkpoint k (count_before f k) (sent_below f k) (f.checkpoint k), fault.Checkpoint (f.start k)) ∷ rest) met).1 in
       (rule_holds (is_checkpoint k (count_before f k) (sent_below f k) (f.checkpoint k)) (fault.Checkpoint (f.start k)) rest after).0
 
-pub checkpoint_holds : (text : List ℕ) (k : ℕ) → Meets text → k < checkpoints text → is_checkpoint k (count_before (fields_of text) k) (output_below text k) (checkpoint_of text (start text k)) ≡ true
+pub fields_hold : (f : Fields) (k : ℕ) → first_broken (checkpoint_rules f k) ≡ None → FieldsMet k (count_before f k) (sent_below f k) (f.checkpoint k)
+fields_hold f k met = fields_met k (count_before f k) (sent_below f k) (f.checkpoint k) (fields_true f k met)
+
+pub checkpoint_holds : (text : List ℕ) (k : ℕ) → Meets text → k < checkpoints text → FieldsMet k (count_before (fields_of text) k) (output_below text k) (checkpoint_of text (start text k))
 checkpoint_holds text k meets lt = fields_hold (fields_of text) k (each_holds (checkpoint_rules (fields_of text)) (checkpoints text) k lt meets.checkpoints_meet)
+
+-- a function that grows at each step
+pub rises : (f : ℕ → ℕ) → ((k : ℕ) → f k ≤ f (suc k)) → (i n : ℕ) → i ≤ n → f i ≤ f n
+rises f step i zero le = let e : i ≡ 0 = omega arith in rw e (omega arith)
+rises f step i (suc n) le =
+    elim (cases_lt i (suc n)) [
+      | inl less ↦ let ih = rises f step i n (omega arith) in let next = step n in omega arith
+      | inr more ↦ let e : i ≡ suc n = omega arith in rw e (omega arith)
+    ]

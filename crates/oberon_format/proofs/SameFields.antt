@@ -1,7 +1,6 @@
 -- Fields that agree as far as rules look have the same first fault.
 use Rattle.std.proofs.Common.{◌≡◌, ◌<◌, ◌≤◌, ◌+◌, ◌∙◌, ℕ, zero, suc, Bool, true, false, List, [], ◌∷◌, ◌++◌, Option, Some, None, sym, ap, ap₂, arith, add-one, refl}
 use Rattle.std.specs.Prelude.{nat_le, ◌==◌, if◌then◌else◌}
-use Rattle.std.proofs.lemmas.Bool.{leb-true}
 use Rattle.std.proofs.lemmas.Bool.Decides.{nat_tests}
 use Rattle.oberon_format.specs.declared.change.Change.{Change}
 use Rattle.oberon_format.specs.declared.fault.Fault.{Fault}
@@ -9,7 +8,7 @@ use Rattle.oberon_format.specs.declared.fault.Fault.TheVariants as fault
 use Rattle.oberon_format.specs.declared.fields.CheckpointFields.{CheckpointFields}
 use Rattle.oberon_format.specs.declared.layout.TheConstants.{FIRST_VERSION, PLACES, CHANGES_AT, LAST_AT, MAGIC, HEADER_LEN, MAGIC_AT, VERSION_AT}
 use Rattle.oberon_format.specs.declared.ranges.TheConstants.{MAX_CHECKPOINTS}
-use Rattle.recording_limits.specs.declared.limits.TheConstants.{MAX_EVENTS, MAX_OUTPUT, MAX_PAGES}
+use Rattle.recording_limits.specs.declared.limits.TheConstants.{MAX_EVENTS, MAX_PAGES}
 use Rattle.oberon_format.specs.Fields.{Fields, EventFields, total, sent_below}
 use Rattle.oberon_format.specs.FirstFault.{Rule, first_broken, each}
 use Rattle.oberon_format.specs.Layout.{page_number_offset, change_offset}
@@ -17,8 +16,8 @@ use Rattle.oberon_format.specs.Ranges.{is_event, is_change, is_checkpoint, is_ve
 use Rattle.oberon_format.specs.Rules.{limit_rules, header_rules, named_len, event_rules, event_floor, offset_of_event, page_number_rules, place_floor, change_rules, prior_number, field_rules, whole_rules, changed_rules, count_before, checkpoint_rules, end_rules, rules}
 use Rattle.oberon_format.proofs.ChangeLemmas.{floor_same}
 use Rattle.oberon_format.proofs.PartLemmas.{floor_more, before_more, prior_more}
-use Rattle.oberon_format.proofs.RuleLemmas.{and_left, and_right, broken-append, met-append, met_left, met_right, rule_holds}
-use Rattle.oberon_format.proofs.Tables.{change_same}
+use Rattle.oberon_format.proofs.RuleLemmas.{fields_met, broken-append, met-append, met_left, met_right, rule_holds}
+use Rattle.oberon_format.proofs.Walk.{change_same}
 
 -- rules with the same first fault
 abbrev pub Same : List (Rule Fault) → List (Rule Fault) → Type 0
@@ -155,16 +154,10 @@ fields_same f g k same =
     ∙ ap (λ (n : ℕ). first_broken (field_rules (g.start k) k (count_before g k) n (f.checkpoint k))) same.sent
     ∙ ap (λ (c : CheckpointFields). first_broken (field_rules (g.start k) k (count_before g k) (sent_below g k) c)) same.fields
 
-pub changes_within : (k before sent : ℕ) (c : CheckpointFields) → is_checkpoint k before sent c ≡ true → c.changes ≤ PLACES
-changes_within k before sent c is = leb-true c.changes PLACES (and_right _ _ (and_right _ _ (and_left _ _ (and_left _ _ is))))
-
-pub output_within : (k before sent : ℕ) (c : CheckpointFields) → is_checkpoint k before sent c ≡ true → sent + c.output ≤ MAX_OUTPUT
-output_within k before sent c is = leb-true (sent + c.output) MAX_OUTPUT (and_right _ _ (and_right _ _ is))
-
 changes_few : (g : Fields) (k : ℕ) → first_broken (rules_of_fields g k) ≡ None → (g.checkpoint k).changes ≤ PLACES
 changes_few g k met =
-    changes_within k (count_before g k) (sent_below g k) (g.checkpoint k)
-    (rule_holds (is_checkpoint k (count_before g k) (sent_below g k) (g.checkpoint k)) (fault.Checkpoint (g.start k)) [] met).0
+    (fields_met k (count_before g k) (sent_below g k) (g.checkpoint k)
+    (rule_holds (is_checkpoint k (count_before g k) (sent_below g k) (g.checkpoint k)) (fault.Checkpoint (g.start k)) [] met).0).changes
 
 -- a checkpoint of version 1
 whole_same : (f g : Fields) (k : ℕ) → SameCheckpoint f g k → Same (whole_rules (mixed f g) k) (whole_rules g k)

@@ -1,7 +1,7 @@
 -- The rules of a checkpoint of a file, over its fields and its table as they are read.
-use Rattle.std.proofs.Common.{◌≡◌, ◌<◌, ◌≤◌, ◌+◌, ◌∙◌, ℕ, zero, suc, Bool, true, false, List, ◌∷◌, ◌++◌, length, Some, None, refl, sym, ap}
+use Rattle.std.proofs.Common.{◌≡◌, ◌<◌, ◌≤◌, ◌+◌, ◌∙◌, ℕ, zero, suc, Bool, true, false, List, [], ◌∷◌, ◌++◌, length, None, refl, sym, ap}
 use Rattle.std.specs.Prelude.{nat_le, slice_index, ◌==◌, if◌then◌else◌}
-use Rattle.std.proofs.lemmas.Bool.{le-leb, lt-leb}
+use Rattle.std.proofs.lemmas.Bool.{le-leb}
 use Rattle.risc_pages.specs.Tables.{zero_numbers}
 use Rattle.risc_pages.proofs.PoolLemmas.{zero_number}
 use Rattle.oberon_format.specs.declared.fault.Fault.{Fault}
@@ -11,44 +11,38 @@ use Rattle.oberon_format.specs.declared.layout.TheConstants.{FIRST_VERSION, VERS
 use Rattle.oberon_format.specs.Changes.{number_after}
 use Rattle.oberon_format.specs.Fields.{Fields, sent_below}
 use Rattle.oberon_format.specs.FirstFault.{Rule, first_broken, each}
-use Rattle.oberon_format.specs.Layout.{word_at, pages, checkpoints, page_number_offset, change_count, later_word, start, version}
+use Rattle.oberon_format.specs.Layout.{word_at, pages, checkpoints, page_number_offset, change_offset, change_count, later_word, start, version}
 use Rattle.oberon_format.specs.Rules.{checkpoint_rules, field_rules, page_number_rules, change_rules, place_floor, count_before, prior_number}
 use Rattle.oberon_format.specs.inner.Tested.{HasNumbers, Meets}
 use Rattle.oberon_format.specs.TextFields.{change_of, checkpoint_of, fields_of, number_before, page_number_of}
 use Rattle.oberon_format.proofs.ChangeLemmas.{after-same}
 use Rattle.oberon_format.proofs.PartLemmas.{prior_more}
-use Rattle.oberon_format.proofs.RuleLemmas.{ChangedMet, met-append, broken-append, each_holds, rule_met, rule_unmet, rules_whole, rules_changed, changed_met, is_first, is_later}
-use Rattle.oberon_format.proofs.SameFields.{changes_same}
-use Rattle.oberon_format.proofs.Tables.{change_inside}
+use Rattle.oberon_format.proofs.Room.{start_later}
+use Rattle.oberon_format.proofs.RuleLemmas.{ChangedMet, met-append, each_holds, rules_whole, rules_changed, changed_met, is_first, is_later}
+use Rattle.oberon_format.proofs.SameFields.{changes_same, same_append}
+use Rattle.oberon_format.proofs.Walk.{change_inside}
 
--- the rules of the fields of checkpoint k of a file
-abbrev pub rules_of_fields : List ℕ → ℕ → List (Rule Fault)
-rules_of_fields text k = field_rules (start text k) k (count_before (fields_of text) k) (sent_below (fields_of text) k) (checkpoint_of text (start text k))
+-- the rules of page ids, of a size and of changes, as they are read
+abbrev pub numbers_read : List ℕ → ℕ → ℕ → List (Rule Fault)
+numbers_read text number offset = each PLACES (page_number_rules number offset (λ j. word_at text (page_number_offset offset j)))
 
--- those are the rules of its fields as they are read
-pub fields_read : (text : List ℕ) (k offset before sent : ℕ) (c : CheckpointFields) → offset ≡ start text k → before ≡ count_before (fields_of text) k
-    → sent ≡ sent_below (fields_of text) k → c ≡ checkpoint_of text offset → first_broken (field_rules offset k before sent c) ≡ first_broken (rules_of_fields text k)
-fields_read text k offset before sent c at b s same =
-    ap (λ (x : CheckpointFields). first_broken (field_rules offset k before sent x)) same
-    ∙ ap (λ (p : ℕ). first_broken (field_rules p k before sent (checkpoint_of text p))) at
-    ∙ ap (λ (x : ℕ). first_broken (field_rules (start text k) k x sent (checkpoint_of text (start text k)))) b
-    ∙ ap (λ (x : ℕ). first_broken (field_rules (start text k) k (count_before (fields_of text) k) x (checkpoint_of text (start text k)))) s
+abbrev pub size_read : List ℕ → ℕ → List (Rule Fault)
+size_read text size = (nat_le size (length text), fault.Short (length text)) ∷ []
 
--- a checkpoint of version 1: a fault of its fields, and else the first of its page ids
-pub whole_fields : (text : List ℕ) (k : ℕ) (g : Fault) → version text ≡ FIRST_VERSION → first_broken (rules_of_fields text k) ≡ Some g → first_broken (checkpoint_rules (fields_of text) k) ≡ Some g
-whole_fields text k g is broken =
+abbrev pub changes_read : List ℕ → ℕ → ℕ → ℕ → List ℕ → List (Rule Fault)
+changes_read text number offset count table = each count (change_rules number offset (slice_index table) (change_of text offset))
+
+-- the rules of a checkpoint of version 1, as its fields are read
+pub whole_read : (text : List ℕ) (k offset before sent number : ℕ) (c : CheckpointFields) → version text ≡ FIRST_VERSION → offset ≡ start text k
+    → before ≡ count_before (fields_of text) k → sent ≡ sent_below (fields_of text) k → number ≡ pages text → c ≡ checkpoint_of text offset
+    → first_broken (checkpoint_rules (fields_of text) k)
+    ≡ first_broken (field_rules offset k before sent c ++ numbers_read text number offset)
+whole_read text k offset before sent number c is at b s count same =
+    let numbers : Bool → ℕ → ℕ = λ (x : Bool) (p : ℕ). if x then word_at text (page_number_offset (start text k) p) else number_before text (suc k) p in
+    let fields : List (Rule Fault) = field_rules (start text k) k (count_before (fields_of text) k) (sent_below (fields_of text) k) (checkpoint_of text (start text k)) in
     ap (λ (xs : List (Rule Fault)). first_broken xs) (rules_whole (fields_of text) k is)
-    ∙ broken-append (rules_of_fields text k) (each PLACES (page_number_rules (pages text) (start text k) (page_number_of text k))) g broken
-
-pub whole_numbers : (text : List ℕ) (k number offset : ℕ) → version text ≡ FIRST_VERSION → number ≡ pages text → offset ≡ start text k → first_broken (rules_of_fields text k) ≡ None
-    → first_broken (checkpoint_rules (fields_of text) k) ≡ first_broken (each PLACES (page_number_rules number offset (λ j. word_at text (page_number_offset offset j))))
-whole_numbers text k number offset is count at met =
-    let numbers : Bool → ℕ → ℕ = λ (b : Bool) (p : ℕ). if b then word_at text (page_number_offset (start text k) p) else number_before text (suc k) p in
-    ap (λ (xs : List (Rule Fault)). first_broken xs) (rules_whole (fields_of text) k is)
-    ∙ met-append (rules_of_fields text k) (each PLACES (page_number_rules (pages text) (start text k) (page_number_of text k))) met
-    ∙ ap (λ (b : Bool). first_broken (each PLACES (page_number_rules (pages text) (start text k) (numbers b)))) (is_first (version text) is)
-    ∙ ap (λ (p : ℕ). first_broken (each PLACES (page_number_rules (pages text) p (λ j. word_at text (page_number_offset p j))))) (sym at)
-    ∙ ap (λ (n : ℕ). first_broken (each PLACES (page_number_rules n offset (λ j. word_at text (page_number_offset offset j))))) (sym count)
+    ∙ ap (λ (x : Bool). first_broken (fields ++ each PLACES (page_number_rules (pages text) (start text k) (numbers x)))) (is_first (version text) is)
+    ∙ rw (same, b, s, count, at) refl
 
 -- a word after the common fields of a checkpoint, by the version
 pub later_first : (text : List ℕ) (offset : ℕ) → version text ≡ FIRST_VERSION → later_word text offset ≡ 0
@@ -86,53 +80,42 @@ unfolding number_before
 prior_is text zero p is = refl
 prior_is text (suc k) p is = prior_more (fields_of text) k p ∙ number_second text k p is
 
--- the changes of a checkpoint of version 2 of a file
-abbrev pub rules_of_changes : List ℕ → ℕ → List (Rule Fault)
-rules_of_changes text k = each (change_count text (start text k)) (change_rules (pages text) (start text k) (prior_number (fields_of text) k) (change_of text (start text k)))
-
--- those are the rules of the changes as they are read, after the table before
-pub changes_read : (text : List ℕ) (k number offset count : ℕ) (table : List ℕ) → version text ≡ VERSION → number ≡ pages text → offset ≡ start text k → count ≡ change_count text offset
+-- the rules of a checkpoint of version 2, as its fields and its changes are read after the table before
+pub changed_read : (text : List ℕ) (k offset before sent number : ℕ) (c : CheckpointFields) (table : List ℕ) → version text ≡ VERSION → offset ≡ start text k
+    → before ≡ count_before (fields_of text) k → sent ≡ sent_below (fields_of text) k → number ≡ pages text → c ≡ checkpoint_of text offset
     → HasNumbers table (number_before text k)
-    → first_broken (each count (change_rules number offset (slice_index table) (change_of text offset))) ≡ first_broken (rules_of_changes text k)
-changes_read text k number offset count table is named at many has =
-    ap (λ (n : ℕ). first_broken (each n (change_rules number offset (slice_index table) (change_of text offset)))) many
-    ∙ ap (λ (n : ℕ). first_broken (each (change_count text offset) (change_rules n offset (slice_index table) (change_of text offset)))) named
-    ∙ ap (λ (p : ℕ). first_broken (each (change_count text p) (change_rules (pages text) p (slice_index table) (change_of text p)))) at
-    ∙ changes_same (pages text) (start text k) (change_count text (start text k)) (slice_index table) (prior_number (fields_of text) k) (change_of text (start text k)) (change_of text (start text k))
-    (λ p lt. has p lt ∙ sym (prior_is text k p is)) (λ i lt. refl)
-
--- the rules of a checkpoint of version 2 that come after those of its fields
-abbrev pub rules_after_fields : List ℕ → ℕ → List (Rule Fault)
-rules_after_fields text k = (nat_le (start text (suc k)) (length text), fault.Short (length text)) ∷ rules_of_changes text k
-
-pub changed_short : (text : List ℕ) (k : ℕ) → version text ≡ VERSION → length text < start text k + CHANGES_AT → first_broken (checkpoint_rules (fields_of text) k) ≡ Some (fault.Short (length text))
-changed_short text k is short =
+    → first_broken (checkpoint_rules (fields_of text) k)
+    ≡ first_broken (size_read text (offset + CHANGES_AT)
+    ++ (field_rules offset k before sent c ++ (size_read text (change_offset offset c.changes) ++ changes_read text number offset c.changes table)))
+changed_read text k offset before sent number c table is at b s count same has =
+    let at_k = start text k in
+    let n = change_count text at_k in
+    let read = changes_read text (pages text) at_k n table in
+    let fields : List (Rule Fault) = field_rules at_k k (count_before (fields_of text) k) (sent_below (fields_of text) k) (checkpoint_of text at_k) in
+    let front = size_read text (at_k + CHANGES_AT) ++ fields in
+    let changes = changes_same (pages text) at_k n (prior_number (fields_of text) k) (slice_index table) (change_of text at_k) (change_of text at_k)
+    (λ p lt. prior_is text k p is ∙ sym (has p lt)) (λ i lt. refl) in
     ap (λ (xs : List (Rule Fault)). first_broken xs) (rules_changed (fields_of text) k is)
-    ∙ rule_unmet (nat_le (start text k + CHANGES_AT) (length text)) (fault.Short (length text)) (rules_of_fields text k ++ rules_after_fields text k) (lt-leb _ _ short)
+    ∙ same_append (front ++ size_read text (start text (suc k))) (front ++ size_read text (start text (suc k))) (each n (change_rules (pages text) at_k (prior_number (fields_of text) k) (change_of text at_k))) read refl changes
+    ∙ ap (λ (end : ℕ). first_broken (front ++ size_read text end ++ read)) (start_later text k at_k n is refl refl)
+    ∙ rw (same, b, s, count, at) refl
 
-changed_from : (text : List ℕ) (k : ℕ) → version text ≡ VERSION → start text k + CHANGES_AT ≤ length text
-    → first_broken (checkpoint_rules (fields_of text) k) ≡ first_broken (rules_of_fields text k ++ rules_after_fields text k)
-changed_from text k is room =
-    ap (λ (xs : List (Rule Fault)). first_broken xs) (rules_changed (fields_of text) k is)
-    ∙ rule_met (nat_le (start text k + CHANGES_AT) (length text)) (fault.Short (length text)) (rules_of_fields text k ++ rules_after_fields text k) (le-leb _ _ room)
-
-pub changed_fields : (text : List ℕ) (k : ℕ) (g : Fault) → version text ≡ VERSION → start text k + CHANGES_AT ≤ length text → first_broken (rules_of_fields text k) ≡ Some g
-    → first_broken (checkpoint_rules (fields_of text) k) ≡ Some g
-changed_fields text k g is room broken = changed_from text k is room ∙ broken-append (rules_of_fields text k) (rules_after_fields text k) g broken
-
-changed_after : (text : List ℕ) (k : ℕ) → version text ≡ VERSION → start text k + CHANGES_AT ≤ length text → first_broken (rules_of_fields text k) ≡ None
-    → first_broken (checkpoint_rules (fields_of text) k) ≡ first_broken (rules_after_fields text k)
-changed_after text k is room met = changed_from text k is room ∙ met-append (rules_of_fields text k) (rules_after_fields text k) met
-
-pub changed_cut : (text : List ℕ) (k : ℕ) → version text ≡ VERSION → start text k + CHANGES_AT ≤ length text → first_broken (rules_of_fields text k) ≡ None → length text < start text (suc k)
-    → first_broken (checkpoint_rules (fields_of text) k) ≡ Some (fault.Short (length text))
-changed_cut text k is room met cut =
-    changed_after text k is room met ∙ rule_unmet (nat_le (start text (suc k)) (length text)) (fault.Short (length text)) (rules_of_changes text k) (lt-leb _ _ cut)
-
-pub changed_changes : (text : List ℕ) (k : ℕ) → version text ≡ VERSION → start text k + CHANGES_AT ≤ length text → first_broken (rules_of_fields text k) ≡ None → start text (suc k) ≤ length text
-    → first_broken (checkpoint_rules (fields_of text) k) ≡ first_broken (rules_of_changes text k)
-changed_changes text k is room met there =
-    changed_after text k is room met ∙ rule_met (nat_le (start text (suc k)) (length text)) (fault.Short (length text)) (rules_of_changes text k) (le-leb _ _ there)
+-- those of its changes, if its bytes are there and its fields in their ranges
+pub changes_left : (text : List ℕ) (k offset before sent number : ℕ) (c : CheckpointFields) (table : List ℕ) → version text ≡ VERSION → offset ≡ start text k
+    → before ≡ count_before (fields_of text) k → sent ≡ sent_below (fields_of text) k → number ≡ pages text → c ≡ checkpoint_of text offset
+    → HasNumbers table (number_before text k) → offset + CHANGES_AT ≤ length text → first_broken (field_rules offset k before sent c) ≡ None
+    → change_offset offset c.changes ≤ length text
+    → first_broken (checkpoint_rules (fields_of text) k) ≡ first_broken (changes_read text number offset c.changes table)
+changes_left text k offset before sent number c table is at b s count same has room met ends =
+    let there : nat_le (offset + CHANGES_AT) (length text) ≡ true = le-leb _ _ room in
+    let whole : nat_le (change_offset offset c.changes) (length text) ≡ true = le-leb _ _ ends in
+    let changes = changes_read text number offset c.changes table in
+    let fields : List (Rule Fault) = field_rules offset k before sent c in
+    let rest = size_read text (change_offset offset c.changes) ++ changes in
+    changed_read text k offset before sent number c table is at b s count same has
+    ∙ met-append (size_read text (offset + CHANGES_AT)) (fields ++ rest) (rw there refl)
+    ∙ met-append fields rest met
+    ∙ met-append (size_read text (change_offset offset c.changes)) changes (rw whole refl)
 
 -- the changes of checkpoint k make the table before it its own
 pub numbers_next : (text : List ℕ) (k offset count : ℕ) (before after : List ℕ) → offset ≡ start text k → count ≡ change_count text offset → HasNumbers before (number_before text k)

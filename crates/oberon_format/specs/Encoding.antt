@@ -1,17 +1,16 @@
 -- The encoding of a recording in a version: its bytes, one part after another.
-use Rattle.std.specs.Prelude.{ℕ, ◌==◌, if◌then◌else◌, List, [], ◌∷◌, ◌++◌, length}
+use Rattle.std.specs.Prelude.{ℕ, zero, suc, ◌==◌, if◌then◌else◌, List, [], ◌∷◌, ◌++◌, length, slice_index_or}
 use Rattle.std.specs.List.{flat_map}
 use Rattle.byteorder.specs.Endian.{little_bytes}
 use Rattle.risc_core.specs.Flags.{flags_number}
-use Rattle.risc_pages.specs.Tables.{zero_numbers}
 use Rattle.risc_devices.specs.DeviceState.{serial_number}
 use Rattle.risc_devices.specs.Input.{kind_of, value_of}
 use Rattle.risc_model.specs.declared.event.Event.{Event}
 use Rattle.oberon_format.specs.declared.layout.TheConstants.{MAGIC, FIRST_VERSION}
 use Rattle.oberon_format.specs.declared.change.Change.{Change}
 use Rattle.oberon_format.specs.Changes.{changes}
-use Rattle.oberon_format.specs.CheckpointParts.{CheckpointParts, key_bytes}
-use Rattle.oberon_format.specs.Recording.{RecordingParts, output_of}
+use Rattle.oberon_format.specs.CheckpointParts.{CheckpointParts, key_bytes, no_checkpoint}
+use Rattle.oberon_format.specs.Recording.{RecordingParts, output_of, table_before}
 
 -- the four bytes of a number, lowest first
 unfoldable pub word_bytes : ℕ → List ℕ
@@ -62,10 +61,11 @@ tail_bytes version before c =
 unfoldable pub checkpoint_bytes : ℕ → List ℕ → CheckpointParts → List ℕ
 checkpoint_bytes version before c = common_bytes c ++ tail_bytes version before c
 
--- the checkpoints, the first after a table, each other one after the one before
-unfoldable pub checkpoints_bytes : ℕ → List ℕ → List CheckpointParts → List ℕ
-checkpoints_bytes version before [] = []
-checkpoints_bytes version before (c ∷ cs) = checkpoint_bytes version before c ++ checkpoints_bytes version c.table cs
+-- the first n checkpoints, each after the table of the one before
+unfoldable pub checkpoints_bytes : ℕ → List CheckpointParts → ℕ → List ℕ
+checkpoints_bytes version cs zero = []
+checkpoints_bytes version cs (suc n) =
+    checkpoints_bytes version cs n ++ checkpoint_bytes version (table_before cs n) (slice_index_or cs n no_checkpoint)
 
 unfoldable pub header_bytes : ℕ → RecordingParts → List ℕ
 header_bytes version r = words_bytes (MAGIC ∷ version ∷ length r.pool ∷ length r.inputs ∷ length r.checkpoints ∷ 0 ∷ [])
@@ -73,4 +73,4 @@ header_bytes version r = words_bytes (MAGIC ∷ version ∷ length r.pool ∷ le
 unfoldable pub encoding : ℕ → RecordingParts → List ℕ
 encoding version r =
     header_bytes version r ++ flat_map words_bytes r.pool ++ flat_map event_bytes r.inputs
-    ++ checkpoints_bytes version zero_numbers r.checkpoints ++ output_of r.checkpoints
+    ++ checkpoints_bytes version r.checkpoints (length r.checkpoints) ++ output_of r.checkpoints

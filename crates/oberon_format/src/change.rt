@@ -47,6 +47,7 @@ impl Change {
 }
 
 /// Returns the number of changes from one table to another.
+#[tactic(auto, using(crate::proofs::Walk::below_none, crate::proofs::Walk::below_few))]
 pub(crate) fn change_count(before: &Table, table: &Table) -> u32
     ensures { result ≡ length (changes before.now table.now) }
 {

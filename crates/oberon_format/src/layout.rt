@@ -201,6 +201,7 @@ pub(crate) fn checkpoint_count(text: &[u8]) -> u32
 }
 
 /// Returns the offset of checkpoint 0 of a file.
+#[tactic(auto, using(crate::proofs::Room::start_none))]
 #[inline]
 pub(crate) fn first_checkpoint(text: &[u8]) -> usize
     requires header { HEADER_LEN ≤ length text.now }

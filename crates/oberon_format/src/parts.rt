@@ -54,6 +54,7 @@ fn counts_fault(pool: &Pool, inputs: &Inputs, checkpoints: &[Checkpoint]) -> Opt
 }
 
 /// Returns the first fault of the changes from one table to another, in a checkpoint at an offset.
+#[tactic(auto, using(crate::proofs::Walk::below_none, crate::proofs::Walk::below_few, crate::proofs::RuleLemmas::each_none))]
 fn changes_fault(pages: u32, offset: usize, before: &Table, table: &Table) -> Option<Fault>
     requires { offset ≤ LONGEST_TEXT }
     ensures { result ≡ first_broken (encoded_change_rules pages offset before.now table.now) }
@@ -71,6 +72,7 @@ fn changes_fault(pages: u32, offset: usize, before: &Table, table: &Table) -> Op
 }
 
 /// Returns the first fault of the checkpoints.
+#[tactic(auto, using(crate::proofs::PartRules::place_small, crate::proofs::RuleLemmas::each_none, crate::proofs::PartLemmas::start_in_first, crate::proofs::PartLemmas::sent_none))]
 fn checkpoints_fault(pool: &Pool, inputs: &Inputs, checkpoints: &[Checkpoint]) -> Option<Fault>
     requires pages { length pool.now ≤ MAX_PAGES }
     requires events { length inputs.now ≤ MAX_EVENTS }

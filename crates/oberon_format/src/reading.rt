@@ -36,6 +36,7 @@ use std::alloc::{AllocError, Global};
 ///
 /// Returns `Memory` only for a file without a fault: the whole file is tested before anything is allocated, and the test
 /// allocates nothing.
+#[tactic(auto, using(crate::proofs::RuleLemmas::none_meets))]
 pub fn read(alloc: Global, bytes: &[u8]) -> Result<Recording, Fault>
     // A file without a fault yields its recording, or an allocation failed; any other yields its first fault.
     ensures { AnswersText bytes.now (Text bytes.now) result }
@@ -77,6 +78,7 @@ fn words_from<const N: usize>(text: &[u8], offset: usize, from: usize) -> [u32; 
 }
 
 /// Returns the pages of a file.
+#[tactic(auto, using(crate::proofs::Room::events_there))]
 fn pool_of(alloc: Global, text: &[u8]) -> Result<Pool, AllocError>
     requires { IsSized text.now }
     ensures { IfOk result (λ pool. pool ≡ pages_at text.now (pages text.now)) }
@@ -97,6 +99,7 @@ fn words_fit(words: &[u32])
 {}
 
 /// Returns the event at an offset.
+#[tactic(auto, using(risc_devices::proofs::InputLemmas::kind_fits))]
 fn event_of(text: &[u8], offset: usize) -> Event
     requires room { offset + EVENT_LEN ≤ length text.now }
     requires input { IsInput (word_at text.now (offset + KIND_AT)) (word_at text.now (offset + VALUE_AT)) }
@@ -111,6 +114,7 @@ fn event_of(text: &[u8], offset: usize) -> Event
 }
 
 /// Returns the events of a file.
+#[tactic(auto, using(crate::proofs::Room::events_there, crate::proofs::RuleLemmas::event_input))]
 fn events_of(alloc: Global, text: &[u8]) -> Result<Vec<Event>, AllocError>
     requires { Meets text.now }
     ensures { IfOk result (λ list. (length list.items ≡ events text.now) × EachAt (IsEventAt text.now) list.items) }
@@ -174,6 +178,7 @@ fn devices_of(text: &[u8], offset: usize) -> Devices
 }
 
 /// Changes a table into that of checkpoint k, which is at an offset. In version 2 it has to be the table before.
+#[tactic(auto, using(crate::proofs::Room::whole_there, crate::proofs::Room::changes_there, crate::proofs::TextLemmas::places_inside, crate::proofs::RuleLemmas::later_by))]
 fn advance_table(text: &[u8], k: usize, offset: usize, table: &mut Table)
     requires meets { Meets text.now }
     requires below { k < checkpoints text.now }
@@ -201,6 +206,7 @@ fn read_table(text: &[u8], offset: usize, table: &mut Table)
 }
 
 /// Applies the changes of the checkpoint of version 2 at an offset.
+#[tactic(auto, using(crate::proofs::ChangeLemmas::after_none))]
 fn change_table(text: &[u8], offset: usize, table: &mut Table)
     requires header { HEADER_LEN ≤ length text.now }
     requires version { version text.now ≡ VERSION }
@@ -243,6 +249,7 @@ fn checkpoint_of(
 }
 
 /// Returns the checkpoints of a file, whose output begins at `output`.
+#[tactic(auto, using(crate::proofs::Room::common_there, crate::proofs::Output::output_fits))]
 fn checkpoints_of(alloc: Global, text: &[u8], output: usize) -> Result<Vec<Checkpoint>, AllocError>
     requires meets { Meets text.now }
     requires output { output ≡ output_offset text.now }

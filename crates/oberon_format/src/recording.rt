@@ -121,6 +121,7 @@ impl Recording {
     /// Returns all checkpoints, in order.
     pub(crate) fn checkpoints(&self) -> &[Checkpoint]
         ensures checkpoints { map checkpoint_parts result.now ≡ self.now.checkpoints }
+        ensures count { length result.now ≡ length self.now.checkpoints }
         ensures lawful { IsLawful self.now }
     {
         &self.checkpoints

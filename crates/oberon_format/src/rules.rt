@@ -29,6 +29,7 @@ use risc_model::MAX_COUNT;
 use risc_pages::Table;
 
 /// Returns the length that the header asks for: in version 1 up to the output, in version 2 up to checkpoint 0.
+#[tactic(auto, using(crate::proofs::Room::start_none, crate::proofs::Room::named_first))]
 fn named_len(text: &[u8]) -> usize
     requires header { HEADER_LEN ≤ length text.now }
     requires pages { pages text.now ≤ MAX_PAGES }
@@ -104,6 +105,7 @@ fn is_event(text: &[u8], offset: usize, floor: u64) -> bool
 }
 
 /// Returns the first fault of the events.
+#[tactic(auto, using(crate::proofs::Room::events_there, crate::proofs::RuleLemmas::each_none, crate::proofs::RuleLemmas::each_more))]
 fn events_fault(text: &[u8]) -> Option<Fault>
     requires { IsSized text.now }
     ensures { result ≡ first_broken (each (events text.now) (event_rules (fields_of text.now))) }
@@ -120,6 +122,7 @@ fn events_fault(text: &[u8]) -> Option<Fault>
 }
 
 /// Returns the first fault of the page ids of a checkpoint of version 1.
+#[tactic(auto, using(crate::proofs::RuleLemmas::each_none, crate::proofs::RuleLemmas::each_more))]
 fn page_numbers_fault(text: &[u8], offset: usize, pages: u32) -> Option<Fault>
     requires { offset + CHECKPOINT_LEN ≤ length text.now }
     ensures { result ≡ first_broken (each PLACES (page_number_rules pages offset (λ j. word_at text.now (page_number_offset offset j)))) }
@@ -134,6 +137,7 @@ fn page_numbers_fault(text: &[u8], offset: usize, pages: u32) -> Option<Fault>
 }
 
 /// Returns the first fault of the changes of a checkpoint of version 2. Without one, the table before it becomes its own.
+#[tactic(auto, using(crate::proofs::ChangeLemmas::after_none, crate::proofs::RuleLemmas::each_none))]
 fn changes_fault(
     text: &[u8],
     offset: usize,
@@ -231,6 +235,7 @@ struct End {
 }
 
 /// Returns the end of the checkpoints, or their first fault.
+#[tactic(auto, using(crate::proofs::Room::whole_room, crate::proofs::Room::events_there, crate::proofs::Room::start_none, crate::proofs::RuleLemmas::each_none, crate::proofs::RuleLemmas::output_below_none, crate::proofs::TextLemmas::numbers_none))]
 fn checkpoints_end(text: &[u8]) -> Result<End, Fault>
     requires { IsSized text.now }
     ensures { AreTested text.now result }

@@ -2,7 +2,6 @@
 
 ghost use Rattle.std.specs.Prelude.{◌≡◌, ◌++◌, ◌+◌, ◌≤◌, length, map, IfOk, OnOk};
 ghost use Rattle.std.specs.List.{flat_map};
-ghost use Rattle.risc_pages.specs.Tables.{zero_numbers};
 ghost use Rattle.oberon_format.specs.Changes.{changes};
 ghost use Rattle.oberon_format.specs.CheckpointParts.{checkpoint_parts};
 ghost use Rattle.oberon_format.specs.PartFields.{start_in};
@@ -39,21 +38,21 @@ fn encode(alloc: Global, r: &Recording) -> Result<Vec<u8>, AllocError>
     push_header(&mut out, r)?;
     push_pool(&mut out, r.pool())?;
     push_events(&mut out, r.inputs().events())?;
-    push_checkpoints(&mut out, r.checkpoints())?;
+    push_checkpoints(&mut out, r)?;
     push_output(&mut out, r)?;
     Ok(out)
 }
 
 /// Returns the length of the file of a recording.
+#[tactic(auto, using(crate::proofs::ChangeLemmas::changes_few, crate::proofs::PartLemmas::start_in_first, crate::proofs::PartRules::place_small))]
 fn text_len(r: &Recording) -> usize
     ensures { result ≡ start_in VERSION r.now (length r.now.checkpoints) + length (output_of r.now.checkpoints) }
 {
     let zeros = Table::zeros();
-    let checkpoints = r.checkpoints();
     let mut len = event_start(r.pool().len(), r.inputs().events().len());
-    for k in 0..checkpoints.len() {
-        let before = table_before(checkpoints, k, &zeros);
-        len += changed_len(change_count(before, &checkpoints[k].table));
+    for k in 0..r.count() {
+        let before = table_before(r.checkpoints(), k as usize, &zeros);
+        len += changed_len(change_count(before, &r.checkpoint(k).table));
     }
     len + output_len(r)
 }
@@ -209,13 +208,17 @@ fn push_checkpoint(
 }
 
 /// Appends the checkpoints.
-fn push_checkpoints(out: &mut Vec<u8>, checkpoints: &[Checkpoint]) -> Result<(), AllocError>
-    requires { length (output_of (map checkpoint_parts checkpoints.now)) ≤ MAX_OUTPUT }
-    ensures { OnOk result (out.new.items ≡ out.old.items ++ checkpoints_bytes VERSION zero_numbers (map checkpoint_parts checkpoints.now)) }
+#[tactic(auto, unfolding(crate::specs::Encoding::checkpoints_bytes))]
+fn push_checkpoints(out: &mut Vec<u8>, r: &Recording) -> Result<(), AllocError>
+    ensures { OnOk result (out.new.items ≡ out.old.items ++ checkpoints_bytes VERSION r.now.checkpoints (length r.now.checkpoints)) }
 {
     let zeros = Table::zeros();
-    for k in 0..checkpoints.len() {
-        push_checkpoint(out, table_before(checkpoints, k, &zeros), &checkpoints[k])?;
+    for k in 0..r.count() {
+        push_checkpoint(
+            out,
+            table_before(r.checkpoints(), k as usize, &zeros),
+            r.checkpoint(k),
+        )?;
     }
     Ok(())
 }

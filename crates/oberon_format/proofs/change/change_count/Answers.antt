@@ -3,18 +3,9 @@ use Rattle.std.specs.Prelude.{slice_index}
 use Rattle.oberon_format.specs.declared.change.Change.{Change}
 use Rattle.oberon_format.specs.Changes.{changes_below}
 use Rattle.oberon_format.proofs.ChangeLemmas.{change_to}
-use Rattle.oberon_format.proofs.Walk.{below_none, below_stays, below_grows, below_few}
+use Rattle.oberon_format.proofs.Walk.{below_stays, below_grows}
 use Rattle.oberon_format.proofs.change.change_count.Goals as goal
 use Rattle.oberon_format.proofs.change.change_count.Goals.{then-entry, else-entry}
-
-pub loop-p-init : goal.loop-p-init
-loop-p-init c = sym (ap (λ (cs : List Change). length cs) (below_none c.args.before.now c.args.table.now))
-
-pub overflow_add-count : goal.overflow_add-count
-overflow_add-count c =
-    let few = below_few c.loop-p.p c.args.before.now c.args.table.now in
-    let so_far = c.loop-p.invariant in
-    omega arith
 
 pub loop-p-preserved : goal.loop-p-preserved
 loop-p-preserved c =

@@ -1,5 +1,5 @@
 use Rattle.std.proofs.Common.{◌∙◌}
-use Rattle.oberon_format.proofs.Numbers.{word_at-drop}
+use Rattle.oberon_format.proofs.Bytes.{word_at-drop}
 use Rattle.oberon_format.proofs.number.u32_at.Goals as goal
 
 pub returns : goal.returns

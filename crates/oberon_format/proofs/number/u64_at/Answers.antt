@@ -1,5 +1,5 @@
 use Rattle.std.proofs.Common.{◌∙◌}
-use Rattle.oberon_format.proofs.Numbers.{long_at-drop}
+use Rattle.oberon_format.proofs.Bytes.{long_at-drop}
 use Rattle.oberon_format.proofs.number.u64_at.Goals as goal
 
 pub returns : goal.returns

@@ -8,25 +8,10 @@ use Rattle.oberon_format.specs.FirstFault.{first_broken, each}
 use Rattle.oberon_format.specs.Layout.{change_offset}
 use Rattle.oberon_format.specs.Rules.{change_rules}
 use Rattle.oberon_format.proofs.ChangeLemmas.{change_in, change_to}
-use Rattle.oberon_format.proofs.RuleLemmas.{each_none, each_more, each_broken}
-use Rattle.oberon_format.proofs.Walk.{below_none, below_stays, below_grows, below_few, next_rule}
+use Rattle.oberon_format.proofs.RuleLemmas.{each_more, each_broken}
+use Rattle.oberon_format.proofs.Walk.{below_stays, below_grows, next_rule}
 use Rattle.oberon_format.proofs.parts.changes_fault.Goals as goal
 use Rattle.oberon_format.proofs.parts.changes_fault.Goals.{then-entry+else-entry-pages, else-entry}
-
-pub loop-p-init : goal.loop-p-init
-loop-p-init c =
-    let rules = change_rules c.args.pages c.args.offset (slice_index c.args.before.now) (change_in c.args.before.now c.args.table.now) in
-    let none : length (changes_below 0 c.args.before.now c.args.table.now) ≡ 0 = ap (λ (cs : List Change). length cs) (below_none c.args.before.now c.args.table.now) in
-    record {
-      met = ap (λ (n : ℕ). first_broken (each n rules)) none ∙ each_none rules;
-      offset_is = omega arith;
-    }
-
-pub overflow_add-change_offset-then-entry : goal.overflow_add-change_offset-then-entry
-overflow_add-change_offset-then-entry c =
-    let few = below_few c.loop-p.p c.args.before.now c.args.table.now in
-    let offset = c.loop-p.invariant.offset_is in
-    omega arith
 
 pub returns-then-entry-pages : goal.returns-then-entry-pages
 returns-then-entry-pages c =

@@ -1,18 +1,11 @@
-use Rattle.std.proofs.Common.{◌<◌, ◌+◌, ◌∙◌, sym, arith}
+use Rattle.std.proofs.Common.{◌<◌, ◌+◌, ◌∙◌, arith}
 use Rattle.std.specs.Prelude.{slice_index}
 use Rattle.std.proofs.lemmas.List.{length-set}
 use Rattle.oberon_format.specs.declared.layout.TheConstants.{PLACES, CHANGE_COUNT_AT}
 use Rattle.oberon_format.specs.TextFields.{change_of}
-use Rattle.oberon_format.proofs.ChangeLemmas.{after_none}
-use Rattle.oberon_format.proofs.Tables.{change_made}
+use Rattle.oberon_format.proofs.Walk.{change_made}
 use Rattle.oberon_format.proofs.TextLemmas.{later_second}
 use Rattle.oberon_format.proofs.reading.change_table.Goals as goal
-
-pub loop-i-init : goal.loop-i-init
-loop-i-init c = record {
-  len = c.numbers-numbers.ensures.table.count;
-  made = λ p lt. sym (after_none (change_of c.args.text.now c.args.offset) (slice_index c.args.table.now) p);
-}
 
 pub loop-i-preserved : goal.loop-i-preserved
 loop-i-preserved c =

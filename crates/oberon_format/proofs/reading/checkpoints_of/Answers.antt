@@ -1,19 +1,17 @@
-use Rattle.std.proofs.Common.{◌≡◌, ◌<◌, ◌≤◌, ◌∙◌, ℕ, List, [], ◌∷◌, refl, ap, sym, ◌++◌, length-append, arith, add-one}
+use Rattle.std.proofs.Common.{◌≡◌, ◌<◌, ◌∙◌, ℕ, List, [], ◌∷◌, refl, ap, sym, ◌++◌, length-append, arith, add-one}
 use Rattle.std.proofs.lemmas.List.{map-append}
 use Rattle.std.proofs.lemmas.List.FromFn.{map-range_with_len_more}
-use Rattle.oberon_format.specs.declared.layout.TheConstants.{PLACES}
 use Rattle.oberon_format.specs.CheckpointParts.{CheckpointParts, checkpoint_parts}
 use Rattle.oberon_format.specs.Rules.{prior_number}
 use Rattle.oberon_format.specs.inner.Decoded.{checkpoints_at, decoded}
 use Rattle.oberon_format.specs.TextFields.{fields_of}
 use Rattle.oberon_format.proofs.Decode.{table_made}
-use Rattle.oberon_format.proofs.RuleLemmas.{output_below_none, output_below_more}
-use Rattle.oberon_format.proofs.Output.{ranges_hold, keys_hold, changes_few, output_fits}
-use Rattle.oberon_format.proofs.Room.{common_there, offset_next}
-use Rattle.oberon_format.proofs.PartLemmas.{prior_more, size_few}
+use Rattle.oberon_format.proofs.RuleLemmas.{checkpoint_holds, output_below_none, output_below_more}
+use Rattle.oberon_format.proofs.Room.{offset_next}
+use Rattle.oberon_format.proofs.PartLemmas.{prior_more}
 use Rattle.oberon_format.proofs.TextLemmas.{prior_none}
 use Rattle.oberon_format.proofs.reading.checkpoints_of.Goals as goal
-use Rattle.oberon_format.specs.Layout.{checkpoints, version}
+use Rattle.oberon_format.specs.Layout.{checkpoints}
 
 pub loop-k-init : goal.loop-k-init
 loop-k-init c =
@@ -27,44 +25,20 @@ loop-k-init c =
       decoded = refl;
     })
 
-pub checkpoint_of-requires-clause-room : goal.checkpoint_of-requires-clause-room
-checkpoint_of-requires-clause-room c =
-    let lt : c.loop-k.k < checkpoints c.args.text.now = omega arith in
-    rw c.loop-k.invariant.offset_is (common_there c.args.text.now c.loop-k.k c.requires.meets lt)
-
 pub checkpoint_of-requires-clause-ranges : goal.checkpoint_of-requires-clause-ranges
 checkpoint_of-requires-clause-ranges c =
     let lt : c.loop-k.k < checkpoints c.args.text.now = omega arith in
-    rw c.loop-k.invariant.offset_is (ranges_hold c.args.text.now c.loop-k.k c.requires.meets lt)
+    rw c.loop-k.invariant.offset_is (checkpoint_holds c.args.text.now c.loop-k.k c.requires.meets lt).ranges
 
 pub checkpoint_of-requires-clause-keys : goal.checkpoint_of-requires-clause-keys
 checkpoint_of-requires-clause-keys c =
     let lt : c.loop-k.k < checkpoints c.args.text.now = omega arith in
-    rw c.loop-k.invariant.offset_is (keys_hold c.args.text.now c.loop-k.k c.requires.meets lt)
-
-pub checkpoint_of-requires-clause-output : goal.checkpoint_of-requires-clause-output
-checkpoint_of-requires-clause-output c =
-    let lt : c.loop-k.k < checkpoints c.args.text.now = omega arith in
-    rw (c.loop-k.invariant.offset_is, c.loop-k.invariant.from_is) (output_fits c.args.text.now c.loop-k.k c.requires.meets lt)
-
-pub u32_at-requires : goal.u32_at-requires
-u32_at-requires c =
-    let lt : c.loop-k.k < checkpoints c.args.text.now = omega arith in
-    let there = common_there c.args.text.now c.loop-k.k c.requires.meets lt in
-    let offset = c.loop-k.invariant.offset_is in
-    omega arith
-
-pub later_word-requires-clause-room : goal.later_word-requires-clause-room
-later_word-requires-clause-room c =
-    let lt : c.loop-k.k < checkpoints c.args.text.now = omega arith in
-    let there = common_there c.args.text.now c.loop-k.k c.requires.meets lt in
-    let offset = c.loop-k.invariant.offset_is in
-    omega arith
+    rw c.loop-k.invariant.offset_is (checkpoint_holds c.args.text.now c.loop-k.k c.requires.meets lt).keys
 
 pub checkpoint_len-requires-clause-changes : goal.checkpoint_len-requires-clause-changes
 checkpoint_len-requires-clause-changes c =
     let lt : c.loop-k.k < checkpoints c.args.text.now = omega arith in
-    rw (c.later_word.ensures, c.loop-k.invariant.offset_is) (changes_few c.args.text.now c.loop-k.k c.requires.meets lt)
+    rw (c.later_word.ensures, c.loop-k.invariant.offset_is) (checkpoint_holds c.args.text.now c.loop-k.k c.requires.meets lt).changes
 
 pub loop-k-preserved : goal.loop-k-preserved
 loop-k-preserved c =
@@ -89,35 +63,3 @@ loop-k-preserved c =
           ∙ ap (λ (x : CheckpointParts). checkpoints_at text k ++ x ∷ []) part
           ∙ sym (map-range_with_len_more (decoded text) 0 k k (omega arith));
     })
-
-pub overflow_add-offset : goal.overflow_add-offset
-overflow_add-offset c =
-    let lt : c.loop-k.k < checkpoints c.args.text.now = omega arith in
-    let there = common_there c.args.text.now c.loop-k.k c.requires.meets lt in
-    let offset = c.loop-k.invariant.offset_is in
-    omega arith
-
-pub overflow_add-from : goal.overflow_add-from
-overflow_add-from c =
-    let lt : c.loop-k.k < checkpoints c.args.text.now = omega arith in
-    let there = output_fits c.args.text.now c.loop-k.k c.requires.meets lt in
-    let own = rw c.loop-k.invariant.offset_is at c.u32_at.ensures in
-    let from = c.loop-k.invariant.from_is in
-    omega arith
-
-pub overflow_add-offset-in-loop-k : goal.overflow_add-offset-in-loop-k
-overflow_add-offset-in-loop-k c =
-    let lt : c.loop-k.k < checkpoints c.args.text.now = omega arith in
-    let there = common_there c.args.text.now c.loop-k.k c.requires.meets lt in
-    let offset = c.loop-k.invariant.offset_is in
-    omega arith
-
-pub overflow_add-offset-in-loop-k-2 : goal.overflow_add-offset-in-loop-k-2
-overflow_add-offset-in-loop-k-2 c =
-    let text = c.args.text.now in
-    let lt : c.loop-k.k < checkpoints text = omega arith in
-    let there = common_there text c.loop-k.k c.requires.meets lt in
-    let offset = c.loop-k.invariant.offset_is in
-    let few : c.later_word.result ≤ PLACES = rw (c.later_word.ensures, offset) (changes_few text c.loop-k.k c.requires.meets lt) in
-    let size = size_few (version text) c.later_word.result few in
-    omega arith

@@ -1,4 +1,4 @@
-use Rattle.oberon_format.proofs.ReadLemmas.{events_ordered}
+use Rattle.oberon_format.proofs.Decode.{events_ordered}
 use Rattle.oberon_format.proofs.reading.inputs_of.Goals as goal
 
 pub unreachable-requires : goal.unreachable-requires

@@ -1,11 +1,7 @@
 use Rattle.std.proofs.Common.{◌∙◌, ◌∷◌, ◌++◌, [], ℕ, List, length, ap, sym, arith}
 use Rattle.std.proofs.lemmas.List.FromFn.{length-map-range_with_len, map-range_with_len_more}
 use Rattle.oberon_format.specs.inner.Decoded.{page_at, pages_at, words_from}
-use Rattle.oberon_format.proofs.Room.{events_there}
 use Rattle.oberon_format.proofs.reading.pool_of.Goals as goal
-
-pub words_from-words-requires : goal.words_from-words-requires
-words_from-words-requires c = let there = events_there c.args.text.now c.requires in omega arith
 
 pub push-requires : goal.push-requires
 push-requires c =

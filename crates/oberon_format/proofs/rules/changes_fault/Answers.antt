@@ -1,24 +1,15 @@
-use Rattle.std.proofs.Common.{◌≡◌, ◌≢◌, ◌∙◌, true, false, refl, sym, arith, get_or-set_other}
+use Rattle.std.proofs.Common.{◌≡◌, ◌≢◌, ◌∙◌, true, false, sym, arith, get_or-set_other}
 use Rattle.std.specs.Prelude.{slice_index}
 use Rattle.std.proofs.lemmas.List.{length-set}
 use Rattle.oberon_format.specs.declared.fault.Fault.TheVariants as fault
 use Rattle.oberon_format.specs.Layout.{change_offset}
 use Rattle.oberon_format.specs.Ranges.{is_change}
-use Rattle.oberon_format.specs.Rules.{change_rules, place_floor}
+use Rattle.oberon_format.specs.Rules.{place_floor}
 use Rattle.oberon_format.specs.TextFields.{change_of}
-use Rattle.oberon_format.proofs.ChangeLemmas.{after_none, floor_above}
-use Rattle.oberon_format.proofs.RuleLemmas.{each_none, each_met, each_unmet}
-use Rattle.oberon_format.proofs.Tables.{change_made, change_tested, change_rises, change_inside}
+use Rattle.oberon_format.proofs.ChangeLemmas.{floor_above}
+use Rattle.oberon_format.proofs.RuleLemmas.{each_met, each_unmet}
+use Rattle.oberon_format.proofs.Walk.{change_made, change_tested, change_rises, change_inside}
 use Rattle.oberon_format.proofs.rules.changes_fault.Goals as goal
-
-pub loop-i-init : goal.loop-i-init
-loop-i-init c = record {
-  len = c.numbers-numbers.ensures.table.count;
-  met = each_none (change_rules c.args.pages c.args.offset (slice_index c.args.table.now) (change_of c.args.text.now c.args.offset));
-  floor_is = refl;
-  made = λ p lt. sym (after_none (change_of c.args.text.now c.args.offset) (slice_index c.args.table.now) p);
-  rest = λ p low lt. refl;
-}
 
 pub loop-i-preserved : goal.loop-i-preserved
 loop-i-preserved c =

@@ -1,4 +1,4 @@
-use Rattle.std.proofs.Common.{◌≡◌, ◌<◌, ◌≤◌, ◌+◌, ◌∙◌, ℕ, suc, true, List, length, Some, None, refl, sym, ap, subst, arith, add-one}
+use Rattle.std.proofs.Common.{◌≡◌, ◌<◌, ◌≤◌, ◌+◌, ◌∙◌, ℕ, suc, true, List, length, Some, None, sym, ap, subst, arith, add-one}
 use Rattle.std.specs.Prelude.{◌==◌}
 use Rattle.std.proofs.lemmas.Bool.{eqb-true}
 use Rattle.oberon_format.specs.declared.fields.CheckpointFields.{CheckpointFields}
@@ -9,35 +9,10 @@ use Rattle.oberon_format.specs.Layout.{long_at, word_at, version, checkpoints, c
 use Rattle.oberon_format.specs.Rules.{checkpoint_rules}
 use Rattle.oberon_format.specs.inner.Tested.{HasNumbers}
 use Rattle.oberon_format.specs.TextFields.{checkpoint_of, fields_of, number_before}
-use Rattle.oberon_format.proofs.Room.{start_none, start_next, size_first, events_there, whole_room, offset_next}
-use Rattle.oberon_format.proofs.RuleLemmas.{each_none, each_more, each_broken, output_below, output_below_none, output_below_more, count_before_more}
-use Rattle.oberon_format.proofs.TextLemmas.{numbers_none}
+use Rattle.oberon_format.proofs.Room.{start_next, size_first, whole_room, offset_next}
+use Rattle.oberon_format.proofs.RuleLemmas.{each_more, each_broken, output_below, output_below_more, count_before_more}
 use Rattle.oberon_format.proofs.rules.checkpoints_end.Goals as goal
 use Rattle.oberon_format.proofs.rules.checkpoints_end.Goals.{then-is_first, else-is_first}
-
-pub loop-k-init : goal.loop-k-init
-loop-k-init c =
-    let text = c.args.text.now in
-    let none = start_none text in
-    let there = events_there text c.requires in
-    let offset = c.first_checkpoint-offset.ensures in
-    record {
-      met = each_none (checkpoint_rules (fields_of text));
-      offset_is = offset;
-      room = omega arith;
-      before_is = refl;
-      sent_is = sym (output_below_none text);
-      small = omega arith;
-      table = λ is. subst (λ (t : List ℕ). HasNumbers t (number_before text 0)) (sym c.zeros-table.ensures) (numbers_none text);
-    }
-
-pub whole_checkpoint-tested-requires-clause-room : goal.whole_checkpoint-tested-requires-clause-room
-whole_checkpoint-tested-requires-clause-room c =
-    let text = c.args.text.now in
-    let test : (version text == FIRST_VERSION) ≡ true = sym c.is_first_version-is_first.ensures ∙ c.if-is_first.true in
-    let room = whole_room text c.loop-k.k c.requires (omega arith) (eqb-true _ _ test) in
-    let offset = c.loop-k.invariant.offset_is in
-    omega arith
 
 pub returns-in-Err : goal.returns-in-Err
 returns-in-Err c =

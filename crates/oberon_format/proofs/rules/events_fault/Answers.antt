@@ -1,27 +1,11 @@
-use Rattle.std.proofs.Common.{◌≡◌, ◌<◌, true, false, arith}
+use Rattle.std.proofs.Common.{◌≡◌, ◌<◌, false}
 use Rattle.oberon_format.specs.declared.fault.Fault.TheVariants as fault
-use Rattle.oberon_format.proofs.RuleLemmas.{each_none, each_met, each_unmet}
-use Rattle.oberon_format.proofs.Room.{events_there}
+use Rattle.oberon_format.proofs.RuleLemmas.{each_unmet}
 use Rattle.oberon_format.proofs.rules.events_fault.Goals as goal
 use Rattle.oberon_format.specs.Layout.{event_offset}
 use Rattle.oberon_format.specs.Ranges.{is_event}
-use Rattle.oberon_format.specs.Rules.{event_floor, event_rules}
+use Rattle.oberon_format.specs.Rules.{event_floor}
 use Rattle.oberon_format.specs.TextFields.{event_of, fields_of}
-
-pub event_floor-floor-requires-clause-room : goal.event_floor-floor-requires-clause-room
-event_floor-floor-requires-clause-room c = let there = events_there c.args.text.now c.requires in omega arith
-
-pub is_event-requires : goal.is_event-requires
-is_event-requires c = let there = events_there c.args.text.now c.requires in omega arith
-
-pub loop-i-init : goal.loop-i-init
-loop-i-init c = each_none (event_rules (fields_of c.args.text.now))
-
-pub loop-i-preserved : goal.loop-i-preserved
-loop-i-preserved c =
-    let text = c.args.text.now in
-    let holds : is_event (event_floor (fields_of text) c.loop-i.i) (event_of text (event_offset text c.loop-i.i)) ≡ true = cc in
-    each_met (λ k. is_event (event_floor (fields_of text) k) (event_of text (event_offset text k))) (λ k. fault.Event (event_offset text k)) c.loop-i.i c.loop-i.invariant holds
 
 pub returns-then-not-is_event : goal.returns-then-not-is_event
 returns-then-not-is_event c =

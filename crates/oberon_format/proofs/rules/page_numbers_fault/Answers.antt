@@ -1,22 +1,10 @@
-use Rattle.std.proofs.Common.{◌≡◌, true, false, nat_le, arith}
-use Rattle.std.proofs.lemmas.Bool.{le-leb, lt-leb}
+use Rattle.std.proofs.Common.{◌≡◌, false, nat_le, arith}
+use Rattle.std.proofs.lemmas.Bool.{lt-leb}
 use Rattle.oberon_format.specs.declared.fault.Fault.TheVariants as fault
 use Rattle.oberon_format.specs.declared.layout.TheConstants.{PLACES}
 use Rattle.oberon_format.specs.Layout.{page_number_offset, word_at}
-use Rattle.oberon_format.specs.Rules.{page_number_rules}
-use Rattle.oberon_format.proofs.RuleLemmas.{each_none, each_met, each_unmet}
+use Rattle.oberon_format.proofs.RuleLemmas.{each_unmet}
 use Rattle.oberon_format.proofs.rules.page_numbers_fault.Goals as goal
-
-pub loop-j-init : goal.loop-j-init
-loop-j-init c = each_none (page_number_rules c.args.pages c.args.offset (λ j. word_at c.args.text.now (page_number_offset c.args.offset j)))
-
-pub loop-j-preserved : goal.loop-j-preserved
-loop-j-preserved c =
-    let text = c.args.text.now in
-    let offset = c.args.offset in
-    let is = c.u32_at.ensures in
-    let holds : nat_le (word_at text (page_number_offset offset c.loop-j.j)) c.args.pages ≡ true = le-leb _ _ (omega arith) in
-    each_met (λ k. nat_le (word_at text (page_number_offset offset k)) c.args.pages) (λ k. fault.Page (page_number_offset offset k)) c.loop-j.j c.loop-j.invariant holds
 
 pub returns-then-u32_at-pages : goal.returns-then-u32_at-pages
 returns-then-u32_at-pages c =

@@ -1,9 +1,7 @@
-use Rattle.std.proofs.Common.{◌≡◌, ◌++◌, map, take}
-use Rattle.risc_pages.specs.Tables.{zero_numbers}
+use Rattle.std.proofs.Common.{◌≡◌, ◌++◌}
 use Rattle.oberon_format.specs.declared.layout.TheConstants.{VERSION}
-use Rattle.oberon_format.specs.CheckpointParts.{checkpoint_parts}
 use Rattle.oberon_format.specs.Encoding.{checkpoints_bytes}
 use Rattle.oberon_format.proofs.writing.push_checkpoints.Given as goal
 
 abbrev pub invariant-loop-k : goal.invariant-loop-k
-invariant-loop-k l = l.out.items ≡ l.fn.out.items ++ checkpoints_bytes VERSION zero_numbers (take l.k (map checkpoint_parts l.checkpoints))
+invariant-loop-k l = l.out.items ≡ l.fn.out.items ++ checkpoints_bytes VERSION l.r.checkpoints l.k
