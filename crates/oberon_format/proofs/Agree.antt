@@ -1,34 +1,14 @@
 -- An encoding of parts has their fields, and so their first fault.
-use Rattle.std.proofs.Common.{◌≡◌, ◌<◌, ◌≤◌, ◌+◌, ◌-◌, ◌*◌, ◌^◌, ◌∙◌, ℕ, zero, suc, true, List, [], ◌∷◌, ◌++◌, get_or, length, take, drop, refl, sym, ap, subst, inl, inr, arith, add-zero, length-append}
-use Rattle.std.specs.Prelude.{All, nat_le, slice_index, slice_range}
-use Rattle.std.specs.List.{flat_map}
-use Rattle.std.proofs.lemmas.List.{get_or-map, get_or_default}
-use Rattle.std.proofs.lemmas.List.Elements.{All-from_recursion}
-use Rattle.risc_devices.proofs.InputLemmas.{kind_fits, value_fits}
-use Rattle.risc_devices.specs.Input.{kind_of, value_of}
-use Rattle.risc_model.specs.declared.event.Event.{Event}
-use Rattle.oberon_format.specs.declared.fault.Fault.TheVariants as fault
-use Rattle.oberon_format.specs.declared.layout.TheConstants.{HEADER_LEN, FIRST_VERSION, VERSION, PLACES, CHANGE_LEN, KIND_AT, REGISTERS_AT, AUXILIARY_AT, KEYS_AT, SENT_AT, COMMON_LEN, TABLE_AT, RATE_AT, PHASE_AT, CHANGES_AT}
-use Rattle.oberon_format.specs.Changes.{changes, no_change, number_after}
-use Rattle.oberon_format.specs.CheckpointParts.{CheckpointParts, key_bytes, no_checkpoint}
-use Rattle.oberon_format.specs.Encoding.{long_bytes, words_bytes, event_bytes, field_words, common_bytes, change_bytes, later_words, tail_bytes, checkpoint_bytes, header_bytes, encoding}
-use Rattle.oberon_format.specs.Formed.{AreFormed, IsWritable, AreWritable}
-use Rattle.oberon_format.specs.FirstFault.{first_broken}
-use Rattle.oberon_format.specs.Layout.{word_at, long_at, version, pages, events, checkpoints, page_offset, event_start, event_offset, checkpoint_size, change_offset, change_count, later_word, start}
-use Rattle.oberon_format.specs.PartFields.{fields_in, event_fields, no_event, checkpoint_fields, changes_in, start_in}
-use Rattle.oberon_format.specs.Ranges.{is_version}
-use Rattle.oberon_format.specs.Recording.{RecordingParts, checkpoint_at, table_before, output_of}
+use Rattle.oberon_format.proofs.Common.{[], add-zero, All, All-from_recursion, ap, ap₂, AreFormed, AreWritable, arith, AUXILIARY_AT, change_bytes, change_count, CHANGE_LEN, change_of, change_offset, changes, CHANGES_AT, changes_in, checkpoint_at, checkpoint_bytes, checkpoint_fields, checkpoint_of, checkpoint_size, CheckpointParts, checkpoints, common_bytes, drop, encoding, Event, event_bytes, event_fields, event_of, event_offset, event_start, events, field_words, fields_in, fields_of, first_broken, first_fault_of, FIRST_VERSION, flat_map, get_or, get_or-map, get_or_default, header_bytes, HEADER_LEN, if◌then◌else◌, inl, inr, is_version, IsUnclocked, IsWritable, key_bytes, KEYS_AT, KIND_AT, kind_fits, kind_of, later_word, later_words, length, length-append, List, long_at, long_bytes, named_len, nat_le, no_change, no_checkpoint, no_event, number_after, number_before, output_of, page_at, page_number_of, page_offset, pages, PHASE_AT, PLACES, RATE_AT, RecordingParts, refl, REGISTERS_AT, SENT_AT, slice_index, slice_range, start, start_in, subst, suc, sym, TABLE_AT, table_before, tail_bytes, take, true, value_fits, value_of, VERSION, version, word_at, words_bytes, words_from, zero, ℕ, ◌*◌, ◌++◌, ◌+◌, ◌-◌, ◌<◌, ◌==◌, ◌^◌, ◌∙◌, ◌∷◌, ◌≡◌, ◌≤◌}
 use Rattle.oberon_format.specs.Rules.{rules}
-use Rattle.oberon_format.specs.Text.{IsUnclocked}
-use Rattle.oberon_format.specs.TextFields.{fields_of, event_of, checkpoint_of, change_of, number_before, page_number_of, first_fault_of}
-use Rattle.oberon_format.specs.inner.Decoded.{page_at, words_from}
 use Rattle.oberon_format.proofs.Bytes.{HasBytes, bytes_left, bytes_right, long_read, words_read, word_of, parts_read, length-long_bytes, length-words_bytes}
 use Rattle.oberon_format.proofs.ChangeLemmas.{change_in, changes_few, changes-make, after-same}
 use Rattle.oberon_format.proofs.Encoded.{AreAt, encoding_parts, length-encoding, change_words, change_wide, fields_wide, header_words, header_wide, later_wide, length-changes, length-common_bytes, length-key_bytes}
 use Rattle.oberon_format.proofs.PartLemmas.{member, table_next}
 use Rattle.oberon_format.proofs.RuleLemmas.{version_cases}
-use Rattle.oberon_format.proofs.SameFields.{SameFields, same_parts, same_rules}
+use Rattle.oberon_format.proofs.SameFields.{SameFields, mixed, same_rules, same_size}
 use Rattle.oberon_format.proofs.TextLemmas.{number_first, number_second, numbers_none}
+use Rattle.oberon_format.specs.declared.fault.Fault.TheVariants as fault
 
 -- an event at an offset has its fields there
 event_agrees : (text : List ℕ) (offset : ℕ) (e : Event) → HasBytes text offset (event_bytes e) → event_of text offset ≡ event_fields e
@@ -36,10 +16,9 @@ unfolding event_bytes words_from
 event_agrees text offset e s =
     let kind = kind_of e.input in
     let value = value_of e.input in
-    let few : kind < 6 = kind_fits kind value e.input.lawful in
     let count = long_read text offset e.count e.range (bytes_left text offset (long_bytes e.count) (words_bytes (kind ∷ value ∷ [])) s) in
     let words = words_read text offset KIND_AT (offset + KIND_AT) 2 (kind ∷ value ∷ []) refl refl
-    (All-from_recursion (λ x. x < 2 ^ 32) (kind ∷ value ∷ []) (omega arith, (value_fits kind value e.input.lawful, tt)))
+    (All-from_recursion (λ x. x < 2 ^ 32) (kind ∷ value ∷ []) (omega (arith, kind_fits kind value e.input.lawful, value_fits kind value e.input.lawful)))
     (bytes_right text offset (offset + KIND_AT) (long_bytes e.count) (words_bytes (kind ∷ value ∷ [])) (omega (arith, length-long_bytes e.count)) s) in
     λ i. record { count = count i; kind = slice_index (words i) 0; value = slice_index (words i) 1 }
 
@@ -81,20 +60,19 @@ common_agrees text p c fits s =
     }
 
 -- the rest of a checkpoint, by the version
-rest_at : (v : ℕ) (text : List ℕ) (p : ℕ) (before : List ℕ) (c : CheckpointParts) → IsWritable c → HasBytes text p (checkpoint_bytes v before c)
-    → HasBytes text (p + COMMON_LEN) (tail_bytes v before c)
-unfolding checkpoint_bytes
-rest_at v text p before c fits s = bytes_right text p (p + COMMON_LEN) (common_bytes c) (tail_bytes v before c) (omega (arith, length-common_bytes c fits.formed)) s
-
-table_is_at : (v : ℕ) (text : List ℕ) (p : ℕ) (before : List ℕ) (c : CheckpointParts) → v ≡ FIRST_VERSION → HasBytes text (p + COMMON_LEN) (tail_bytes v before c)
+table_is_at : (v : ℕ) (text : List ℕ) (p : ℕ) (before : List ℕ) (c : CheckpointParts) → IsWritable c → v ≡ FIRST_VERSION → HasBytes text p (checkpoint_bytes v before c)
     → HasBytes text (p + TABLE_AT) (words_bytes c.table)
-unfolding tail_bytes
-table_is_at v text p before c first s = subst (HasBytes text (p + TABLE_AT)) (ap (λ (n : ℕ). tail_bytes n before c) first) s
+unfolding checkpoint_bytes tail_bytes
+table_is_at v text p before c fits first s =
+    bytes_right text p (p + TABLE_AT) (common_bytes c) (words_bytes c.table) (omega (arith, length-common_bytes c fits.formed))
+    (subst (λ (n : ℕ). HasBytes text p (checkpoint_bytes n before c)) first s)
 
-later_is_at : (v : ℕ) (text : List ℕ) (p : ℕ) (before : List ℕ) (c : CheckpointParts) → v ≡ VERSION → HasBytes text (p + COMMON_LEN) (tail_bytes v before c)
+later_is_at : (v : ℕ) (text : List ℕ) (p : ℕ) (before : List ℕ) (c : CheckpointParts) → IsWritable c → v ≡ VERSION → HasBytes text p (checkpoint_bytes v before c)
     → HasBytes text (p + RATE_AT) (words_bytes (later_words before c) ++ flat_map change_bytes (changes before c.table))
-unfolding tail_bytes
-later_is_at v text p before c second s = subst (HasBytes text (p + RATE_AT)) (ap (λ (n : ℕ). tail_bytes n before c) second) s
+unfolding checkpoint_bytes tail_bytes
+later_is_at v text p before c fits second s =
+    bytes_right text p (p + RATE_AT) (common_bytes c) (words_bytes (later_words before c) ++ flat_map change_bytes (changes before c.table)) (omega (arith, length-common_bytes c fits.formed))
+    (subst (λ (n : ℕ). HasBytes text p (checkpoint_bytes n before c)) second s)
 
 -- the fields that only version 2 has
 pub record HasLater (v : ℕ) (text : List ℕ) (p : ℕ) (before : List ℕ) (c : CheckpointParts) : Type 0 where
@@ -109,11 +87,10 @@ later_agrees v text p before c known of fits unclocked s =
     elim (version_cases v known) [
       | inl first ↦ let none = unclocked first in record { rate = rw (of, first) (sym none.rate); phase = rw (of, first) (sym none.phase); count = rw (of, first) refl }
       | inr second ↦
-          let few = changes_few before c.table in
           let words = words_bytes (later_words before c) in
           let cs = flat_map change_bytes (changes before c.table) in
-          let later = words_read text p RATE_AT (p + RATE_AT) 3 (later_words before c) refl refl (later_wide before c fits (omega arith))
-          (bytes_left text (p + RATE_AT) words cs (later_is_at v text p before c second (rest_at v text p before c fits s))) in
+          let later = words_read text p RATE_AT (p + RATE_AT) 3 (later_words before c) refl refl (later_wide before c fits (omega (arith, changes_few before c.table)))
+          (bytes_left text (p + RATE_AT) words cs (later_is_at v text p before c fits second s)) in
           record {
             rate = rw (of, second) (ap (λ (ws : List ℕ). slice_index ws 0) later);
             phase = rw (of, second) (ap (λ (ws : List ℕ). slice_index ws 1) later);
@@ -154,7 +131,7 @@ change_agrees v text p before c second fits s i lt =
     let at = change_offset p i in
     let words = words_bytes (later_words before c) in
     let all = bytes_right text (p + RATE_AT) (p + CHANGES_AT) words (flat_map change_bytes cs) (omega (arith, length-words_bytes (later_words before c)))
-    (later_is_at v text p before c second (rest_at v text p before c fits s)) in
+    (later_is_at v text p before c fits second s) in
     let pair : words_from text at 0 2 ≡ change_words change = words_read text at 0 at 2 (change_words change) (omega arith) refl (change_wide before c.table fits.formed.table i no_change lt)
     (parts_read change_bytes CHANGE_LEN text (p + CHANGES_AT) cs (length-changes cs) all i no_change lt) in
     let place : word_at text at ≡ change.place = ap (word_at text) (sym (add-zero at)) ∙ ap (λ (ws : List ℕ). slice_index ws 0) pair in
@@ -166,24 +143,20 @@ module _ (v : ℕ) (text : List ℕ) (r : RecordingParts) (known : is_version v 
   unfolding header_bytes
   header = words_read text 0 0 0 6 (header_words v r) refl refl (header_wide v r known fits) are.header
 
-  number : (k : ℕ) → slice_index (words_from text 0 0 6) k ≡ slice_index (header_words v r) k
-  number k = ap (λ (ws : List ℕ). slice_index ws k) header
+  number : (k : ℕ) → k < 6 → word_at text (0 + (0 + 4 * k)) ≡ slice_index (header_words v r) k
+  number k lt = sym (word_of text 0 0 6 k 0 lt) ∙ ap (λ (ws : List ℕ). slice_index ws k) header
 
   pub version_is : version text ≡ v
-  unfolding words_from
-  version_is = number 1
+  version_is = number 1 (omega arith)
 
   pub pages_are : pages text ≡ length r.pool
-  unfolding words_from
-  pages_are = number 2
+  pages_are = number 2 (omega arith)
 
   pub events_are : events text ≡ length r.inputs
-  unfolding words_from
-  events_are = number 3
+  events_are = number 3 (omega arith)
 
   pub checkpoints_are : checkpoints text ≡ length r.checkpoints
-  unfolding words_from
-  checkpoints_are = number 4
+  checkpoints_are = number 4 (omega arith)
 
   -- the pages and the events
   pub page_is : (p : ℕ) (d : List ℕ) → p < length r.pool → page_at text p ≡ get_or r.pool p d
@@ -255,7 +228,7 @@ module _ (v : ℕ) (text : List ℕ) (r : RecordingParts) (known : is_version v 
               let count = table.count in
               let at = start text k in
               let words = words_read text at TABLE_AT (at + TABLE_AT) PLACES c.table refl (sym count) table.fit
-              (table_is_at v text at (table_before r.checkpoints k) c first (rest_at v text at (table_before r.checkpoints k) c (fit k lt) (at_start k lt))) in
+              (table_is_at v text at (table_before r.checkpoints k) c (fit k lt) first (at_start k lt)) in
               let e : at + TABLE_AT + 4 * p ≡ at + (TABLE_AT + 4 * p) = omega arith in
               number_first text k p (version_is ∙ first)
               ∙ ap (word_at text) e
@@ -279,24 +252,37 @@ module _ (v : ℕ) (text : List ℕ) (r : RecordingParts) (known : is_version v 
 
     -- all fields
     fields_agree : length text ≡ start_in v r (length r.checkpoints) + length (output_of r.checkpoints) → SameFields (fields_of text) (fields_in v r)
-    unfolding words_from
-    fields_agree long = record {
-      first = number 0;
-      version = version_is;
-      pages = pages_are;
-      events = events_are;
-      checkpoints = checkpoints_are;
-      last = number 5;
-      header = ap (λ (n : ℕ). first_broken ((nat_le HEADER_LEN n, fault.Short n) ∷ [])) long;
-      parts = λ _. same_parts (fields_of text) (fields_in v r) (record {
-        long = long;
-        event = λ i lt. let d = member r.inputs i lt in event_is i d lt ∙ sym (get_or-map event_fields r.inputs i d no_event lt);
-        start = start_is;
-        checkpoint = λ k lt. checkpoint_agrees v text (start text k) (table_before r.checkpoints k) (checkpoint_at r k) (common k lt) (later k lt);
-        change = all_changes;
-        page_number = numbers_agree;
-      });
-    }
+    fields_agree long =
+        let f = fields_of text in
+        let g = fields_in v r in
+        record {
+          first = number 0 (omega arith);
+          version = version_is;
+          pages = pages_are;
+          events = events_are;
+          checkpoints = checkpoints_are;
+          last = number 5 (omega arith);
+          header = same_size f g HEADER_LEN HEADER_LEN long refl;
+          parts = λ _. record {
+            named = same_size f g (named_len (mixed f g)) (named_len g) long
+                (ap₂ (λ (a b : ℕ). if v == FIRST_VERSION then a else b) (start_is (length r.checkpoints) (omega arith)) (start_is 0 (omega arith)));
+            event = λ i lt. let d = member r.inputs i lt in event_is i d lt ∙ sym (get_or-map event_fields r.inputs i d no_event lt);
+            start = start_is 0 (omega arith);
+            checkpoint = λ k lt _. record {
+              room = same_size f g (f.start k + CHANGES_AT) (g.start k + CHANGES_AT) long (ap (λ (n : ℕ). n + CHANGES_AT) (start_is k (omega arith)));
+              fields = checkpoint_agrees v text (start text k) (table_before r.checkpoints k) (checkpoint_at r k) (common k lt) (later k lt);
+              rest = λ _.
+                  let next = start_is (suc k) (omega arith) in
+                  record {
+                    next = next;
+                    ends = same_size f g (f.start (suc k)) (g.start (suc k)) long next;
+                    change = λ i less. all_changes k i lt less;
+                    page_number = λ p less. numbers_agree k p lt less;
+                  };
+            };
+            ends = λ _ so_far. λ i. first_broken ((nat_le (so_far.start i + so_far.sent i) (long i), fault.Short (long i)) ∷ (long i == so_far.start i + so_far.sent i, fault.Trailing (so_far.start i + so_far.sent i)) ∷ []);
+          };
+        }
 
 -- and so the first fault
 pub encoding_agrees : (v : ℕ) (r : RecordingParts) → is_version v ≡ true → (v ≡ FIRST_VERSION → All IsUnclocked r.checkpoints) → AreWritable r

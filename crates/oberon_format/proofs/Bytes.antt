@@ -1,22 +1,5 @@
 -- Bytes at an offset of a file, the numbers that they are, and what holds for each member of a list as it is filled.
-use Rattle.std.proofs.Common.{◌≡◌, ◌<◌, ◌+◌, ◌-◌, ◌/◌, ◌%◌, ◌^◌, ℕ, zero, suc, List, length, take, drop, refl, ap, ◌∙◌, arith, add-zero, ◌≢◌, [], ◌∷◌, ◌++◌, sym, subst, inl, inr, get_or, set, get_or-set_other, get_or-set_same, length-append, ◌≤◌, ◌*◌, append-nil}
-use Rattle.std.specs.Prelude.{◌==◌, if◌then◌else◌, All}
-use Rattle.std.proofs.lemmas.Bool.Decides.{nat_tests}
-use Rattle.std.proofs.lemmas.List.{get_or-drop, take_rest, get_or_append_left, get_or_push, drop-drop, drop-take, drop_at, get_or-take, get_or_past, length-drop, length-take, take-take, take_at}
-use Rattle.byteorder.specs.Endian.{little_from}
-use Rattle.oberon_format.specs.declared.ranges.TheConstants.{SERIAL_END}
-use Rattle.oberon_format.specs.Layout.{long_at, word_at}
-use Rattle.std.proofs.lemmas.Bool.{cases_lt}
-use Rattle.oberon_format.specs.FirstFault.{each}
-use Rattle.oberon_format.specs.inner.Decoded.{EachAt, words_from}
-use Rattle.std.specs.List.{flat_map}
-use Rattle.std.specs.Int.{bytes_low_first}
-use Rattle.std.proofs.Math.Seq.{take-add}
-use Rattle.std.proofs.lemmas.List.FromFn.{fill_by_all, get_or-map-range_with_len, length-map-range_with_len}
-use Rattle.std.proofs.lemmas.Nat.{le_bytes_4, le_bytes_8}
-use Rattle.byteorder.specs.Numbers.{length-bytes_low_first, little_from-take, little_number-reads_back}
-use Rattle.oberon_format.specs.Encoding.{long_bytes, word_bytes, words_bytes}
-use Rattle.oberon_format.specs.Text.{AreBytes}
+use Rattle.oberon_format.proofs.Common.{[], add-zero, All, ap, append-nil, AreBytes, arith, bytes_low_first, cases_lt, drop, drop-drop, drop-take, drop_at, each, EachAt, fill_by_all, flat_map, get_or, get_or-drop, get_or-map-range_with_len, get_or-set_other, get_or-set_same, get_or-take, get_or_append_left, get_or_past, get_or_push, if◌then◌else◌, inl, inr, le_bytes_4, le_bytes_8, length, length-append, length-bytes_low_first, length-drop, length-map-range_with_len, length-take, List, little_from, little_from-take, little_number-reads_back, long_at, long_bytes, nat_tests, refl, SERIAL_END, set, subst, suc, sym, take, take-add, take-take, take_at, take_rest, word_at, word_bytes, words_bytes, words_from, zero, ℕ, ◌%◌, ◌*◌, ◌++◌, ◌+◌, ◌-◌, ◌/◌, ◌<◌, ◌==◌, ◌^◌, ◌∙◌, ◌∷◌, ◌≡◌, ◌≢◌, ◌≤◌}
 
 -- the number at an offset in what follows an offset
 pub little_from-drop : (n k offset : ℕ) (text : List ℕ) → little_from k n (drop offset text) ≡ little_from (offset + k) n text
@@ -146,16 +129,14 @@ unfolding word_at word_bytes
 word_back text p h room =
     let bs = take 4 (drop p text) in
     let len : length bs ≡ 4 = omega (arith, length-take 4 (drop p text), length-drop p text) in
-    let number = number_there 4 text p in
-    record { is = sym (le_bytes_4 bs (little_from p 4 text) len (bytes_range text p 4 h) (omega arith)) }
+    record { is = sym (le_bytes_4 bs (little_from p 4 text) len (bytes_range text p 4 h) (omega (arith, number_there 4 text p))) }
 
 pub long_back : (text : List ℕ) (p : ℕ) → IsBytes text → p + 8 ≤ length text → HasBytes text p (long_bytes (long_at text p))
 unfolding long_at long_bytes
 long_back text p h room =
     let bs = take 8 (drop p text) in
     let len : length bs ≡ 8 = omega (arith, length-take 8 (drop p text), length-drop p text) in
-    let number = number_there 8 text p in
-    record { is = sym (le_bytes_8 bs (little_from p 8 text) len (bytes_range text p 8 h) (omega arith)) }
+    record { is = sym (le_bytes_8 bs (little_from p 8 text) len (bytes_range text p 8 h) (omega (arith, number_there 8 text p))) }
 
 pub length-word_bytes : (x : ℕ) → length (word_bytes x) ≡ 4
 unfolding word_bytes

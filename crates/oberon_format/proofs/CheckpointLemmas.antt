@@ -1,10 +1,5 @@
 -- The checkpoints of a recording, as Rust values and as parts.
-use Rattle.std.proofs.Common.{◌≡◌, ◌<◌, ◌∙◌, ℕ, List, map, get_or, length, sym, ap, subst, arith}
-use Rattle.std.proofs.lemmas.List.{get_or-map, length-map}
-use Rattle.risc_model.specs.declared.event.Event.{Event}
-use Rattle.oberon_format.specs.declared.checkpoint.Checkpoint.{Checkpoint}
-use Rattle.oberon_format.specs.CheckpointParts.{checkpoint_parts, no_checkpoint}
-use Rattle.oberon_format.specs.Recording.{parts_of, RecordingParts, IsLawful, IsFit}
+use Rattle.oberon_format.proofs.Common.{ap, arith, Checkpoint, checkpoint_parts, Event, get_or, get_or-map, IsFit, IsLawful, length, length-map, List, map, no_checkpoint, parts_of, RecordingParts, subst, sym, ℕ, ◌<◌, ◌∙◌, ◌≡◌}
 
 -- checkpoint k of the parts is that of the list
 pub checkpoint_at-is : (cs : List Checkpoint) (k : ℕ) (c : Checkpoint) → k < length cs → c ≡ get_or cs k c → get_or (map checkpoint_parts cs) k no_checkpoint ≡ checkpoint_parts c

@@ -1,29 +1,13 @@
 -- How long the file of a recording can be, and that a file that is cut after that many bytes has the first fault of the whole.
-use Rattle.std.proofs.Common.{◌≡◌, ◌≤◌, ◌<◌, ◌+◌, ◌-◌, ◌*◌, ◌==◌, ◌∙◌, ℕ, zero, suc, if◌then◌else◌, sym, subst, Bool, true, false, List, [], ◌∷◌, None, Some, inl, inr, arith, refl, ap, ap₂, drop, length, take}
-use Rattle.std.proofs.lemmas.Bool.{cases_lt, eqb-true, le-leb, ne_eqb}
-use Rattle.std.proofs.lemmas.List.{drop-take, length-take, take-take}
-use Rattle.byteorder.specs.Numbers.{little_from-take}
-use Rattle.std.specs.Prelude.{nat_le, slice_range}
-use Rattle.oberon_format.specs.FirstFault.{each, first_broken}
-use Rattle.oberon_format.specs.declared.fault.Fault.TheVariants as fault
-use Rattle.oberon_format.specs.declared.fields.CheckpointFields.{CheckpointFields}
-use Rattle.oberon_format.specs.declared.layout.TheConstants.{LONGEST_TEXT, HEADER_LEN, MAGIC_AT, VERSION_AT, PAGES_AT, EVENTS_AT, CHECKPOINTS_AT, LAST_AT, KIND_AT, VALUE_AT, COUNTER_AT, FLAGS_AT, STOP_AT, SWITCHES_AT, LEDS_AT, MOUSE_AT, SERIAL_AT, WAITING_AT, KEYS_AT, SENT_AT, RATE_AT, PHASE_AT, CHANGE_COUNT_AT, NUMBER_AT, FIRST_VERSION, PLACES, CHANGES_AT, CHANGE_LEN, EVENT_LEN}
-use Rattle.recording_limits.specs.declared.limits.TheConstants.{MAX_OUTPUT}
-use Rattle.oberon_format.specs.Changes.{number_after}
-use Rattle.oberon_format.specs.Fields.{Fields, sent_below, total}
-use Rattle.oberon_format.specs.Layout.{version, events, checkpoints, event_offset, event_start, long_at, page_number_offset, change_offset, checkpoint_size, change_count, later_word, start, word_at}
-use Rattle.oberon_format.specs.Recording.{RecordingParts}
-use Rattle.oberon_format.specs.Rules.{checkpoint_rules, named_len, whole}
-use Rattle.oberon_format.specs.Text.{Text}
-use Rattle.oberon_format.specs.TextFields.{change_at, change_of, checkpoint_of, event_of, fields_of, first_fault_of, number_before, page_number_of}
+use Rattle.oberon_format.proofs.Common.{[], ap, ap₂, arith, Bool, cases_lt, change_at, change_count, CHANGE_COUNT_AT, CHANGE_LEN, change_of, change_offset, CHANGES_AT, checkpoint_of, checkpoint_rules, checkpoint_size, CheckpointFields, checkpoints, CHECKPOINTS_AT, COUNTER_AT, drop, drop-take, each, eqb-true, EVENT_LEN, event_of, event_offset, event_start, events, EVENTS_AT, false, Fields, fields_of, first_broken, first_fault_of, FIRST_VERSION, FLAGS_AT, HEADER_LEN, if◌then◌else◌, inl, inr, KEYS_AT, KIND_AT, LAST_AT, later_word, le-leb, LEDS_AT, length, length-take, List, little_from-take, long_at, LONGEST_TEXT, MAGIC_AT, MAX_OUTPUT, MOUSE_AT, named_len, nat_le, ne_eqb, None, number_after, NUMBER_AT, number_before, page_number_of, page_number_offset, PAGES_AT, PHASE_AT, PLACES, RATE_AT, RecordingParts, refl, SENT_AT, sent_below, SERIAL_AT, slice_range, Some, start, STOP_AT, subst, suc, SWITCHES_AT, sym, take, take-take, Text, total, true, VALUE_AT, version, VERSION_AT, WAITING_AT, whole, word_at, zero, ℕ, ◌*◌, ◌+◌, ◌-◌, ◌<◌, ◌==◌, ◌∙◌, ◌∷◌, ◌≡◌, ◌≤◌}
 use Rattle.oberon_format.proofs.ChangeLemmas.{after-same}
 use Rattle.oberon_format.proofs.Encoded.{length-encoding}
 use Rattle.oberon_format.proofs.LawfulLemmas.{lawful_formed}
 use Rattle.oberon_format.proofs.PartLemmas.{start_in_within, size_few}
 use Rattle.oberon_format.proofs.Room.{start_next, start_none, named_first}
 use Rattle.oberon_format.proofs.RuleLemmas.{fields_hold, met_left, met_right}
-use Rattle.oberon_format.proofs.SameFields.{AreFew, Same, SameCheckpoint, SameFields, before_same, mixed, prior_same, same_rules, sent_same, size_rules}
-use Rattle.oberon_format.proofs.TextLemmas.{number_where, number_else}
+use Rattle.oberon_format.proofs.SameFields.{AreFew, Same, SameCheckpoint, SameFields, mixed, same_rules, size_rules}
+use Rattle.oberon_format.specs.declared.fault.Fault.TheVariants as fault
 
 -- numbers in bytes before the cut
 word_at-take : (n : ℕ) (text : List ℕ) (offset : ℕ) → offset + 4 ≤ n → word_at (take n text) offset ≡ word_at text offset
@@ -94,19 +78,10 @@ named_most : (text : List ℕ) → AreFew (fields_of text) → named_len (fields
 named_most text few = go (version text == FIRST_VERSION) refl
   where
     go : (b : Bool) → (version text == FIRST_VERSION) ≡ b → named_len (fields_of text) ≤ LONGEST_TEXT
-    go true is =
-        let few_pages = few.pages in
-        let few_events = few.events in
-        let few_checkpoints = few.checkpoints in
-        let begin = start_none text in
-        let named = named_first text (eqb-true (version text) FIRST_VERSION is) in
-        omega arith
+    go true is = omega (arith, few.pages, few.events, few.checkpoints, start_none text, named_first text (eqb-true (version text) FIRST_VERSION is))
     go false is =
-        let few_pages = few.pages in
-        let few_events = few.events in
-        let begin = start_none text in
         let named : named_len (fields_of text) ≡ start text 0 = rw is refl in
-        omega arith
+        omega (arith, few.pages, few.events, start_none text)
 
 -- a file is longer than it must be
 too_long : (end long : ℕ) → end < long → first_broken ((nat_le end long, fault.Short long) ∷ (long == end, fault.Trailing end) ∷ []) ≡ Some (fault.Trailing end)
@@ -122,14 +97,6 @@ both_long f g m n over over' low low' =
     let there' : nat_le n g.long ≡ true = le-leb _ _ (omega arith) in
     rw (there, there') refl
 
--- what holds below k, and at k
-last_or : (P : ℕ → Type 0) (k j : ℕ) → j < suc k → ((i : ℕ) → i < k → P i) → P k → P j
-last_or P k j lt below here =
-    elim (cases_lt j k) [
-      | inl less ↦ below j less
-      | inr more ↦ let e : k ≡ j = omega arith in subst P e here
-    ]
-
 -- a cut file, and the whole
 module _ (n : ℕ) (text : List ℕ) (over : LONGEST_TEXT < n) (within : n ≤ length text) where
   abbrev cut : List ℕ
@@ -144,60 +111,36 @@ module _ (n : ℕ) (text : List ℕ) (over : LONGEST_TEXT < n) (within : n ≤ l
   long : length cut ≡ n
   long = simp length-take (omega arith)
 
-  -- all before checkpoint k agrees, and is no longer than it may be
+  -- checkpoint k begins no later than it may, and all before it agrees
   record Below (k : ℕ) : Type 0 where
     place : start cut k ≡ start text k
     near : start text k ≤ most text k
-    checkpoints : (j : ℕ) → j < k → f.checkpoint j ≡ g.checkpoint j
-    numbers : (j p : ℕ) → j < k → p < PLACES → page_number_of cut j p ≡ page_number_of text j p
     sent : sent_below g k ≤ MAX_OUTPUT
+    numbers : (p : ℕ) → p < PLACES → number_before cut k p ≡ number_before text k p
 
   begins : Below 0
-  unfolding start total
+  unfolding start total number_before
   begins = record {
     place = ap₂ event_start (word_at-take n text PAGES_AT (omega arith)) (word_at-take n text EVENTS_AT (omega arith));
     near = omega arith;
-    checkpoints = λ j less. absurd (omega arith);
-    numbers = λ j p less inside. absurd (omega arith);
     sent = omega arith;
+    numbers = λ p inside. refl;
   }
-
-  -- both are of one version
-  first_cut : (version text == FIRST_VERSION) ≡ true → (version cut == FIRST_VERSION) ≡ true
-  first_cut first = ap (λ (v : ℕ). v == FIRST_VERSION) (version-take n text over) ∙ first
-
-  later_cut : (version text == FIRST_VERSION) ≡ false → (version cut == FIRST_VERSION) ≡ false
-  later_cut later = ap (λ (v : ℕ). v == FIRST_VERSION) (version-take n text over) ∙ later
-
-  -- the page ids before checkpoint k of version 2
-  numbers_below : (k : ℕ) → Below k → (version text == FIRST_VERSION) ≡ false → (p : ℕ) → p < PLACES → number_before cut k p ≡ number_before text k p
-  unfolding number_before
-  numbers_below zero below later p inside = refl
-  numbers_below (suc k) below later p inside = sym (number_else cut k p (later_cut later)) ∙ below.numbers k p (omega arith) inside ∙ number_else text k p later
 
   module _ (few : AreFew g) (k : ℕ) (less : k < checkpoints text) (below : Below k) where
     -- there is room for the longest checkpoint
     room : start text k + (CHANGES_AT + CHANGE_LEN * PLACES) ≤ LONGEST_TEXT
-    room =
-        let few_pages = few.pages in
-        let few_events = few.events in
-        let few_checkpoints = few.checkpoints in
-        let near = below.near in
-        omega arith
+    room = omega (arith, few.pages, few.events, few.checkpoints, below.near)
 
     -- what is in checkpoint k
     fields_here : f.checkpoint k ≡ g.checkpoint k
-    fields_here =
-        let space = room in
-        ap (checkpoint_of cut) below.place ∙ checkpoint_of-take n text (start text k) over (omega arith)
+    fields_here = ap (checkpoint_of cut) below.place ∙ checkpoint_of-take n text (start text k) over (omega (arith, room))
 
     count_here : change_count cut (start cut k) ≡ change_count text (start text k)
     count_here = ap (λ (c : CheckpointFields). c.changes) fields_here
 
     change_here : (i : ℕ) → i < PLACES → f.change k i ≡ g.change k i
-    change_here i inside =
-        let space = room in
-        ap (λ (offset : ℕ). change_of cut offset i) below.place ∙ change_at-take n text (change_offset (start text k) i) (omega arith)
+    change_here i inside = ap (λ (offset : ℕ). change_of cut offset i) below.place ∙ change_at-take n text (change_offset (start text k) i) (omega (arith, room))
 
     -- the offset of the next checkpoint
     next_start : start cut (suc k) ≡ start text (suc k)
@@ -207,54 +150,37 @@ module _ (n : ℕ) (text : List ℕ) (over : LONGEST_TEXT < n) (within : n ≤ l
     module _ (few_changes : change_count text (start text k) ≤ PLACES) where
       near_next : start text (suc k) ≤ most text (suc k)
       unfolding start
-      near_next =
-          let near = below.near in
-          let size = size_few (version text) (change_count text (start text k)) few_changes in
-          omega arith
+      near_next = omega (arith, below.near, size_few (version text) (change_count text (start text k)) few_changes)
 
-      -- its page ids
-      number_first : (version text == FIRST_VERSION) ≡ true → (p : ℕ) → p < PLACES → page_number_of cut k p ≡ page_number_of text k p
-      number_first first p inside =
-          let space = room in
-          number_where cut k p (first_cut first)
-          ∙ ap (λ (offset : ℕ). word_at cut (page_number_offset offset p)) below.place
-          ∙ word_at-take n text (page_number_offset (start text k) p) (omega arith)
-          ∙ sym (number_where text k p first)
-
-      number_later : (version text == FIRST_VERSION) ≡ false → (p : ℕ) → p < PLACES → page_number_of cut k p ≡ page_number_of text k p
+      -- its page ids, in version 2 and in either
+      changed_here : (p : ℕ) → p < PLACES → number_before cut (suc k) p ≡ number_before text (suc k) p
       unfolding number_before
-      number_later later p inside =
-          number_else cut k p (later_cut later)
-          ∙ ap (λ (m : ℕ). number_after (change_of cut (start cut k)) (number_before cut k) m p) count_here
+      changed_here p inside =
+          ap (λ (m : ℕ). number_after (change_of cut (start cut k)) (number_before cut k) m p) count_here
           ∙ after-same (change_of cut (start cut k)) (change_of text (start text k)) (number_before cut k) (number_before text k) (change_count text (start text k)) p
-          (λ i under. change_here i (omega arith)) (numbers_below k below later p inside)
-          ∙ sym (number_else text k p later)
+          (λ i under. change_here i (omega arith)) (below.numbers p inside)
 
       number_here : (p : ℕ) → p < PLACES → page_number_of cut k p ≡ page_number_of text k p
-      number_here p inside = go (version text == FIRST_VERSION) refl
-        where
-          go : (b : Bool) → (version text == FIRST_VERSION) ≡ b → page_number_of cut k p ≡ page_number_of text k p
-          go true first = number_first first p inside
-          go false later = number_later later p inside
+      number_here p inside =
+          let own = ap (λ (offset : ℕ). word_at cut (page_number_offset offset p)) below.place ∙ word_at-take n text (page_number_offset (start text k) p) (omega (arith, room)) in
+          let version_here = version-take n text over in
+          let changed = changed_here p inside in
+          λ i. if version_here i == FIRST_VERSION then own i else changed i
 
     -- what rules look at in it
     here : SameCheckpoint f g k
     here =
-        let space = room in
         let at = below.place in
         record {
-          start = below.place;
-          before = before_same f g k below.checkpoints;
-          sent = sent_same f g k below.checkpoints;
-          room = both_long f g (start cut k + CHANGES_AT) (start text k + CHANGES_AT) (omega (arith, long)) (omega arith) (omega arith) (omega arith);
+          room = both_long f g (start cut k + CHANGES_AT) (start text k + CHANGES_AT) (omega (arith, long)) (omega arith) (omega (arith, room)) (omega (arith, room));
           fields = fields_here;
           rest = λ few_changes.
               let next = next_start in
               let size = size_few (version text) (change_count text (start text k)) few_changes in
               let more = start_next text k in
               record {
-                ends = both_long f g (start cut (suc k)) (start text (suc k)) (omega (arith, long)) (omega arith) (omega arith) (omega arith);
-                prior = λ p inside. prior_same f g k p (λ j under. below.numbers j p under inside);
+                next = next;
+                ends = both_long f g (start cut (suc k)) (start text (suc k)) (omega (arith, long)) (omega arith) (omega (arith, room)) (omega (arith, room));
                 change = λ i under. change_here i (omega arith);
                 page_number = number_here few_changes;
               };
@@ -265,14 +191,7 @@ module _ (n : ℕ) (text : List ℕ) (over : LONGEST_TEXT < n) (within : n ≤ l
     unfolding total
     next met =
         let ranges = fields_hold g k met in
-        let few_changes = ranges.changes in
-        record {
-          place = next_start;
-          near = near_next few_changes;
-          checkpoints = λ j lt. last_or (λ i. f.checkpoint i ≡ g.checkpoint i) k j lt below.checkpoints fields_here;
-          numbers = λ j p lt inside. last_or (λ i. page_number_of cut i p ≡ page_number_of text i p) k j lt (λ i under. below.numbers i p under inside) (number_here few_changes p inside);
-          sent = ranges.within;
-        }
+        record { place = next_start; near = near_next ranges.changes; sent = ranges.within; numbers = changed_here ranges.changes }
 
   -- so all before each checkpoint agrees, if the rules of those before it are met
   below_met : AreFew g → (k : ℕ) → k ≤ checkpoints text → first_broken (each k (checkpoint_rules g)) ≡ None → Below k
@@ -287,17 +206,12 @@ module _ (n : ℕ) (text : List ℕ) (over : LONGEST_TEXT < n) (within : n ≤ l
       let of_pages = word_at-take n text PAGES_AT (omega arith) in
       let of_events = word_at-take n text EVENTS_AT (omega arith) in
       let of_checkpoints = word_at-take n text CHECKPOINTS_AT (omega arith) in
-      let few_pages = few.pages in
-      let few_events = few.events in
-      let few_checkpoints = few.checkpoints in
-      record { pages = omega arith; events = omega arith; checkpoints = omega arith }
+      record { pages = omega (arith, few.pages); events = omega (arith, few.events); checkpoints = omega (arith, few.checkpoints) }
 
   event_same : AreFew g → (i : ℕ) → i < events text → f.event i ≡ g.event i
   event_same few i less =
       let of_pages = word_at-take n text PAGES_AT (omega arith) in
-      let few_pages = few.pages in
-      let few_events = few.events in
-      event_of-take n text (event_offset cut i) (omega arith) ∙ ap (λ (p : ℕ). event_of text (event_start p i)) of_pages
+      event_of-take n text (event_offset cut i) (omega (arith, few.pages, few.events)) ∙ ap (λ (p : ℕ). event_of text (event_start p i)) of_pages
 
   agree : SameFields f g
   agree = record {
@@ -315,17 +229,15 @@ module _ (n : ℕ) (text : List ℕ) (over : LONGEST_TEXT < n) (within : n ≤ l
           (named_most cut (few_cut few)))
           (named_most text few);
       event = event_same few;
+      start = begins.place;
       checkpoint = λ k less met. here few k less (below_met few k (omega arith) met);
-      ends = λ met.
+      ends = λ met so_far.
           let below = below_met few (checkpoints text) (omega arith) met in
-          let near = below.near in
-          let sent = below.sent in
-          let few_pages = few.pages in
-          let few_events = few.events in
-          let few_checkpoints = few.checkpoints in
-          let same = ap₂ (λ (a b : ℕ). a + b) below.place (sent_same f g (checkpoints text) below.checkpoints) in
+          let end = so_far.start in
+          let sent = so_far.sent in
+          let bounds : (start text (checkpoints text) + sent_below g (checkpoints text)) ≤ LONGEST_TEXT = omega (arith, few.pages, few.events, few.checkpoints, below.near, below.sent) in
           too_long (start cut (checkpoints text) + sent_below f (checkpoints text)) (length cut) (omega (arith, long))
-          ∙ ap (λ (m : ℕ). Some (fault.Trailing m)) same
+          ∙ ap₂ (λ (a b : ℕ). Some (fault.Trailing (a + b))) end sent
           ∙ sym (too_long (whole g) (length text) (omega arith));
     };
   }
@@ -340,12 +252,7 @@ pub text_within : (text : List ℕ) (r : RecordingParts) → Text text r → len
 text_within text r some =
     let lawful = some.is.lawful in
     let long = ap (λ (l : List ℕ). length l) some.is.is ∙ length-encoding some.version r lawful.pool (lawful_formed r lawful) in
-    let near = start_in_within some.version r (length r.checkpoints) in
-    let few_pages = lawful.pages in
-    let few_events = lawful.events in
-    let few_checkpoints = lawful.few in
-    let output = lawful.output in
-    omega arith
+    omega (arith, start_in_within some.version r (length r.checkpoints), lawful.pages, lawful.events, lawful.few, lawful.output)
 
 -- so no file of a recording is cut there
 pub cut_is_no_text : (n : ℕ) (text : List ℕ) (r : RecordingParts) → LONGEST_TEXT < n → n ≤ length text → Text (take n text) r → ⊥

@@ -1,44 +1,15 @@
 -- What the reader makes of a file without a fault is the recording that the file encodes.
-use Rattle.std.proofs.Common.{◌≡◌, ◌<◌, ◌-◌, ◌∙◌, ℕ, List, [], length, sym, ap, arith, ◌≤◌, ◌+◌, ◌*◌, ◌^◌, zero, suc, Bool, true, false, cond, ◌∷◌, ◌++◌, take, drop, get_or, refl, subst, inl, inr, add-zero, length-append}
-use Rattle.std.specs.Prelude.{slice_index, nat_le, ◌==◌, if◌then◌else◌, All, slice_range}
-use Rattle.std.proofs.lemmas.List.{get_or-map, get_or_default, get_or_past}
-use Rattle.std.proofs.lemmas.Bool.{leb-true, cases_lt}
-use Rattle.risc_model.specs.declared.event.Event.{Event}
-use Rattle.risc_model.specs.InputOrder.{AreOrdered, count_at}
-use Rattle.risc_model.specs.InputOrder.{count_before as before_count}
-use Rattle.risc_model.specs.declared.inputs.TheConstants.{MAX_COUNT}
-use Rattle.oberon_format.specs.declared.fault.Fault.TheVariants as fault
-use Rattle.oberon_format.specs.declared.layout.TheConstants.{VERSION, FIRST_VERSION, PLACES, CHANGE_LEN, KIND_AT, REGISTERS_AT, AUXILIARY_AT, COUNTER_AT, FLAGS_AT, STOP_AT, TIMER_AT, SWITCHES_AT, LEDS_AT, MOUSE_AT, SERIAL_AT, WAITING_AT, KEYS_AT, SENT_AT, COMMON_LEN, TABLE_AT, RATE_AT, PHASE_AT, CHANGE_COUNT_AT, CHANGES_AT, NUMBER_AT}
-use Rattle.oberon_format.specs.Layout.{long_at, version, pages, events, checkpoints, event_offset, change_count, start, word_at, page_offset, page_number_offset, change_offset, later_word, checkpoint_size, output_offset}
-use Rattle.oberon_format.specs.Ranges.{is_event}
-use Rattle.oberon_format.specs.Rules.{event_rules, event_floor, place_floor, prior_number, count_before}
-use Rattle.oberon_format.specs.inner.Tested.{HasNumbers, Meets}
-use Rattle.oberon_format.specs.inner.Decoded.{EachAt, IsEventAt, decoded, page_at, pages_at, checkpoints_at, table_at, words_from}
-use Rattle.oberon_format.specs.TextFields.{fields_of, event_of, change_of, number_before, checkpoint_of, first_fault_of, page_number_of}
+use Rattle.oberon_format.proofs.Common.{[], add-zero, All, All-drop, All-take, ap, AreBytes, AreFormed, AreOrdered, ArePages, AreWritable, arith, AUXILIARY_AT, before_count, between_none, cases_lt, Change, change_bytes, change_count, CHANGE_COUNT_AT, CHANGE_LEN, change_of, change_offset, changes, CHANGES_AT, changes_in, checkpoint_at, checkpoint_bytes, checkpoint_of, checkpoint_size, CheckpointParts, checkpoints, CHECKPOINTS_AT, checkpoints_at, common_bytes, count_before, COUNTER_AT, decoded, drop, EachAt, Event, event_bytes, event_floor, event_offset, event_rules, events, EVENTS_AT, field_words, fields_of, fill_by_all, first_fault_of, FIRST_VERSION, FLAGS_AT, flat_map, get_or, get_or-map, get_or-map-range_with_len, get_or_default, get_or_past, HasNumbers, header_bytes, if◌then◌else◌, inl, inr, IsEventAt, IsFormed, IsLawful, IsPage, IsUnclocked, IsWritable, key_bytes, KEYS_AT, KIND_AT, kind_of, later_word, later_words, leb-true, LEDS_AT, length, length-append, length-between, length-map-range_with_len, List, little_from-lt, long_at, long_bytes, map-range_with_len_more, MAX_COUNT, Meets, MOUSE_AT, no_change, no_checkpoint, NUMBER_AT, number_back, number_before, output_of, output_offset, page_at, page_number_of, page_number_offset, page_offset, pages, PAGES_AT, pages_at, PHASE_AT, place_floor, PLACES, prior_number, RATE_AT, RecordingParts, refl, REGISTERS_AT, SENT_AT, SERIAL_AT, slice_index, slice_range, start, start_in, STOP_AT, subst, suc, SWITCHES_AT, sym, TABLE_AT, table_at, table_before, tail_bytes, take, Text, TIMER_AT, value_of, VERSION, version, WAITING_AT, word_at, words_bytes, words_from, zero, ℕ, ◌*◌, ◌++◌, ◌+◌, ◌-◌, ◌<◌, ◌==◌, ◌^◌, ◌∙◌, ◌∷◌, ◌≡◌, ◌≤◌}
+use Rattle.risc_model.specs.InputOrder.{count_at}
 use Rattle.oberon_format.proofs.ChangeLemmas.{AreLawful, after-bounded, after-same, change_in, lawful-are}
 use Rattle.oberon_format.proofs.PartLemmas.{member, table_next}
-use Rattle.oberon_format.proofs.RuleLemmas.{each_holds, rule_holds, and_left, and_right, FieldsMet, checkpoint_holds, output_below, output_below_more, output_below_none, version_cases}
+use Rattle.oberon_format.proofs.RuleLemmas.{each_holds, and_left, and_right, FieldsMet, checkpoint_holds, output_below, output_below_more, output_below_none, version_cases, none_hold}
 use Rattle.oberon_format.proofs.Walk.{change_rises, change_inside, change_differs}
 use Rattle.oberon_format.proofs.TextLemmas.{prior_is, checkpoint_changed, later_first, later_second, number_first, number_second, numbers_none}
-use Rattle.std.specs.List.{flat_map}
-use Rattle.std.proofs.lemmas.List.Elements.{All-take, All-drop}
-use Rattle.std.proofs.lemmas.List.FromFn.{length-map-range_with_len, get_or-map-range_with_len, fill_by_all, map-range_with_len_more}
-use Rattle.byteorder.specs.Numbers.{little_from-lt}
-use Rattle.risc_core.proofs.FlagsLemmas.{number_back}
-use Rattle.risc_devices.specs.Input.{kind_of, value_of}
-use Rattle.risc_pages.specs.Pages.{IsPage, ArePages}
-use Rattle.oberon_format.specs.declared.change.Change.{Change}
-use Rattle.oberon_format.specs.Changes.{changes, no_change}
-use Rattle.oberon_format.specs.CheckpointParts.{CheckpointParts, key_bytes, no_checkpoint}
-use Rattle.oberon_format.specs.Encoding.{long_bytes, words_bytes, event_bytes, field_words, common_bytes, change_bytes, later_words, tail_bytes, checkpoint_bytes, header_bytes}
-use Rattle.oberon_format.specs.Formed.{IsFormed, AreFormed, IsWritable, AreWritable}
-use Rattle.oberon_format.specs.PartFields.{changes_in, start_in}
-use Rattle.oberon_format.specs.Recording.{RecordingParts, IsLawful, checkpoint_at, table_before, output_of}
-use Rattle.oberon_format.specs.Text.{AreBytes, IsUnclocked, Text}
 use Rattle.oberon_format.proofs.Agree.{encoding_agrees}
 use Rattle.oberon_format.proofs.Bytes.{HasBytes, IsBytes, all_bytes, bytes_join, length-long_bytes, length-words_bytes, length-words_from, long_back, parts_back, word_of, words_back, serial_whole}
 use Rattle.oberon_format.proofs.Encoded.{AreAt, header_words, length-changes, length-common_bytes, length-key_bytes, parts_encoding}
-use Rattle.oberon_format.proofs.Output.{keys-are_at, length-range, output_all, output_fits, output_more, range-none}
+use Rattle.oberon_format.proofs.Output.{keys-are_at, output_all, output_fits, output_more}
 use Rattle.oberon_format.proofs.LawfulLemmas.{faultless_lawful}
 use Rattle.oberon_format.proofs.Room.{common_there, changes_there, events_there, whole_there}
 
@@ -55,12 +26,12 @@ events_ordered text es meets len each offset lt =
     let before : before_count es offset ≡ event_floor f offset =
     ap (λ (n : ℕ). if offset == 0 then 0 else n) (count_is_at text es (offset - 1) each (omega arith)) in
     let one = each_holds (event_rules f) (events text) offset (omega arith) meets.events_meet in
-    let holds = (rule_holds (is_event (event_floor f offset) (event_of text (event_offset text offset))) (fault.Event (event_offset text offset)) [] one).0 in
+    let holds = (none_hold (event_rules f offset) one).0 in
     let count = long_at text (event_offset text offset) in
     let counts = and_left _ _ holds in
-    let low = leb-true (event_floor f offset) count (and_left (nat_le (event_floor f offset) count) (nat_le count MAX_COUNT) counts) in
-    let high = leb-true count MAX_COUNT (and_right (nat_le (event_floor f offset) count) (nat_le count MAX_COUNT) counts) in
-    (omega arith, omega arith)
+    let low = leb-true (event_floor f offset) count (and_left _ _ counts) in
+    let high = leb-true count MAX_COUNT (and_right _ _ counts) in
+    omega (arith, here, before)
 
 -- the changes of a checkpoint that breaks no rule are lawful after the table before it
 pub changes_lawful : (text : List ℕ) (k : ℕ) (before : List ℕ) → Meets text → k < checkpoints text → version text ≡ VERSION → HasNumbers before (number_before text k)
@@ -88,11 +59,7 @@ long_fits text offset bytes = little_from-lt offset 8 text (all_bytes text bytes
 
 -- the words that only version 2 has fit, and so do page ids of either version
 later_fits : (text : List ℕ) (offset : ℕ) → AreBytes text → later_word text offset < 2 ^ 32
-later_fits text offset bytes = go (version text == FIRST_VERSION)
-  where
-    go : (b : Bool) → cond b 0 (word_at text offset) < 2 ^ 32
-    go true = omega arith
-    go false = word_fits text offset bytes
+later_fits text offset bytes = let fits = word_fits text offset bytes in grind arith
 
 before_fits : (text : List ℕ) (k p : ℕ) → AreBytes text → number_before text k p ≤ 2 ^ 32 - 1
 unfolding number_before
@@ -102,11 +69,10 @@ before_fits text (suc k) p bytes =
     (λ i lt. let fits = word_fits text (change_offset (start text k) i + NUMBER_AT) bytes in omega arith) (before_fits text k p bytes)
 
 number_fits : (text : List ℕ) (k p : ℕ) → AreBytes text → page_number_of text k p < 2 ^ 32
-number_fits text k p bytes = go (version text == FIRST_VERSION)
-  where
-    go : (b : Bool) → cond b (word_at text (page_number_offset (start text k) p)) (number_before text (suc k) p) < 2 ^ 32
-    go true = word_fits text (page_number_offset (start text k) p) bytes
-    go false = let fits = before_fits text (suc k) p bytes in omega arith
+number_fits text k p bytes =
+    let own = word_fits text (page_number_offset (start text k) p) bytes in
+    let changed = before_fits text (suc k) p bytes in
+    grind arith
 
 words_fit : (text : List ℕ) (offset from n i : ℕ) → AreBytes text → slice_index (words_from text offset from n) i < 2 ^ 32
 words_fit text offset from n i bytes =
@@ -147,16 +113,10 @@ module _ (text : List ℕ) (bytes : AreBytes text) (meets : Meets text) where
     room = common_there text k meets lt
 
     keys_len : length c.devices.keys ≡ word_at text (o + WAITING_AT)
-    keys_len =
-        let keys = few.waiting in
-        let there = room in
-        omega (arith, length-range text (o + KEYS_AT) (o + KEYS_AT + word_at text (o + WAITING_AT)) (omega arith) (omega arith))
+    keys_len = length-between text (o + KEYS_AT) (o + KEYS_AT + word_at text (o + WAITING_AT)) (omega (arith, room, few.waiting)) ∙ omega arith
 
     sent_len : length c.sent ≡ word_at text (o + SENT_AT)
-    sent_len =
-        let from = output_offset text + output_below text k in
-        let there = output_fits text k meets lt in
-        omega (arith, length-range text from (from + word_at text (o + SENT_AT)) (omega arith) there)
+    sent_len = length-between text (output_offset text + output_below text k) _ (output_fits text k meets lt) ∙ omega arith
 
     -- its parts are as their types guarantee, and fit
     formed : IsFormed c
@@ -164,24 +124,21 @@ module _ (text : List ℕ) (bytes : AreBytes text) (meets : Meets text) where
       registers = length-words_from text o REGISTERS_AT 16;
       words = λ a. words_fit text o REGISTERS_AT 16 a bytes;
       auxiliary = word_fits text (o + AUXILIARY_AT) bytes;
-      devices =
-          let keys = few.waiting in
-          let len = keys_len in
-          record {
-            timer = word_fits text (o + TIMER_AT) bytes;
-            rate = later_fits text (o + RATE_AT) bytes;
-            phase = few.phase;
-            switches = few.switches;
-            leds = few.leds;
-            mouse = few.mouse;
-            serial = omega arith;
-            keys = omega arith;
-            codes = All-take (λ code. code < 2 ^ 8) (o + KEYS_AT + word_at text (o + WAITING_AT) - (o + KEYS_AT)) (drop (o + KEYS_AT) text)
-                (All-drop (λ code. code < 2 ^ 8) (o + KEYS_AT) text bytes);
-          };
+      devices = record {
+        timer = word_fits text (o + TIMER_AT) bytes;
+        rate = later_fits text (o + RATE_AT) bytes;
+        phase = few.phase;
+        switches = few.switches;
+        leds = few.leds;
+        mouse = few.mouse;
+        serial = omega (arith, few.serial);
+        keys = omega (arith, keys_len, few.waiting);
+        codes = All-take (λ code. code < 2 ^ 8) (o + KEYS_AT + word_at text (o + WAITING_AT) - (o + KEYS_AT)) (drop (o + KEYS_AT) text)
+            (All-drop (λ code. code < 2 ^ 8) (o + KEYS_AT) text bytes);
+      };
       table = record {
         count = length-table_at text k;
-        fit = λ p d less. let len = length-table_at text k in rw (table_of text k p d (omega arith)) (number_fits text k p bytes);
+        fit = λ p d less. rw (table_of text k p d (omega (arith, length-table_at text k))) (number_fits text k p bytes);
       };
       bytes = let from = output_offset text + output_below text k in
           All-take (λ byte. byte < 2 ^ 8) (from + word_at text (o + SENT_AT) - from) (drop from text) (All-drop (λ byte. byte < 2 ^ 8) from text bytes);
@@ -193,7 +150,7 @@ module _ (text : List ℕ) (bytes : AreBytes text) (meets : Meets text) where
       count = long_fits text o bytes;
       counter = word_fits text (o + COUNTER_AT) bytes;
       stop = word_fits text (o + STOP_AT) bytes;
-      sent = let len = sent_len in let small = word_fits text (o + SENT_AT) bytes in omega arith;
+      sent = omega (arith, sent_len, word_fits text (o + SENT_AT) bytes);
     }
 
     -- the fields that begin it are in the file
@@ -278,17 +235,16 @@ module _ (text : List ℕ) (bytes : AreBytes text) (meets : Meets text) where
     abbrev v : ℕ
     v = version text
 
-    tail_back : (before : List ℕ) → (v ≡ VERSION → HasNumbers before (number_before text k)) → HasBytes text (o + COMMON_LEN) (tail_bytes v before c)
-    unfolding tail_bytes
-    tail_back before has =
-        elim (version_cases v meets.sized.known) [
-          | inl first ↦ subst (HasBytes text (o + COMMON_LEN)) (ap (λ (n : ℕ). tail_bytes n before c) (sym first)) (whole_back first)
-          | inr second ↦ subst (HasBytes text (o + COMMON_LEN)) (ap (λ (n : ℕ). tail_bytes n before c) (sym second)) (changed_back second before (has second))
-        ]
-
     checkpoint_back : (before : List ℕ) → (v ≡ VERSION → HasNumbers before (number_before text k)) → HasBytes text o (checkpoint_bytes v before c)
-    unfolding checkpoint_bytes
-    checkpoint_back before has = bytes_join text o (o + COMMON_LEN) (common_bytes c) (tail_bytes v before c) (omega (arith, length-common_bytes c formed)) common_back (tail_back before has)
+    unfolding checkpoint_bytes tail_bytes
+    checkpoint_back before has =
+        let len = length-common_bytes c formed in
+        let back : ℕ → Type 0 = λ (n : ℕ). HasBytes text o (checkpoint_bytes n before c) in
+        elim (version_cases v meets.sized.known) [
+          | inl first ↦ subst back (sym first) (bytes_join text o (o + TABLE_AT) (common_bytes c) (words_bytes c.table) (omega arith) common_back (whole_back first))
+          | inr second ↦ subst back (sym second) (bytes_join text o (o + RATE_AT) (common_bytes c) (words_bytes (later_words before c) ++ flat_map change_bytes (changes before c.table)) (omega arith)
+              common_back (changed_back second before (has second)))
+        ]
 
     count_back : (before : List ℕ) → (v ≡ VERSION → HasNumbers before (number_before text k)) → changes_in v before c ≡ change_count text o
     count_back before has =
@@ -314,7 +270,9 @@ module _ (text : List ℕ) (bytes : AreBytes text) (meets : Meets text) where
       ∙ table_of text k p 0 less ∙ number_second text k p second
 
   outputs : (n : ℕ) → n ≤ checkpoints text → slice_range text (output_offset text) (output_offset text + output_below text n) ≡ output_of (checkpoints_at text n)
-  outputs zero le = let none = output_below_none text in range-none text (output_offset text) (output_offset text + output_below text 0) (omega arith)
+  outputs zero le =
+      let none : output_offset text + output_below text 0 ≡ output_offset text = omega (arith, output_below_none text) in
+      ap (slice_range text (output_offset text)) none ∙ between_none text (output_offset text)
   outputs (suc n) le =
       let from = output_offset text + output_below text n in
       let more = output_below_more text n in
@@ -336,7 +294,7 @@ module _ (text : List ℕ) (bytes : AreBytes text) (meets : Meets text) where
     pages_len = length-map-range_with_len (page_at text) 0 (pages text)
 
     page_is : (p : ℕ) (d : List ℕ) → p < length r.pool → page_at text p ≡ get_or r.pool p d
-    page_is p d lt = let len = pages_len in sym (get_or-map-range_with_len (page_at text) 0 (pages text) p p d (omega arith) (omega arith))
+    page_is p d lt = sym (get_or-map-range_with_len (page_at text) 0 (pages text) p p d (omega (arith, pages_len)) (omega arith))
 
     all_pages : ArePages r.pool
     all_pages p d lt = subst IsPage (page_is p d lt) (record {
@@ -345,25 +303,19 @@ module _ (text : List ℕ) (bytes : AreBytes text) (meets : Meets text) where
     })
 
     inside : (k : ℕ) → k < length r.checkpoints → k < K
-    inside k lt = let len = length-checkpoints_at K in omega arith
+    inside k lt = omega (arith, length-checkpoints_at K)
 
     all_formed : AreFormed r.checkpoints
     all_formed k d lt = subst IsFormed (sym (checkpoint_is K k d (inside k lt))) (formed k (inside k lt))
 
     writes : AreWritable r
-    writes =
-        let np = pages_len in
-        let nk = length-checkpoints_at K in
-        let a = word_fits text 8 bytes in
-        let b = word_fits text 12 bytes in
-        let e = word_fits text 16 bytes in
-        record {
-          pool = all_pages;
-          pages = omega arith;
-          events = omega arith;
-          few = omega arith;
-          checkpoints = λ k d lt. subst IsWritable (sym (checkpoint_is K k d (inside k lt))) (fits k (inside k lt));
-        }
+    writes = record {
+      pool = all_pages;
+      pages = omega (arith, pages_len, word_fits text PAGES_AT bytes);
+      events = omega (arith, word_fits text EVENTS_AT bytes);
+      few = omega (arith, length-checkpoints_at K, word_fits text CHECKPOINTS_AT bytes);
+      checkpoints = λ k d lt. subst IsWritable (sym (checkpoint_is K k d (inside k lt))) (fits k (inside k lt));
+    }
 
     start_back : (k : ℕ) → k ≤ K → start_in (version text) r k ≡ start text k
     unfolding start start_in

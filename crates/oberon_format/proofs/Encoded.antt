@@ -1,29 +1,5 @@
 -- The parts of an encoding at their offsets.
-use Rattle.std.proofs.Common.{◌≡◌, ◌<◌, ◌≤◌, ◌+◌, ◌*◌, ◌^◌, ◌∙◌, ℕ, zero, suc, Bool, false, cond, List, [], ◌∷◌, ◌++◌, length, take, drop, get_or, refl, sym, ap, subst, inl, inr, true, arith, length-append}
-use Rattle.std.specs.Prelude.{◌==◌}
-use Rattle.std.specs.List.{flat_map}
-use Rattle.std.proofs.lemmas.Bool.{cases_lt}
-use Rattle.std.proofs.lemmas.Bool.Decides.{nat_tests}
-use Rattle.std.proofs.lemmas.List.{drop_at, get_or_default, length-replicate, take-append-drop}
-use Rattle.std.proofs.lemmas.List.Elements.{All-from_recursion}
-use Rattle.risc_devices.specs.DeviceState.{DeviceState, is_phase, IsPhase}
-use Rattle.risc_devices.proofs.InputLemmas.{mouse_word_fits}
-use Rattle.risc_model.specs.declared.event.Event.{Event}
-use Rattle.risc_pages.specs.Pages.{ArePages}
-use Rattle.risc_pages.specs.Tables.{IsTable}
-use Rattle.oberon_format.specs.declared.change.Change.{Change}
-use Rattle.oberon_format.specs.declared.layout.TheConstants.{MAGIC, FIRST_VERSION, VERSION, HEADER_LEN, PAGE_LEN, EVENT_LEN, CHECKPOINT_LEN, COMMON_LEN, CHANGE_LEN, CHANGES_AT}
-use Rattle.oberon_format.specs.declared.ranges.TheConstants.{MAX_KEYS}
-use Rattle.oberon_format.specs.Changes.{changes, no_change}
-use Rattle.oberon_format.specs.CheckpointParts.{CheckpointParts, key_bytes, no_checkpoint}
-use Rattle.oberon_format.specs.Layout.{page_offset, event_start, checkpoint_size}
-use Rattle.oberon_format.specs.PartFields.{changes_in, start_in}
-use Rattle.oberon_format.specs.Formed.{IsFormed, AreFormed, IsWritable, AreWritable}
-use Rattle.oberon_format.specs.Recording.{RecordingParts, IsLawful, checkpoint_at, table_before, output_of}
-use Rattle.oberon_format.specs.Encoding.{words_bytes, event_bytes, field_words, common_bytes, change_bytes, later_words, tail_bytes, checkpoint_bytes, checkpoints_bytes, header_bytes, encoding}
-use Rattle.oberon_format.specs.Ranges.{is_version}
-use Rattle.oberon_format.specs.Text.{TextIn}
-use Rattle.oberon_format.specs.inner.Decoded.{EachAt}
+use Rattle.oberon_format.proofs.Common.{[], All-from_recursion, ap, AreFormed, ArePages, AreWritable, arith, Bool, cases_lt, Change, change_bytes, CHANGE_LEN, changes, CHANGES_AT, changes_in, checkpoint_at, checkpoint_bytes, CHECKPOINT_LEN, checkpoint_size, CheckpointParts, checkpoints_bytes, common_bytes, COMMON_LEN, cond, DeviceState, drop, drop_at, EachAt, encoding, Event, event_bytes, EVENT_LEN, event_start, false, field_words, FIRST_VERSION, flat_map, get_or, get_or_default, header_bytes, HEADER_LEN, inl, inr, is_phase, is_version, IsFormed, IsLawful, IsPhase, IsTable, IsWritable, key_bytes, later_words, length, length-append, length-replicate, List, MAGIC, MAX_KEYS, mouse_word_fits, nat_tests, no_change, no_checkpoint, output_of, PAGE_LEN, page_offset, RecordingParts, refl, start_in, subst, suc, sym, table_before, tail_bytes, take, take-append-drop, TextIn, true, VERSION, words_bytes, zero, ℕ, ◌*◌, ◌++◌, ◌+◌, ◌<◌, ◌==◌, ◌^◌, ◌∙◌, ◌∷◌, ◌≡◌, ◌≤◌}
 use Rattle.oberon_format.proofs.Bytes.{AreWide, HasBytes, HaveLength, bytes_whole, bytes_join, bytes_left, bytes_right, length-long_bytes, length-parts, length-word_bytes, length-words_bytes, parts_back, parts_read}
 use Rattle.oberon_format.proofs.ChangeLemmas.{change_in, changes-lawful, changes-new}
 use Rattle.oberon_format.proofs.LawfulLemmas.{flags_fit, lawful_formed, serial_fits}
@@ -35,19 +11,13 @@ length-header_bytes : (v : ℕ) (r : RecordingParts) → length (header_bytes v 
 unfolding header_bytes
 length-header_bytes v r = simp (length-append, length-word_bytes)
 
-length-event_bytes : (e : Event) → length (event_bytes e) ≡ EVENT_LEN
-unfolding event_bytes
-length-event_bytes e = simp (length-append, length-long_bytes, length-word_bytes)
-
-length-change_bytes : (change : Change) → length (change_bytes change) ≡ CHANGE_LEN
-unfolding change_bytes
-length-change_bytes change = simp (length-append, length-word_bytes)
-
 pub length-changes : (cs : List Change) → HaveLength change_bytes CHANGE_LEN cs
-length-changes cs i d lt = length-change_bytes (get_or cs i d)
+unfolding change_bytes
+length-changes cs i d lt = simp (length-append, length-word_bytes)
 
 pub length-events : (es : List Event) → HaveLength event_bytes EVENT_LEN es
-length-events es i d lt = length-event_bytes (get_or es i d)
+unfolding event_bytes
+length-events es i d lt = simp (length-append, length-long_bytes, length-word_bytes)
 
 pub length-pages : (pool : List (List ℕ)) → ArePages pool → HaveLength words_bytes PAGE_LEN pool
 length-pages pool pages i d lt = let whole = (pages i d lt).whole in omega (arith, length-words_bytes (get_or pool i d))
@@ -107,8 +77,7 @@ module _ (v : ℕ) (r : RecordingParts) (paged : ArePages r.pool) (formed : AreF
   length-blocks zero le = omega arith
   length-blocks (suc n) le =
       let so_far = length-blocks n (omega arith) in
-      let own = length-checkpoint_bytes v (table_before r.checkpoints n) (checkpoint_at r n) (formed n no_checkpoint (omega arith)) in
-      omega (arith, length-append (checkpoints_bytes v r.checkpoints n) (bytes_of v r n))
+      omega (arith, length-checkpoint_bytes v (table_before r.checkpoints n) (checkpoint_at r n) (formed n no_checkpoint (omega arith)), length-append (checkpoints_bytes v r.checkpoints n) (bytes_of v r n))
 
   blocks_read : (text : List ℕ) (n : ℕ) → n ≤ length r.checkpoints → HasBytes text (start_in v r 0) (checkpoints_bytes v r.checkpoints n)
       → (k : ℕ) → k < n → HasBytes text (start_in v r k) (bytes_of v r k)
@@ -134,7 +103,6 @@ module _ (v : ℕ) (r : RecordingParts) (paged : ArePages r.pool) (formed : AreF
 
   -- where each group of parts ends
   record Ends : Type 0 where
-    header : HEADER_LEN ≡ length H
     pages : page_offset (length r.pool) ≡ length (H ++ P)
     events : start_in v r 0 ≡ length (H ++ P ++ E)
     checkpoints : start_in v r (length r.checkpoints) ≡ length (H ++ P ++ E ++ C)
@@ -146,12 +114,7 @@ module _ (v : ℕ) (r : RecordingParts) (paged : ArePages r.pool) (formed : AreF
       let p = length-parts words_bytes PAGE_LEN r.pool (length-pages r.pool paged) in
       let e = length-parts event_bytes EVENT_LEN r.inputs (length-events r.inputs) in
       let c = length-blocks (length r.checkpoints) (omega arith) in
-      record {
-        header = omega arith;
-        pages = omega (arith, length-append H P);
-        events = omega (arith, length-append (H ++ P) E, length-append H P);
-        checkpoints = omega (arith, length-append (H ++ P ++ E) C, length-append (H ++ P) E, length-append H P);
-      }
+      omega (arith, length-append H P, length-append (H ++ P) E, length-append (H ++ P ++ E) C)
 
   -- those of an encoding are there
   pub encoding_parts : AreAt v (encoding v r) r
@@ -163,7 +126,7 @@ module _ (v : ℕ) (r : RecordingParts) (paged : ArePages r.pool) (formed : AreF
       let s2 = bytes_left text 0 (H ++ P) E s3 in
       record {
         header = bytes_left text 0 H P s2;
-        pages = parts_read words_bytes PAGE_LEN text HEADER_LEN r.pool (length-pages r.pool paged) (bytes_right text 0 HEADER_LEN H P (omega (arith, ends.header)) s2);
+        pages = parts_read words_bytes PAGE_LEN text HEADER_LEN r.pool (length-pages r.pool paged) (bytes_right text 0 HEADER_LEN H P (omega (arith, length-header_bytes v r)) s2);
         events = parts_read event_bytes EVENT_LEN text (page_offset (length r.pool)) r.inputs (length-events r.inputs)
             (bytes_right text 0 (page_offset (length r.pool)) (H ++ P) E (omega (arith, ends.pages)) s3);
         checkpoints = blocks_read text (length r.checkpoints) (omega arith) (bytes_right text 0 (start_in v r 0) (H ++ P ++ E) C (omega (arith, ends.events)) s4);
@@ -183,7 +146,7 @@ module _ (v : ℕ) (r : RecordingParts) (paged : ArePages r.pool) (formed : AreF
       let p = parts_back words_bytes PAGE_LEN text HEADER_LEN r.pool (length-pages r.pool paged) are.pages in
       let e = parts_back event_bytes EVENT_LEN text (page_offset (length r.pool)) r.inputs (length-events r.inputs) are.events in
       let c = blocks_back text (length r.checkpoints) (omega arith) are.checkpoints in
-      let hp = bytes_join text 0 HEADER_LEN H P (omega (arith, ends.header)) are.header p in
+      let hp = bytes_join text 0 HEADER_LEN H P (omega (arith, length-header_bytes v r)) are.header p in
       let hpe = bytes_join text 0 (page_offset (length r.pool)) (H ++ P) E (omega (arith, ends.pages)) hp e in
       let all = bytes_join text 0 (start_in v r 0) (H ++ P ++ E) C (omega (arith, ends.events)) hpe c in
       sym (take-append-drop n text)
@@ -199,20 +162,14 @@ phase_fits rate phase small fits = grind (arith, nat_tests)
 -- the words of a checkpoint whose numbers fit
 pub fields_wide : (c : CheckpointParts) → IsWritable c → AreWide (field_words c)
 fields_wide c fits =
-    let flags = flags_fit c.cpu in
     let devices = fits.formed.devices in
-    let switches = devices.switches in
-    let leds = devices.leds in
-    let mouse = mouse_word_fits c.devices.mouse devices.mouse in
-    let serial = serial_fits c.devices devices in
-    let keys = devices.keys in
     All-from_recursion (λ x. x < 2 ^ 32) (field_words c)
-    (fits.formed.auxiliary, (fits.counter, (omega arith, (fits.stop, (devices.timer, (omega arith, (omega arith, (omega arith, (omega arith, (omega arith, tt))))))))))
+    (omega (arith, fits, devices, flags_fit c.cpu, mouse_word_fits c.devices.mouse devices.mouse, serial_fits c.devices devices))
 
 pub later_wide : (before : List ℕ) (c : CheckpointParts) → IsWritable c → length (changes before c.table) < 2 ^ 32 → AreWide (later_words before c)
 later_wide before c fits few =
     let devices = fits.formed.devices in
-    All-from_recursion (λ x. x < 2 ^ 32) (later_words before c) (devices.rate, (phase_fits c.devices.rate c.devices.phase devices.rate devices.phase, (few, tt)))
+    All-from_recursion (λ x. x < 2 ^ 32) (later_words before c) (omega (arith, devices, phase_fits c.devices.rate c.devices.phase devices.rate devices.phase, few))
 
 abbrev pub header_words : ℕ → RecordingParts → List ℕ
 header_words v r = MAGIC ∷ v ∷ length r.pool ∷ length r.inputs ∷ length r.checkpoints ∷ 0 ∷ []
@@ -220,42 +177,37 @@ header_words v r = MAGIC ∷ v ∷ length r.pool ∷ length r.inputs ∷ length 
 pub header_wide : (v : ℕ) (r : RecordingParts) → is_version v ≡ true → AreWritable r → AreWide (header_words v r)
 header_wide v r known fits =
     let small : v < 2 ^ 32 = elim (version_cases v known) [ inl first ↦ omega arith | inr second ↦ omega arith ] in
-    All-from_recursion (λ x. x < 2 ^ 32) (header_words v r) (omega arith, (small, (fits.pages, (fits.events, (fits.few, (omega arith, tt))))))
+    All-from_recursion (λ x. x < 2 ^ 32) (header_words v r) (omega (arith, small, fits))
 
 abbrev pub change_words : Change → List ℕ
 change_words change = change.place ∷ change.number ∷ []
 
 pub change_wide : (before table : List ℕ) → IsTable table → (i : ℕ) (d : Change) → i < length (changes before table) → AreWide (change_words (get_or (changes before table) i d))
 change_wide before table fits i d lt =
-    let count = fits.count in
     let change = change_in before table i in
     let inside = (changes-lawful before table).inside i lt in
-    let is = changes-new before table i lt in
-    let small = fits.fit change.place 0 (omega arith) in
+    let small = fits.fit change.place 0 (omega (arith, inside, fits.count)) in
     subst (λ (c : Change). AreWide (change_words c)) (get_or_default (changes before table) i no_change d lt)
-    (All-from_recursion (λ x. x < 2 ^ 32) (change_words change) (omega arith, (omega arith, tt)))
+    (All-from_recursion (λ x. x < 2 ^ 32) (change_words change) (omega (arith, inside, small, changes-new before table i lt)))
 
 -- the numbers of a lawful recording fit
 pub writable : (r : RecordingParts) → IsLawful r → AreWritable r
-writable r p =
-    let few_pages = p.pages in
-    let few_events = p.events in
-    let few_checkpoints = p.few in
-    let limit = p.output in
-    record {
-      pool = p.pool;
-      pages = omega arith;
-      events = omega arith;
-      few = omega arith;
-      checkpoints = λ i d h.
-          let fit = p.fit i h in
-          let bounded = fit.bounded in
-          let counter = fit.cpu.counter in
-          let stops = fit.cpu.stops in
-          let le = sent_le r.checkpoints i no_checkpoint h in
-          let here : IsWritable (checkpoint_at r i) = record { formed = lawful_formed r p i no_checkpoint h; count = omega arith; counter = omega arith; stop = omega arith; sent = omega arith } in
-          subst IsWritable (get_or_default r.checkpoints i no_checkpoint d h) here;
-    }
+writable r p = record {
+  pool = p.pool;
+  pages = omega (arith, p.pages);
+  events = omega (arith, p.events);
+  few = omega (arith, p.few);
+  checkpoints = λ i d h.
+      let fit = p.fit i h in
+      let here : IsWritable (checkpoint_at r i) = record {
+        formed = lawful_formed r p i no_checkpoint h;
+        count = omega (arith, fit.bounded);
+        counter = omega (arith, fit.cpu.counter);
+        stop = omega (arith, fit.cpu.stops);
+        sent = omega (arith, sent_le r.checkpoints i no_checkpoint h, p.output);
+      } in
+      subst IsWritable (get_or_default r.checkpoints i no_checkpoint d h) here;
+}
 
 -- a lawful recording has an encoding in the current version
 pub encoded : (r : RecordingParts) → IsLawful r → TextIn VERSION (encoding VERSION r) r

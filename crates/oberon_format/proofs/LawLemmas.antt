@@ -1,34 +1,11 @@
 -- The laws of recordings and their files. A file without a fault is that of a recording.
-use Rattle.std.proofs.Common.{◌≡◌, Option, Some, None, ◌<◌, ◌≤◌, ◌+◌, ◌∙◌, ℕ, zero, suc, List, [], ◌∷◌, ◌++◌, length, refl, sym, ap, arith, length-append, ◌-◌, ◌^◌, get_or, subst}
-use Rattle.std.specs.Prelude.{MatchOption, slice_index_or}
-use Rattle.risc_devices.proofs.InputLemmas.{input_of, kind_of-input_of, value_of-input_of}
-use Rattle.risc_model.specs.declared.event.Event.{Event}
-use Rattle.oberon_format.specs.declared.fault.Fault.{Fault}
-use Rattle.oberon_format.specs.declared.layout.TheConstants.{KIND_AT, VALUE_AT, VERSION}
-use Rattle.oberon_format.specs.inner.Decoded.{EachAt, IsEventAt, pages_at, checkpoints_at}
-use Rattle.oberon_format.specs.inner.Tested.{Meets}
-use Rattle.oberon_format.specs.Layout.{word_at, long_at, pages, events, checkpoints, event_offset, version}
-use Rattle.oberon_format.specs.Recording.{RecordingParts, IsLawful, table_before}
-use Rattle.oberon_format.specs.Text.{AreBytes, Text, TextIn}
-use Rattle.oberon_format.specs.TextFields.{first_fault_of}
+use Rattle.oberon_format.proofs.Common.{[], All-append, All-cons, All-nil, All-replicate, ap, AreBytes, AreFormed, AreWritable, arith, byte_at, bytes_low_first, change_bytes, changes, checkpoint_bytes, CheckpointParts, checkpoints, checkpoints_at, checkpoints_bytes, common_bytes, EachAt, encoding, Event, event_bytes, event_offset, events, Fault, field_words, first_fault_of, flat_map, get_or, header_bytes, input_of, IsEventAt, IsFormed, KIND_AT, kind_of, kind_of-input_of, later_words, length, length-append, List, long_at, long_bytes, MatchOption, Meets, no_checkpoint, None, Option, pages, pages_at, RecordingParts, refl, slice_index_or, Some, suc, sym, table_before, tail_bytes, Text, VALUE_AT, value_of, value_of-input_of, VERSION, word_at, word_bytes, words_bytes, zero, ℕ, ◌++◌, ◌+◌, ◌-◌, ◌<◌, ◌^◌, ◌∙◌, ◌∷◌, ◌≡◌, ◌≤◌}
 use Rattle.oberon_format.proofs.Agree.{encoding_agrees}
 use Rattle.oberon_format.proofs.Decode.{decoded_is, long_fits}
 use Rattle.oberon_format.proofs.Bytes.{each_push}
-use Rattle.oberon_format.proofs.Encoded.{writable, encoded, header_words}
+use Rattle.oberon_format.proofs.Encoded.{writable, header_words}
 use Rattle.oberon_format.proofs.LawfulLemmas.{lawful_faultless}
 use Rattle.oberon_format.proofs.RuleLemmas.{none_meets, event_input}
-use Rattle.std.specs.List.{flat_map}
-use Rattle.std.specs.Int.{byte_at, bytes_low_first}
-use Rattle.std.proofs.lemmas.List.Elements.{All-nil, All-cons, All-append, All-replicate}
-use Rattle.risc_devices.specs.Input.{kind_of, value_of}
-use Rattle.oberon_format.specs.declared.change.Change.{Change}
-use Rattle.oberon_format.specs.Changes.{changes}
-use Rattle.oberon_format.specs.CheckpointParts.{CheckpointParts, no_checkpoint}
-use Rattle.oberon_format.specs.Migration.{IsMigrated}
-use Rattle.oberon_format.specs.Formed.{IsFormed, AreFormed, AreWritable}
-use Rattle.oberon_format.specs.Encoding.{word_bytes, long_bytes, words_bytes, event_bytes, field_words, common_bytes, change_bytes, later_words, tail_bytes, checkpoint_bytes, checkpoints_bytes, header_bytes, encoding}
-use Rattle.oberon_format.specs.PartFields.{fault_of_parts}
-use Rattle.oberon_format.proofs.One.{in_version, same_recording, same_text}
 
 -- the first n events
 record Events (text : List ℕ) (n : ℕ) : Type 0 where
@@ -67,17 +44,13 @@ has_recording text bytes meets =
     )
 
 -- a file has a recording or a first fault
-by_fault : (text : List ℕ) (o : Option Fault) → AreBytes text → first_fault_of text ≡ o
+pub by_fault : (text : List ℕ) (o : Option Fault) → AreBytes text → first_fault_of text ≡ o
     → MatchOption o ((r : RecordingParts) × Text text r) (λ fault. (r : RecordingParts) → ¬ (Text text r))
 by_fault text None bytes e = has_recording text bytes (none_meets text e)
 by_fault text (Some f) bytes e = λ r is.
     let file = is.is in
     let none : first_fault_of text ≡ None = ap first_fault_of file.is ∙ encoding_agrees is.version r file.known file.unclocked (writable r file.lawful) ∙ lawful_faultless is.version r file.known file.lawful in
     absurd cc
-
-pub text_or_fault : (text : List ℕ) → AreBytes text
-    → MatchOption (first_fault_of text) ((r : RecordingParts) × Text text r) (λ fault. (r : RecordingParts) → ¬ (Text text r))
-text_or_fault text bytes = by_fault text (first_fault_of text) bytes refl
 
 -- the bytes of numbers are bytes
 byte_small : (i n : ℕ) → byte_at i n < 2 ^ 8
@@ -88,14 +61,6 @@ low_bytes : (i k n : ℕ) → AreBytes (bytes_low_first i k n)
 low_bytes i zero n = All-nil (λ byte. byte < 2 ^ 8)
 low_bytes i (suc k) n = All-cons (λ byte. byte < 2 ^ 8) _ (bytes_low_first (suc i) k n) (byte_small i n) (low_bytes (suc i) k n)
 
-word_are : (x : ℕ) → AreBytes (word_bytes x)
-unfolding word_bytes
-word_are x = low_bytes 0 4 x
-
-long_are : (x : ℕ) → AreBytes (long_bytes x)
-unfolding long_bytes
-long_are x = low_bytes 0 8 x
-
 join : (xs ys : List ℕ) → AreBytes xs → AreBytes ys → AreBytes (xs ++ ys)
 join xs ys a b = All-append (λ byte. byte < 2 ^ 8) xs ys a b
 
@@ -103,26 +68,23 @@ all_are : {X : Type 0} (f : X → List ℕ) (xs : List X) → ((i : ℕ) (d : X)
 all_are {X} f [] each = All-nil (λ byte. byte < 2 ^ 8)
 all_are {X} f (x ∷ xs) each = join (f x) (flat_map f xs) (each 0 x (omega arith)) (all_are f xs (λ i d lt. each (suc i) d (omega arith)))
 
-words_are_bytes : (xs : List ℕ) → AreBytes (words_bytes xs)
-words_are_bytes xs = all_are word_bytes xs (λ i d lt. word_are (get_or xs i d))
+words_are : (xs : List ℕ) → AreBytes (words_bytes xs)
+unfolding word_bytes
+words_are xs = all_are word_bytes xs (λ i d lt. low_bytes 0 4 (get_or xs i d))
 
-event_are : (e : Event) → AreBytes (event_bytes e)
-unfolding event_bytes
-event_are e = join _ _ (long_are _) (words_are_bytes (kind_of e.input ∷ value_of e.input ∷ []))
+long_are : (x : ℕ) → AreBytes (long_bytes x)
+unfolding long_bytes
+long_are x = low_bytes 0 8 x
 
 common_are : (c : CheckpointParts) → IsFormed c → AreBytes (common_bytes c)
 unfolding common_bytes
 common_are c fits =
     let keys = join _ _ fits.devices.codes (All-replicate (λ byte. byte < 2 ^ 8) (16 - length c.devices.keys) 0 (omega arith)) in
-    join _ _ (join _ _ (join _ _ (join _ _ (long_are _) (words_are_bytes c.cpu.r)) (words_are_bytes (field_words c))) keys) (words_are_bytes (length c.sent ∷ []))
-
-change_are : (change : Change) → AreBytes (change_bytes change)
-unfolding change_bytes
-change_are change = words_are_bytes (change.place ∷ change.number ∷ [])
+    join _ _ (join _ _ (join _ _ (join _ _ (long_are _) (words_are c.cpu.r)) (words_are (field_words c))) keys) (words_are (length c.sent ∷ []))
 
 checkpoint_are : (before : List ℕ) (c : CheckpointParts) → IsFormed c → AreBytes (checkpoint_bytes VERSION before c)
-unfolding checkpoint_bytes tail_bytes
-checkpoint_are before c fits = join _ _ (common_are c fits) (join _ _ (words_are_bytes (later_words before c)) (all_are change_bytes (changes before c.table) (λ i d lt. change_are (get_or (changes before c.table) i d))))
+unfolding checkpoint_bytes tail_bytes change_bytes
+checkpoint_are before c fits = join _ _ (common_are c fits) (join _ _ (words_are (later_words before c)) (all_are change_bytes (changes before c.table) (λ i d lt. let change = get_or (changes before c.table) i d in words_are (change.place ∷ change.number ∷ []))))
 
 checkpoints_are : (cs : List CheckpointParts) → AreFormed cs → (n : ℕ) → n ≤ length cs → AreBytes (checkpoints_bytes VERSION cs n)
 unfolding checkpoints_bytes
@@ -132,32 +94,10 @@ checkpoints_are cs formed (suc n) le =
 
 -- parts whose numbers fit are encoded in bytes
 pub text_of_parts : (r : RecordingParts) → AreWritable r → AreBytes (encoding VERSION r)
-unfolding encoding header_bytes
+unfolding encoding header_bytes event_bytes
 text_of_parts r fits =
     let formed : AreFormed r.checkpoints = λ i d lt. (fits.checkpoints i d lt).formed in
-    let pages = all_are words_bytes r.pool (λ i d lt. words_are_bytes (get_or r.pool i d)) in
-    let events = all_are event_bytes r.inputs (λ i d lt. event_are (get_or r.inputs i d)) in
+    let pages = all_are words_bytes r.pool (λ i d lt. words_are (get_or r.pool i d)) in
+    let events = all_are event_bytes r.inputs (λ i d lt. let e = get_or r.inputs i d in join _ _ (long_are e.count) (words_are (kind_of e.input ∷ value_of e.input ∷ []))) in
     let output = all_are (λ (c : CheckpointParts). c.sent) r.checkpoints (λ i d lt. (formed i d lt).bytes) in
-    join _ _ (join _ _ (join _ _ (join _ _ (words_are_bytes (header_words VERSION r)) pages) events) (checkpoints_are r.checkpoints formed (length r.checkpoints) (omega arith))) output
-
--- and their encoding has their first fault
-pub fault_of_encoding : (r : RecordingParts) → AreWritable r → first_fault_of (encoding VERSION r) ≡ fault_of_parts r
-fault_of_encoding r fits = encoding_agrees VERSION r refl (λ first. absurd (omega arith)) fits
-
--- a lawful recording has a file in the current version
-pub one_text : (r : RecordingParts) → IsLawful r → (text : List ℕ) × AreBytes text × TextIn VERSION text r
-one_text r lawful = (encoding VERSION r, text_of_parts r (writable r lawful), encoded r lawful)
-
--- reading what is written returns what was written
-pub read_back : (r s : RecordingParts) (text : List ℕ) → TextIn VERSION text r → Text text s → s ≡ r
-read_back r s text written read = same_recording text s r read (record { version = VERSION; is = written })
-
--- and writing what was read from a file of that version returns the file
-pub written_back : (text other : List ℕ) (r : RecordingParts) → version text ≡ VERSION → Text text r → TextIn VERSION other r → other ≡ text
-written_back text other r is read written = same_text VERSION r text other (in_version VERSION text r is read) written
-
--- a migrated file is its own migration
-pub migrated_again : (text migrated again : List ℕ) → IsMigrated text migrated → IsMigrated migrated again → again ≡ migrated
-migrated_again text migrated again first second =
-    let one : second.recording ≡ first.recording = read_back first.recording second.recording migrated first.written second.read in
-    same_text VERSION first.recording migrated again first.written (subst (λ (r : RecordingParts). TextIn VERSION again r) one second.written)
+    join _ _ (join _ _ (join _ _ (join _ _ (words_are (header_words VERSION r)) pages) events) (checkpoints_are r.checkpoints formed (length r.checkpoints) (omega arith))) output

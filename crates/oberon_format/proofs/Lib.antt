@@ -1,3 +1,4 @@
+pub mod Common
 pub mod CheckpointLemmas
 pub mod RuleLemmas
 pub mod ChangeLemmas

@@ -1,26 +1,5 @@
 -- A file is that of at most one recording: an encoding determines what it encodes, and where it ends.
-use Rattle.std.proofs.Common.{◌≡◌, ◌<◌, ◌-◌, ◌^◌, ◌∙◌, ℕ, zero, suc, true, List, [], ◌∷◌, length, take, drop, get_or, refl, sym, ap, subst, arith}
-use Rattle.std.proofs.Props.{props}
-use Rattle.std.specs.Prelude.{All, replicate, slice_index}
-use Rattle.std.proofs.lemmas.List.{take_at, drop_at, get_or_default, same_lists}
-use Rattle.risc_core.specs.Flags.{flags_number, flags_of}
-use Rattle.risc_core.specs.declared.flags.Flags.{Flags}
-use Rattle.risc_core.proofs.FlagsLemmas.{flags_back}
-use Rattle.risc_devices.specs.declared.input.Input.{Input}
-use Rattle.risc_devices.specs.DeviceState.{DeviceState}
-use Rattle.risc_devices.proofs.InputLemmas.{same_input}
-use Rattle.risc_devices.proofs.DeviceLemmas.{same_devices}
-use Rattle.risc_model.specs.declared.event.Event.{Event}
-use Rattle.oberon_format.specs.declared.layout.TheConstants.{FIRST_VERSION}
-use Rattle.oberon_format.specs.declared.ranges.TheConstants.{MAX_KEYS}
-use Rattle.oberon_format.specs.CheckpointParts.{CheckpointParts, key_bytes, no_checkpoint}
-use Rattle.oberon_format.specs.Encoding.{field_words}
-use Rattle.oberon_format.specs.Formed.{AreWritable}
-use Rattle.oberon_format.specs.Layout.{version, start}
-use Rattle.oberon_format.specs.Ranges.{is_version}
-use Rattle.oberon_format.specs.PartFields.{start_in}
-use Rattle.oberon_format.specs.Recording.{RecordingParts, checkpoint_at, output_of}
-use Rattle.oberon_format.specs.Text.{IsUnclocked, TextIn, Text}
+use Rattle.oberon_format.proofs.Common.{[], All, ap, AreWritable, arith, checkpoint_at, CheckpointParts, DeviceState, drop, drop_at, Event, field_words, FIRST_VERSION, Flags, flags_back, flags_number, flags_of, get_or, get_or_default, Input, is_version, IsUnclocked, key_bytes, length, List, MAX_KEYS, no_checkpoint, output_of, props, RecordingParts, refl, replicate, same_devices, same_input, same_lists, slice_index, start, start_in, subst, suc, sym, take, take_at, Text, TextIn, true, version, zero, ℕ, ◌-◌, ◌<◌, ◌^◌, ◌∙◌, ◌∷◌, ◌≡◌}
 use Rattle.oberon_format.proofs.Agree.{version_of, pages_are, events_are, checkpoints_are, page_is, event_is, start_is, later, common, numbers_agree}
 use Rattle.oberon_format.proofs.Encoded.{AreAt, text_parts, writable}
 
@@ -126,11 +105,6 @@ module _ (v : ℕ) (text : List ℕ) (r s : RecordingParts) (known : is_version 
       get_or_default r.checkpoints i d no_checkpoint lt ∙ checkpoint_same i lt ∙ get_or_default s.checkpoints i no_checkpoint d (subst (λ (n : ℕ). i < n) len lt)) in
       λ i. record { pool = pool i; inputs = inputs i; checkpoints = checkpoints i }
 
--- a file is that of one recording in a version
-same_in : (v : ℕ) (text : List ℕ) (r s : RecordingParts) → TextIn v text r → TextIn v text s → r ≡ s
-same_in v text r s a b =
-    same_parts v text r s a.known a.unclocked b.unclocked (writable r a.lawful) (writable s b.lawful) (text_parts v text r a) (text_parts v text s b)
-
 -- the version of a file is its own
 pub in_version : (v : ℕ) (text : List ℕ) (r : RecordingParts) → version text ≡ v → Text text r → TextIn v text r
 in_version v text r is some =
@@ -140,8 +114,8 @@ in_version v text r is some =
 
 -- a file is that of one recording
 pub same_recording : (text : List ℕ) (r s : RecordingParts) → Text text r → Text text s → r ≡ s
-same_recording text r s a b = same_in (version text) text r s (in_version (version text) text r refl a) (in_version (version text) text s refl b)
-
--- and in each version a recording has one file
-pub same_text : (v : ℕ) (r : RecordingParts) (t u : List ℕ) → TextIn v t r → TextIn v u r → u ≡ t
-same_text v r t u a b = b.is ∙ sym a.is
+same_recording text r s is_r is_s =
+    let v = version text in
+    let a = in_version v text r refl is_r in
+    let b = in_version v text s refl is_s in
+    same_parts v text r s a.known a.unclocked b.unclocked (writable r a.lawful) (writable s b.lawful) (text_parts v text r a) (text_parts v text s b)

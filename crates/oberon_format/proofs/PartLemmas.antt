@@ -1,20 +1,5 @@
 -- The fields of parts, member by member, at the offsets of their checkpoints, and the sums of their outputs.
-use Rattle.std.proofs.Common.{◌≡◌, ◌<◌, ◌≤◌, ◌+◌, ◌-◌, ◌*◌, ◌∙◌, ℕ, Bool, true, false, List, [], ◌∷◌, get_or, length, refl, sym, ap, arith, add-one, zero, suc, eq-eqb, length-append}
-use Rattle.std.specs.Prelude.{None, slice_index, slice_index_or, nat_le, ◌==◌, if◌then◌else◌}
-use Rattle.std.proofs.lemmas.List.{get_or-map}
-use Rattle.std.proofs.lemmas.Bool.{le-leb, ne_eqb}
-use Rattle.std.proofs.lemmas.Bool.Decides.{nat_tests}
-use Rattle.risc_model.specs.declared.event.Event.{Event}
-use Rattle.risc_pages.proofs.PoolLemmas.{zero_number}
-use Rattle.oberon_format.specs.declared.layout.TheConstants.{FIRST_VERSION, VERSION, CHECKPOINT_LEN, CHANGE_LEN, CHANGES_AT, PLACES}
-use Rattle.oberon_format.specs.Changes.{changes}
-use Rattle.oberon_format.specs.CheckpointParts.{CheckpointParts, no_checkpoint}
-use Rattle.oberon_format.specs.Fields.{Fields, total, sent_below}
-use Rattle.oberon_format.specs.FirstFault.{first_broken}
-use Rattle.oberon_format.specs.Layout.{event_start, checkpoint_size}
-use Rattle.oberon_format.specs.PartFields.{fields_in, start_in, changes_in, event_fields, no_event}
-use Rattle.oberon_format.specs.Recording.{RecordingParts, checkpoint_at, table_before, output_of}
-use Rattle.oberon_format.specs.Rules.{event_floor, count_before, prior_number, end_rules, whole}
+use Rattle.oberon_format.proofs.Common.{[], add-one, ap, arith, CHANGE_LEN, changes, CHANGES_AT, changes_in, checkpoint_at, checkpoint_size, CheckpointParts, count_before, end_rules, eq-eqb, Event, event_fields, event_start, false, Fields, fields_in, first_broken, get_or, get_or-map, le-leb, length, length-append, List, nat_le, nat_tests, ne_eqb, no_checkpoint, no_event, None, output_of, PLACES, prior_number, RecordingParts, refl, sent_below, slice_index, slice_index_or, start_in, suc, sym, table_before, total, true, VERSION, whole, zero, zero_number, ℕ, ◌*◌, ◌+◌, ◌-◌, ◌<◌, ◌==◌, ◌∙◌, ◌∷◌, ◌≡◌, ◌≤◌}
 use Rattle.oberon_format.proofs.ChangeLemmas.{changes_few}
 use Rattle.oberon_format.proofs.RuleLemmas.{rises}
 
@@ -28,12 +13,9 @@ member (x ∷ xs) (suc i) lt = member xs i (omega arith)
 pub event_here : (v : ℕ) (r : RecordingParts) (i : ℕ) (e : Event) → i < length r.inputs → (fields_in v r).event i ≡ event_fields (get_or r.inputs i e)
 event_here v r i e lt = get_or-map event_fields r.inputs i e no_event lt
 
--- what comes before each event and each checkpoint but the first
-pub floor_more : (f : Fields) (i : ℕ) → event_floor f (i + 1) ≡ (f.event i).count
-floor_more f i = grind (arith, nat_tests)
-
-pub before_more : (f : Fields) (k : ℕ) → count_before f (k + 1) ≡ (f.checkpoint k).count
-before_more f k = grind (arith, nat_tests)
+-- what comes before each checkpoint but the first
+pub before_next : (f : Fields) (k : ℕ) → count_before f (suc k) ≡ (f.checkpoint k).count
+before_next f k = grind (arith, nat_tests)
 
 pub prior_more : (f : Fields) (k p : ℕ) → prior_number f (suc k) p ≡ f.page_number k p
 prior_more f k p = grind (arith, nat_tests)
@@ -48,8 +30,7 @@ table_next cs k =
 -- the page ids before a checkpoint of parts are those of the table before it
 pub prior_encoded : (v : ℕ) (r : RecordingParts) (k p : ℕ) → p < PLACES → prior_number (fields_in v r) k p ≡ slice_index (table_before r.checkpoints k) p
 prior_encoded v r zero p lt = sym (zero_number p)
-prior_encoded v r (suc k) p lt =
-    prior_more (fields_in v r) k p ∙ ap (λ (table : List ℕ). slice_index table p) (sym (table_next r.checkpoints k))
+prior_encoded v r (suc k) p lt = prior_more (fields_in v r) k p ∙ ap (λ (table : List ℕ). slice_index table p) (sym (table_next r.checkpoints k))
 
 -- the output before a checkpoint
 pub sent_none : (f : Fields) → sent_below f 0 ≡ 0
@@ -67,17 +48,11 @@ total_rises f = rises (total f) (λ k. omega arith)
 
 -- a checkpoint has at most as many changes as a table has slots
 pub changes_in_few : (v : ℕ) (before : List ℕ) (c : CheckpointParts) → changes_in v before c ≤ PLACES
-changes_in_few v before c = go (v == FIRST_VERSION) where
-  go : (b : Bool) → (if b then 0 else length (changes before c.table)) ≤ PLACES
-  go true = omega arith
-  go false = changes_few before c.table
+changes_in_few v before c = let few = changes_few before c.table in grind arith
 
 -- and so it is at most this long
 pub size_few : (v changes : ℕ) → changes ≤ PLACES → checkpoint_size v changes ≤ CHANGES_AT + CHANGE_LEN * PLACES
-size_few v changes few = go (v == FIRST_VERSION) where
-  go : (b : Bool) → (if b then CHECKPOINT_LEN else CHANGES_AT + CHANGE_LEN * changes) ≤ CHANGES_AT + CHANGE_LEN * PLACES
-  go true = omega arith
-  go false = omega arith
+size_few v changes few = grind (arith, nat_tests)
 
 -- the offset of checkpoint 0 of parts, and of the one after each
 pub start_in_first : (v : ℕ) (r : RecordingParts) → start_in v r 0 ≡ event_start (length r.pool) (length r.inputs)
@@ -100,13 +75,10 @@ changed_room r k = let next = start_in_next VERSION r k in omega arith
 -- no further than as many of the longest checkpoints reach
 pub start_in_within : (v : ℕ) (r : RecordingParts) (k : ℕ)
     → start_in v r k ≤ event_start (length r.pool) (length r.inputs) + (CHANGES_AT + CHANGE_LEN * PLACES) * k
-start_in_within v r zero = let first = start_in_first v r in omega arith
+start_in_within v r zero = omega (arith, start_in_first v r)
 start_in_within v r (suc k) =
-    let ih = start_in_within v r k in
-    let next = start_in_next v r k in
-    let changes = changes_in v (table_before r.checkpoints k) (checkpoint_at r k) in
-    let few = size_few v changes (changes_in_few v (table_before r.checkpoints k) (checkpoint_at r k)) in
-    omega arith
+    let few = changes_in_few v (table_before r.checkpoints k) (checkpoint_at r k) in
+    omega (arith, start_in_within v r k, start_in_next v r k, size_few v (changes_in v (table_before r.checkpoints k) (checkpoint_at r k)) few)
 
 -- the length of all output is the sum of the checkpoints' outputs
 total_head : (f : ℕ → ℕ) (n : ℕ) → total f (suc n) ≡ f 0 + total (λ i. f (suc i)) n

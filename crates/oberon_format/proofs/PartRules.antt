@@ -1,40 +1,22 @@
 -- The rules of a checkpoint of parts, as the code tests them: the lengths are right, and changes are those between two tables.
-use Rattle.std.proofs.Common.{◌≡◌, ◌<◌, ◌≤◌, ◌+◌, ◌∙◌, ℕ, suc, List, ◌∷◌, ◌++◌, map, get_or, length, refl, sym, ap, arith, add-one}
-use Rattle.std.specs.Prelude.{slice_index, nat_le}
-use Rattle.std.proofs.lemmas.Bool.{le-leb}
-use Rattle.std.proofs.lemmas.List.{length-map}
-use Rattle.risc_model.specs.declared.event.Event.{Event}
-use Rattle.oberon_format.specs.declared.checkpoint.Checkpoint.{Checkpoint}
-use Rattle.oberon_format.specs.declared.fault.Fault.{Fault}
-use Rattle.oberon_format.specs.declared.fault.Fault.TheVariants as fault
-use Rattle.oberon_format.specs.declared.fields.CheckpointFields.{CheckpointFields}
-use Rattle.oberon_format.specs.declared.layout.TheConstants.{VERSION, LONGEST_TEXT, CHANGES_AT}
-use Rattle.oberon_format.specs.declared.ranges.TheConstants.{MAX_CHECKPOINTS}
-use Rattle.recording_limits.specs.declared.limits.TheConstants.{MAX_EVENTS, MAX_PAGES}
-use Rattle.oberon_format.specs.Changes.{changes}
-use Rattle.oberon_format.specs.CheckpointParts.{CheckpointParts, checkpoint_parts}
-use Rattle.oberon_format.specs.Fields.{sent_below}
-use Rattle.oberon_format.specs.FirstFault.{Rule, first_broken, each}
-use Rattle.oberon_format.specs.Layout.{checkpoint_size}
-use Rattle.oberon_format.specs.PartFields.{fields_in, start_in, checkpoint_fields}
-use Rattle.oberon_format.specs.Recording.{parts_of, RecordingParts, checkpoint_at, table_before}
-use Rattle.oberon_format.specs.Rules.{field_rules, change_rules, prior_number, count_before, checkpoint_rules}
+use Rattle.oberon_format.proofs.Common.{add-one, ap, arith, change_rules, changes, CHANGES_AT, Checkpoint, checkpoint_at, checkpoint_fields, checkpoint_parts, checkpoint_rules, checkpoint_size, CheckpointFields, CheckpointParts, count_before, each, encoded_change_rules, Event, Fault, field_rules, fields_in, first_broken, get_or, le-leb, length, length-map, List, LONGEST_TEXT, map, MAX_CHECKPOINTS, MAX_EVENTS, MAX_PAGES, nat_le, Option, option_or, parts_of, prior_number, RecordingParts, refl, Rule, sent_below, slice_index, start_in, suc, sym, table_before, VERSION, ℕ, ◌++◌, ◌+◌, ◌<◌, ◌∙◌, ◌∷◌, ◌≡◌, ◌≤◌}
 use Rattle.oberon_format.proofs.ChangeLemmas.{change_in}
 use Rattle.oberon_format.proofs.CheckpointLemmas.{checkpoint_at-is}
 use Rattle.oberon_format.proofs.PartLemmas.{start_in_rises, start_in_next, start_in_within, changed_room, prior_encoded}
-use Rattle.oberon_format.proofs.RuleLemmas.{rule_met, rules_changed}
-use Rattle.oberon_format.proofs.SameFields.{same_append, changes_same}
+use Rattle.oberon_format.proofs.RuleLemmas.{rule_met, rules_changed, first_append}
+use Rattle.oberon_format.proofs.SameFields.{changes_same}
+use Rattle.oberon_format.specs.declared.fault.Fault.TheVariants as fault
 
--- the rules of fields at an offset, and of the changes from one table to another
-abbrev pub encoded_rules : ℕ → ℕ → ℕ → ℕ → ℕ → CheckpointFields → List ℕ → List ℕ → List (Rule Fault)
-encoded_rules pages offset k before sent fields old new =
-    field_rules offset k before sent fields ++ each (length (changes old new)) (change_rules pages offset (slice_index old) (change_in old new))
+-- the first fault of fields at an offset, or else of the changes from one table to another
+abbrev pub encoded_fault : ℕ → ℕ → ℕ → ℕ → ℕ → CheckpointFields → List ℕ → List ℕ → Option Fault
+encoded_fault pages offset k before sent fields old new =
+    option_or (first_broken (field_rules offset k before sent fields)) (first_broken (encoded_change_rules pages offset old new))
 
--- a checkpoint of parts has these rules: its bytes are there
-pub rules_encoded : (r : RecordingParts) (k : ℕ) → k < length r.checkpoints
+-- it is that of a checkpoint of parts: its bytes are there
+rules_encoded : (r : RecordingParts) (k : ℕ) → k < length r.checkpoints
     → first_broken (checkpoint_rules (fields_in VERSION r) k)
-    ≡ first_broken (encoded_rules (length r.pool) (start_in VERSION r k) k (count_before (fields_in VERSION r) k) (sent_below (fields_in VERSION r) k)
-    ((fields_in VERSION r).checkpoint k) (table_before r.checkpoints k) (checkpoint_at r k).table)
+    ≡ encoded_fault (length r.pool) (start_in VERSION r k) k (count_before (fields_in VERSION r) k) (sent_below (fields_in VERSION r) k)
+    ((fields_in VERSION r).checkpoint k) (table_before r.checkpoints k) (checkpoint_at r k).table
 rules_encoded r k lt =
     let f = fields_in VERSION r in
     let old = table_before r.checkpoints k in
@@ -43,16 +25,15 @@ rules_encoded r k lt =
     let offset = start_in VERSION r k in
     let room = changed_room r k in
     let up = start_in_rises VERSION r (suc k) (length r.checkpoints) (omega arith) in
-    let fields = field_rules offset k (count_before f k) (sent_below f k) (f.checkpoint k) in
+    let fields : List (Rule Fault) = field_rules offset k (count_before f k) (sent_below f k) (f.checkpoint k) in
     let tested = each n (change_rules (length r.pool) offset (prior_number f k) (change_in old new)) in
-    let left = each n (change_rules (length r.pool) offset (slice_index old) (change_in old new)) in
     let ends = (nat_le (start_in VERSION r (suc k)) f.long, fault.Short f.long) ∷ tested in
-    let same : first_broken ends ≡ first_broken left =
-    rule_met (nat_le (start_in VERSION r (suc k)) f.long) (fault.Short f.long) tested (le-leb _ _ (omega arith))
+    let same = rule_met (nat_le (start_in VERSION r (suc k)) f.long) (fault.Short f.long) tested (le-leb _ _ (omega arith))
     ∙ changes_same (length r.pool) offset n (prior_number f k) (slice_index old) (change_in old new) (change_in old new) (λ p less. prior_encoded VERSION r k p less) (λ i less. refl) in
     ap (λ (xs : List (Rule Fault)). first_broken xs) (rules_changed f k refl)
     ∙ rule_met (nat_le (offset + CHANGES_AT) f.long) (fault.Short f.long) (fields ++ ends) (le-leb _ _ (omega arith))
-    ∙ same_append fields fields ends left refl same
+    ∙ first_append fields ends
+    ∙ ap (option_or (first_broken fields)) same
 
 -- what the code tests of the checkpoint that Rust has at this index are the rules of checkpoint k
 pub rules_here : (pool : List (List ℕ)) (inputs : List Event) (checkpoints : List Checkpoint) (k : ℕ) (x : Checkpoint)
@@ -64,7 +45,7 @@ pub rules_here : (pool : List (List ℕ)) (inputs : List Event) (checkpoints : L
     → old ≡ table_before (map checkpoint_parts checkpoints) k
     → fields ≡ checkpoint_fields VERSION old (checkpoint_parts x)
     → (fields ≡ (fields_in VERSION (parts_of pool inputs checkpoints)).checkpoint k)
-    × (first_broken (checkpoint_rules (fields_in VERSION (parts_of pool inputs checkpoints)) k) ≡ first_broken (encoded_rules pages offset k before sent fields old x.table))
+    × (first_broken (checkpoint_rules (fields_in VERSION (parts_of pool inputs checkpoints)) k) ≡ encoded_fault pages offset k before sent fields old x.table)
 rules_here pool inputs checkpoints k x pages offset before sent fields old lt is count at floor below table made =
     let r = parts_of pool inputs checkpoints in
     let here : checkpoint_at r k ≡ checkpoint_parts x = checkpoint_at-is checkpoints k x lt is in

@@ -1,11 +1,5 @@
 -- How far the parts of a file reach.
-use Rattle.std.proofs.Common.{◌≡◌, ◌<◌, ◌≤◌, ◌+◌, ◌*◌, ◌∙◌, ℕ, zero, suc, List, length, refl, ap, inl, inr, arith, add-one}
-use Rattle.std.proofs.lemmas.Bool.Decides.{nat_tests}
-use Rattle.oberon_format.specs.declared.layout.TheConstants.{FIRST_VERSION, VERSION, CHECKPOINT_LEN, CHANGE_LEN, CHANGES_AT}
-use Rattle.oberon_format.specs.Layout.{version, events, checkpoints, event_offset, change_offset, checkpoint_size, change_count, start, output_offset}
-use Rattle.oberon_format.specs.Rules.{named_len}
-use Rattle.oberon_format.specs.inner.Tested.{IsSized, Meets}
-use Rattle.oberon_format.specs.TextFields.{fields_of}
+use Rattle.oberon_format.proofs.Common.{add-one, ap, arith, change_count, CHANGE_LEN, change_offset, CHANGES_AT, CHECKPOINT_LEN, checkpoint_size, checkpoints, event_offset, events, fields_of, FIRST_VERSION, inl, inr, IsSized, length, List, Meets, named_len, nat_tests, refl, start, suc, VERSION, version, zero, ℕ, ◌*◌, ◌+◌, ◌<◌, ◌∙◌, ◌≡◌, ◌≤◌}
 use Rattle.oberon_format.proofs.RuleLemmas.{version_cases, is_first, is_later, rises}
 
 -- a checkpoint of either version has the common fields, and at least three more numbers
@@ -27,9 +21,6 @@ pub start_next : (text : List ℕ) (k : ℕ) → start text (suc k) ≡ start te
 unfolding start
 start_next text k = refl
 
-start_more : (text : List ℕ) (k : ℕ) → start text (k + 1) ≡ start text k + checkpoint_size (version text) (change_count text (start text k))
-start_more text k = ap (start text) (add-one k) ∙ start_next text k
-
 -- checkpoints follow one another
 pub start_le : (text : List ℕ) (i n : ℕ) → i ≤ n → start text i ≤ start text n
 start_le text = rises (start text) (λ k. let next = start_next text k in omega arith)
@@ -37,26 +28,16 @@ start_le text = rises (start text) (λ k. let next = start_next text k in omega 
 -- all those of version 1 have one length
 start_first : (text : List ℕ) (k : ℕ) → version text ≡ FIRST_VERSION → start text k ≡ start text 0 + CHECKPOINT_LEN * k
 start_first text zero is = omega arith
-start_first text (suc k) is =
-    let so_far = start_first text k is in
-    let next = start_next text k in
-    let size = size_first (version text) (change_count text (start text k)) is in
-    omega arith
+start_first text (suc k) is = omega (arith, start_first text k is, start_next text k, size_first (version text) (change_count text (start text k)) is)
 
 -- the offset of the next one, by the length of this one
 pub offset_next : (text : List ℕ) (k offset n size : ℕ) → offset ≡ start text k → n ≡ change_count text offset → size ≡ checkpoint_size (version text) n → offset + size ≡ start text (k + 1)
-offset_next text k offset n size at many is =
-    let more = start_more text k in
-    let same : size ≡ checkpoint_size (version text) (change_count text (start text k)) = is ∙ ap (checkpoint_size (version text)) (many ∙ ap (change_count text) at) in
-    omega arith
+offset_next text k offset n size at many is = omega (arith, ap (start text) (add-one k) ∙ start_next text k, is ∙ ap (checkpoint_size (version text)) (many ∙ ap (change_count text) at))
 
 -- in version 2, by the number of changes
 pub start_later : (text : List ℕ) (k offset n : ℕ) → version text ≡ VERSION → offset ≡ start text k → n ≡ change_count text offset → start text (suc k) ≡ change_offset offset n
 start_later text k offset n is at many =
-    let next = start_next text k in
-    let size = size_later (version text) (change_count text (start text k)) is in
-    let same : n ≡ change_count text (start text k) = many ∙ ap (change_count text) at in
-    omega arith
+    omega (arith, start_next text k, size_later (version text) (change_count text (start text k)) is, many ∙ ap (change_count text) at)
 
 -- the length that the header asks for, by the version
 pub named_first : (text : List ℕ) → version text ≡ FIRST_VERSION → named_len (fields_of text) ≡ start text 0 + CHECKPOINT_LEN * checkpoints text
@@ -78,31 +59,14 @@ events_there text sized =
 -- and in version 1 each checkpoint
 pub whole_room : (text : List ℕ) (k : ℕ) → IsSized text → k < checkpoints text → version text ≡ FIRST_VERSION → start text k + CHECKPOINT_LEN ≤ length text
 whole_room text k sized lt is =
-    let le = start_le text (suc k) (checkpoints text) (omega arith) in
-    let next = start_first text (suc k) is in
-    let here = start_first text k is in
-    let last = start_first text (checkpoints text) is in
-    let long = sized.long in
-    let named = named_first text is in
-    omega arith
+    omega (arith, start_le text (suc k) (checkpoints text) (omega arith), start_first text (suc k) is, start_first text k is, start_first text (checkpoints text) is, sized.long, named_first text is)
 
--- the output is there too, in a file that breaks no rule
-pub output_there : (text : List ℕ) → Meets text → output_offset text ≤ length text
-output_there text meets = let whole_is = meets.whole_is in omega arith
-
--- and each checkpoint of either version
+-- and each checkpoint of either version, in a file that breaks no rule
 checkpoint_there : (text : List ℕ) (k : ℕ) → Meets text → k < checkpoints text → start text k + checkpoint_size (version text) (change_count text (start text k)) ≤ length text
-checkpoint_there text k meets lt =
-    let le = start_le text (suc k) (checkpoints text) (omega arith) in
-    let next = start_next text k in
-    let all = output_there text meets in
-    omega arith
+checkpoint_there text k meets lt = omega (arith, start_le text (suc k) (checkpoints text) (omega arith), start_next text k, meets.whole_is)
 
 pub common_there : (text : List ℕ) (k : ℕ) → Meets text → k < checkpoints text → start text k + CHANGES_AT ≤ length text
-common_there text k meets lt =
-    let all = checkpoint_there text k meets lt in
-    let least = size_least (version text) (change_count text (start text k)) in
-    omega arith
+common_there text k meets lt = omega (arith, checkpoint_there text k meets lt, size_least (version text) (change_count text (start text k)))
 
 -- the whole of a checkpoint of version 1
 pub whole_there : (text : List ℕ) (k : ℕ) → Meets text → k < checkpoints text → version text ≡ FIRST_VERSION → start text k + CHECKPOINT_LEN ≤ length text
@@ -110,7 +74,4 @@ whole_there text k meets lt is = whole_room text k meets.sized lt is
 
 -- the changes of one of version 2
 pub changes_there : (text : List ℕ) (k : ℕ) → Meets text → k < checkpoints text → version text ≡ VERSION → change_offset (start text k) (change_count text (start text k)) ≤ length text
-changes_there text k meets lt is =
-    let all = checkpoint_there text k meets lt in
-    let size = size_later (version text) (change_count text (start text k)) is in
-    omega arith
+changes_there text k meets lt is = omega (arith, checkpoint_there text k meets lt, size_later (version text) (change_count text (start text k)) is)

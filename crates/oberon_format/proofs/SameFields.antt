@@ -1,23 +1,11 @@
 -- Fields that agree as far as rules look have the same first fault.
-use Rattle.std.proofs.Common.{◌≡◌, ◌<◌, ◌≤◌, ◌+◌, ◌∙◌, ℕ, zero, suc, Bool, true, false, List, [], ◌∷◌, ◌++◌, Option, Some, None, sym, ap, ap₂, arith, add-one, refl}
-use Rattle.std.specs.Prelude.{nat_le, ◌==◌, if◌then◌else◌}
-use Rattle.std.proofs.lemmas.Bool.Decides.{nat_tests}
-use Rattle.oberon_format.specs.declared.change.Change.{Change}
-use Rattle.oberon_format.specs.declared.fault.Fault.{Fault}
-use Rattle.oberon_format.specs.declared.fault.Fault.TheVariants as fault
-use Rattle.oberon_format.specs.declared.fields.CheckpointFields.{CheckpointFields}
-use Rattle.oberon_format.specs.declared.layout.TheConstants.{FIRST_VERSION, PLACES, CHANGES_AT, LAST_AT, MAGIC, HEADER_LEN, MAGIC_AT, VERSION_AT}
-use Rattle.oberon_format.specs.declared.ranges.TheConstants.{MAX_CHECKPOINTS}
-use Rattle.recording_limits.specs.declared.limits.TheConstants.{MAX_EVENTS, MAX_PAGES}
-use Rattle.oberon_format.specs.Fields.{Fields, EventFields, total, sent_below}
-use Rattle.oberon_format.specs.FirstFault.{Rule, first_broken, each}
-use Rattle.oberon_format.specs.Layout.{page_number_offset, change_offset}
-use Rattle.oberon_format.specs.Ranges.{is_event, is_change, is_checkpoint, is_version}
-use Rattle.oberon_format.specs.Rules.{limit_rules, header_rules, named_len, event_rules, event_floor, offset_of_event, page_number_rules, place_floor, change_rules, prior_number, field_rules, whole_rules, changed_rules, count_before, checkpoint_rules, end_rules, rules}
+use Rattle.oberon_format.proofs.Common.{[], ap, ap₂, arith, Bool, Change, change_offset, change_rules, changed_rules, CHANGES_AT, checkpoint_rules, CheckpointFields, count_before, each, end_rules, event_rules, EventFields, false, Fault, field_rules, Fields, first_broken, FIRST_VERSION, HEADER_LEN, header_rules, if◌then◌else◌, is_change, is_event, is_version, LAST_AT, limit_rules, List, MAGIC, MAGIC_AT, MAX_CHECKPOINTS, MAX_EVENTS, MAX_PAGES, named_len, nat_le, nat_tests, None, offset_of_event, Option, page_number_offset, page_number_rules, place_floor, PLACES, prior_number, refl, Rule, sent_below, Some, suc, sym, total, true, VERSION_AT, whole_rules, zero, ℕ, ◌++◌, ◌+◌, ◌-◌, ◌<◌, ◌==◌, ◌∙◌, ◌∷◌, ◌≡◌, ◌≤◌}
+use Rattle.oberon_format.specs.Rules.{rules}
 use Rattle.oberon_format.proofs.ChangeLemmas.{floor_same}
-use Rattle.oberon_format.proofs.PartLemmas.{floor_more, before_more, prior_more}
-use Rattle.oberon_format.proofs.RuleLemmas.{fields_met, broken-append, met-append, met_left, met_right, rule_holds}
+use Rattle.oberon_format.proofs.PartLemmas.{before_next, prior_more}
+use Rattle.oberon_format.proofs.RuleLemmas.{fields_met, broken-append, met-append, met_left, met_right, fields_hold, none_hold}
 use Rattle.oberon_format.proofs.Walk.{change_same}
+use Rattle.oberon_format.specs.declared.fault.Fault.TheVariants as fault
 
 -- rules with the same first fault
 abbrev pub Same : List (Rule Fault) → List (Rule Fault) → Type 0
@@ -42,34 +30,6 @@ same_while (suc n) f g h = same_then (each n f) (each n g) (f n) (g n) (same_whi
 
 same_each : (n : ℕ) (f g : ℕ → List (Rule Fault)) → ((i : ℕ) → i < n → Same (f i) (g i)) → Same (each n f) (each n g)
 same_each n f g h = same_while n f g (λ i lt _. h i lt)
-
--- what comes before an event or a checkpoint is the same
-event_floor_same : (f g : Fields) (n i : ℕ) → i < n → ((k : ℕ) → k < n → f.event k ≡ g.event k) → event_floor f i ≡ event_floor g i
-event_floor_same f g n zero lt h = refl
-event_floor_same f g n (suc i) lt h =
-    let e : suc i ≡ i + 1 = sym (add-one i) in
-    ap (event_floor f) e ∙ floor_more f i ∙ ap (λ (x : EventFields). x.count) (h i (omega arith)) ∙ sym (floor_more g i) ∙ ap (event_floor g) (sym e)
-
-pub before_same : (f g : Fields) (k : ℕ) → ((i : ℕ) → i < k → f.checkpoint i ≡ g.checkpoint i) → count_before f k ≡ count_before g k
-before_same f g zero h = refl
-before_same f g (suc k) h =
-    let e : suc k ≡ k + 1 = sym (add-one k) in
-    ap (count_before f) e ∙ before_more f k ∙ ap (λ (x : CheckpointFields). x.count) (h k (omega arith)) ∙ sym (before_more g k) ∙ ap (count_before g) (sym e)
-
-pub prior_same : (f g : Fields) (k p : ℕ) → ((i : ℕ) → i < k → f.page_number i p ≡ g.page_number i p) → prior_number f k p ≡ prior_number g k p
-prior_same f g zero p h = refl
-prior_same f g (suc k) p h = prior_more f k p ∙ h k (omega arith) ∙ sym (prior_more g k p)
-
-pub total_same : (a b : ℕ → ℕ) (n : ℕ) → ((i : ℕ) → i < n → a i ≡ b i) → total a n ≡ total b n
-unfolding total
-total_same a b zero h = refl
-total_same a b (suc n) h =
-    let ih = total_same a b n (λ i lt. h i (omega arith)) in
-    let one = h n (omega arith) in
-    omega arith
-
-pub sent_same : (f g : Fields) (k : ℕ) → ((i : ℕ) → i < k → f.checkpoint i ≡ g.checkpoint i) → sent_below f k ≡ sent_below g k
-sent_same f g k h = total_same _ _ k (λ i less. ap (λ (x : CheckpointFields). x.output) (h i less))
 
 -- the page ids of a checkpoint of version 1
 pub numbers_same : (pages offset : ℕ) (m n : ℕ → ℕ) → ((j : ℕ) → j < PLACES → m j ≡ n j)
@@ -104,17 +64,21 @@ pub record AreFew (f : Fields) : Type 0 where
   pub events : f.events ≤ MAX_EVENTS
   pub checkpoints : f.checkpoints ≤ MAX_CHECKPOINTS
 
+-- what is before checkpoint k
+pub record SoFar (f g : Fields) (k : ℕ) : Type 0 where
+  pub start : f.start k ≡ g.start k
+  pub before : count_before f k ≡ count_before g k
+  pub sent : sent_below f k ≡ sent_below g k
+  pub prior : (p : ℕ) → p < PLACES → prior_number f k p ≡ prior_number g k p
+
 -- what the rules of a checkpoint look at, at first and if its changes are within their limit
 pub record SameRest (f g : Fields) (k : ℕ) : Type 0 where
+  pub next : f.start (suc k) ≡ g.start (suc k)
   pub ends : Same (size_rules (f.start (suc k)) f) (size_rules (g.start (suc k)) g)
-  pub prior : (p : ℕ) → p < PLACES → prior_number f k p ≡ prior_number g k p
   pub change : (i : ℕ) → i < (g.checkpoint k).changes → f.change k i ≡ g.change k i
   pub page_number : (p : ℕ) → p < PLACES → f.page_number k p ≡ g.page_number k p
 
 pub record SameCheckpoint (f g : Fields) (k : ℕ) : Type 0 where
-  pub start : f.start k ≡ g.start k
-  pub before : count_before f k ≡ count_before g k
-  pub sent : sent_below f k ≡ sent_below g k
   pub room : Same (size_rules (f.start k + CHANGES_AT) f) (size_rules (g.start k + CHANGES_AT) g)
   pub fields : f.checkpoint k ≡ g.checkpoint k
   pub rest : (g.checkpoint k).changes ≤ PLACES → SameRest f g k
@@ -123,8 +87,9 @@ pub record SameCheckpoint (f g : Fields) (k : ℕ) : Type 0 where
 pub record SameParts (f g : Fields) : Type 0 where
   pub named : Same (size_rules (named_len (mixed f g)) f) (size_rules (named_len g) g)
   pub event : (i : ℕ) → i < g.events → f.event i ≡ g.event i
+  pub start : f.start 0 ≡ g.start 0
   pub checkpoint : (k : ℕ) → k < g.checkpoints → first_broken (each k (checkpoint_rules g)) ≡ None → SameCheckpoint f g k
-  pub ends : first_broken (each g.checkpoints (checkpoint_rules g)) ≡ None → Same (end_rules (mixed f g)) (end_rules g)
+  pub ends : first_broken (each g.checkpoints (checkpoint_rules g)) ≡ None → SoFar f g g.checkpoints → Same (end_rules (mixed f g)) (end_rules g)
 
 -- the same numbers, and what agrees if the counts are within their limits
 pub record SameFields (f g : Fields) : Type 0 where
@@ -137,57 +102,69 @@ pub record SameFields (f g : Fields) : Type 0 where
   pub header : Same (size_rules HEADER_LEN f) (size_rules HEADER_LEN g)
   pub parts : AreFew g → SameParts f g
 
+-- so what is before each checkpoint agrees, if the rules of those before it are met
+so_far_next : (f g : Fields) (k : ℕ) → SoFar f g k → f.checkpoint k ≡ g.checkpoint k → SameRest f g k → SoFar f g (suc k)
+unfolding total
+so_far_next f g k so_far fields rest = record {
+  start = rest.next;
+  before = before_next f k ∙ ap (λ (c : CheckpointFields). c.count) fields ∙ sym (before_next g k);
+  sent = ap₂ (λ (below own : ℕ). below + own) so_far.sent (ap (λ (c : CheckpointFields). c.output) fields);
+  prior = λ p lt. prior_more f k p ∙ rest.page_number p lt ∙ sym (prior_more g k p);
+}
+
+same_so_far : (f g : Fields) → SameParts f g → (k : ℕ) → k ≤ g.checkpoints → first_broken (each k (checkpoint_rules g)) ≡ None → SoFar f g k
+unfolding each total
+same_so_far f g same zero le met = record { start = same.start; before = refl; sent = refl; prior = λ p lt. refl }
+same_so_far f g same (suc k) le met =
+    let met_before = met_left (each k (checkpoint_rules g)) (checkpoint_rules g k) met in
+    let here = same.checkpoint k (omega arith) met_before in
+    let few = (fields_hold g k (met_right (each k (checkpoint_rules g)) (checkpoint_rules g k) met)).changes in
+    so_far_next f g k (same_so_far f g same k (omega arith) met_before) here.fields (here.rest few)
+
 events_same : (f g : Fields) → SameParts f g → Same (each g.events (event_rules (mixed f g))) (each g.events (event_rules g))
 events_same f g same =
     same_each g.events (event_rules (mixed f g)) (event_rules g) (λ i lt.
-    ap (λ (x : ℕ). first_broken ((is_event x (f.event i), fault.Event (offset_of_event g i)) ∷ [])) (event_floor_same (mixed f g) g g.events i lt same.event)
-    ∙ ap (λ (e : EventFields). first_broken ((is_event (event_floor g i) e, fault.Event (offset_of_event g i)) ∷ [])) (same.event i lt))
+    let floor = ap (λ (e : EventFields). if i == 0 then 0 else e.count) (same.event (i - 1) (omega arith)) in
+    ap₂ (λ (n : ℕ) (e : EventFields). first_broken ((is_event n e, fault.Event (offset_of_event g i)) ∷ [])) floor (same.event i lt))
 
 -- the rules of the fields of a checkpoint, and what they say of its changes
 abbrev rules_of_fields : Fields → ℕ → List (Rule Fault)
 rules_of_fields f k = field_rules (f.start k) k (count_before f k) (sent_below f k) (f.checkpoint k)
 
-fields_same : (f g : Fields) (k : ℕ) → SameCheckpoint f g k → Same (rules_of_fields f k) (rules_of_fields g k)
-fields_same f g k same =
-    ap (λ (n : ℕ). first_broken (field_rules n k (count_before f k) (sent_below f k) (f.checkpoint k))) same.start
-    ∙ ap (λ (n : ℕ). first_broken (field_rules (g.start k) k n (sent_below f k) (f.checkpoint k))) same.before
-    ∙ ap (λ (n : ℕ). first_broken (field_rules (g.start k) k (count_before g k) n (f.checkpoint k))) same.sent
-    ∙ ap (λ (c : CheckpointFields). first_broken (field_rules (g.start k) k (count_before g k) (sent_below g k) c)) same.fields
+fields_same : (f g : Fields) (k : ℕ) → SoFar f g k → SameCheckpoint f g k → Same (rules_of_fields f k) (rules_of_fields g k)
+fields_same f g k so_far same = λ i. first_broken (field_rules (so_far.start i) k (so_far.before i) (so_far.sent i) (same.fields i))
 
 changes_few : (g : Fields) (k : ℕ) → first_broken (rules_of_fields g k) ≡ None → (g.checkpoint k).changes ≤ PLACES
-changes_few g k met =
-    (fields_met k (count_before g k) (sent_below g k) (g.checkpoint k)
-    (rule_holds (is_checkpoint k (count_before g k) (sent_below g k) (g.checkpoint k)) (fault.Checkpoint (g.start k)) [] met).0).changes
+changes_few g k met = (fields_met k (count_before g k) (sent_below g k) (g.checkpoint k) (none_hold (rules_of_fields g k) met).0).changes
 
 -- a checkpoint of version 1
-whole_same : (f g : Fields) (k : ℕ) → SameCheckpoint f g k → Same (whole_rules (mixed f g) k) (whole_rules g k)
-whole_same f g k same =
+whole_same : (f g : Fields) (k : ℕ) → SoFar f g k → SameCheckpoint f g k → Same (whole_rules (mixed f g) k) (whole_rules g k)
+whole_same f g k so_far same =
     same_then (rules_of_fields f k) (rules_of_fields g k) (each PLACES (page_number_rules g.pages (f.start k) (f.page_number k)))
-    (each PLACES (page_number_rules g.pages (g.start k) (g.page_number k))) (fields_same f g k same) (λ met.
-    ap (λ (n : ℕ). first_broken (each PLACES (page_number_rules g.pages n (f.page_number k)))) same.start
+    (each PLACES (page_number_rules g.pages (g.start k) (g.page_number k))) (fields_same f g k so_far same) (λ met.
+    ap (λ (n : ℕ). first_broken (each PLACES (page_number_rules g.pages n (f.page_number k)))) so_far.start
     ∙ numbers_same g.pages (g.start k) (f.page_number k) (g.page_number k) (same.rest (changes_few g k met)).page_number)
 
 -- a checkpoint of version 2
-changed_same : (f g : Fields) (k : ℕ) → SameCheckpoint f g k → Same (changed_rules (mixed f g) k) (changed_rules g k)
-changed_same f g k same =
+changed_same : (f g : Fields) (k : ℕ) → SoFar f g k → SameCheckpoint f g k → Same (changed_rules (mixed f g) k) (changed_rules g k)
+changed_same f g k so_far same =
     let changes = each (f.checkpoint k).changes (change_rules g.pages (f.start k) (prior_number f k) (f.change k)) in
     let changes' = each (g.checkpoint k).changes (change_rules g.pages (g.start k) (prior_number g k) (g.change k)) in
     let tail = size_rules (f.start (suc k)) f ++ changes in
     let tail' = size_rules (g.start (suc k)) g ++ changes' in
     same_append (size_rules (f.start k + CHANGES_AT) f) (size_rules (g.start k + CHANGES_AT) g) (rules_of_fields f k ++ tail) (rules_of_fields g k ++ tail') same.room
-    (same_then (rules_of_fields f k) (rules_of_fields g k) tail tail' (fields_same f g k same) (λ met.
+    (same_then (rules_of_fields f k) (rules_of_fields g k) tail tail' (fields_same f g k so_far same) (λ met.
     let rest = same.rest (changes_few g k met) in
     same_append (size_rules (f.start (suc k)) f) (size_rules (g.start (suc k)) g) changes changes' rest.ends
-    (ap (λ (c : CheckpointFields). first_broken (each c.changes (change_rules g.pages (f.start k) (prior_number f k) (f.change k)))) same.fields
-    ∙ ap (λ (n : ℕ). first_broken (each (g.checkpoint k).changes (change_rules g.pages n (prior_number f k) (f.change k)))) same.start
-    ∙ changes_same g.pages (g.start k) (g.checkpoint k).changes (prior_number f k) (prior_number g k) (f.change k) (g.change k) rest.prior rest.change)))
+    (ap₂ (λ (c : CheckpointFields) (n : ℕ). first_broken (each c.changes (change_rules g.pages n (prior_number f k) (f.change k)))) same.fields so_far.start
+    ∙ changes_same g.pages (g.start k) (g.checkpoint k).changes (prior_number f k) (prior_number g k) (f.change k) (g.change k) so_far.prior rest.change)))
 
-checkpoint_same : (f g : Fields) (k : ℕ) → SameCheckpoint f g k → Same (checkpoint_rules (mixed f g) k) (checkpoint_rules g k)
+checkpoint_same : (f g : Fields) (k : ℕ) → SoFar f g k → SameCheckpoint f g k → Same (checkpoint_rules (mixed f g) k) (checkpoint_rules g k)
 unfolding checkpoint_rules
-checkpoint_same f g k same = go (g.version == FIRST_VERSION) where
+checkpoint_same f g k so_far same = go (g.version == FIRST_VERSION) where
   go : (b : Bool) → Same (if b then whole_rules (mixed f g) k else changed_rules (mixed f g) k) (if b then whole_rules g k else changed_rules g k)
-  go true = whole_same f g k same
-  go false = changed_same f g k same
+  go true = whole_same f g k so_far same
+  go false = changed_same f g k so_far same
 
 -- the rules of the numbers in the header
 abbrev number_rules : Fields → List (Rule Fault)
@@ -218,62 +195,20 @@ mixed_rules f g same =
     (same_then numbers numbers named named' refl (λ met. (same.parts (few_by g met)).named)) in
     let events = same_then (header_rules m) h' e e' header (λ met. events_same f g (parts met)) in
     let checkpoints = same_then (header_rules m ++ e) (h' ++ e') c c' events (λ met.
-    same_while g.checkpoints (checkpoint_rules m) (checkpoint_rules g) (λ k lt so_far. checkpoint_same f g k ((parts (met_left h' e' met)).checkpoint k lt so_far))) in
+    let all = parts (met_left h' e' met) in
+    same_while g.checkpoints (checkpoint_rules m) (checkpoint_rules g) (λ k lt before. checkpoint_same f g k (same_so_far f g all k (omega arith) before) (all.checkpoint k lt before))) in
     same_then (header_rules m ++ e ++ c) (h' ++ e' ++ c') (end_rules m) (end_rules g) checkpoints (λ met.
-    (parts (met_left h' e' (met_left (h' ++ e') c' met))).ends (met_right (h' ++ e') c' met))
+    let all = parts (met_left h' e' (met_left (h' ++ e') c' met)) in
+    let before = met_right (h' ++ e') c' met in
+    all.ends before (same_so_far f g all g.checkpoints (omega arith) before))
 
 is_mixed : (f g : Fields) → SameFields f g → f ≡ mixed f g
-is_mixed f g same = λ i. record {
-  long = f.long;
-  first = same.first i;
-  version = same.version i;
-  pages = same.pages i;
-  events = same.events i;
-  checkpoints = same.checkpoints i;
-  last = same.last i;
-  event = f.event;
-  start = f.start;
-  checkpoint = f.checkpoint;
-  change = f.change;
-  page_number = f.page_number;
-}
+is_mixed f g same =
+    λ i. record f { first = same.first i; version = same.version i; pages = same.pages i; events = same.events i; checkpoints = same.checkpoints i; last = same.last i }
 
 pub same_rules : (f g : Fields) → SameFields f g → Same (rules f) (rules g)
 same_rules f g same = ap (λ (x : Fields). first_broken (rules x)) (is_mixed f g same) ∙ mixed_rules f g same
 
--- so do fields whose members agree as far as their numbers go
-pub record SameMembers (f g : Fields) : Type 0 where
-  pub long : f.long ≡ g.long
-  pub event : (i : ℕ) → i < g.events → f.event i ≡ g.event i
-  pub start : (k : ℕ) → k ≤ g.checkpoints → f.start k ≡ g.start k
-  pub checkpoint : (k : ℕ) → k < g.checkpoints → f.checkpoint k ≡ g.checkpoint k
-  pub change : (k i : ℕ) → k < g.checkpoints → i < (g.checkpoint k).changes → f.change k i ≡ g.change k i
-  pub page_number : (k j : ℕ) → k < g.checkpoints → j < PLACES → f.page_number k j ≡ g.page_number k j
-
-same_size : (f g : Fields) (m n : ℕ) → f.long ≡ g.long → m ≡ n → Same (size_rules m f) (size_rules n g)
+-- the rule of one size in fields of one length
+pub same_size : (f g : Fields) (m n : ℕ) → f.long ≡ g.long → m ≡ n → Same (size_rules m f) (size_rules n g)
 same_size f g m n long same = ap₂ (λ (a b : ℕ). first_broken ((nat_le a b, fault.Short b) ∷ [])) same long
-
-pub same_parts : (f g : Fields) → SameMembers f g → SameParts f g
-same_parts f g same =
-    let last = same.start g.checkpoints (omega arith) in
-    record {
-      named = same_size f g (named_len (mixed f g)) (named_len g) same.long (ap₂ (λ (a b : ℕ). if g.version == FIRST_VERSION then a else b) last (same.start 0 (omega arith)));
-      event = same.event;
-      checkpoint = λ k lt _.
-          let below : (i : ℕ) → i < k → f.checkpoint i ≡ g.checkpoint i = λ i less. same.checkpoint i (omega arith) in
-          record {
-            start = same.start k (omega arith);
-            before = before_same f g k below;
-            sent = sent_same f g k below;
-            room = same_size f g (f.start k + CHANGES_AT) (g.start k + CHANGES_AT) same.long (ap (λ (n : ℕ). n + CHANGES_AT) (same.start k (omega arith)));
-            fields = same.checkpoint k lt;
-            rest = λ _. record {
-              ends = same_size f g (f.start (suc k)) (g.start (suc k)) same.long (same.start (suc k) (omega arith));
-              prior = λ p less. prior_same f g k p (λ i before. same.page_number i p (omega arith) less);
-              change = λ i less. same.change k i lt less;
-              page_number = λ p less. same.page_number k p lt less;
-            };
-          };
-      ends = λ _. ap₂ (λ (end long : ℕ). first_broken ((nat_le end long, fault.Short long) ∷ (long == end, fault.Trailing end) ∷ []))
-          (ap₂ (λ (a b : ℕ). a + b) last (sent_same f g g.checkpoints same.checkpoint)) same.long;
-    }

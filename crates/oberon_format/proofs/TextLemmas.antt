@@ -1,26 +1,12 @@
 -- The rules of a checkpoint of a file, over its fields and its table as they are read.
-use Rattle.std.proofs.Common.{◌≡◌, ◌<◌, ◌≤◌, ◌+◌, ◌∙◌, ℕ, zero, suc, Bool, true, false, List, [], ◌∷◌, ◌++◌, length, None, refl, sym, ap}
-use Rattle.std.specs.Prelude.{nat_le, slice_index, ◌==◌, if◌then◌else◌}
-use Rattle.std.proofs.lemmas.Bool.{le-leb}
-use Rattle.risc_pages.specs.Tables.{zero_numbers}
-use Rattle.risc_pages.proofs.PoolLemmas.{zero_number}
-use Rattle.oberon_format.specs.declared.fault.Fault.{Fault}
-use Rattle.oberon_format.specs.declared.fault.Fault.TheVariants as fault
-use Rattle.oberon_format.specs.declared.fields.CheckpointFields.{CheckpointFields}
-use Rattle.oberon_format.specs.declared.layout.TheConstants.{FIRST_VERSION, VERSION, PLACES, CHANGES_AT}
-use Rattle.oberon_format.specs.Changes.{number_after}
-use Rattle.oberon_format.specs.Fields.{Fields, sent_below}
-use Rattle.oberon_format.specs.FirstFault.{Rule, first_broken, each}
-use Rattle.oberon_format.specs.Layout.{word_at, pages, checkpoints, page_number_offset, change_offset, change_count, later_word, start, version}
-use Rattle.oberon_format.specs.Rules.{checkpoint_rules, field_rules, page_number_rules, change_rules, place_floor, count_before, prior_number}
-use Rattle.oberon_format.specs.inner.Tested.{HasNumbers, Meets}
-use Rattle.oberon_format.specs.TextFields.{change_of, checkpoint_of, fields_of, number_before, page_number_of}
+use Rattle.oberon_format.proofs.Common.{[], ap, Bool, change_count, change_of, change_offset, change_rules, CHANGES_AT, checkpoint_of, checkpoint_rules, CheckpointFields, checkpoints, count_before, each, Fault, field_rules, Fields, fields_of, first_broken, FIRST_VERSION, HasNumbers, if◌then◌else◌, later_word, length, List, Meets, nat_le, number_after, number_before, option_or, page_number_of, page_number_offset, page_number_rules, pages, place_floor, PLACES, prior_number, refl, Rule, sent_below, slice_index, start, suc, sym, VERSION, version, word_at, zero, zero_number, zero_numbers, ℕ, ◌++◌, ◌+◌, ◌<◌, ◌∙◌, ◌∷◌, ◌≡◌}
 use Rattle.oberon_format.proofs.ChangeLemmas.{after-same}
 use Rattle.oberon_format.proofs.PartLemmas.{prior_more}
 use Rattle.oberon_format.proofs.Room.{start_later}
-use Rattle.oberon_format.proofs.RuleLemmas.{ChangedMet, met-append, each_holds, rules_whole, rules_changed, changed_met, is_first, is_later}
+use Rattle.oberon_format.proofs.RuleLemmas.{ChangedMet, each_holds, rules_whole, rules_changed, changed_met, is_first, is_later, first_append}
 use Rattle.oberon_format.proofs.SameFields.{changes_same, same_append}
 use Rattle.oberon_format.proofs.Walk.{change_inside}
+use Rattle.oberon_format.specs.declared.fault.Fault.TheVariants as fault
 
 -- the rules of page ids, of a size and of changes, as they are read
 abbrev pub numbers_read : List ℕ → ℕ → ℕ → List (Rule Fault)
@@ -35,14 +21,13 @@ changes_read text number offset count table = each count (change_rules number of
 -- the rules of a checkpoint of version 1, as its fields are read
 pub whole_read : (text : List ℕ) (k offset before sent number : ℕ) (c : CheckpointFields) → version text ≡ FIRST_VERSION → offset ≡ start text k
     → before ≡ count_before (fields_of text) k → sent ≡ sent_below (fields_of text) k → number ≡ pages text → c ≡ checkpoint_of text offset
-    → first_broken (checkpoint_rules (fields_of text) k)
-    ≡ first_broken (field_rules offset k before sent c ++ numbers_read text number offset)
+    → first_broken (checkpoint_rules (fields_of text) k) ≡ option_or (first_broken (field_rules offset k before sent c)) (first_broken (numbers_read text number offset))
 whole_read text k offset before sent number c is at b s count same =
     let numbers : Bool → ℕ → ℕ = λ (x : Bool) (p : ℕ). if x then word_at text (page_number_offset (start text k) p) else number_before text (suc k) p in
     let fields : List (Rule Fault) = field_rules (start text k) k (count_before (fields_of text) k) (sent_below (fields_of text) k) (checkpoint_of text (start text k)) in
     ap (λ (xs : List (Rule Fault)). first_broken xs) (rules_whole (fields_of text) k is)
     ∙ ap (λ (x : Bool). first_broken (fields ++ each PLACES (page_number_rules (pages text) (start text k) (numbers x)))) (is_first (version text) is)
-    ∙ rw (same, b, s, count, at) refl
+    ∙ rw (same, b, s, count, at) (first_append (field_rules (start text k) k (count_before (fields_of text) k) (sent_below (fields_of text) k) (checkpoint_of text (start text k))) (numbers_read text (pages text) (start text k)))
 
 -- a word after the common fields of a checkpoint, by the version
 pub later_first : (text : List ℕ) (offset : ℕ) → version text ≡ FIRST_VERSION → later_word text offset ≡ 0
@@ -51,19 +36,12 @@ later_first text offset is = rw (is_first (version text) is) refl
 pub later_second : (text : List ℕ) (offset : ℕ) → version text ≡ VERSION → later_word text offset ≡ word_at text offset
 later_second text offset is = rw (is_later (version text) is) refl
 
--- the page ids of a checkpoint, by the test of the version
-pub number_where : (text : List ℕ) (k p : ℕ) → (version text == FIRST_VERSION) ≡ true → page_number_of text k p ≡ word_at text (page_number_offset (start text k) p)
-number_where text k p test = rw test refl
-
-pub number_else : (text : List ℕ) (k p : ℕ) → (version text == FIRST_VERSION) ≡ false → page_number_of text k p ≡ number_before text (suc k) p
-number_else text k p test = rw test refl
-
--- and by the version
+-- the page ids of a checkpoint, by the version
 pub number_first : (text : List ℕ) (k p : ℕ) → version text ≡ FIRST_VERSION → page_number_of text k p ≡ word_at text (page_number_offset (start text k) p)
-number_first text k p is = number_where text k p (is_first (version text) is)
+number_first text k p is = rw (is_first (version text) is) refl
 
 pub number_second : (text : List ℕ) (k p : ℕ) → version text ≡ VERSION → page_number_of text k p ≡ number_before text (suc k) p
-number_second text k p is = number_else text k p (is_later (version text) is)
+number_second text k p is = rw (is_later (version text) is) refl
 
 -- those before checkpoint 0
 pub numbers_none : (text : List ℕ) → HasNumbers zero_numbers (number_before text 0)
@@ -85,8 +63,8 @@ pub changed_read : (text : List ℕ) (k offset before sent number : ℕ) (c : Ch
     → before ≡ count_before (fields_of text) k → sent ≡ sent_below (fields_of text) k → number ≡ pages text → c ≡ checkpoint_of text offset
     → HasNumbers table (number_before text k)
     → first_broken (checkpoint_rules (fields_of text) k)
-    ≡ first_broken (size_read text (offset + CHANGES_AT)
-    ++ (field_rules offset k before sent c ++ (size_read text (change_offset offset c.changes) ++ changes_read text number offset c.changes table)))
+    ≡ option_or (first_broken (size_read text (offset + CHANGES_AT))) (option_or (first_broken (field_rules offset k before sent c))
+    (option_or (first_broken (size_read text (change_offset offset c.changes))) (first_broken (changes_read text number offset c.changes table))))
 changed_read text k offset before sent number c table is at b s count same has =
     let at_k = start text k in
     let n = change_count text at_k in
@@ -98,24 +76,12 @@ changed_read text k offset before sent number c table is at b s count same has =
     ap (λ (xs : List (Rule Fault)). first_broken xs) (rules_changed (fields_of text) k is)
     ∙ same_append (front ++ size_read text (start text (suc k))) (front ++ size_read text (start text (suc k))) (each n (change_rules (pages text) at_k (prior_number (fields_of text) k) (change_of text at_k))) read refl changes
     ∙ ap (λ (end : ℕ). first_broken (front ++ size_read text end ++ read)) (start_later text k at_k n is refl refl)
-    ∙ rw (same, b, s, count, at) refl
-
--- those of its changes, if its bytes are there and its fields in their ranges
-pub changes_left : (text : List ℕ) (k offset before sent number : ℕ) (c : CheckpointFields) (table : List ℕ) → version text ≡ VERSION → offset ≡ start text k
-    → before ≡ count_before (fields_of text) k → sent ≡ sent_below (fields_of text) k → number ≡ pages text → c ≡ checkpoint_of text offset
-    → HasNumbers table (number_before text k) → offset + CHANGES_AT ≤ length text → first_broken (field_rules offset k before sent c) ≡ None
-    → change_offset offset c.changes ≤ length text
-    → first_broken (checkpoint_rules (fields_of text) k) ≡ first_broken (changes_read text number offset c.changes table)
-changes_left text k offset before sent number c table is at b s count same has room met ends =
-    let there : nat_le (offset + CHANGES_AT) (length text) ≡ true = le-leb _ _ room in
-    let whole : nat_le (change_offset offset c.changes) (length text) ≡ true = le-leb _ _ ends in
-    let changes = changes_read text number offset c.changes table in
-    let fields : List (Rule Fault) = field_rules offset k before sent c in
-    let rest = size_read text (change_offset offset c.changes) ++ changes in
-    changed_read text k offset before sent number c table is at b s count same has
-    ∙ met-append (size_read text (offset + CHANGES_AT)) (fields ++ rest) (rw there refl)
-    ∙ met-append fields rest met
-    ∙ met-append (size_read text (change_offset offset c.changes)) changes (rw whole refl)
+    ∙ rw (same, b, s, count, at) (parts (size_read text (at_k + CHANGES_AT)) fields (size_read text (change_offset at_k n)) read)
+  where
+    parts : (xs ys zs ws : List (Rule Fault)) → first_broken (xs ++ (ys ++ (zs ++ ws))) ≡ option_or (first_broken xs) (option_or (first_broken ys) (option_or (first_broken zs) (first_broken ws)))
+    parts xs ys zs ws =
+        first_append xs (ys ++ (zs ++ ws))
+        ∙ ap (option_or (first_broken xs)) (first_append ys (zs ++ ws) ∙ ap (option_or (first_broken ys)) (first_append zs ws))
 
 -- the changes of checkpoint k make the table before it its own
 pub numbers_next : (text : List ℕ) (k offset count : ℕ) (before after : List ℕ) → offset ≡ start text k → count ≡ change_count text offset → HasNumbers before (number_before text k)

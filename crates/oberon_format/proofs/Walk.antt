@@ -1,37 +1,22 @@
 -- The changes between two tables, found slot by slot, and a table while changes are made in place.
-use Rattle.std.proofs.Common.{◌≡◌, ◌≢◌, ◌<◌, ◌≤◌, ◌+◌, ◌∙◌, ℕ, Bool, true, false, ◌&&◌, List, length, refl, sym, ap, arith, get_or, set, get_or-set_same, get_or-set_other, eq-eqb, zero, suc, [], ◌∷◌, ◌++◌, subst, ⊎_elim, add-one, length-append}
-use Rattle.std.specs.Prelude.{◌==◌, nat_le, nat_lt, not, slice_index, slice_set}
-use Rattle.std.proofs.lemmas.Bool.{eqb-true, leb-true, ltb-true, cases_eq, cases_lt, le-leb, lt-ltb, ne_eqb}
-use Rattle.oberon_format.specs.declared.change.Change.{Change}
-use Rattle.oberon_format.specs.declared.layout.TheConstants.{PLACES}
-use Rattle.oberon_format.specs.Changes.{number_after, changes, changes_below, no_change}
-use Rattle.oberon_format.specs.Ranges.{is_change}
-use Rattle.oberon_format.specs.Rules.{place_floor, change_rules}
-use Rattle.oberon_format.specs.inner.Tested.{HasNumbers}
+use Rattle.oberon_format.proofs.Common.{[], add-one, ap, append-nil, append_assoc, arith, Bool, cases_eq, cases_lt, Change, change_offset, change_rules, changes, changes_below, eq-eqb, false, first_broken, get_or, get_or-set_other, get_or-set_same, get_or_append_left, get_or_push, HasNumbers, if◌then◌else◌, is_change, le-leb, leb-true, length, length-append, List, lt-ltb, ltb-true, nat_le, nat_lt, ne_eqb, no_change, not, number_after, place_floor, PLACES, refl, set, slice_index, slice_set, suc, sym, true, zero, ℕ, ⊎_elim, ◌&&◌, ◌++◌, ◌+◌, ◌<◌, ◌==◌, ◌∙◌, ◌∷◌, ◌≡◌, ◌≢◌, ◌≤◌}
 use Rattle.oberon_format.proofs.ChangeLemmas.{after_here, after_next, after_other, member_of, change_in, change_to, are_below, below_same, below_more, changes-lawful}
 use Rattle.oberon_format.proofs.RuleLemmas.{and_left, and_right}
-use Rattle.std.proofs.lemmas.List.{get_or_append_left, get_or_push}
 use Rattle.oberon_format.specs.declared.fault.Fault.TheVariants as fault
-use Rattle.oberon_format.specs.FirstFault.{first_broken}
-use Rattle.oberon_format.specs.Layout.{change_offset}
 
 -- a change that is made in a table
-change_made_at : (change : ℕ → Change) (prior_number : ℕ → ℕ) (n : ℕ) (table : List ℕ) (p : ℕ) → length table ≡ PLACES → (change n).place < PLACES
-    → slice_index table p ≡ number_after change prior_number n p → (b : Bool) → ((change n).place == p) ≡ b
-    → slice_index (slice_set table (change n).place (change n).number) p ≡ number_after change prior_number (n + 1) p
-change_made_at change prior_number n table p len inside was true test =
-    let is = eqb-true (change n).place p test in
-    ap (λ (q : ℕ). get_or (set table (change n).place (change n).number) q 0) (sym is)
-    ∙ get_or-set_same table (change n).place (change n).number 0 (omega arith)
-    ∙ sym (after_next change prior_number n p ∙ after_here change prior_number n p is)
-change_made_at change prior_number n table p len inside was false test =
-    let is : (change n).place ≢ p = λ e. let wrong = eq-eqb (change n).place p e in absurd cc in
-    let other : p ≢ (change n).place = λ e. is (sym e) in
-    get_or-set_other table (change n).place p (change n).number 0 other ∙ was ∙ sym (after_next change prior_number n p ∙ after_other change prior_number n p is)
-
 pub change_made : (change : ℕ → Change) (prior_number : ℕ → ℕ) (n : ℕ) (table : List ℕ) → length table ≡ PLACES → (change n).place < PLACES → HasNumbers table (number_after change prior_number n)
     → HasNumbers (slice_set table (change n).place (change n).number) (number_after change prior_number (n + 1))
-change_made change prior_number n table len inside was p lt = change_made_at change prior_number n table p len inside (was p lt) ((change n).place == p) refl
+change_made change prior_number n table len inside was p lt =
+    ⊎_elim (λ (here : (change n).place ≡ p).
+    ap (λ (q : ℕ). get_or (set table (change n).place (change n).number) q 0) (sym here)
+    ∙ get_or-set_same table (change n).place (change n).number 0 (omega arith)
+    ∙ sym (after_next change prior_number n p ∙ after_here change prior_number n p here))
+    (λ (other : (change n).place ≢ p).
+    get_or-set_other table (change n).place p (change n).number 0 (λ e. other (sym e))
+    ∙ was p lt
+    ∙ sym (after_next change prior_number n p ∙ after_other change prior_number n p other))
+    (cases_eq (change n).place p)
 
 -- whether a change is lawful depends on the page id in its slot, if that is a slot that it may have
 by_place : (a b x y : Bool) → (a ≡ true → x ≡ y) → (a && b && x) ≡ (a && b && y)
@@ -84,34 +69,16 @@ below_grows p before table ne = ap (λ (n : ℕ). changes_below n before table) 
 pub below_few : (p : ℕ) (before table : List ℕ) → length (changes_below p before table) ≤ p
 below_few p before table = (are_below before table p).few
 
--- the changes of fewer slots are the first of those of more
-pub record AreFirstOf (cs ds : List Change) : Type 0 where
-  pub fewer : length cs ≤ length ds
-  pub same : (i : ℕ) → i < length cs → member_of ds i ≡ member_of cs i
-
-first_pushed : (cs ds : List Change) (c : Change) → AreFirstOf cs ds → AreFirstOf cs (ds ++ c ∷ [])
-first_pushed cs ds c first =
-    let fewer = first.fewer in
-    record {
-      fewer = omega (arith, length-append ds (c ∷ []));
-      same = λ i lt. get_or_append_left ds (c ∷ []) no_change i (omega arith) ∙ first.same i lt;
-    }
-
-pub below_first : (p n : ℕ) (before table : List ℕ) → p ≤ n → AreFirstOf (changes_below p before table) (changes_below n before table)
-below_first p zero before table le =
-    let e : p ≡ 0 = omega arith in
-    subst (λ (q : ℕ). AreFirstOf (changes_below q before table) (changes_below 0 before table)) (sym e) (record { fewer = omega arith; same = λ i lt. refl })
+-- the changes of more slots begin with those of fewer
+below_first : (p n : ℕ) (before table : List ℕ) → p ≤ n → (more : List Change) × (changes_below n before table ≡ changes_below p before table ++ more)
+unfolding changes_below
+below_first p zero before table le = let e : 0 ≡ p = omega arith in ([], ap (λ (q : ℕ). changes_below q before table) e ∙ sym (append-nil _))
 below_first p (suc n) before table le =
-    let small = changes_below p before table in
     ⊎_elim (λ (less : p < suc n).
     let first = below_first p n before table (omega arith) in
-    ⊎_elim (λ (e : slice_index before n ≡ slice_index table n). subst (AreFirstOf small) (sym (below_same n before table e)) first)
-    (λ (ne : slice_index before n ≢ slice_index table n).
-    subst (AreFirstOf small) (sym (below_more n before table ne)) (first_pushed small (changes_below n before table) (change_to table n) first))
-    (cases_eq (slice_index before n) (slice_index table n)))
-    (λ (more : suc n ≤ p).
-    let e : p ≡ suc n = omega arith in
-    subst (λ (q : ℕ). AreFirstOf (changes_below q before table) (changes_below (suc n) before table)) (sym e) (record { fewer = omega arith; same = λ i lt. refl }))
+    let own = if slice_index before n == slice_index table n then [] else change_to table n ∷ [] in
+    (first.0 ++ own, ap (λ (cs : List Change). cs ++ own) first.1 ∙ append_assoc (changes_below p before table) first.0 own))
+    (λ (more : suc n ≤ p). let e : suc n ≡ p = omega arith in ([], ap (λ (q : ℕ). changes_below q before table) e ∙ sym (append-nil _)))
     (cases_lt p (suc n))
 
 -- the change of a slot in which the tables differ is after those of the slots before
@@ -119,17 +86,17 @@ pub record IsNext (p : ℕ) (before table : List ℕ) : Type 0 where
   pub inside : length (changes_below p before table) < length (changes before table)
   pub is : change_in before table (length (changes_below p before table)) ≡ change_to table p
 
-pub next_change : (p : ℕ) (before table : List ℕ) → p < PLACES → slice_index before p ≢ slice_index table p → IsNext p before table
+next_change : (p : ℕ) (before table : List ℕ) → p < PLACES → slice_index before p ≢ slice_index table p → IsNext p before table
 next_change p before table lt ne =
     let cs = changes_below p before table in
     let c = change_to table p in
     let first = below_first (suc p) PLACES before table (omega arith) in
-    let grown = below_more p before table ne in
-    let long : length (changes_below (suc p) before table) ≡ length cs + 1 = ap (λ (ds : List Change). length ds) grown ∙ omega (arith, length-append cs (c ∷ [])) in
-    let fewer = first.fewer in
+    let all : changes before table ≡ (cs ++ c ∷ []) ++ first.0 = first.1 ∙ ap (λ (ds : List Change). ds ++ first.0) (below_more p before table ne) in
+    let long = ap (λ (ds : List Change). length ds) all in
+    let own = length-append cs (c ∷ []) in
     record {
-      inside = omega arith;
-      is = first.same (length cs) (omega arith) ∙ ap (λ (ds : List Change). member_of ds (length cs)) grown ∙ get_or_push cs c no_change (length cs) refl;
+      inside = omega (arith, length-append (cs ++ c ∷ []) first.0);
+      is = ap (λ (ds : List Change). member_of ds (length cs)) all ∙ get_or_append_left (cs ++ c ∷ []) first.0 no_change (length cs) (omega arith) ∙ get_or_push cs c no_change (length cs) refl;
     }
 
 -- of the rule of a change only the page id remains, since the changes between two tables are lawful

@@ -1,15 +1,5 @@
 -- What is written for a list, member by member.
-use Rattle.std.proofs.Common.{◌≡◌, ◌≢◌, ◌<◌, ◌≤◌, ◌+◌, ◌∙◌, ℕ, zero, suc, List, [], ◌∷◌, ◌++◌, length, take, get_or, sym, ap, arith, length-append}
-use Rattle.std.specs.Prelude.{slice_index}
-use Rattle.std.specs.List.{flat_map}
-use Rattle.std.proofs.lemmas.List.{take_more, flat_map_more}
-use Rattle.std.proofs.lemmas.Bool.Decides.{nat_tests}
-use Rattle.risc_pages.specs.Pages.{page_of, zero_page}
-use Rattle.oberon_format.specs.declared.change.Change.{Change}
-use Rattle.oberon_format.specs.Changes.{changes_below}
-use Rattle.oberon_format.specs.CheckpointParts.{CheckpointParts}
-use Rattle.oberon_format.specs.Recording.{output_of}
-use Rattle.oberon_format.specs.Encoding.{change_bytes}
+use Rattle.oberon_format.proofs.Common.{[], ap, arith, Change, change_bytes, changes_below, CheckpointParts, flat_map, flat_map_more, get_or, length, length-append, List, nat_tests, output_of, page_of, slice_index, suc, sym, take, take_more, zero, zero_page, ℕ, ◌++◌, ◌+◌, ◌<◌, ◌∙◌, ◌∷◌, ◌≡◌, ◌≢◌, ◌≤◌}
 use Rattle.oberon_format.proofs.Walk.{below_stays, below_grows}
 
 -- the bytes of one member more
@@ -22,8 +12,7 @@ written_next {X} f xs k d start out more lt so_far now =
 -- the bytes of the changes of one slot more, if the tables agree in it and if they differ
 pub changes_skipped : (before table start out : List ℕ) (p : ℕ) → slice_index before p ≡ slice_index table p → out ≡ start ++ flat_map change_bytes (changes_below p before table)
     → out ≡ start ++ flat_map change_bytes (changes_below (p + 1) before table)
-changes_skipped before table start out p same so_far =
-    so_far ∙ ap (λ (cs : List Change). start ++ flat_map change_bytes cs) (sym (below_stays p before table same))
+changes_skipped before table start out p same so_far = so_far ∙ ap (λ (cs : List Change). start ++ flat_map change_bytes cs) (sym (below_stays p before table same))
 
 pub changes_next : (before table start out more : List ℕ) (p : ℕ) → slice_index before p ≢ slice_index table p → out ≡ start ++ flat_map change_bytes (changes_below p before table)
     → more ≡ out ++ change_bytes (record { place = p; number = slice_index table p }) → more ≡ start ++ flat_map change_bytes (changes_below (p + 1) before table)

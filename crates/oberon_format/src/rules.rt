@@ -285,7 +285,7 @@ fn end_fault(text: &[u8], end: &End) -> Option<Fault>
 }
 
 /// Returns the offset of the output of a file without a fault, or the first fault of a file.
-#[tactic(auto, using(crate::proofs::RuleLemmas::in_header, crate::proofs::RuleLemmas::in_events, crate::proofs::RuleLemmas::in_checkpoints, crate::proofs::RuleLemmas::in_end))]
+#[tactic(auto, using(crate::proofs::RuleLemmas::fault_first))]
 pub(crate) fn test_text(text: &[u8]) -> Result<usize, Fault>
     ensures { IsTested text.now result }
 {

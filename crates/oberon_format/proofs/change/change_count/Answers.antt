@@ -1,11 +1,8 @@
-use Rattle.std.proofs.Common.{◌≡◌, ◌≢◌, ◌∙◌, List, [], ◌∷◌, length, sym, ap, arith, length-append}
-use Rattle.std.specs.Prelude.{slice_index}
-use Rattle.oberon_format.specs.declared.change.Change.{Change}
-use Rattle.oberon_format.specs.Changes.{changes_below}
+use Rattle.oberon_format.proofs.Common.{[], ap, arith, Change, changes_below, length, length-append, List, slice_index, sym, ◌∙◌, ◌∷◌, ◌≢◌}
 use Rattle.oberon_format.proofs.ChangeLemmas.{change_to}
 use Rattle.oberon_format.proofs.Walk.{below_stays, below_grows}
-use Rattle.oberon_format.proofs.change.change_count.Goals as goal
 use Rattle.oberon_format.proofs.change.change_count.Goals.{then-entry, else-entry}
+use Rattle.oberon_format.proofs.change.change_count.Goals as goal
 
 pub loop-p-preserved : goal.loop-p-preserved
 loop-p-preserved c =
@@ -19,9 +16,7 @@ loop-p-preserved c =
       | then-entry w ↦
           let differ : slice_index before p ≢ slice_index table p = λ e. w.if-entry.true (old ∙ e ∙ sym new) in
           let grown = ap (λ (cs : List Change). length cs) (below_grows p before table differ) in
-          let count = w.count-is in
-          omega (arith, length-append (changes_below p before table) (change_to table p ∷ []))
+          omega (arith, w.count-is, length-append (changes_below p before table) (change_to table p ∷ []))
       | else-entry w ↦
-          let same : slice_index before p ≡ slice_index table p = sym old ∙ w.if-entry.false ∙ new in
-          w.count-is ∙ so_far ∙ sym (ap (λ (cs : List Change). length cs) (below_stays p before table same))
+          w.count-is ∙ so_far ∙ sym (ap (λ (cs : List Change). length cs) (below_stays p before table (sym old ∙ w.if-entry.false ∙ new)))
     ]

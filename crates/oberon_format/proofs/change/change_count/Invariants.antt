@@ -1,5 +1,4 @@
-use Rattle.std.proofs.Common.{◌≡◌, length}
-use Rattle.oberon_format.specs.Changes.{changes_below}
+use Rattle.oberon_format.proofs.Common.{changes_below, length, ◌≡◌}
 use Rattle.oberon_format.proofs.change.change_count.Given as goal
 
 -- the slots so far have this many changes

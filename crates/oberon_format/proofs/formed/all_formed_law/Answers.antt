@@ -1,7 +1,4 @@
-use Rattle.std.proofs.Common.{arith}
-use Rattle.std.proofs.lemmas.List.Elements.{All-map}
-use Rattle.oberon_format.specs.CheckpointParts.{checkpoint_parts}
-use Rattle.oberon_format.specs.Formed.{IsFormed}
+use Rattle.oberon_format.proofs.Common.{All-map, arith, checkpoint_parts, IsFormed}
 use Rattle.oberon_format.proofs.formed.all_formed_law.Goals as goal
 
 pub returns : goal.returns

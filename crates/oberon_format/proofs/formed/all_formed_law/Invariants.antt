@@ -1,7 +1,4 @@
-use Rattle.std.proofs.Common.{◌<◌, ℕ, get_or, length}
-use Rattle.oberon_format.specs.declared.checkpoint.Checkpoint.{Checkpoint}
-use Rattle.oberon_format.specs.CheckpointParts.{checkpoint_parts}
-use Rattle.oberon_format.specs.Formed.{IsFormed}
+use Rattle.oberon_format.proofs.Common.{Checkpoint, checkpoint_parts, get_or, IsFormed, length, ℕ, ◌<◌}
 use Rattle.oberon_format.proofs.formed.all_formed_law.Given as goal
 
 abbrev pub invariant-loop-checkpoint : goal.invariant-loop-checkpoint

@@ -1,5 +1,6 @@
-use Rattle.oberon_format.proofs.LawLemmas.{fault_of_encoding}
+use Rattle.oberon_format.proofs.Common.{arith, refl, VERSION}
+use Rattle.oberon_format.proofs.Agree.{encoding_agrees}
 use Rattle.oberon_format.proofs.laws.fault_of_parts_law.Goals as goal
 
 pub returns : goal.returns
-returns c = fault_of_encoding
+returns c = λ r fits. encoding_agrees VERSION r refl (λ first. absurd (omega arith)) fits

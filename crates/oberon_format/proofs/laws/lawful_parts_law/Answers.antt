@@ -1,5 +1,4 @@
-use Rattle.std.proofs.Common.{refl}
-use Rattle.oberon_format.specs.declared.layout.TheConstants.{VERSION}
+use Rattle.oberon_format.proofs.Common.{refl, VERSION}
 use Rattle.oberon_format.proofs.LawfulLemmas.{faultless_lawful, lawful_faultless}
 use Rattle.oberon_format.proofs.laws.lawful_parts_law.Goals as goal
 

@@ -1,5 +1,5 @@
-use Rattle.oberon_format.proofs.One.{same_text}
+use Rattle.oberon_format.proofs.Common.{sym, ◌∙◌}
 use Rattle.oberon_format.proofs.laws.one_text_at_most_law.Goals as goal
 
 pub returns : goal.returns
-returns c = same_text
+returns c = λ version r text other is also. also.is ∙ sym is.is

@@ -1,5 +1,6 @@
-use Rattle.oberon_format.proofs.LawLemmas.{read_back}
+use Rattle.oberon_format.proofs.Common.{VERSION}
+use Rattle.oberon_format.proofs.One.{same_recording}
 use Rattle.oberon_format.proofs.laws.read_back_law.Goals as goal
 
 pub returns : goal.returns
-returns c = read_back
+returns c = λ r s text written read. same_recording text s r read (record { version = VERSION; is = written })

@@ -1,5 +1,6 @@
-use Rattle.oberon_format.proofs.LawLemmas.{written_back}
+use Rattle.oberon_format.proofs.Common.{sym, VERSION, ◌∙◌}
+use Rattle.oberon_format.proofs.One.{in_version}
 use Rattle.oberon_format.proofs.laws.written_back_law.Goals as goal
 
 pub returns : goal.returns
-returns c = written_back
+returns c = λ text other r is read written. written.is ∙ sym (in_version VERSION text r is read).is

@@ -1,4 +1,4 @@
-use Rattle.std.proofs.Common.{◌∙◌}
+use Rattle.oberon_format.proofs.Common.{◌∙◌}
 use Rattle.oberon_format.proofs.Bytes.{word_at-drop}
 use Rattle.oberon_format.proofs.number.u32_at.Goals as goal
 

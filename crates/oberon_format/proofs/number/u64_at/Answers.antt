@@ -1,4 +1,4 @@
-use Rattle.std.proofs.Common.{◌∙◌}
+use Rattle.oberon_format.proofs.Common.{◌∙◌}
 use Rattle.oberon_format.proofs.Bytes.{long_at-drop}
 use Rattle.oberon_format.proofs.number.u64_at.Goals as goal
 

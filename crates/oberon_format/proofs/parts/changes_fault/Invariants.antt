@@ -1,9 +1,4 @@
-use Rattle.std.proofs.Common.{◌≡◌, length}
-use Rattle.std.specs.Prelude.{slice_index, None}
-use Rattle.oberon_format.specs.Changes.{changes_below}
-use Rattle.oberon_format.specs.FirstFault.{first_broken, each}
-use Rattle.oberon_format.specs.Layout.{change_offset}
-use Rattle.oberon_format.specs.Rules.{change_rules}
+use Rattle.oberon_format.proofs.Common.{change_offset, change_rules, changes_below, each, first_broken, length, None, slice_index, ◌≡◌}
 use Rattle.oberon_format.proofs.ChangeLemmas.{change_in}
 use Rattle.oberon_format.proofs.parts.changes_fault.Given as goal
 

@@ -1,11 +1,4 @@
-use Rattle.std.proofs.Common.{◌≡◌, ◌≤◌, None}
-use Rattle.oberon_format.specs.declared.layout.TheConstants.{VERSION}
-use Rattle.recording_limits.specs.declared.limits.TheConstants.{MAX_OUTPUT}
-use Rattle.oberon_format.specs.Fields.{sent_below}
-use Rattle.oberon_format.specs.FirstFault.{first_broken, each}
-use Rattle.oberon_format.specs.PartFields.{fields_in, start_in}
-use Rattle.oberon_format.specs.Recording.{parts_of}
-use Rattle.oberon_format.specs.Rules.{checkpoint_rules, count_before}
+use Rattle.oberon_format.proofs.Common.{checkpoint_rules, count_before, each, fields_in, first_broken, MAX_OUTPUT, None, parts_of, sent_below, start_in, VERSION, ◌≡◌, ◌≤◌}
 use Rattle.oberon_format.proofs.parts.checkpoints_fault.Given as goal
 
 -- the checkpoints so far meet their rules, and the next one is tested with the parts' own numbers

@@ -1,12 +1,4 @@
-use Rattle.std.proofs.Common.{◌∙◌, List, ap, refl, sym}
-use Rattle.std.proofs.lemmas.List.{length-map}
-use Rattle.risc_model.specs.declared.event.Event.{Event}
-use Rattle.oberon_format.specs.declared.layout.TheConstants.{VERSION}
-use Rattle.oberon_format.specs.CheckpointParts.{checkpoint_parts}
-use Rattle.oberon_format.specs.FirstFault.{first_broken}
-use Rattle.oberon_format.specs.Recording.{parts_of}
-use Rattle.oberon_format.specs.Rules.{limit_rules}
-use Rattle.std.specs.Prelude.{length, ℕ}
+use Rattle.oberon_format.proofs.Common.{ap, checkpoint_parts, Event, first_broken, length, length-map, limit_rules, List, parts_of, refl, sym, VERSION, ℕ, ◌∙◌}
 use Rattle.oberon_format.proofs.LawfulLemmas.{parts_limits}
 use Rattle.oberon_format.proofs.parts.counts_fault.Goals as goal
 

@@ -1,17 +1,13 @@
-use Rattle.std.proofs.Common.{◌∙◌, length, refl, sym}
-use Rattle.std.proofs.lemmas.List.{length-map}
-use Rattle.oberon_format.specs.declared.layout.TheConstants.{VERSION}
-use Rattle.oberon_format.specs.CheckpointParts.{checkpoint_parts}
-use Rattle.oberon_format.specs.PartFields.{fields_in}
-use Rattle.oberon_format.specs.Recording.{parts_of}
+use Rattle.oberon_format.proofs.Common.{checkpoint_parts, fields_in, length, length-map, parts_of, refl, sym, VERSION, ◌∙◌}
 use Rattle.oberon_format.proofs.LawfulLemmas.{faultless_lawful, if_none, parts_rest}
-use Rattle.oberon_format.proofs.RuleLemmas.{any_in_header}
+use Rattle.oberon_format.proofs.RuleLemmas.{rules_first}
 use Rattle.oberon_format.proofs.parts.parts_fault.Goals as goal
 
 pub returns-in-Some-clause-fault : goal.returns-in-Some-clause-fault
 returns-in-Some-clause-fault c =
     let r = parts_of c.args.pool.now c.args.inputs.now c.args.checkpoints.now in
-    sym (any_in_header (fields_in VERSION r) c.in-Some.fault (sym c.counts_fault.ensures.fault ∙ c.in-Some.is))
+    let found = sym c.counts_fault.ensures.fault ∙ c.in-Some.is in
+    sym (rules_first (fields_in VERSION r) ∙ rw found refl)
 
 pub returns-clause-fault : goal.returns-clause-fault
 returns-clause-fault c =

@@ -1,7 +1,4 @@
-use Rattle.std.proofs.Common.{◌≡◌, ◌≤◌, ℕ, ◌∙◌, false, nat_lt, sym, arith}
-use Rattle.std.proofs.lemmas.Bool.{lt-leb}
-use Rattle.std.proofs.lemmas.Bool.Decides.{nat_tests}
-use Rattle.risc_devices.specs.InputKind.{is_input}
+use Rattle.oberon_format.proofs.Common.{arith, false, is_input, lt-leb, nat_lt, nat_tests, sym, ℕ, ◌∙◌, ◌≡◌, ◌≤◌}
 use Rattle.oberon_format.proofs.ranges.is_input.Goals as goal
 
 -- no kind has so large a number

@@ -1,7 +1,4 @@
-use Rattle.std.proofs.Common.{◌≡◌, ◌∙◌, false, refl, sym}
-use Rattle.std.specs.Prelude.{◌==◌}
-use Rattle.oberon_format.specs.declared.layout.TheConstants.{FIRST_VERSION}
-use Rattle.oberon_format.specs.Layout.{change_count, version}
+use Rattle.oberon_format.proofs.Common.{change_count, false, FIRST_VERSION, refl, sym, version, ◌==◌, ◌∙◌, ◌≡◌}
 use Rattle.oberon_format.proofs.RuleLemmas.{later_by}
 use Rattle.oberon_format.proofs.TextLemmas.{prior_is, numbers_next, number_second}
 use Rattle.oberon_format.proofs.reading.advance_table.Goals as goal

@@ -1,8 +1,4 @@
-use Rattle.std.proofs.Common.{◌<◌, ◌+◌, ◌∙◌, arith}
-use Rattle.std.specs.Prelude.{slice_index}
-use Rattle.std.proofs.lemmas.List.{length-set}
-use Rattle.oberon_format.specs.declared.layout.TheConstants.{PLACES, CHANGE_COUNT_AT}
-use Rattle.oberon_format.specs.TextFields.{change_of}
+use Rattle.oberon_format.proofs.Common.{arith, CHANGE_COUNT_AT, change_of, length-set, PLACES, slice_index, ◌+◌, ◌<◌, ◌∙◌}
 use Rattle.oberon_format.proofs.Walk.{change_made}
 use Rattle.oberon_format.proofs.TextLemmas.{later_second}
 use Rattle.oberon_format.proofs.reading.change_table.Goals as goal
@@ -11,8 +7,7 @@ pub loop-i-preserved : goal.loop-i-preserved
 loop-i-preserved c =
     let text = c.args.text.now in
     let i = c.loop-i.i in
-    let many = later_second text (c.args.offset + CHANGE_COUNT_AT) c.requires.version in
-    let inside : (change_of text c.args.offset i).place < PLACES = c.requires.places i (omega arith) in
+    let inside : (change_of text c.args.offset i).place < PLACES = c.requires.places i (omega (arith, later_second text (c.args.offset + CHANGE_COUNT_AT) c.requires.version)) in
     rw (c.set.ensures, c.of_text-change.ensures) (record {
       len = length-set c.loop-i.table (change_of text c.args.offset i).place (change_of text c.args.offset i).number ∙ c.loop-i.invariant.len;
       made = change_made (change_of text c.args.offset) (slice_index c.args.table.now) i c.loop-i.table c.loop-i.invariant.len inside c.loop-i.invariant.made;

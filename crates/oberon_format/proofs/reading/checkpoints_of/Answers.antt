@@ -1,44 +1,33 @@
-use Rattle.std.proofs.Common.{◌≡◌, ◌<◌, ◌∙◌, ℕ, List, [], ◌∷◌, refl, ap, sym, ◌++◌, length-append, arith, add-one}
-use Rattle.std.proofs.lemmas.List.{map-append}
-use Rattle.std.proofs.lemmas.List.FromFn.{map-range_with_len_more}
-use Rattle.oberon_format.specs.CheckpointParts.{CheckpointParts, checkpoint_parts}
-use Rattle.oberon_format.specs.Rules.{prior_number}
-use Rattle.oberon_format.specs.inner.Decoded.{checkpoints_at, decoded}
-use Rattle.oberon_format.specs.TextFields.{fields_of}
+use Rattle.oberon_format.proofs.Common.{[], add-one, ap, arith, checkpoint_parts, CheckpointParts, checkpoints, checkpoints_at, decoded, fields_of, length-append, List, map-append, map-range_with_len_more, prior_number, refl, sym, ℕ, ◌++◌, ◌<◌, ◌∙◌, ◌∷◌, ◌≡◌}
 use Rattle.oberon_format.proofs.Decode.{table_made}
 use Rattle.oberon_format.proofs.RuleLemmas.{checkpoint_holds, output_below_none, output_below_more}
 use Rattle.oberon_format.proofs.Room.{offset_next}
 use Rattle.oberon_format.proofs.PartLemmas.{prior_more}
 use Rattle.oberon_format.proofs.TextLemmas.{prior_none}
 use Rattle.oberon_format.proofs.reading.checkpoints_of.Goals as goal
-use Rattle.oberon_format.specs.Layout.{checkpoints}
 
 pub loop-k-init : goal.loop-k-init
 loop-k-init c =
     let text = c.args.text.now in
-    let none = output_below_none text in
     rw (c.in_ok-list.ensures.items, c.zeros-table.ensures) (record {
       len = refl;
       offset_is = c.first_checkpoint-offset.ensures;
       table_is = prior_none (fields_of text);
-      from_is = omega arith;
+      from_is = omega (arith, output_below_none text);
       decoded = refl;
     })
 
 pub checkpoint_of-requires-clause-ranges : goal.checkpoint_of-requires-clause-ranges
 checkpoint_of-requires-clause-ranges c =
-    let lt : c.loop-k.k < checkpoints c.args.text.now = omega arith in
-    rw c.loop-k.invariant.offset_is (checkpoint_holds c.args.text.now c.loop-k.k c.requires.meets lt).ranges
+    rw c.loop-k.invariant.offset_is (checkpoint_holds c.args.text.now c.loop-k.k c.requires.meets (omega arith)).ranges
 
 pub checkpoint_of-requires-clause-keys : goal.checkpoint_of-requires-clause-keys
 checkpoint_of-requires-clause-keys c =
-    let lt : c.loop-k.k < checkpoints c.args.text.now = omega arith in
-    rw c.loop-k.invariant.offset_is (checkpoint_holds c.args.text.now c.loop-k.k c.requires.meets lt).keys
+    rw c.loop-k.invariant.offset_is (checkpoint_holds c.args.text.now c.loop-k.k c.requires.meets (omega arith)).keys
 
 pub checkpoint_len-requires-clause-changes : goal.checkpoint_len-requires-clause-changes
 checkpoint_len-requires-clause-changes c =
-    let lt : c.loop-k.k < checkpoints c.args.text.now = omega arith in
-    rw (c.later_word.ensures, c.loop-k.invariant.offset_is) (checkpoint_holds c.args.text.now c.loop-k.k c.requires.meets lt).changes
+    rw (c.later_word.ensures, c.loop-k.invariant.offset_is) (checkpoint_holds c.args.text.now c.loop-k.k c.requires.meets (omega arith)).changes
 
 pub loop-k-preserved : goal.loop-k-preserved
 loop-k-preserved c =

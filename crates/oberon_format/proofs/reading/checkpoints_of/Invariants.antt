@@ -1,10 +1,4 @@
-use Rattle.std.proofs.Common.{◌≡◌, ◌+◌, length, map}
-use Rattle.oberon_format.specs.CheckpointParts.{checkpoint_parts}
-use Rattle.oberon_format.specs.Layout.{output_offset, start}
-use Rattle.oberon_format.specs.Rules.{prior_number}
-use Rattle.oberon_format.specs.inner.Decoded.{checkpoints_at}
-use Rattle.oberon_format.specs.inner.Tested.{HasNumbers}
-use Rattle.oberon_format.specs.TextFields.{fields_of}
+use Rattle.oberon_format.proofs.Common.{checkpoint_parts, checkpoints_at, fields_of, HasNumbers, length, map, output_offset, prior_number, start, ◌+◌, ◌≡◌}
 use Rattle.oberon_format.proofs.RuleLemmas.{output_below}
 use Rattle.oberon_format.proofs.reading.checkpoints_of.Given as goal
 

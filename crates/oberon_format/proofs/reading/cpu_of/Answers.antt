@@ -1,5 +1,4 @@
-use Rattle.std.proofs.Common.{arith}
-use Rattle.std.proofs.lemmas.Grind.{common_steps}
+use Rattle.oberon_format.proofs.Common.{arith, common_steps}
 use Rattle.oberon_format.proofs.reading.cpu_of.Goals as goal
 
 pub returns : goal.returns

@@ -1,6 +1,4 @@
-use Rattle.std.proofs.Common.{◌∙◌, ◌∷◌, ◌++◌, [], ℕ, List, length, ap, sym, arith}
-use Rattle.std.proofs.lemmas.List.FromFn.{length-map-range_with_len, map-range_with_len_more}
-use Rattle.oberon_format.specs.inner.Decoded.{page_at, pages_at, words_from}
+use Rattle.oberon_format.proofs.Common.{[], ap, arith, length, length-map-range_with_len, List, map-range_with_len_more, page_at, pages_at, sym, words_from, ℕ, ◌++◌, ◌∙◌, ◌∷◌}
 use Rattle.oberon_format.proofs.reading.pool_of.Goals as goal
 
 pub push-requires : goal.push-requires

@@ -1,6 +1,4 @@
-use Rattle.std.proofs.Common.{◌≡◌, ◌<◌, ℕ, get_or, length}
-use Rattle.oberon_format.specs.declared.layout.TheConstants.{PLACES}
-use Rattle.oberon_format.specs.Layout.{page_number_offset, word_at}
+use Rattle.oberon_format.proofs.Common.{get_or, length, page_number_offset, PLACES, word_at, ℕ, ◌<◌, ◌≡◌}
 use Rattle.oberon_format.proofs.reading.read_table.Given as goal
 
 abbrev pub invariant-loop-p : goal.invariant-loop-p

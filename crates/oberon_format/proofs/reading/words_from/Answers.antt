@@ -1,8 +1,6 @@
-use Rattle.std.proofs.Common.{◌≡◌, ◌<◌, ◌+◌, ◌*◌, ◌∙◌, arith, length}
-use Rattle.std.proofs.lemmas.List.{length-set}
+use Rattle.oberon_format.proofs.Common.{arith, length, length-set, word_at, ◌*◌, ◌+◌, ◌<◌, ◌∙◌, ◌≡◌}
 use Rattle.oberon_format.proofs.Bytes.{words_made, each_set}
 use Rattle.oberon_format.proofs.reading.words_from.Goals as goal
-use Rattle.oberon_format.specs.Layout.{word_at}
 
 pub loop-i-preserved : goal.loop-i-preserved
 loop-i-preserved g c =

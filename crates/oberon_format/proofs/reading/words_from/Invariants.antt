@@ -1,6 +1,5 @@
-use Rattle.std.proofs.Common.{◌≡◌, ◌<◌, ◌+◌, ◌*◌, ℕ, get_or, length}
+use Rattle.oberon_format.proofs.Common.{get_or, length, word_at, ℕ, ◌*◌, ◌+◌, ◌<◌, ◌≡◌}
 use Rattle.oberon_format.proofs.reading.words_from.Given as goal
-use Rattle.oberon_format.specs.Layout.{word_at}
 
 abbrev pub invariant-loop-i : goal.invariant-loop-i
 invariant-loop-i g l = record {

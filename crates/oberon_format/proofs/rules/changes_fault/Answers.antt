@@ -1,14 +1,8 @@
-use Rattle.std.proofs.Common.{◌≡◌, ◌≢◌, ◌∙◌, true, false, sym, arith, get_or-set_other}
-use Rattle.std.specs.Prelude.{slice_index}
-use Rattle.std.proofs.lemmas.List.{length-set}
-use Rattle.oberon_format.specs.declared.fault.Fault.TheVariants as fault
-use Rattle.oberon_format.specs.Layout.{change_offset}
-use Rattle.oberon_format.specs.Ranges.{is_change}
-use Rattle.oberon_format.specs.Rules.{place_floor}
-use Rattle.oberon_format.specs.TextFields.{change_of}
-use Rattle.oberon_format.proofs.ChangeLemmas.{floor_above}
+use Rattle.oberon_format.proofs.Common.{add-one, ap, arith, change_of, change_offset, false, get_or-set_other, is_change, length-set, place_floor, slice_index, sym, true, ◌∙◌, ◌≡◌, ◌≢◌}
+use Rattle.oberon_format.proofs.ChangeLemmas.{floor_next}
 use Rattle.oberon_format.proofs.RuleLemmas.{each_met, each_unmet}
 use Rattle.oberon_format.proofs.Walk.{change_made, change_tested, change_rises, change_inside}
+use Rattle.oberon_format.specs.declared.fault.Fault.TheVariants as fault
 use Rattle.oberon_format.proofs.rules.changes_fault.Goals as goal
 
 pub loop-i-preserved : goal.loop-i-preserved
@@ -26,7 +20,7 @@ loop-i-preserved c =
     rw (c.set.ensures, c.of_text-change.ensures) (record {
       len = length-set table (change i).place (change i).number ∙ c.loop-i.invariant.len;
       met = each_met (λ k. is_change c.args.pages (place_floor change k) prior_number (change k)) (λ k. fault.Page (change_offset c.args.offset k)) i c.loop-i.invariant.met holds;
-      floor_is = sym (floor_above change i);
+      floor_is = sym (ap (place_floor change) (add-one i) ∙ floor_next change i);
       made = change_made change prior_number i table c.loop-i.invariant.len inside c.loop-i.invariant.made;
       rest = λ p above lt.
           let other : p ≢ (change i).place = λ e. absurd (omega arith) in

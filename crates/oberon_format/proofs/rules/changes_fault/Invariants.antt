@@ -1,11 +1,4 @@
-use Rattle.std.proofs.Common.{◌≡◌, ◌≤◌, ◌<◌, ℕ, None, length}
-use Rattle.std.specs.Prelude.{slice_index}
-use Rattle.oberon_format.specs.declared.layout.TheConstants.{PLACES}
-use Rattle.oberon_format.specs.Changes.{number_after}
-use Rattle.oberon_format.specs.FirstFault.{each, first_broken}
-use Rattle.oberon_format.specs.Rules.{change_rules, place_floor}
-use Rattle.oberon_format.specs.inner.Tested.{HasNumbers}
-use Rattle.oberon_format.specs.TextFields.{change_of}
+use Rattle.oberon_format.proofs.Common.{change_of, change_rules, each, first_broken, HasNumbers, length, None, number_after, place_floor, PLACES, slice_index, ℕ, ◌<◌, ◌≡◌, ◌≤◌}
 use Rattle.oberon_format.proofs.rules.changes_fault.Given as goal
 
 -- the changes so far are made, and from the floor on the table is as it was

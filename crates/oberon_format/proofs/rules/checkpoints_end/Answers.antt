@@ -1,18 +1,8 @@
-use Rattle.std.proofs.Common.{◌≡◌, ◌<◌, ◌≤◌, ◌+◌, ◌∙◌, ℕ, suc, true, List, length, Some, None, sym, ap, subst, arith, add-one}
-use Rattle.std.specs.Prelude.{◌==◌}
-use Rattle.std.proofs.lemmas.Bool.{eqb-true}
-use Rattle.oberon_format.specs.declared.fields.CheckpointFields.{CheckpointFields}
-use Rattle.oberon_format.specs.declared.layout.TheConstants.{FIRST_VERSION, VERSION, SENT_AT}
-use Rattle.recording_limits.specs.declared.limits.TheConstants.{MAX_OUTPUT}
-use Rattle.oberon_format.specs.FirstFault.{first_broken}
-use Rattle.oberon_format.specs.Layout.{long_at, word_at, version, checkpoints, change_count, start}
-use Rattle.oberon_format.specs.Rules.{checkpoint_rules}
-use Rattle.oberon_format.specs.inner.Tested.{HasNumbers}
-use Rattle.oberon_format.specs.TextFields.{checkpoint_of, fields_of, number_before}
+use Rattle.oberon_format.proofs.Common.{add-one, ap, arith, change_count, checkpoint_of, checkpoint_rules, CheckpointFields, checkpoints, eqb-true, fields_of, first_broken, FIRST_VERSION, HasNumbers, length, List, long_at, MAX_OUTPUT, None, number_before, SENT_AT, Some, start, subst, suc, sym, true, VERSION, version, word_at, ℕ, ◌+◌, ◌<◌, ◌==◌, ◌∙◌, ◌≡◌, ◌≤◌}
 use Rattle.oberon_format.proofs.Room.{start_next, size_first, whole_room, offset_next}
 use Rattle.oberon_format.proofs.RuleLemmas.{each_more, each_broken, output_below, output_below_more, count_before_more}
-use Rattle.oberon_format.proofs.rules.checkpoints_end.Goals as goal
 use Rattle.oberon_format.proofs.rules.checkpoints_end.Goals.{then-is_first, else-is_first}
+use Rattle.oberon_format.proofs.rules.checkpoints_end.Goals as goal
 
 pub returns-in-Err : goal.returns-in-Err
 returns-in-Err c =
@@ -56,12 +46,10 @@ loop-k-preserved c =
     ] in
     let many : fields.changes ≡ change_count text offset = ap (λ (x : CheckpointFields). x.changes) tested.read in
     let next = offset_next text k offset fields.changes c.checkpoint_len-offset.result at many c.checkpoint_len-offset.ensures in
-    let there = tested.there in
-    let one = ap (start text) (add-one k) in
     record {
       met = each_more (checkpoint_rules (fields_of text)) k c.loop-k.invariant.met tested.met;
       offset_is = next;
-      room = omega arith;
+      room = omega (arith, ap (start text) (add-one k), tested.there);
       before_is = ap (λ (x : CheckpointFields). x.count) tested.read ∙ ap (long_at text) at ∙ sym (count_before_more text k);
       sent_is =
           ap (λ (n : ℕ). n + fields.output) c.loop-k.invariant.sent_is

@@ -1,11 +1,4 @@
-use Rattle.std.proofs.Common.{◌≡◌, ◌≤◌, None, length}
-use Rattle.oberon_format.specs.declared.layout.TheConstants.{VERSION}
-use Rattle.recording_limits.specs.declared.limits.TheConstants.{MAX_OUTPUT}
-use Rattle.oberon_format.specs.FirstFault.{each, first_broken}
-use Rattle.oberon_format.specs.Layout.{start, version}
-use Rattle.oberon_format.specs.Rules.{checkpoint_rules, count_before}
-use Rattle.oberon_format.specs.inner.Tested.{HasNumbers}
-use Rattle.oberon_format.specs.TextFields.{fields_of, number_before}
+use Rattle.oberon_format.proofs.Common.{checkpoint_rules, count_before, each, fields_of, first_broken, HasNumbers, length, MAX_OUTPUT, None, number_before, start, VERSION, version, ◌≡◌, ◌≤◌}
 use Rattle.oberon_format.proofs.RuleLemmas.{output_below}
 use Rattle.oberon_format.proofs.rules.checkpoints_end.Given as goal
 

@@ -1,11 +1,7 @@
-use Rattle.std.proofs.Common.{◌≡◌, ◌<◌, false}
-use Rattle.oberon_format.specs.declared.fault.Fault.TheVariants as fault
+use Rattle.oberon_format.proofs.Common.{event_floor, event_of, event_offset, false, fields_of, is_event, ◌<◌, ◌≡◌}
 use Rattle.oberon_format.proofs.RuleLemmas.{each_unmet}
+use Rattle.oberon_format.specs.declared.fault.Fault.TheVariants as fault
 use Rattle.oberon_format.proofs.rules.events_fault.Goals as goal
-use Rattle.oberon_format.specs.Layout.{event_offset}
-use Rattle.oberon_format.specs.Ranges.{is_event}
-use Rattle.oberon_format.specs.Rules.{event_floor}
-use Rattle.oberon_format.specs.TextFields.{event_of, fields_of}
 
 pub returns-then-not-is_event : goal.returns-then-not-is_event
 returns-then-not-is_event c =

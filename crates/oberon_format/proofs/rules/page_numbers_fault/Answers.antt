@@ -1,9 +1,6 @@
-use Rattle.std.proofs.Common.{◌≡◌, false, nat_le, arith}
-use Rattle.std.proofs.lemmas.Bool.{lt-leb}
-use Rattle.oberon_format.specs.declared.fault.Fault.TheVariants as fault
-use Rattle.oberon_format.specs.declared.layout.TheConstants.{PLACES}
-use Rattle.oberon_format.specs.Layout.{page_number_offset, word_at}
+use Rattle.oberon_format.proofs.Common.{arith, false, lt-leb, nat_le, page_number_offset, PLACES, word_at, ◌≡◌}
 use Rattle.oberon_format.proofs.RuleLemmas.{each_unmet}
+use Rattle.oberon_format.specs.declared.fault.Fault.TheVariants as fault
 use Rattle.oberon_format.proofs.rules.page_numbers_fault.Goals as goal
 
 pub returns-then-u32_at-pages : goal.returns-then-u32_at-pages

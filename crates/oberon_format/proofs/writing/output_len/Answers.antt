@@ -1,6 +1,4 @@
-use Rattle.std.proofs.Common.{◌≡◌, length, get_or, ap, arith}
-use Rattle.std.proofs.lemmas.List.Folds.{length-flat_map-take}
-use Rattle.oberon_format.specs.CheckpointParts.{CheckpointParts, no_checkpoint}
+use Rattle.oberon_format.proofs.Common.{ap, arith, CheckpointParts, get_or, length, length-flat_map-take, no_checkpoint, ◌≡◌}
 use Rattle.oberon_format.proofs.writing.output_len.Goals as goal
 
 pub overflow_add-total : goal.overflow_add-total
@@ -9,5 +7,4 @@ overflow_add-total c =
     let k = c.loop-k.k in
     let below = length-flat_map-take (λ (x : CheckpointParts). x.sent) cs k no_checkpoint (omega arith) in
     let own : length c.checkpoint.result.now.sent.items ≡ length (get_or cs k no_checkpoint).sent = ap (λ (x : CheckpointParts). length x.sent) c.checkpoint.ensures.checkpoint in
-    let limit = c.checkpoint.ensures.lawful.output in
-    omega arith
+    omega (arith, c.checkpoint.ensures.lawful.output)

@@ -1,8 +1,4 @@
-use Rattle.std.proofs.Common.{◌≡◌, ◌∙◌, ◌++◌, ℕ, List, sym, ap, arith, append-nil}
-use Rattle.std.specs.List.{flat_map}
-use Rattle.oberon_format.specs.declared.layout.TheConstants.{PLACES}
-use Rattle.oberon_format.specs.Changes.{changes_below}
-use Rattle.oberon_format.specs.Encoding.{change_bytes}
+use Rattle.oberon_format.proofs.Common.{ap, append-nil, arith, change_bytes, changes_below, flat_map, List, PLACES, sym, ℕ, ◌++◌, ◌∙◌, ◌≡◌}
 use Rattle.oberon_format.proofs.WriteLemmas.{changes_skipped, changes_next}
 use Rattle.oberon_format.proofs.writing.push_changes.Goals.{then-entry+in_ok-push_change, else-entry}
 use Rattle.oberon_format.proofs.writing.push_changes.Goals as goal

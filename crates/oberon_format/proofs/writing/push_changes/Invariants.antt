@@ -1,7 +1,4 @@
-use Rattle.std.proofs.Common.{◌≡◌, ◌++◌}
-use Rattle.std.specs.List.{flat_map}
-use Rattle.oberon_format.specs.Changes.{changes_below}
-use Rattle.oberon_format.specs.Encoding.{change_bytes}
+use Rattle.oberon_format.proofs.Common.{change_bytes, changes_below, flat_map, ◌++◌, ◌≡◌}
 use Rattle.oberon_format.proofs.writing.push_changes.Given as goal
 
 abbrev pub invariant-loop-p : goal.invariant-loop-p

@@ -1,6 +1,4 @@
-use Rattle.std.proofs.Common.{◌≡◌, ◌++◌}
-use Rattle.oberon_format.specs.declared.layout.TheConstants.{VERSION}
-use Rattle.oberon_format.specs.Encoding.{checkpoints_bytes}
+use Rattle.oberon_format.proofs.Common.{checkpoints_bytes, VERSION, ◌++◌, ◌≡◌}
 use Rattle.oberon_format.proofs.writing.push_checkpoints.Given as goal
 
 abbrev pub invariant-loop-k : goal.invariant-loop-k

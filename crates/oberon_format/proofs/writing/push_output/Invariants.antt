@@ -1,5 +1,4 @@
-use Rattle.std.proofs.Common.{◌≡◌, ◌++◌, take}
-use Rattle.oberon_format.specs.Recording.{output_of}
+use Rattle.oberon_format.proofs.Common.{output_of, take, ◌++◌, ◌≡◌}
 use Rattle.oberon_format.proofs.writing.push_output.Given as goal
 
 abbrev pub invariant-loop-k : goal.invariant-loop-k

@@ -1,6 +1,4 @@
-use Rattle.std.proofs.Common.{◌∙◌, ◌++◌, ℕ, List, ap, arith}
-use Rattle.risc_pages.specs.Pages.{zero_page}
-use Rattle.oberon_format.specs.Encoding.{words_bytes}
+use Rattle.oberon_format.proofs.Common.{ap, arith, List, words_bytes, zero_page, ℕ, ◌++◌, ◌∙◌}
 use Rattle.oberon_format.proofs.WriteLemmas.{written_next, next_page}
 use Rattle.oberon_format.proofs.writing.push_pool.Goals as goal
 

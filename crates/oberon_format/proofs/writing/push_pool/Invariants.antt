@@ -1,6 +1,4 @@
-use Rattle.std.proofs.Common.{◌≡◌, ◌++◌, take}
-use Rattle.std.specs.List.{flat_map}
-use Rattle.oberon_format.specs.Encoding.{words_bytes}
+use Rattle.oberon_format.proofs.Common.{flat_map, take, words_bytes, ◌++◌, ◌≡◌}
 use Rattle.oberon_format.proofs.writing.push_pool.Given as goal
 
 abbrev pub invariant-loop-p : goal.invariant-loop-p

@@ -1,9 +1,4 @@
-use Rattle.std.proofs.Common.{◌≡◌, ◌∙◌, ℕ, List, length, ap, arith, add-one}
-use Rattle.oberon_format.specs.declared.layout.TheConstants.{VERSION}
-use Rattle.oberon_format.specs.Changes.{changes}
-use Rattle.oberon_format.specs.CheckpointParts.{CheckpointParts}
-use Rattle.oberon_format.specs.PartFields.{start_in}
-use Rattle.oberon_format.specs.Recording.{checkpoint_at, table_before}
+use Rattle.oberon_format.proofs.Common.{add-one, ap, arith, changes, checkpoint_at, CheckpointParts, length, List, start_in, table_before, VERSION, ℕ, ◌∙◌, ◌≡◌}
 use Rattle.oberon_format.proofs.PartLemmas.{start_in_next}
 use Rattle.oberon_format.proofs.writing.text_len.Goals as goal
 
@@ -11,11 +6,8 @@ pub loop-k-preserved : goal.loop-k-preserved
 loop-k-preserved c =
     let r = c.args.r.now in
     let k = c.loop-k.k in
-    let next = ap (start_in VERSION r) (add-one k) ∙ start_in_next VERSION r k in
     let before = c.table_before-before.ensures ∙ ap (λ (cs : List CheckpointParts). table_before cs k) c.checkpoints.ensures.checkpoints in
     let count : c.change_count.result ≡ length (changes (table_before r.checkpoints k) (checkpoint_at r k).table) = c.change_count.ensures
     ∙ ap (λ (t : List ℕ). length (changes t c.checkpoint.result.now.table)) before
     ∙ ap (λ (x : CheckpointParts). length (changes (table_before r.checkpoints k) x.table)) c.checkpoint.ensures.checkpoint in
-    let so_far = c.loop-k.invariant in
-    let own = c.changed_len-len.ensures in
-    omega arith
+    omega (arith, ap (start_in VERSION r) (add-one k) ∙ start_in_next VERSION r k, c.loop-k.invariant, c.changed_len-len.ensures)

@@ -1,6 +1,4 @@
-use Rattle.std.proofs.Common.{◌≡◌}
-use Rattle.oberon_format.specs.declared.layout.TheConstants.{VERSION}
-use Rattle.oberon_format.specs.PartFields.{start_in}
+use Rattle.oberon_format.proofs.Common.{start_in, VERSION, ◌≡◌}
 use Rattle.oberon_format.proofs.writing.text_len.Given as goal
 
 abbrev pub invariant-loop-k : goal.invariant-loop-k

@@ -1,6 +1,4 @@
-use Rattle.std.proofs.Common.{List, ℕ, sym, subst}
-use Rattle.oberon_format.specs.declared.layout.TheConstants.{VERSION}
-use Rattle.oberon_format.specs.Text.{TextIn}
+use Rattle.oberon_format.proofs.Common.{List, subst, sym, TextIn, VERSION, ℕ}
 use Rattle.oberon_format.proofs.Encoded.{encoded}
 use Rattle.oberon_format.proofs.writing.write.Goals as goal
 

@@ -1,5 +1,4 @@
-use Rattle.std.proofs.Common.{arith}
-use Rattle.std.proofs.lemmas.Grind.{common_steps}
+use Rattle.oberon_format.proofs.Common.{arith, common_steps}
 use Rattle.oberon_format.proofs.fields.CheckpointFields.are_keys.Goals as goal
 
 pub returns-then-self : goal.returns-then-self

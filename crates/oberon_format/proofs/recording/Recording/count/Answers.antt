@@ -1,5 +1,4 @@
-use Rattle.std.proofs.Common.{arith}
-use Rattle.std.proofs.lemmas.Grind.{common_steps}
+use Rattle.oberon_format.proofs.Common.{arith, common_steps}
 use Rattle.oberon_format.proofs.recording.Recording.count.Goals as goal
 
 pub returns-clause-count : goal.returns-clause-count

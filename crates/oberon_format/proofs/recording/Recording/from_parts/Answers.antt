@@ -1,12 +1,6 @@
-use Rattle.std.proofs.Common.{Option, refl, subst, sym}
-use Rattle.std.specs.Prelude.{IfSome}
+use Rattle.oberon_format.proofs.Common.{Fault, fault_of_parts, IfSome, IsNamedFault, Option, parts_of, refl, subst, sym, VERSION}
 use Rattle.oberon_format.proofs.LawfulLemmas.{lawful_faultless}
 use Rattle.oberon_format.proofs.Named.{parts_named}
-use Rattle.oberon_format.specs.declared.fault.Fault.{Fault}
-use Rattle.oberon_format.specs.declared.layout.TheConstants.{VERSION}
-use Rattle.oberon_format.specs.Line.{IsNamedFault}
-use Rattle.oberon_format.specs.PartFields.{fault_of_parts}
-use Rattle.oberon_format.specs.Recording.{parts_of}
 use Rattle.oberon_format.proofs.recording.Recording.from_parts.Goals as goal
 
 pub returns-in-Some-clause-lawful : goal.returns-in-Some-clause-lawful
