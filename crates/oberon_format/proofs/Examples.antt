@@ -108,7 +108,7 @@ unfolding number_after
 numbers-after-changes = refl
 
 -- and the changes between two tables, up to slot 2
-changes-between : changes_below 3 (5 ∷ 6 ∷ 7 ∷ 8 ∷ []) (5 ∷ 9 ∷ 0 ∷ 1 ∷ []) ≡ map (two_of 1 9 2 0) (0 ∷ 1 ∷ [])
+changes-between : changes_below 3 (5 ∷ 6 ∷ 7 ∷ 8 ∷ []) (5 ∷ 9 ∷ 0 ∷ 1 ∷ []) ≡ record { place = 1; number = 9 } ∷ record { place = 2; number = 0 } ∷ []
 unfolding changes_below
 changes-between = refl
 
@@ -176,6 +176,6 @@ claim = record no_checkpoint {
   cpu = record no_checkpoint.cpu { r = 5 ∷ replicate 15 0; pc = 100 };
 }
 
-bytes-of-fields : (length (common_bytes claim) ≡ COMMON_LEN) × (take 12 (common_bytes claim) ≡ long_bytes 100 ++ word_bytes 5) × (word_at (common_bytes claim) COUNTER_AT ≡ 100)
+bytes-of-fields : (length (common_bytes claim) ≡ COMMON_LEN) × (take 12 (common_bytes claim) ≡ 100 ∷ 0 ∷ 0 ∷ 0 ∷ 0 ∷ 0 ∷ 0 ∷ 0 ∷ 5 ∷ 0 ∷ 0 ∷ 0 ∷ []) × (word_at (common_bytes claim) COUNTER_AT ≡ 100)
 unfolding common_bytes word_bytes long_bytes word_at
 bytes-of-fields = (refl, refl, refl)
