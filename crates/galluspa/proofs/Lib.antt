@@ -3,7 +3,6 @@ mod WordLemmas
 mod RawLemmas
 mod FirstLemmas
 mod LineLemmas
-mod TruthLemmas
 mod FrameLemmas
 mod InputLemmas
 mod ExtendLemmas

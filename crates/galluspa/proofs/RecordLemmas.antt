@@ -14,6 +14,7 @@ use Rattle.oberon_format.proofs.One.{same_recording}
 use Rattle.oberon_format.specs.Defined.{IsTrueAt, Outcome, claimed}
 use Rattle.oberon_format.specs.Recording.{IsLawful, RecordingParts, count_at, last_of}
 use Rattle.oberon_format.specs.declared.layout.TheConstants.{VERSION}
+use Rattle.oberon_check.proofs.Accepting.{accepted}
 use Rattle.oberon_session.specs.Extended.{IsExtended, IsNext, last_count}
 use Rattle.galluspa.specs.Advance.{HasRun}
 use Rattle.galluspa.specs.Extend.{IsBeginning, IsExtension, claim_of}
@@ -23,7 +24,6 @@ use Rattle.galluspa.specs.declared.raw.RawInput.{RawInput}
 use Rattle.galluspa.specs.declared.raw.RawState.{RawState}
 use Rattle.galluspa.proofs.ExtendLemmas.{same-events}
 use Rattle.galluspa.proofs.FrameLemmas.{frame_law-holds}
-use Rattle.galluspa.proofs.TruthLemmas.{accepted}
 
 -- what holds of the count of each event holds of the count at each place
 each-count : (Q : ℕ → Type 0) (es : List Event) (i : ℕ) → i < length es → All (λ (e : Event). Q e.count) es → Q (event_count es i)

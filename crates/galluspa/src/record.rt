@@ -18,7 +18,7 @@ pub fn answer_to(alloc: Global, text: &[u8]) -> Result<Answer, AllocError>
 }
 
 /// The answer on a session.
-#[tactic(auto, using(crate::proofs::TruthLemmas::accepted))]
+#[tactic(auto, using(oberon_check::proofs::Accepting::accepted))]
 fn answer_of(alloc: Global, session: &Session) -> Result<Answer, AllocError>
     ensures { IfOk result (λ answer. IsRecordOf session.now answer.bytes.items answer.status) }
 {

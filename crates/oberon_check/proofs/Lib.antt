@@ -12,6 +12,7 @@ pub mod Gathered
 pub mod Shares
 pub mod Answered
 pub mod Lines
+pub mod Accepting
 pub mod Migrations
 pub mod Examples
 pub mod Threads

@@ -5,5 +5,4 @@ mod Literals
 mod Numbers
 mod Parsed
 mod ThreeLemmas
-mod TruthLemmas
 mod TurnLemmas

@@ -22,7 +22,7 @@ pub fn record(alloc: Global, text: &[u8]) -> Result<Reply, AllocError>
 }
 
 /// Returns the answer to a session.
-#[tactic(auto, using(crate::proofs::TruthLemmas::accepted))]
+#[tactic(auto, using(oberon_check::proofs::Accepting::accepted))]
 fn record_of(alloc: Global, session: &Session) -> Result<Reply, AllocError>
     ensures { IfOk result (λ reply. IsRecordOf session.now reply.text.items reply.status) }
 {

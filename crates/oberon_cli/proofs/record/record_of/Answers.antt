@@ -3,8 +3,8 @@ use Rattle.oberon_format.specs.Defined.{IsTrueAt}
 use Rattle.oberon_format.specs.Recording.{RecordingParts}
 use Rattle.oberon_format.specs.Text.{TextIn}
 use Rattle.oberon_format.specs.declared.layout.TheConstants.{VERSION}
+use Rattle.oberon_check.proofs.Accepting.{accepted}
 use Rattle.oberon_session.specs.Recorded.{recording_of}
-use Rattle.oberon_cli.proofs.TruthLemmas.{accepted}
 use Rattle.oberon_cli.proofs.record.record_of.Goals as goal
 
 pub returns-in_ok-text-in-Ok : goal.returns-in_ok-text-in-Ok

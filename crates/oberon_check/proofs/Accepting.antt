@@ -1,14 +1,16 @@
--- What the check answers to the text of a recording whose checkpoints are all true.
+-- The line of a recording file whose checkpoints are all true.
 use Rattle.std.proofs.Common.{◌<◌, ℕ, List, arith, inl, length, refl}
 use Rattle.oberon_format.specs.Defined.{IsTrueAt}
 use Rattle.oberon_format.specs.Recording.{RecordingParts, count_at, last_of}
 use Rattle.oberon_format.specs.Text.{TextIn}
 use Rattle.oberon_format.specs.declared.layout.TheConstants.{VERSION}
+use Rattle.oberon_check.specs.Headline.{IsLineOf}
+use Rattle.oberon_check.specs.Line.{line_of}
 use Rattle.oberon_check.specs.declared.verdict.Verdict.TheVariants.{Accepted}
-use Rattle.galluspa.specs.Record.{IsAccepted}
 
-pub accepted : (r : RecordingParts) (text : List ℕ) → TextIn VERSION text r → ((k : ℕ) → k < length r.checkpoints → IsTrueAt r k) → IsAccepted r text
-accepted r text is_text truth = inl (record {
+pub accepted : (r : RecordingParts) (bytes : List ℕ) → TextIn VERSION bytes r → ((k : ℕ) → k < length r.checkpoints → IsTrueAt r k)
+    → IsLineOf bytes (line_of (Accepted (last_of r) (count_at r (last_of r)))) 0
+accepted r bytes is_text truth = inl (record {
   recording = r;
   is_text = record { version = VERSION; is = is_text };
   verdict = Accepted (last_of r) (count_at r (last_of r));
