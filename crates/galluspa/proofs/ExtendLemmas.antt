@@ -8,7 +8,7 @@ use Rattle.oberon_format.specs.Recording.{RecordingParts}
 use Rattle.oberon_format.specs.Text.{TextIn}
 use Rattle.oberon_format.specs.Laws.{HasOneRecording}
 use Rattle.oberon_format.specs.declared.layout.TheConstants.{VERSION}
-use Rattle.oberon_session.specs.Extended.{IsExtended, IsNext, IsTooMuch, outcome_of}
+use Rattle.oberon_session.specs.Extended.{IsExtendFault, IsExtended, IsNext, outcome_of}
 use Rattle.oberon_session.specs.declared.claim.Claim.{Claim}
 use Rattle.oberon_session.specs.declared.extend_fault.ExtendFault.{ExtendFault}
 use Rattle.galluspa.specs.Extend.{CanFollow, DoesNotFollow, HasTooMuch, IsExtension, claim_of}
@@ -74,8 +74,8 @@ module _ (text : List ℕ) (inputs : List RawInput) (events : List Event) (state
     events = events;
     are_events = are;
     too_much =
-        subst (λ (o : Outcome). IsTooMuch full.recording events state.count o fault) outcome
-        (subst (λ (n : ℕ). IsTooMuch full.recording events n (outcome_of claim) fault) count full.too_much);
+        subst (λ (o : Outcome). IsExtendFault full.recording events state.count o fault) outcome
+        (subst (λ (n : ℕ). IsExtendFault full.recording events n (outcome_of claim) fault) count full.too_much);
   }
 
   pub out-of-place : IsFull text events claim ExtendFault.Order → DoesNotFollow text inputs state words

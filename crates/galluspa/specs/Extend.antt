@@ -4,7 +4,7 @@ use Rattle.oberon_format.specs.Defined.{Outcome}
 use Rattle.oberon_format.specs.Recording.{RecordingParts}
 use Rattle.oberon_format.specs.Text.{Text, TextIn}
 use Rattle.oberon_format.specs.declared.layout.TheConstants.{VERSION}
-use Rattle.oberon_session.specs.Extended.{IsBegun, IsExtended, IsNext, IsTooMuch}
+use Rattle.oberon_session.specs.Extended.{IsBegun, IsExtendFault, IsExtended, IsNext}
 use Rattle.oberon_session.specs.declared.extend_fault.ExtendFault.{ExtendFault}
 use Rattle.risc_model.specs.declared.event.Event.{Event}
 use Rattle.galluspa.specs.declared.raw.RawState.{RawState}
@@ -70,4 +70,4 @@ pub record HasTooMuch (text : List ℕ) (inputs : List RawInput) (state : RawSta
   pub is_text : Text text recording
   pub events : List Event
   pub are_events : AreEvents inputs events
-  pub too_much : IsTooMuch recording events state.count (claim_of state words sent) fault
+  pub too_much : IsExtendFault recording events state.count (claim_of state words sent) fault

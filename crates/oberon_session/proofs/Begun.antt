@@ -76,7 +76,7 @@ fitting-devices rate phase fits = record {
 }
 
 module _ (s : SessionParts) where
-  -- what the checkpoint says
+  -- the parts of the checkpoint
   abbrev pub first-checkpoint : CheckpointParts
   first-checkpoint = record { count = 0; cpu = s.cpu; devices = first_devices s.rate s.phase; sent = []; table = (first_stored s.pages).table }
 
@@ -140,10 +140,10 @@ module _ (s : SessionParts) where
     recorded-first =
         let none = nil_from_length (output_up_to s (count_of s 0)) (ap (λ (n : ℕ). length (output_up_to s n)) (count_of-zero s) ∙ output_up_to-zero s) in
         record {
-          stored_so = refl;
+          stored_is = refl;
           recorded = refl;
           output = ap output_of checkpoints-first ∙ sym none;
-          long = refl;
+          sent_is = refl;
           lawful =
               subst (λ (l : Stored). IsLawful (record { pool = l.pool; inputs = s.inputs; checkpoints = checkpoints_to s 0 })) (sym (stored_of-zero s))
               (subst (λ (cs : List CheckpointParts). IsLawful (record { pool = (first_stored s.pages).pool; inputs = s.inputs; checkpoints = cs })) (sym checkpoints-first) lawful-first);
@@ -151,7 +151,7 @@ module _ (s : SessionParts) where
               let this : 0 ≡ j = omega arith in
               subst (λ (n : ℕ). IsContentOf s (stored_of s 0).pool n) this
               (ap (λ (l : Stored). table_words l.pool l.table) (stored_of-zero s) ∙ sym first-words ∙ sym (ap (λ (t : State). t.words) state-first));
-          faultless = first_fault-zero s;
+          no_fault = first_fault-zero s;
         }
 
     pub so-first : (stored : Stored) → stored ≡ first_stored s.pages → (cs : List CheckpointParts) → cs ≡ first-checkpoint ∷ [] → IsRecorded s 0 stored cs 0

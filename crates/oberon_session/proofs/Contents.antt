@@ -1,4 +1,4 @@
--- What is stored is the memory: the content of the new table over the new pool.
+-- A memory that was stored is the content of the new table over the new pool.
 use Rattle.std.proofs.Common.{◌≡◌, ℕ, zero, suc, ◌+◌, ◌-◌, ◌*◌, ◌<◌, ◌≤◌, inl, inr, Bool, true, false, List, [], ◌∷◌, ◌++◌, ap, append_assoc, arith, drop, drop-drop, get_or, get_or-set_other, length, length-append, length-drop, length-set, length-take-le, map, refl, replicate, subst, sym, take, take-add, take_all, ◌∙◌}
 use Rattle.std.proofs.lemmas.Bool.{and_parts, eqb-true}
 use Rattle.std.proofs.lemmas.Bool.Decides.{eqb_tells}
@@ -22,7 +22,7 @@ use Rattle.oberon_session.specs.Laws.{IsTableOf}
 
 -- ---- pools that grow
 
--- a page keeps its number when the pool grows
+-- a page keeps its id when the pool grows
 pub page_of-grown : (pool extra : List (List ℕ)) (n : ℕ) → n ≤ length pool → page_of (pool ++ extra) n ≡ page_of pool n
 page_of-grown pool extra n named = elim (eqb_tells n 0) [
   | inl z ↦ page_of-zero (pool ++ extra) n z.1 ∙ sym (page_of-zero pool n z.1)
@@ -99,11 +99,11 @@ content-of pool table words n count whole shown =
 
 -- ---- storing pages
 
--- the table names at a place the page that the memory has there
+-- the table names in a slot the page that the memory has there
 abbrev IsShown : List ℕ → Stored → ℕ → Type 0
 IsShown words stored p = page_of stored.pool (slice_index stored.table p) ≡ page_at words p
 
--- the pool has grown, the table is still one, and what it showed of the memory it still shows
+-- the pool has grown, the table still names its pages, and each slot that had a page of the memory still has it
 pub record Leads (words : List ℕ) (old new : Stored) : Type 0 where
   pub extra : List (List ℕ)
   pub grown : new.pool ≡ old.pool ++ extra
@@ -121,7 +121,7 @@ module _ (words : List ℕ) (old : Stored) (place : ℕ) where
   other-is other = rw other refl
 
 module _ (words : List ℕ) (old : Stored) (good : IsTableOf old) (place : ℕ) (inside : place < 1024) where
-  -- a place shows its page once the number of that page is set there, over a pool that has only grown
+  -- a slot has its page once the id of that page is set there, over a pool that has only grown
   module _ (extra : List (List ℕ)) (number : ℕ) (fits : number ≤ length (old.pool ++ extra)) (names : page_of (old.pool ++ extra) number ≡ page_at words place) where
     abbrev after : Stored
     after = record { pool = old.pool ++ extra; table = slice_set old.table place number }
@@ -172,7 +172,7 @@ module _ (words : List ℕ) (whole : length words ≡ 262144) where
   abbrev pages-of : List ℕ → List (ℕ × List ℕ)
   pages-of places = map (with-page words) places
 
-  -- pages were stored at these places
+  -- pages were stored in these slots
   abbrev AreStored : Stored → List ℕ → Type 0
   AreStored old places =
       Leads words old (store_pages old (pages-of places)) × ((p : ℕ) → Contains places p → IsShown words (store_pages old (pages-of places)) p)

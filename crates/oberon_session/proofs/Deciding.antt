@@ -1,4 +1,4 @@
--- The tests of ranges and order hold exactly where the ranges and the order do.
+-- The tests of ranges and order hold exactly if the propositions do.
 use Rattle.std.proofs.Common.{◌≡◌, ◌<◌, ◌≤◌, ◌+◌, ◌^◌, ◌&&◌, ℕ, zero, suc, Bool, List, [], ◌∷◌, arith, length, refl, subst}
 use Rattle.std.proofs.lemmas.Bool.{le-leb, leb-true}
 use Rattle.std.proofs.lemmas.Bool.Decides.{Decides-and, Decides-by_and, Decides-like, Decides-ltb}
@@ -19,7 +19,7 @@ decides-le a b = (leb-true a b, le-leb a b)
 decides-all : {X : Type 0} (test : X → Bool) (P : X → Type 0) → ((x : X) → Decides (test x) (P x)) → (xs : List X) → Decides (list_all test xs) (All P xs)
 decides-all test P each = Decides-by_and test P (list_all test) each refl (λ _ _. refl)
 
--- what is in range, and not too many
+-- numbers in their ranges, and a list that is not too long
 decides-few : {X : Type 0} (most : ℕ) (test : X → Bool) (P : X → Type 0) → ((x : X) → Decides (test x) (P x)) → (xs : List X)
     → Decides (nat_le (length xs) most && list_all test xs) ((length xs ≤ most) × All P xs)
 decides-few most test P each xs = Decides-and (nat_le (length xs) most) (list_all test xs) (decides-le (length xs) most) (decides-all test P each xs)

@@ -26,7 +26,7 @@ rises-to xs rising i (suc more) inside =
     subst (λ (j : ℕ). slice_index xs i < slice_index xs j) next (omega arith)
 
 module _ (pages : List PlacedWords) where
-  -- the places of the first n pages have the numbers 1 to n
+  -- the slots of the first n pages have the page ids 1 to n
   named-so : IsStrictlyIncreasing (places_in pages) → All (λ place. place < 1024) (places_in pages) → (n i : ℕ) → n ≤ length (places_in pages) → i < n
       → slice_index (numbered pages n) (slice_index (places_in pages) i) ≡ i + 1
   named-so rising low zero i inside lt = absurd (omega arith)
@@ -49,7 +49,7 @@ module _ (pages : List PlacedWords) where
         ∙ number
   ]
 
-  -- and all other places have number 0
+  -- and all other slots have page id 0
   zeros-so : (p : ℕ) → All (λ place. place ≢ p) (places_in pages) → (n : ℕ) → n ≤ length (places_in pages) → slice_index (numbered pages n) p ≡ 0
   zeros-so p none zero inside = ap (λ (t : List ℕ). slice_index t p) (numbered-none pages) ∙ zero_number p
   zeros-so p none (suc n) inside =

@@ -1,4 +1,4 @@
--- A recording with one checkpoint more, and one that begins.
+-- A recording with one more checkpoint, and one that begins.
 use Rattle.std.proofs.Common.{◌≡◌, ◌≢◌, ℕ, ◌+◌, ◌-◌, ◌^◌, ◌<◌, ◌≤◌, inl, inr, List, [], ◌∷◌, ◌++◌, ap, arith, get_or, length, length-append, map, refl, subst, sym, ◌∙◌}
 use Rattle.std.proofs.lemmas.Bool.{cases_lt}
 use Rattle.std.proofs.lemmas.Grind.{common_steps}
@@ -20,7 +20,7 @@ use Rattle.oberon_format.specs.Recording.{IsFit, IsLawful, RecordingParts, check
 use Rattle.oberon_session.proofs.Contents.{Leads, memory-stored, table_words-grown}
 use Rattle.oberon_session.proofs.StoredLaws.{stored-law}
 use Rattle.oberon_session.proofs.LawfulMore.{lawful-more}
-use Rattle.oberon_session.specs.Extended.{IsBegun, IsExtended, IsNext, IsTooMuch, outcome_of}
+use Rattle.oberon_session.specs.Extended.{IsBegun, IsExtendFault, IsExtended, IsNext, outcome_of}
 use Rattle.oberon_session.specs.declared.claim.Claim.{Claim}
 use Rattle.oberon_session.specs.declared.extend_fault.ExtendFault.{ExtendFault}
 use Rattle.oberon_session.specs.declared.extend_fault.ExtendFault.TheVariants as fault
@@ -35,7 +35,7 @@ module _ (stored : Stored) (words : List ℕ) (good : IsTableOf stored) (pages :
   pub leads : Leads words stored (stored_on stored words) × (table_words (stored_on stored words).pool (stored_on stored words).table ≡ words)
   leads = memory-stored (table_words stored.pool stored.table) words stored good pages refl whole
 
-  -- the pages that changed join the pool
+  -- the pages that changed are added to the pool
   pub pool-stored : (stored_on stored words).pool ≡ stored.pool ++ new_pages (table_words stored.pool stored.table) words
   pool-stored = (stored-law (table_words stored.pool stored.table) words stored good pages refl whole).pool
 
@@ -88,7 +88,7 @@ module _ (r : RecordingParts) (lawful : IsLawful r) where
           ∙ ap (λ (w : List ℕ). record { state = record { cpu = cpu; devices = devices; words = w }; sent = sent }) led.1;
     }
 
-    -- it is lawful where nothing is too much
+    -- it is lawful if it exceeds no limit
     module _ (follows : IsNext r inputs count) (events : length (r.inputs ++ inputs) ≤ MAX_EVENTS) (room : length r.checkpoints ≤ LAST_CHECKPOINT)
         (few : length stored-next.pool ≤ MAX_PAGES) (pages : ArePages stored-next.pool) (cpus : IsCpuState cpu) (states : IsDeviceState devices)
         (bytes : All (λ byte. byte < 2 ^ 8) sent) where
@@ -128,7 +128,7 @@ module _ (r : RecordingParts) (lawful : IsLawful r) where
           output in
           subst (λ (p : List (List ℕ)). IsLawful (record { pool = p; inputs = r.inputs ++ inputs; checkpoints = r.checkpoints ++ next ∷ [] })) (sym grown) more
 
--- what has grown, as Rust has it
+-- the same for the values of the code
 module _ (r : RecordingParts) (lawful : IsLawful r) (inputs all : List Event) (claim : Claim) (whole : length claim.words.now ≡ 262144)
     (stored : StoredPages) (checkpoints : List Checkpoint) (grown : HasGrown r claim (stored_view stored) (map checkpoint_parts checkpoints)) (joined : all ≡ r.inputs ++ inputs) where
   abbrev grown-new : RecordingParts
@@ -136,23 +136,23 @@ module _ (r : RecordingParts) (lawful : IsLawful r) (inputs all : List Event) (c
 
   grown-is : parts_of stored.pool all checkpoints ≡ grown-new
   grown-is =
-      let pushed = grown.pushed ∙ ap (λ (l : Stored). r.checkpoints ++ checkpoint_of claim l.table ∷ []) grown.stored_so in
-      λ i. record { pool = (grown.stored_so i).pool; inputs = joined i; checkpoints = pushed i }
+      let pushed = grown.pushed ∙ ap (λ (l : Stored). r.checkpoints ++ checkpoint_of claim l.table ∷ []) grown.stored_is in
+      λ i. record { pool = (grown.stored_is i).pool; inputs = joined i; checkpoints = pushed i }
 
   pub grown-extended : (made : RecordingParts) → made ≡ parts_of stored.pool all checkpoints → IsExtended r inputs claim.count (outcome_of claim) made
   grown-extended made is =
       subst (IsExtended r inputs claim.count (outcome_of claim)) (sym (is ∙ grown-is))
       (is-extended r lawful inputs claim.count (cpu_state claim.cpu) claim.devices claim.words.now claim.sent.now whole)
 
-  -- where nothing else is too much, it is the output that is
+  -- if it exceeds no other limit but is not lawful, it exceeds that of the output
   pub grown-output : claim.cpu.pc < COUNTER_END → claim.cpu.stop ≤ 4 → IsNext r inputs claim.count → length (r.inputs ++ inputs) ≤ MAX_EVENTS
       → length r.checkpoints ≤ LAST_CHECKPOINT → (IsLawful (parts_of stored.pool all checkpoints) → ⊥) → MAX_OUTPUT < length (output_of r.checkpoints) + length claim.sent.now
   grown-output counter stop follows events room unlawful = elim (cases_lt MAX_OUTPUT (length (output_of r.checkpoints) + length claim.sent.now)) [
     | inl more ↦ more
     | inr few ↦ absurd (unlawful (subst IsLawful (sym grown-is)
         (is-lawful-more r lawful inputs claim.count (cpu_state claim.cpu) claim.devices claim.words.now claim.sent.now whole follows events room
-        (subst (λ (l : Stored). length l.pool ≤ MAX_PAGES) grown.stored_so grown.few)
-        (subst (λ (l : Stored). ArePages l.pool) grown.stored_so grown.pages)
+        (subst (λ (l : Stored). length l.pool ≤ MAX_PAGES) grown.stored_is grown.few)
+        (subst (λ (l : Stored). ArePages l.pool) grown.stored_is grown.pages)
         (record { count = claim.cpu.count; registers = claim.cpu.registers; auxiliary = claim.cpu.auxiliary; counter = counter; stops = stop })
         grown.devices grown.bytes few)))
   ]
@@ -160,9 +160,9 @@ module _ (r : RecordingParts) (lawful : IsLawful r) (inputs all : List Event) (c
 not-pages : {P : Type 0} (f : ExtendFault) → (f ≡ fault.Memory → ⊥) → (f ≡ fault.Pages → ⊥) → (f ≢ fault.Memory → (f ≡ fault.Pages) × P) → ⊥
 not-pages f memory pages needs = pages (needs memory).0
 
--- what a refusal for pages comes to
+-- a fault of the pages is one of the recording
 pub too-many-pages : (r : RecordingParts) → IsLawful r → (inputs : List Event) (claim : Claim) → length claim.words.now ≡ 262144 → (f : ExtendFault)
-    → NeedsPages (last_stored r) claim.words.now f → IsTooMuch r inputs claim.count (outcome_of claim) f
+    → NeedsPages (last_stored r) claim.words.now f → IsExtendFault r inputs claim.count (outcome_of claim) f
 too-many-pages r lawful inputs claim whole fault.Order needs = absurd (not-pages fault.Order (λ e. let no : fault.Order ≡ fault.Memory = e in cc) (λ e. let no : fault.Order ≡ fault.Pages = e in cc) needs)
 too-many-pages r lawful inputs claim whole fault.Inputs needs = absurd (not-pages fault.Inputs (λ e. let no : fault.Inputs ≡ fault.Memory = e in cc) (λ e. let no : fault.Inputs ≡ fault.Pages = e in cc) needs)
 too-many-pages r lawful inputs claim whole fault.Checkpoints needs = absurd (not-pages fault.Checkpoints (λ e. let no : fault.Checkpoints ≡ fault.Memory = e in cc) (λ e. let no : fault.Checkpoints ≡ fault.Pages = e in cc) needs)

@@ -1,4 +1,4 @@
--- What holds of each value holds of what each value says, and the other way round.
+-- A property of each value of a mapped list is one of each value of the list.
 use Rattle.std.proofs.Common.{◌≡◌, ◌<◌, ◌≤◌, ◌+◌, ◌↔◌, ℕ, List, [], ◌∷◌, arith, get_or, length, map, refl}
 use Rattle.std.proofs.lemmas.List.{get_or-map, length-map}
 use Rattle.std.proofs.lemmas.List.Elements.{All-map}

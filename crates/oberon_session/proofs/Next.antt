@@ -21,7 +21,7 @@ use Rattle.oberon_session.specs.SessionParts.{SessionParts, IsLawful as IsLawful
 use Rattle.oberon_session.specs.inner.Progress.{IsContentOf, IsRecorded, checkpoints_to}
 
 module _ (s : SessionParts) where
-  -- what is recorded up to checkpoint k, in the words of the session
+  -- what is recorded up to checkpoint k, as functions of the session
   abbrev pub recorded_to : ℕ → RecordingParts
   recorded_to k = record { pool = (stored_of s k).pool; inputs = s.inputs; checkpoints = checkpoints_to s k }
 
@@ -31,9 +31,9 @@ module _ (s : SessionParts) where
   module _ (stored : Stored) (cs : List CheckpointParts) (sent k : ℕ) where
     pub recorded-so : IsRecorded s k stored cs sent → Recorded k
     recorded-so so =
-        subst (λ (n : ℕ). IsRecorded s k (stored_of s k) (checkpoints_to s k) n) so.long
+        subst (λ (n : ℕ). IsRecorded s k (stored_of s k) (checkpoints_to s k) n) so.sent_is
         (subst (λ (l : List CheckpointParts). IsRecorded s k (stored_of s k) l sent) so.recorded
-        (subst (λ (l : Stored). IsRecorded s k l cs sent) so.stored_so so))
+        (subst (λ (l : Stored). IsRecorded s k l cs sent) so.stored_is so))
 
     pub so-recorded : stored ≡ stored_of s k → cs ≡ checkpoints_to s k → sent ≡ length (output_up_to s (count_of s k)) → Recorded k → IsRecorded s k stored cs sent
     so-recorded stored-so cs-so long so =
@@ -76,7 +76,7 @@ module _ (s : SessionParts) where
         named = subst (IsNamed (stored_of s k).pool) (table-of k) fit.named;
       }
 
-  -- what the next state and its layout are known to be
+  -- what is known of the next state and its pages
   pub record IsGoodNext (k : ℕ) : Type 0 where
     pub cpu : IsCpuState (state_of s (k + 1)).cpu
     pub devices : IsDeviceState (state_of s (k + 1)).devices
@@ -152,11 +152,11 @@ module _ (s : SessionParts) where
 
     pub recorded-next : Recorded (k + 1)
     recorded-next = record {
-      stored_so = refl;
+      stored_is = refl;
       recorded = refl;
       output = output-more;
-      long = refl;
+      sent_is = refl;
       lawful = lawful-next;
       content = content-next;
-      faultless = nothing-too-much s k so.faultless good.output good.pages;
+      no_fault = nothing-too-much s k so.no_fault good.output good.pages;
     }

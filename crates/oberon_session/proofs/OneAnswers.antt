@@ -1,4 +1,4 @@
--- A text has one answer: a session, or one first rule that it breaks.
+-- Any bytes have exactly one answer: a session, or the first rule that they break.
 use Rattle.std.proofs.Common.{◌≡◌, ◌∙◌, ℕ, List, [], ◌∷◌, Option, Some, None, arith, ap, map, refl, subst, sym}
 use Rattle.std.proofs.lemmas.List.Elements.{All-head, All-tail}
 use Rattle.std.specs.List.{All}
@@ -64,7 +64,7 @@ same-session draft a b x y =
     let counts : a.counts ≡ b.counts = x.counts ∙ sym y.counts in
     λ i. record { cpu = cpu i; rate = rate i; phase = phase i; pages = pages i; inputs = inputs i; counts = counts i }
 
--- a text has this answer, and no other one
+-- the bytes have this answer, and no other one
 abbrev HasAnswer : List ℕ → Type 0
 HasAnswer bytes = (answer : Result SessionParts SessionFault) × IsAnswer bytes answer × ((other : Result SessionParts SessionFault) → IsAnswer bytes other → other ≡ answer)
 

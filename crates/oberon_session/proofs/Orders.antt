@@ -1,4 +1,4 @@
--- Inputs in order, place by place, and as counts that never fall.
+-- Inputs in order, index by index, and as counts that never fall.
 use Rattle.std.proofs.Common.{◌≡◌, ◌<◌, ◌≤◌, ◌+◌, ℕ, zero, suc, List, [], ◌∷◌, arith, ap, length, map, refl}
 use Rattle.std.proofs.lemmas.Bool.Decides.{nat_tests}
 use Rattle.std.proofs.lemmas.List.{get_or-map, length-map}
@@ -25,7 +25,7 @@ falls-never es ordered = λ k lt.
     let right = ordered (k + 1) inside in
     rw (count_before-next es k) at right.0
 
--- the inputs are in order where their counts never fall and none is too high
+-- the inputs are in order if their counts never fall and none is too high
 right-at : (es : List Event) → NeverFalls (map (λ (e : Event). e.count) es) → ((k : ℕ) → k < length es → count_at es k ≤ MAX_COUNT)
     → (place : ℕ) → place < length es → IsRightPlace es place
 right-at es falls bounded zero inside = (omega arith, bounded zero inside)

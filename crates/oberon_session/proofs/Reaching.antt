@@ -20,10 +20,10 @@ use Rattle.oberon_session.specs.Stored.{Stored, changed_pages, store, store_page
 use Rattle.oberon_session.specs.Recorded.{checkpoint_of, count_of, stored_of, output_between, output_up_to, record_fault_of, state_of}
 use Rattle.oberon_session.specs.SessionParts.{SessionParts, IsLawful}
 use Rattle.oberon_session.specs.inner.Progress.{IsReached, IsRecorded, checkpoints_to, page_view}
-use Rattle.oberon_session.specs.declared.way.Reached.{Reached}
+use Rattle.oberon_session.specs.declared.running.Reached.{Reached}
 use Rattle.oberon_session.specs.declared.record_fault.RecordFault.TheVariants as fault
 
--- what checkpoint k claims is the state there, where its table has that memory as its content
+-- checkpoint k claims the state at its count, if its table has that memory as its content
 pub claimed-is : (s : SessionParts) (k : ℕ) (pool : List (List ℕ)) → table_words pool (stored_of s k).table ≡ (state_of s k).words → (claim_of pool (checkpoint_of s k)).state ≡ state_of s k
 unfolding checkpoint_of
 claimed-is s k pool content = ap (λ (words : List ℕ). record { cpu = (state_of s k).cpu; devices = (state_of s k).devices; words = words }) content
@@ -38,15 +38,15 @@ checkpoint-is s k count cpu devices sent table counts cpus states sents tables =
     let sents-so = sents ∙ ap (λ (j : ℕ). output_between s (count_of s j) (count_of s (k + 1))) before in
     λ i. record { count = counts i; cpu = cpus i; devices = states i; sent = sents-so i; table = tables i }
 
--- where the machine begins that is started at a checkpoint
+-- the state of a machine that is started at a checkpoint
 abbrev first : Stored → Checkpoint → State
 first stored last = (claim_of stored.pool (checkpoint_parts last)).state
 
--- and where it ends at a count
+-- and its state at a count
 abbrev end : Stored → Checkpoint → List Event → ℕ → State
 end stored last es count = run_of es last.count (count - last.count) (first stored last)
 
--- what it sends on the way
+-- what it sends until then
 abbrev sends : Stored → Checkpoint → List Event → ℕ → List ℕ
 sends stored last es count = sent_of es last.count (count - last.count) (first stored last)
 
@@ -62,7 +62,7 @@ module _ {s : SessionParts} {k : ℕ} {stored : Stored} (checkpoints : List Chec
   inside-of = omega (arith, many, length-map checkpoints checkpoint_parts)
 
   pub few-sent : sent ≤ MAX_OUTPUT
-  few-sent = omega (arith, so.long, ap length so.output, so.lawful.output)
+  few-sent = omega (arith, so.sent_is, ap length so.output, so.lawful.output)
 
   module _ {last : Checkpoint} (at : last ≡ get_or checkpoints k last) where
     last-is : checkpoint_parts last ≡ checkpoint_of s k
@@ -76,7 +76,7 @@ module _ {s : SessionParts} {k : ℕ} {stored : Stored} (checkpoints : List Chec
     pub last-fit : IsFit stored.pool (checkpoint_parts last)
     last-fit =
         subst (λ (c : CheckpointParts). IsFit stored.pool c) (sym last-is)
-        (subst (λ (l : Stored). IsFit l.pool (checkpoint_of s k)) (sym so.stored_so)
+        (subst (λ (l : Stored). IsFit l.pool (checkpoint_of s k)) (sym so.stored_is)
         (fit-there s k k (recorded-so s stored (map checkpoint_parts checkpoints) sent k so) (omega arith)))
 
     pub begun : (claim_of stored.pool (checkpoint_parts last)).state ≡ state_of s k
@@ -106,11 +106,11 @@ module _ {s : SessionParts} {k : ℕ} {stored : Stored} (checkpoints : List Chec
       whole-output =
           let parts = ap length (output-on s (count_of s k) (count_of s (k + 1)) on) in
           let here = ap length output-reached in
-          omega (arith, parts, here, so.long, length-append (output_up_to s (count_of s k)) (output_between s (count_of s k) (count_of s (k + 1))))
+          omega (arith, parts, here, so.sent_is, length-append (output_up_to s (count_of s k)) (output_between s (count_of s k) (count_of s (k + 1))))
 
       -- it sends too much
       pub refused-output : MAX_OUTPUT - sent < length (sends stored last es count) → record_fault_of s ≡ Some fault.Output
-      refused-output many = too-much-output s k within so.faultless (omega (arith, whole-output))
+      refused-output many = too-much-output s k within so.no_fault (omega (arith, whole-output))
 
       module _ {r : Reached} (reached : IsReached (first stored last).words (end stored last es count) (sends stored last es count) r) {stored' : Stored} (stored-so : stored' ≡ store_pages stored (map page_view r.changed.items)) where
         store-is : store (first stored last).words (end stored last es count).words stored ≡ store_pages stored (changed_pages (first stored last).words (end stored last es count).words)
@@ -122,10 +122,10 @@ module _ {s : SessionParts} {k : ℕ} {stored : Stored} (checkpoints : List Chec
             stored-so ∙ ap (λ (pages : List (ℕ × List ℕ)). store_pages stored pages) reached.changed ∙ sym store-is
             ∙ ap (λ (l : List ℕ). store l (end stored last es count).words stored) (ap (λ (t : State). t.words) begun)
             ∙ ap (λ (l : List ℕ). store (state_of s k).words l stored) (ap (λ (t : State). t.words) state-reached)
-            ∙ ap (λ (l : Stored). store (state_of s k).words (state_of s (k + 1)).words l) so.stored_so
+            ∙ ap (λ (l : Stored). store (state_of s k).words (state_of s (k + 1)).words l) so.stored_is
             ∙ sym (stored_of-next s k)
 
-        -- as much is sent as may be
+        -- the output is within its limit
         module _ (room : length r.sent.items ≤ MAX_OUTPUT - sent) where
           few-bytes : length (output_up_to s (count_of s (k + 1))) ≤ MAX_OUTPUT
           few-bytes = omega (arith, few-sent, whole-output, ap length reached.output)
@@ -133,7 +133,7 @@ module _ {s : SessionParts} {k : ℕ} {stored : Stored} (checkpoints : List Chec
           -- too many pages were stored
           pub refused-pages : MAX_PAGES < length stored'.pool → record_fault_of s ≡ Some fault.Pages
           refused-pages many =
-              too-many-pages s k within so.faultless few-bytes (subst (λ (l : Stored). MAX_PAGES < length l.pool) stored-next many)
+              too-many-pages s k within so.no_fault few-bytes (subst (λ (l : Stored). MAX_PAGES < length l.pool) stored-next many)
 
           -- the next checkpoint is recorded
           module _ (pages : length stored'.pool ≤ MAX_PAGES) (pool : ArePages stored'.pool)

@@ -1,4 +1,4 @@
--- What the single tests say of the whole draft.
+-- From the single tests to the rules of the whole draft.
 use Rattle.std.proofs.Common.{map}
 use Rattle.oberon_session.proofs.Mapped.{mapped-fit, mapped-rises}
 use Rattle.oberon_session.specs.Draft.{PageText}

@@ -1,4 +1,4 @@
--- Runs that go on from runs.
+-- Runs that continue runs.
 use Rattle.std.proofs.Common.{◌≡◌, ℕ, ◌+◌, ◌-◌, ◌≤◌, List, ◌++◌, ap, arith, length, length-append, refl, sym, ◌∙◌}
 use Rattle.risc_model.specs.declared.event.Event.{Event}
 use Rattle.risc_model.specs.MachineState.{State}
@@ -12,7 +12,7 @@ module _ (es : List Event) (from at end : ℕ) (s : State) (begun : from ≤ at)
   here : from + (at - from) ≡ at
   here = omega arith
 
-  -- the state that a run comes to which goes on
+  -- the state after a run that continues another
   pub run-on : (t : State) → t ≡ run_of es from (at - from) s → run_of es at (end - at) t ≡ run_of es from (end - from) s
   run-on t reached =
       ap (λ (x : State). run_of es at (end - at) x) reached
@@ -20,7 +20,7 @@ module _ (es : List Event) (from at end : ℕ) (s : State) (begun : from ≤ at)
       ∙ sym (run_of-on es from (at - from) (end - at) s)
       ∙ ap (λ (n : ℕ). run_of es from n s) (sym split)
 
-  -- what it sends on the whole way
+  -- what both send
   pub sent-on : (t : State) → t ≡ run_of es from (at - from) s
       → sent_of es from (at - from) s ++ sent_of es at (end - at) t ≡ sent_of es from (end - from) s
   sent-on t reached =
@@ -29,7 +29,7 @@ module _ (es : List Event) (from at end : ℕ) (s : State) (begun : from ≤ at)
       ∙ sym (sent_of-on es from (at - from) (end - at) s)
       ∙ ap (λ (n : ℕ). sent_of es from n s) (sym split)
 
-  -- a run sends no less when it goes on
+  -- a run sends no less if it is longer
   pub sent-grows : length (sent_of es from (at - from) s) ≤ length (sent_of es from (end - from) s)
   sent-grows =
       let t : State = run_of es from (at - from) s in

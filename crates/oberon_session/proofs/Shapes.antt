@@ -1,4 +1,4 @@
--- What the walks over objects and arrays are by.
+-- The accessors of objects and arrays, and their definitions.
 use Rattle.std.proofs.Common.{◌≡◌, ◌==◌, ◌+◌, ◌<◌, ◌∙◌, ◌++◌, ℕ, zero, suc, List, [], ◌∷◌, Option, Some, None, arith, refl, ap, length, map, take, get_or, cond}
 use Rattle.std.proofs.lemmas.List.{map_more}
 use Rattle.std.proofs.lemmas.Bool.{eq-eqb, ne_eqb}

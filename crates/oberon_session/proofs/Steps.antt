@@ -74,7 +74,7 @@ module _ (s : SessionParts) where
       let next : k + 1 ≡ suc k = omega arith in
       rw next (stored_of-suc k)
 
-  -- ---- refusals
+  -- ---- faults
 
   pub first_fault-zero : first_fault s 0 ≡ None
   unfolding first_fault
@@ -121,7 +121,7 @@ module _ (s : SessionParts) where
       let pages : nat_lt MAX_PAGES (length (stored_of s (k + 1)).pool) ≡ true = lt-ltb _ _ many in
       refused-at k fault.Pages inside before (rw (test, pages) refl)
 
-  -- nothing is too much up to the next checkpoint
+  -- no limit is exceeded up to the next checkpoint
   pub nothing-too-much : (k : ℕ) → first_fault s k ≡ None → length (output_up_to s (count_of s (k + 1))) ≤ MAX_OUTPUT
       → length (stored_of s (k + 1)).pool ≤ MAX_PAGES → first_fault s (k + 1) ≡ None
   unfolding fault_at

@@ -1,4 +1,4 @@
--- The laws of what is stored.
+-- The law of stored memories.
 use Rattle.std.proofs.Common.{◌≡◌, ◌≢◌, ℕ, zero, suc, ◌+◌, ◌<◌, ◌≤◌, ◌⊎◌, inl, inr, Bool, true, false, cond, List, [], ◌∷◌, ◌++◌, ap, append_assoc, arith, get_or-set_other, length, length-set, map, not, refl, subst, sym, ◌∙◌}
 use Rattle.std.proofs.lemmas.Bool.{false≢true}
 use Rattle.std.proofs.lemmas.Bool.Decides.{eqb_tells}
@@ -18,7 +18,7 @@ module _ (words : List ℕ) where
   abbrev new-pages : List ℕ → List (List ℕ)
   new-pages places = filter (λ page. not (is_blank page)) (map (page_at words) places)
 
-  -- what the pages at these places come to, stored one after another
+  -- the pages of these slots, stored one after another
   pub record Steps (old new : Stored) (places : List ℕ) (n : ℕ) : Type 0 where
     pub pool : new.pool ≡ old.pool ++ new-pages places
     pub kept : (p : ℕ) → ¬ (Contains places p) → slice_index new.table p ≡ slice_index old.table p
@@ -30,7 +30,7 @@ module _ (words : List ℕ) where
   first-or-rest q p places (zero, lt, is) = inl is
   first-or-rest q p places (suc k, lt, is) = inr (k, omega arith, is)
 
-  -- what one page at place q comes to
+  -- one page, stored in slot q
   record One (old mid : Stored) (q n : ℕ) : Type 0 where
     pub pool : mid.pool ≡ old.pool ++ new-pages (q ∷ [])
     pub count : length mid.table ≡ 1024

@@ -1,4 +1,4 @@
--- Pages and tables, one page more.
+-- Pages and tables with one more page.
 use Rattle.std.proofs.Common.{◌≡◌, ℕ, suc, ◌+◌, ◌<◌, ◌≤◌, Bool, true, false, List, [], ◌∷◌, ap, arith, cond, length, map, refl, sym, ◌∙◌}
 use Rattle.std.proofs.lemmas.List.{length-map}
 use Rattle.std.proofs.lemmas.List.Elements.{All-map}
@@ -31,7 +31,7 @@ numbered-more pages n place at =
     let next : n + 1 ≡ suc n = omega arith in
     rw (next, at) (sym (numbered-suc pages n))
 
--- a place with its page
+-- a slot with its page
 abbrev pub with-page : List ℕ → ℕ → ℕ × List ℕ
 with-page words place = (place, page_at words place)
 

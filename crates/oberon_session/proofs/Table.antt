@@ -1,4 +1,4 @@
--- What the table of rules comes to for a text of which this is known.
+-- The first broken rule of bytes, by what is known of them.
 use Rattle.std.proofs.Common.{◌≡◌, ◌↔◌, ◌<◌, ◌≤◌, ◌∙◌, ℕ, Bool, true, false, List, [], ◌∷◌, Option, Some, None, arith, ap, cond, length, refl, sym, take}
 use Rattle.std.proofs.lemmas.Bool.{cond-true, false_from_ne_true, le-leb, lt-leb}
 use Rattle.std.proofs.lemmas.List.{length-take}
@@ -24,12 +24,12 @@ use Rattle.oberon_session.specs.declared.fault.SessionFault.{SessionFault}
 use Rattle.oberon_session.specs.declared.fault.SessionFault.TheVariants.{Json, Shape, Range, Order, Hex, Memory}
 use Rattle.recording_limits.specs.declared.limits.TheConstants.{LONGEST_SESSION}
 
--- the table of a text: whether it is short enough, its value, and what it says
+-- the rules of bytes: whether they are few enough, their value, and its draft
 abbrev table : Bool → Option Data → Option Draft → Option SessionFault
 table fits json draft =
     first_broken ((fits, Range) ∷ (is_some json, Json) ∷ (is_some draft, Shape) ∷ (says in_range draft, Range) ∷ (says in_order draft, Order) ∷ (says in_digits draft, Hex) ∷ [])
 
--- the part of it that is about a draft
+-- the rules on the draft
 abbrev table-on : Draft → Option SessionFault
 table-on draft = first_broken ((in_range draft, Range) ∷ (in_order draft, Order) ∷ (in_digits draft, Hex) ∷ [])
 
@@ -38,7 +38,7 @@ module _ (bytes : List ℕ) where
   unfolding first_fault_of
   by-table = refl
 
-  -- a text that is too long
+  -- there are too many bytes
   pub fault-long : LONGEST_SESSION < length bytes → first_fault_of bytes ≡ Some Range
   fault-long long = by-table ∙ ap (λ (fits : Bool). table fits (json_of bytes) (draft_in bytes)) (lt-leb (length bytes) LONGEST_SESSION long)
 
@@ -48,7 +48,7 @@ module _ (bytes : List ℕ) where
         by-table ∙ ap (λ (b : Bool). table b (json_of bytes) (draft_in bytes)) (le-leb (length bytes) LONGEST_SESSION fits)
         ∙ ap (λ (j : Option Data). table true j (j >>= draft_of)) is
 
-    -- one without a value
+    -- they have no value
     pub fault-json : (IsUtf8 bytes → read bytes ≡ None) → first_fault_of bytes ≡ Some Json
     fault-json none = by-json None (go (is_utf8 bytes) refl)
       where
@@ -56,7 +56,7 @@ module _ (bytes : List ℕ) where
         go true is = none (IsUtf8-from_is_utf8 bytes is)
         go false is = refl
 
-    -- one of a value
+    -- they have a value
     module _ (json : Data) (is : IsJson bytes json) where
       value-is : json_of bytes ≡ Some json
       value-is = cond-true (is_utf8 bytes) (read bytes) None (is_utf8-from_IsUtf8 bytes is.0) ∙ is.1
@@ -93,7 +93,7 @@ module _ (draft : Draft) where
       ∙ ap (λ (b : Bool). first_broken ((b, Order) ∷ (in_digits draft, Hex) ∷ [])) (order-held order)
       ∙ ap (λ (p : Option (List PlacedWords)). first_broken ((is_some p, Hex) ∷ [])) is
 
--- ---- what the tests of a value say of its text
+-- ---- from the tests of a value to the rules of its bytes
 
 module _ (bytes : List ℕ) (fits : Fits bytes) (json : Data) (is : IsJson bytes json) where
   on-draft : (draft : Draft) → draft_of json ≡ Some draft → first_fault_of bytes ≡ table-on draft
@@ -112,7 +112,7 @@ module _ (bytes : List ℕ) (fits : Fits bytes) (json : Data) (is : IsJson bytes
       (on-draft h.0 h.1 ∙ on-digits h.0 h.2 h.3 (Some session.pages) h.4.pages, h.0, draft-is bytes fits json is h.0 h.1, h.4)
 
 module _ (bytes : List ℕ) (fits : Fits bytes) where
-  -- the fault of a text that `serde_json` refuses
+  -- the fault of bytes that `serde_json` refuses
   pub refused-text : (lacks : Type 0) (fault : SessionFault) → (fault ≡ Memory) ↔ lacks → (fault ≡ Json) ↔ (lacks → ⊥)
       → ((lacks → ⊥) → IsUtf8 bytes → read bytes ≡ None) → Breaks bytes fault
   refused-text lacks fault memory json none = go fault memory json
@@ -128,7 +128,7 @@ module _ (bytes : List ℕ) (fits : Fits bytes) where
       go Hex memory json = absurd (other Hex (λ e. cc) (λ e. cc) memory json)
       go Memory memory json = fits
 
--- ---- a text that breaks no rule
+-- ---- bytes that break no rule
 
 all-hold : (rs : List (Rule SessionFault)) → first_broken rs ≡ None → All (λ rule. rule.0 ≡ true) rs
 all-hold [] none = All-nil (λ rule. rule.0 ≡ true)
@@ -139,7 +139,7 @@ some-of : {X : Type 0} (o : Option X) → is_some o ≡ true → (x : X) × (o �
 some-of (Some x) h = (x, refl)
 some-of None h = absurd cc
 
--- what it says
+-- their session
 pub record IsFaultless (bytes : List ℕ) : Type 0 where
   pub draft : Draft
   pub shape : draft_in bytes ≡ Some draft
@@ -168,9 +168,9 @@ faultless bytes none =
       placed = placed.1;
     }
 
--- ---- a text that is cut off
+-- ---- bytes that are cut off
 
--- one that is cut off after more bytes than a session may have has the fault of the whole
+-- bytes that are cut off where there are already too many have the fault of all of them
 pub fault-cut : (n : ℕ) (bytes : List ℕ) → LONGEST_SESSION < n → n ≤ length bytes → first_fault_of (take n bytes) ≡ first_fault_of bytes
 fault-cut n bytes over within =
     let long : LONGEST_SESSION < length (take n bytes) = simp length-take (omega arith) in

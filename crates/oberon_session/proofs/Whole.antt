@@ -1,4 +1,4 @@
--- A session of which all checkpoints are recorded.
+-- A session all of whose checkpoints are recorded.
 use Rattle.std.proofs.Common.{◌≡◌, ℕ, ◌-◌, ◌<◌, ◌≤◌, List, None, ap, arith, length, refl, subst, sym, ◌∙◌}
 use Rattle.risc_model.specs.declared.event.Event.{Event}
 use Rattle.risc_model.specs.MachineState.{State}
@@ -22,7 +22,7 @@ module _ (s : SessionParts) where
 
   pub nothing-refused : Recorded s (last_of s) → record_fault_of s ≡ None
   unfolding record_fault_of
-  nothing-refused so = so.faultless
+  nothing-refused so = so.no_fault
 
   sent-is : (k : ℕ) → (checkpoint_of s k).sent ≡ output_between s (count_of s (k - 1)) (count_of s k)
   unfolding checkpoint_of
@@ -69,7 +69,7 @@ module _ (s : SessionParts) (stored : Stored) (cs : List CheckpointParts) (sent 
   made = nothing-refused s (recorded-so s stored cs sent (last_of s) last-so)
 
   whole-is : record { pool = stored.pool; inputs = s.inputs; checkpoints = cs } ≡ recorded_to s (last_of s)
-  whole-is = λ i. record { pool = (last-so.stored_so i).pool; inputs = s.inputs; checkpoints = last-so.recorded i }
+  whole-is = λ i. record { pool = (last-so.stored_is i).pool; inputs = s.inputs; checkpoints = last-so.recorded i }
 
   pub recording-of : (es : List Event) → es ≡ s.inputs → record { pool = stored.pool; inputs = es; checkpoints = cs } ≡ recording_of s
   recording-of es same = ap (λ (l : List Event). record { pool = stored.pool; inputs = l; checkpoints = cs }) same ∙ whole-is ∙ recording-is s

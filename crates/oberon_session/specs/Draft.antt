@@ -1,11 +1,11 @@
--- What a JSON value says, if it has the shape of a session of version 1 or 2. The format is this project's own.
+-- What a JSON value of the shape of a session, version 1 or 2, says. The format is this project's own.
 use Rattle.std.specs.Prelude.{◌==◌, ◌||◌, ℕ, List, [], ◌∷◌, length, Option, Some, None, if◌then◌else◌, codes}
 use Rattle.std.specs.Str.{bytes_eq}
 use Rattle.serde_json.specs.Data.{Data}
 use Rattle.serde_json.specs.Find.{get}
 use Rattle.oberon_session.specs.Shape.{◌>>=◌, each, exactly, items_of, number_of, numbers_of, only_if, text_of}
 
--- the numbers of the first state
+-- the numbers of the initial state
 pub record Start : Type 0 where
   pub registers : List ℕ
   pub h : ℕ
@@ -14,7 +14,7 @@ pub record Start : Type 0 where
   pub rate : ℕ
   pub phase : ℕ
 
--- a page: its place, and the text of its digits
+-- a page: its slot, and its digits
 pub record PageText : Type 0 where
   pub at : ℕ
   pub hex : List ℕ
@@ -25,6 +25,7 @@ pub record InputNumbers : Type 0 where
   pub kind : ℕ
   pub value : ℕ
 
+-- a session whose shape is right; ranges and order are not tested
 pub record Draft : Type 0 where
   pub start : Start
   pub pages : List PageText
@@ -33,7 +34,7 @@ pub record Draft : Type 0 where
 
 -- ---- the shape
 
--- the version, if there is one of this number
+-- the number of the version, if it is 1 or 2
 abbrev pub version_of : Data → Option ℕ
 version_of json = do
   version ← number_of json
@@ -43,11 +44,11 @@ version_of json = do
 abbrev pub since_2 : ℕ → List ℕ → Data → Option ℕ
 since_2 version name json = if version == 1 then Some 0 else get name json >>= number_of
 
--- how many members the first state has
+-- the number of members of the initial state
 abbrev pub start_members : ℕ → ℕ
 start_members version = if version == 1 then 4 else 6
 
--- an object of exactly R, an array of sixteen numbers, the numbers H, PC and flags, and in version 2 the numbers rate and phase
+-- an object of exactly these members: R, an array of sixteen numbers; the numbers H, PC and flags; in version 2 the numbers rate and phase
 abbrev pub start_of : ℕ → Data → Option Start
 start_of version json = do
   start ← exactly (start_members version) json
@@ -60,7 +61,7 @@ start_of version json = do
   sixteen ← only_if (length registers == 16) registers
   Some (record { registers = sixteen; h = h; pc = pc; flags = flags; rate = rate; phase = phase })
 
--- an object of exactly a number, at, and a text, hex
+-- an object of exactly two members: at, a number, and hex, a string
 abbrev pub page_of : Data → Option PageText
 page_of json = do
   page ← exactly 2 json
@@ -78,7 +79,7 @@ kind_of name =
     else if bytes_eq name (codes "serial") then Some 5
     else None
 
--- an array of exactly a count, the name of a kind, and a value
+-- an array of exactly three items: a count, the name of a kind, and a value
 abbrev pub triple_of : List Data → Option InputNumbers
 triple_of (first ∷ second ∷ third ∷ []) = do
   count ← number_of first
@@ -97,7 +98,7 @@ pages_of json = items_of json >>= each page_of
 abbrev pub inputs_of : Data → Option (List InputNumbers)
 inputs_of json = items_of json >>= each input_of
 
--- the version, and the values of the members that say something
+-- the version, and the values of the other members but format, which is the same in each session
 pub record Members : Type 0 where
   pub version : ℕ
   pub start : Data
@@ -105,7 +106,7 @@ pub record Members : Type 0 where
   pub inputs : Data
   pub checkpoints : Data
 
--- an object of exactly format and version, which are given, start, pages, inputs and checkpoints
+-- an object of exactly these members: format, which is oberon-session, version, start, pages, inputs and checkpoints
 abbrev pub members_of : Data → Option Members
 members_of json = do
   session ← exactly 6 json
@@ -118,6 +119,7 @@ members_of json = do
   checkpoints ← get (codes "checkpoints") session
   Some (record { version = version; start = start; pages = pages; inputs = inputs; checkpoints = checkpoints })
 
+-- the draft of a value of this shape
 abbrev pub draft_of : Data → Option Draft
 draft_of json = do
   members ← members_of json

@@ -1,5 +1,5 @@
--- Recordings that are made while a machine runs: one that begins with a state, and one with a checkpoint more. Whether what a
--- checkpoint claims is true is not known here.
+-- Recordings that are made while a machine runs: one that begins with a state, and one with one more checkpoint. Nothing here says
+-- that a claim is true.
 use Rattle.std.specs.Prelude.{ℕ, ◌≡◌, ◌+◌, ◌<◌, ◌≤◌, List, [], ◌++◌, length, ⊤}
 use Rattle.std.specs.List.{All}
 use Rattle.risc_pages.specs.Tables.{table_words, zero_numbers}
@@ -22,7 +22,7 @@ abbrev pub blank_words : List ℕ
 blank_words = table_words [] zero_numbers
 
 -- the recording has no inputs, and checkpoint 0 alone, which claims this state. Its pages are those of the state's memory that are
--- not all zeros, by rising place
+-- not all zeros, in the order of their slots
 pub record IsBegun (first : State) (r : RecordingParts) : Type 0 where
   pub pool : r.pool ≡ new_pages blank_words first.words
   pub inputs : r.inputs ≡ []
@@ -30,9 +30,9 @@ pub record IsBegun (first : State) (r : RecordingParts) : Type 0 where
   pub begins : count_at r 0 ≡ 0
   pub claims : claimed r 0 ≡ record { state = first; sent = [] }
 
--- ---- a recording with a checkpoint more
+-- ---- a recording with one more checkpoint
 
--- what a new checkpoint claims: the state, and the bytes sent since the checkpoint before
+-- what a new checkpoint claims: the state, and the bytes sent since the previous checkpoint
 abbrev pub outcome_of : Claim → Outcome
 outcome_of c = record { state = record { cpu = cpu_state c.cpu; devices = c.devices; words = c.words.now }; sent = c.sent.now }
 
@@ -40,33 +40,34 @@ outcome_of c = record { state = record { cpu = cpu_state c.cpu; devices = c.devi
 abbrev pub last_count : RecordingParts → ℕ
 last_count r = count_at r (last_of r)
 
--- these inputs come between a recording's last checkpoint and a later one at this count: with those of the recording they are in
--- order, and each has a count from that of the last checkpoint up to, and without, this one
+-- a checkpoint at this count, with these inputs, can follow a recording's last checkpoint: the count is higher, the inputs continue those
+-- of the recording in order, and each of their counts is from that of the last checkpoint up to this one, and below it
 pub record IsNext (r : RecordingParts) (inputs : List Event) (count : ℕ) : Type 0 where
   pub later : last_count r < count
   pub bounded : count ≤ MAX_COUNT
   pub ordered : AreOrdered (r.inputs ++ inputs)
   pub between : All (λ e. (last_count r ≤ e.count) × (e.count < count)) inputs
 
--- the recording has these inputs and one checkpoint more
+-- the recording has these inputs and one more checkpoint
 pub record IsExtended (old : RecordingParts) (inputs : List Event) (count : ℕ) (claim : Outcome) (new : RecordingParts) : Type 0 where
-  -- the pages that changed since the last checkpoint and are not all zeros join the pool, by rising place
+  -- the pages that changed since the last checkpoint and are not all zeros are added to the pool, in the order of their slots
   pub pool : new.pool ≡ old.pool ++ new_pages (claimed old (last_of old)).state.words claim.state.words
   pub inputs_more : new.inputs ≡ old.inputs ++ inputs
   pub more : length new.checkpoints ≡ length old.checkpoints + 1
-  -- each checkpoint that there was has its count, and claims what it claimed
+  -- each earlier checkpoint has the count that it had, and claims what it claimed
   pub counts : (k : ℕ) → k < length old.checkpoints → count_at new k ≡ count_at old k
   pub claims : (k : ℕ) → k < length old.checkpoints → claimed new k ≡ claimed old k
   -- and the new one has this count, and claims this
   pub last_counts : count_at new (length old.checkpoints) ≡ count
   pub last_claims : claimed new (length old.checkpoints) ≡ claim
 
--- a recording is not extended: what comes next is out of its range or its order, or one thing more than a recording may have
-abbrev pub IsTooMuch : RecordingParts → List Event → ℕ → Outcome → ExtendFault → Type 0
-IsTooMuch r inputs count claim fault.Order = ¬ (IsNext r inputs count)
-IsTooMuch r inputs count claim fault.Inputs = MAX_EVENTS < length r.inputs + length inputs
-IsTooMuch r inputs count claim fault.Checkpoints = LAST_CHECKPOINT < length r.checkpoints
-IsTooMuch r inputs count claim fault.Output = MAX_OUTPUT < length (output_of r.checkpoints) + length claim.sent
-IsTooMuch r inputs count claim fault.Pages =
+-- why a recording is not extended: the checkpoint and the inputs cannot follow, or it would have more of something than a recording may
+-- have
+abbrev pub IsExtendFault : RecordingParts → List Event → ℕ → Outcome → ExtendFault → Type 0
+IsExtendFault r inputs count claim fault.Order = ¬ (IsNext r inputs count)
+IsExtendFault r inputs count claim fault.Inputs = MAX_EVENTS < length r.inputs + length inputs
+IsExtendFault r inputs count claim fault.Checkpoints = LAST_CHECKPOINT < length r.checkpoints
+IsExtendFault r inputs count claim fault.Output = MAX_OUTPUT < length (output_of r.checkpoints) + length claim.sent
+IsExtendFault r inputs count claim fault.Pages =
     MAX_PAGES < length r.pool + length (new_pages (claimed r (last_of r)).state.words claim.state.words)
-IsTooMuch r inputs count claim fault.Memory = ⊤
+IsExtendFault r inputs count claim fault.Memory = ⊤

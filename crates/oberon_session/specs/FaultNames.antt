@@ -1,4 +1,4 @@
--- The numbers and the names of refusals. They are this project's own choice.
+-- The numbers and the names of faults. They are this project's own choice.
 use Rattle.std.specs.Prelude.{ℕ, List, Option, Some, None, codes}
 use Rattle.oberon_session.specs.declared.fault.SessionFault.{SessionFault}
 use Rattle.oberon_session.specs.declared.fault.SessionFault.TheVariants as fault

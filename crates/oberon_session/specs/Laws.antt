@@ -1,4 +1,4 @@
--- Laws of the definitions: what storing a memory does to pages and places, and that each input has one answer.
+-- Laws of the definitions: what storing a memory does to the pool and the table, and that any bytes have one answer.
 use Rattle.std.specs.Prelude.{ℕ, ◌≡◌, ◌≢◌, ◌+◌, ◌<◌, true, false, List, ◌++◌, All, Some, Result, Ok, Err, length, slice_index}
 use Rattle.std.specs.List.Sorted.{IsStrictlyIncreasing}
 use Rattle.risc_pages.specs.Tables.{IsNamed, table_words}
@@ -11,31 +11,31 @@ use Rattle.oberon_session.specs.Session.{IsSession}
 use Rattle.oberon_session.specs.SessionParts.{SessionParts, places_in}
 use Rattle.oberon_session.specs.declared.fault.SessionFault.{SessionFault}
 
--- a table of pages of the pool
+-- the table names pages of the pool, one for each slot
 pub record IsTableOf (stored : Stored) : Type 0 where
   pub count : length stored.table ≡ 1024
   pub named : IsNamed stored.pool stored.table
 
 -- a memory was stored after an earlier one
 pub record IsStoredAfter (earlier words : List ℕ) (old new : Stored) : Type 0 where
-  -- the new pages join the pool, and nothing else changes there
+  -- the new pages are added to the pool, and nothing else changes there
   pub pool : new.pool ≡ old.pool ++ new_pages earlier words
-  -- a place that did not change keeps its number
+  -- a slot that did not change keeps its page id
   pub kept : (p : ℕ) → p < 1024 → page_at words p ≡ page_at earlier p → slice_index new.table p ≡ slice_index old.table p
-  -- one that changed has number 0 if it is all zeros now
+  -- one that changed to zeros has page id 0
   pub zeros : (p : ℕ) → p < 1024 → page_at words p ≢ page_at earlier p → is_blank (page_at words p) ≡ true → slice_index new.table p ≡ 0
-  -- and else the number of a new page
+  -- any other that changed has the id of a new page
   pub fresh : (p : ℕ) → p < 1024 → page_at words p ≢ page_at earlier p → is_blank (page_at words p) ≡ false → length old.pool < slice_index new.table p
   -- and the memory is the content of the new table over the new pool
   pub content : table_words new.pool new.table ≡ words
 
--- so it is for each memory that differs from one that was stored
+-- this holds for any memory that is stored after an earlier one
 abbrev pub StoredLaw : Type 0
 StoredLaw =
     (earlier words : List ℕ) (old : Stored) → IsTableOf old → ArePages old.pool → table_words old.pool old.table ≡ earlier
     → length words ≡ 262144 → IsStoredAfter earlier words old (store earlier words old)
 
--- in a session's first table the place of page i has number i + 1, and each place without a page has number 0
+-- in a session's first table the slot of page i has page id i + 1, and each slot without a page has page id 0
 pub record IsFirstTable (pages : List PlacedWords) (table : List ℕ) : Type 0 where
   pub pages_named : (i : ℕ) → i < length pages → slice_index table (slice_index (places_in pages) i) ≡ i + 1
   pub others_zero : (p : ℕ) → All (λ place. place ≢ p) (places_in pages) → slice_index table p ≡ 0
@@ -45,12 +45,12 @@ FirstTableLaw =
     (pages : List PlacedWords) → IsStrictlyIncreasing (places_in pages) → All (λ place. place < 1024) (places_in pages)
     → IsFirstTable pages (numbered pages (length pages))
 
--- what a text says, if memory suffices: its session, or the fault of the first rule that it breaks
+-- the answer to bytes, if memory suffices: their session, or the fault of the first rule that they break
 abbrev pub IsAnswer : List ℕ → Result SessionParts SessionFault → Type 0
 IsAnswer bytes (Ok session) = IsSession bytes session
 IsAnswer bytes (Err fault) = first_fault_of bytes ≡ Some fault
 
--- each text has an answer, and no other one
+-- any bytes have exactly one answer
 abbrev pub OneAnswer : Type 0
 OneAnswer =
     (bytes : List ℕ)

@@ -1,5 +1,5 @@
--- A session that is made of its parts, and the rules that they keep. All limits are this project's own choice, but for the end of
--- program counters.
+-- A session that is made of its parts, and the rules for these. All limits are this project's own choice, except the end of program
+-- counters.
 use Rattle.std.specs.Prelude.{ℕ, ◌≡◌, ◌<◌, ◌≤◌, IsTrue, List, length, map}
 use Rattle.std.specs.List.{All}
 use Rattle.std.specs.List.Sorted.{IsStrictlyIncreasing}
@@ -17,7 +17,7 @@ use Rattle.recording_limits.specs.declared.limits.TheConstants.{MAX_EVENTS}
 
 -- ---- the parts, as Rust has them
 
--- a page and its place
+-- a page and its slot
 abbrev pub placed_view : PlacedPage → PlacedWords
 placed_view p = record { at = p.at; words = p.page.words }
 
@@ -26,10 +26,10 @@ abbrev pub session_of_parts : Cpu → ℕ → ℕ → List PlacedPage → List E
 session_of_parts cpu rate phase pages inputs counts =
     record { cpu = cpu_state cpu; rate = rate; phase = phase; pages = map placed_view pages; inputs = inputs; counts = counts }
 
--- ---- the rules. What the types of parts keep is not asked: registers, H and the words of pages are words, and inputs are in their
--- ---- ranges and in the order of their counts
+-- ---- the rules. They leave out what the types of the parts ensure: registers, H and the words of pages are words, and inputs are in
+-- ---- their ranges and in the order of their counts
 
--- numbers are in their ranges, there are few enough of them, and the processor runs
+-- numbers are in their ranges, no list is too long, and the processor runs
 pub record AreInRange (s : SessionParts) : Type 0 where
   pub counter : s.cpu.pc < COUNTER_END
   pub running : s.cpu.stop ≡ 0
@@ -39,12 +39,12 @@ pub record AreInRange (s : SessionParts) : Type 0 where
   pub events : length s.inputs ≤ MAX_EVENTS
   pub counts : CountsFit s.counts
 
--- places of pages and counts of checkpoints rise
+-- slots of pages and counts of checkpoints rise
 pub record AreInOrder (s : SessionParts) : Type 0 where
   pub places : IsStrictlyIncreasing (places_in s.pages)
   pub counts : IsStrictlyIncreasing s.counts
 
--- this is the fault of the first rule that the parts break: the ranges, and then the order
+-- this is the fault of the first rule that the parts break: first the ranges, then the order
 abbrev pub BreaksParts : SessionParts → SessionFault → Type 0
 BreaksParts s fault.Range = ¬ (AreInRange s)
 BreaksParts s fault.Order = AreInRange s × ¬ (AreInOrder s)

@@ -1,5 +1,5 @@
--- The ranges and the order of a session's numbers, each as a test. All limits are this project's own choice, but for the end of
--- program counters; those of its recording are named in `oberon_format` and the crates below it.
+-- The ranges and the order of a session's numbers, as tests. All limits are this project's own choice, except the end of program
+-- counters.
 use Rattle.std.specs.Prelude.{ℕ, ◌^◌, ◌&&◌, nat_le, nat_lt, Bool, true, List, [], ◌∷◌, length, map}
 use Rattle.std.specs.List.{list_all}
 use Rattle.risc_core.specs.declared.branch.TheConstants.{COUNTER_END}
@@ -24,7 +24,7 @@ start_fits start =
     && nat_lt start.flags 16
     && timer_fits start.rate start.phase
 
--- one of the 1,024 places, and digits of at most 1,024 bytes
+-- one of the 1,024 page slots, and digits of at most 1,024 bytes
 abbrev pub page_fits : PageText → Bool
 page_fits page = nat_lt page.at 1024 && nat_le (length page.hex) 2048
 
@@ -36,7 +36,7 @@ input_fits input = nat_le input.count MAX_COUNT && is_input input.kind input.val
 abbrev pub count_fits : ℕ → Bool
 count_fits count = nat_le 1 count && nat_le count MAX_COUNT
 
--- each number is in its range, and there are few enough of them
+-- each number is in its range, and no list is too long
 unfoldable pub in_range : Draft → Bool
 in_range draft =
     start_fits draft.start
@@ -64,6 +64,6 @@ places_of pages = map (λ page. page.at) pages
 abbrev pub input_counts : List InputNumbers → List ℕ
 input_counts inputs = map (λ input. input.count) inputs
 
--- the places of pages rise, the counts of inputs never fall, and the counts of checkpoints rise
+-- the slots of pages rise, the counts of inputs never fall, and the counts of checkpoints rise
 unfoldable pub in_order : Draft → Bool
 in_order draft = rises (places_of draft.pages) && never_falls (input_counts draft.inputs) && rises draft.checkpoints

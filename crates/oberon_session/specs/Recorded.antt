@@ -1,4 +1,4 @@
--- The recording of a session, or why it has none. Limits, pages and their numbers are this project's own choice.
+-- The recording of a session, or why it has none. Limits, pages and page ids are this project's own choice.
 use Rattle.std.specs.Prelude.{ℕ, zero, suc, ◌+◌, ◌-◌, nat_lt, false, List, [], length, map, slice_index, slice_set, Option, Some, None, if◌then◌else◌}
 use Rattle.std.specs.List.{range_with_len}
 use Rattle.std.specs.Option.{option_or}
@@ -15,38 +15,38 @@ use Rattle.oberon_session.specs.SessionParts.{SessionParts, places_in}
 use Rattle.oberon_session.specs.declared.record_fault.RecordFault.{RecordFault}
 use Rattle.oberon_session.specs.declared.record_fault.RecordFault.TheVariants as fault
 
--- ---- the first state
+-- ---- the initial state
 
--- the table with page numbers 1 to n at the places of the first n pages, and 0 at all others
+-- the table with page ids 1 to n in the slots of the first n pages, and 0 in all others
 unfoldable pub numbered : List PlacedWords → ℕ → List ℕ
 numbered pages zero = zero_numbers
 numbered pages (suc n) = slice_set (numbered pages n) (slice_index (places_in pages) n) (suc n)
 
--- a session's pages in their order, and the table that has number i + 1 at the place of page i
+-- a session's pages in their order, and the table that has page id i + 1 in the slot of page i
 unfoldable pub first_stored : List PlacedWords → Stored
 first_stored pages = record { pool = map (λ page. page.words) pages; table = numbered pages (length pages) }
 
--- devices that are all zeros, with no keys, save the timer's rate and phase
+-- devices that are all zeros, with no keys, except the timer's rate and phase
 abbrev pub first_devices : ℕ → ℕ → DeviceState
 first_devices rate phase =
     record { timer = 0; rate = rate; phase = phase; switches = 0; leds = 0; mouse = 0; serial = 0; received = false; keys = [] }
 
--- the state in which the session begins
+-- the initial state of the session
 unfoldable pub first_state : SessionParts → State
 first_state s =
     record { cpu = s.cpu; devices = first_devices s.rate s.phase; words = table_words (first_stored s.pages).pool (first_stored s.pages).table }
 
--- ---- the one run from the first state
+-- ---- the one run from the initial state
 
 -- the state at a count
 abbrev pub state_at : SessionParts → ℕ → State
 state_at s n = state_from s.inputs (first_state s) n
 
--- the bytes that are sent from one count up to another
+-- the bytes sent from one count up to another
 abbrev pub output_between : SessionParts → ℕ → ℕ → List ℕ
 output_between s from to = sent_between s.inputs (first_state s) from to
 
--- the bytes that are sent up to a count
+-- the bytes sent up to a count
 abbrev pub output_up_to : SessionParts → ℕ → List ℕ
 output_up_to s n = output_between s 0 n
 
@@ -61,12 +61,12 @@ count_of s (suc k) = slice_index s.counts k
 abbrev pub state_of : SessionParts → ℕ → State
 state_of s k = state_at s (count_of s k)
 
--- the pool and the table of checkpoint k: the memory of each checkpoint is stored after that of the one before
+-- the pool and the table of checkpoint k: the memory of each checkpoint is stored after that of the previous one
 unfoldable pub stored_of : SessionParts → ℕ → Stored
 stored_of s zero = first_stored s.pages
 stored_of s (suc k) = store (state_of s k).words (state_of s (suc k)).words (stored_of s k)
 
--- checkpoint k: the state at its count, and the bytes sent since the checkpoint before
+-- checkpoint k: the state at its count, and the bytes sent since the previous checkpoint
 unfoldable pub checkpoint_of : SessionParts → ℕ → CheckpointParts
 checkpoint_of s k = record {
   count = count_of s k;
@@ -80,7 +80,7 @@ checkpoint_of s k = record {
 abbrev pub last_of : SessionParts → ℕ
 last_of s = length s.counts
 
--- the recording: the pages that the last checkpoint needs and all before it, the session's inputs, and checkpoints 0 to K
+-- the recording: the pages of all checkpoints, the session's inputs, and checkpoints 0 to K
 unfoldable pub recording_of : SessionParts → RecordingParts
 recording_of s = record {
   pool = (stored_of s (last_of s)).pool;
@@ -88,9 +88,9 @@ recording_of s = record {
   checkpoints = map (checkpoint_of s) (range_with_len 0 (last_of s + 1));
 }
 
--- ---- refusals
+-- ---- faults
 
--- why a recording cannot go as far as checkpoint k: too many bytes sent up to it, or else too many pages
+-- why a recording cannot have checkpoint k: too many bytes are sent up to it, or else too many pages are needed
 unfoldable pub fault_at : SessionParts → ℕ → Option RecordFault
 fault_at s k =
     if nat_lt MAX_OUTPUT (length (output_up_to s (count_of s k))) then Some fault.Output

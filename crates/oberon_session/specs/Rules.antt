@@ -1,4 +1,4 @@
--- The rules of a session's text, in the order in which they are tested, each with the fault of a text that breaks it.
+-- The rules of session files, in the order in which they are tested, each with its fault.
 use Rattle.std.specs.Prelude.{ℕ, nat_le, Bool, true, List, [], ◌∷◌, length, Option, Some, None, if◌then◌else◌}
 use Rattle.std.specs.Option.{is_some}
 use Rattle.std.specs.Str.{is_utf8}
@@ -13,20 +13,20 @@ use Rattle.oberon_session.specs.declared.fault.SessionFault.{SessionFault}
 use Rattle.oberon_session.specs.declared.fault.SessionFault.TheVariants as fault
 use Rattle.recording_limits.specs.declared.limits.TheConstants.{LONGEST_SESSION}
 
--- the JSON value of a text in UTF-8, as `serde_json` reads it
+-- the JSON value of bytes in UTF-8, as `serde_json` reads it
 abbrev pub json_of : List ℕ → Option Data
 json_of bytes = if is_utf8 bytes then read bytes else None
 
--- what the text says, if its value has the shape of a session
+-- the draft of the bytes, if their value has the shape of a session
 abbrev pub draft_in : List ℕ → Option Draft
 draft_in bytes = json_of bytes >>= draft_of
 
--- a rule on what the text says. If it says nothing, a rule before this one is broken
+-- a rule on the draft. It holds if there is no draft, since then an earlier rule is broken
 abbrev pub says : (Draft → Bool) → Option Draft → Bool
 says test None = true
 says test (Some draft) = test draft
 
--- all pages are written in pairs of hexadecimal digits
+-- the digits of all pages are pairs of hexadecimal digits
 abbrev pub in_digits : Draft → Bool
 in_digits draft = is_some (all_placed_of draft.pages)
 
@@ -41,6 +41,6 @@ rules bytes =
     ∷ (says in_digits (draft_in bytes), fault.Hex)
     ∷ []
 
--- the fault of the first rule that the text breaks
+-- the fault of the first rule that the bytes break
 unfoldable pub first_fault_of : List ℕ → Option SessionFault
 first_fault_of bytes = first_broken (rules bytes)

@@ -1,4 +1,4 @@
--- Which text is that of which session, and which fault a text has that is none.
+-- Which bytes encode which session, and which fault others have.
 use Rattle.std.specs.Prelude.{◌≡◌, ◌≤◌, ℕ, List, length, map, Some, None}
 use Rattle.risc_core.specs.Flags.{flags_of}
 use Rattle.risc_devices.specs.Input.{kind_of, value_of}
@@ -14,7 +14,7 @@ use Rattle.recording_limits.specs.declared.limits.TheConstants.{LONGEST_SESSION}
 
 -- ---- what a draft says
 
--- the processor of the first state, which runs
+-- the processor of the initial state, which runs
 abbrev pub cpu_of : Start → CpuState
 cpu_of start = record { r = start.registers; h = start.h; pc = start.pc; flags = flags_of start.flags; stop = 0 }
 
@@ -22,7 +22,7 @@ cpu_of start = record { r = start.registers; h = start.h; pc = start.pc; flags =
 abbrev pub numbers_of_event : Event → InputNumbers
 numbers_of_event e = record { count = e.count; kind = kind_of e.input; value = value_of e.input }
 
--- this session is what the draft says
+-- the draft says this session
 pub record Says (draft : Draft) (session : SessionParts) : Type 0 where
   pub cpu : session.cpu ≡ cpu_of draft.start
   pub rate : session.rate ≡ draft.start.rate
@@ -31,18 +31,18 @@ pub record Says (draft : Draft) (session : SessionParts) : Type 0 where
   pub inputs : map numbers_of_event session.inputs ≡ draft.inputs
   pub counts : session.counts ≡ draft.checkpoints
 
--- ---- texts
+-- ---- session files
 
--- the text is not too long
+-- there are not too many bytes
 abbrev pub Fits : List ℕ → Type 0
 Fits bytes = length bytes ≤ LONGEST_SESSION
 
--- the text breaks no rule, and is that of this session
+-- the bytes break no rule, and encode this session
 abbrev pub IsSession : List ℕ → SessionParts → Type 0
 IsSession bytes session = (first_fault_of bytes ≡ None) × (draft : Draft) × (draft_in bytes ≡ Some draft) × Says draft session
 
--- this is the fault of the first rule that the text breaks. Running out of memory is no fault of a text, and happens only if it is
--- not too long
+-- this is the fault of the first rule that the bytes break. Running out of memory is not a fault of a file, and happens only if there
+-- are not too many bytes
 abbrev pub Breaks : List ℕ → SessionFault → Type 0
 Breaks bytes fault.Memory = Fits bytes
 Breaks bytes own = first_fault_of bytes ≡ Some own

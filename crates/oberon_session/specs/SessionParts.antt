@@ -11,8 +11,8 @@ use Rattle.oberon_session.specs.Digits.{PlacedWords}
 use Rattle.oberon_session.specs.Ranges.{timer_fits}
 use Rattle.recording_limits.specs.declared.limits.TheConstants.{LAST_CHECKPOINT, MAX_EVENTS}
 
--- the processor of the first state, its timer's rate and phase, the pages of its memory, whose other places are zeros, the inputs
--- with their counts, and the counts of checkpoints 1 to K. All else in the devices of the first state is zeros
+-- the processor of the initial state, its timer's rate and phase, the pages of its memory, whose other slots are zeros, the inputs with
+-- their counts, and the counts of checkpoints 1 to K. Everything else in the devices of the initial state is zero
 pub record SessionParts : Type 0 where
   pub cpu : CpuState
   pub rate : ℕ
@@ -21,7 +21,7 @@ pub record SessionParts : Type 0 where
   pub inputs : List Event
   pub counts : List ℕ
 
--- the places of the pages
+-- the slots of the pages
 abbrev pub places_in : List PlacedWords → List ℕ
 places_in pages = map (λ page. page.at) pages
 
@@ -29,10 +29,11 @@ places_in pages = map (λ page. page.at) pages
 abbrev pub CountFits : ℕ → Type 0
 CountFits count = (1 ≤ count) × (count ≤ MAX_COUNT)
 
+-- not too many checkpoints, each at such a count
 abbrev pub CountsFit : List ℕ → Type 0
 CountsFit counts = (length counts ≤ LAST_CHECKPOINT) × All CountFits counts
 
--- few enough pages, whose places rise; few enough inputs, in order; few enough checkpoints, whose counts rise from 1 on; a
+-- not too many pages, whose slots rise; not too many inputs, in order; not too many checkpoints, whose counts rise from 1 on; a
 -- processor that runs; and a rate and a phase that a timer can have
 pub record IsLawful (s : SessionParts) : Type 0 where
   pub cpu : IsCpuState s.cpu

@@ -1,9 +1,9 @@
--- Looking into a JSON value that has to have a given shape.
+-- The parts of a JSON value that has to have a given shape.
 use Rattle.std.specs.Prelude.{◌==◌, ℕ, suc, List, [], ◌∷◌, Bool, true, false, Option, Some, None, if◌then◌else◌, option_map}
 use Rattle.serde_json.specs.Data.{Data, Items, no_items, item, Members, no_members, member}
 use Rattle.serde_json.specs.Find.{as_array, as_number, as_object, as_str, as_u64}
 
--- the second step, if the first gave a value
+-- the second step, if the first returned a value
 infixl 10 ◌>>=◌
 abbrev pub ◌>>=◌ : {A B : Type 0} → Option A → (A → Option B) → Option B
 Some x >>= f = f x
@@ -27,17 +27,20 @@ exactly count json = as_object json >>= λ members. if member_count members == c
 abbrev pub number_of : Data → Option ℕ
 number_of json = as_number json >>= as_u64
 
+-- a string
 abbrev pub text_of : Data → Option (List ℕ)
 text_of = as_str
 
+-- the items as a list
 abbrev pub list_of : Items → List Data
 list_of no_items = []
 list_of (item json rest) = json ∷ list_of rest
 
+-- the items of an array
 abbrev pub items_of : Data → Option (List Data)
 items_of json = option_map list_of (as_array json)
 
--- what each item says, if each says something
+-- what is read from each item, if each can be read
 abbrev pub each : {A X : Type 0} → (A → Option X) → List A → Option (List X)
 each read [] = Some []
 each read (x ∷ rest) = do
@@ -45,5 +48,6 @@ each read (x ∷ rest) = do
   others ← each read rest
   Some (first ∷ others)
 
+-- the numbers of an array
 abbrev pub numbers_of : Data → Option (List ℕ)
 numbers_of json = items_of json >>= each number_of

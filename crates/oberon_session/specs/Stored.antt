@@ -1,4 +1,4 @@
--- How memories are stored as pages of a pool and tables of page numbers (this project's own choice).
+-- How memories are stored as pages of a pool and tables of page ids (this project's own choice).
 use Rattle.std.specs.Prelude.{ℕ, ◌+◌, ◌==◌, Bool, List, [], ◌∷◌, ◌++◌, filter, length, map, not, slice_set, if◌then◌else◌}
 use Rattle.std.specs.List.{fold, list_all}
 use Rattle.risc_pages.specs.Delta.{changed_below}
@@ -13,7 +13,7 @@ pub record Stored : Type 0 where
 unfoldable pub is_blank : List ℕ → Bool
 is_blank words = list_all (λ word. word == 0) words
 
--- a page is stored at a place: if it is all zeros the place gets number 0, and else that of a new page at the pool's end
+-- a page is stored in a slot: if it is all zeros the slot gets page id 0, otherwise that of a new page at the end of the pool
 unfoldable pub store_page : Stored → ℕ × List ℕ → Stored
 store_page stored (place, words) =
     if is_blank words
@@ -24,14 +24,14 @@ store_page stored (place, words) =
 abbrev pub store_pages : Stored → List (ℕ × List ℕ) → Stored
 store_pages stored pages = fold store_page stored pages
 
--- the pages in which a memory differs from an earlier one, each with its place, by rising place
+-- the pages in which a memory differs from an earlier one, each with its slot, in the order of the slots
 abbrev pub changed_pages : List ℕ → List ℕ → List (ℕ × List ℕ)
 changed_pages earlier words = map (λ place. (place, page_at words place)) (changed_below 1024 earlier words)
 
--- the pages that changed and are not all zeros, by rising place
+-- the pages that changed and are not all zeros, in the order of their slots
 abbrev pub new_pages : List ℕ → List ℕ → List (List ℕ)
 new_pages earlier words = filter (λ page. not (is_blank page)) (map (page_at words) (changed_below 1024 earlier words))
 
--- a memory is stored after an earlier one: what changed is stored, and other places keep their numbers
+-- a memory is stored after an earlier one: the pages that changed are stored, and other slots keep their page ids
 unfoldable pub store : List ℕ → List ℕ → Stored → Stored
 store earlier words stored = store_pages stored (changed_pages earlier words)

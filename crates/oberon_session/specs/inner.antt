@@ -1,5 +1,5 @@
--- What private functions and the insides of types say of themselves. No public contract and no law names anything of it, so none
--- of it has to be believed.
+-- Definitions for contracts of private functions and for the insides of types. No public contract and no law uses them, so nobody has
+-- to believe them.
 pub mod Progress
 pub mod Growing
 pub mod Tested

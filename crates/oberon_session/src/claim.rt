@@ -1,12 +1,12 @@
-//! What a new checkpoint of a recording claims.
+//! The claim of a new checkpoint of a recording.
 
 use risc_devices::Devices;
 use risc_model::Cpu;
 
-/// A machine's state at a count, with the words of its memory, and the bytes that it sent since the checkpoint before.
+/// The state of a machine at a count, the words of its memory, and the bytes that it sent since the previous checkpoint.
 #[derive(Drop)]
 pub struct Claim<'a> {
-    /// How many instructions come before it.
+    /// The number of instructions done before it.
     pub count: u64,
     /// The processor.
     pub cpu: Cpu,
@@ -14,6 +14,6 @@ pub struct Claim<'a> {
     pub devices: Devices,
     /// The 262,144 words of the memory.
     pub words: &'a [u32],
-    /// The bytes sent since the checkpoint before.
+    /// The bytes sent since the previous checkpoint.
     pub sent: &'a [u8],
 }

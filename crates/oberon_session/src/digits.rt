@@ -1,4 +1,4 @@
-//! The pages of a session, each with its place, read from hexadecimal digits.
+//! The pages of a session, each with its slot, decoded from hexadecimal digits.
 ghost use Rattle.std.specs.Prelude.{◌≡◌, ◌≢◌, ◌↔◌, ◌<◌, ◌≤◌, ◌^◌, length, map, slice_index};
 ghost use Rattle.std.specs.List.{All};
 ghost use Rattle.oberon_session.specs.inner.Drafts.{GivesOr, page_view};
@@ -12,17 +12,17 @@ use hex::FromHexError;
 use risc_pages::Page;
 use std::alloc::Global;
 
-/// How many places of pages a memory has.
+/// The number of page slots of a memory.
 pub const PLACES: u16 = 1_024;
 
-/// A page of a session, and its place, from 0 to 1,023.
+/// A page of a session, and its page slot `at`, from 0 to 1,023.
 #[derive(Clone, Copy)]
 pub struct PlacedPage {
     pub at: u16,
     pub page: Page,
 }
 
-/// The pages of a session, if each is written in pairs of hexadecimal digits.
+/// Decodes the pages of a session. Returns `Hex` if the digits of a page are not pairs of hexadecimal digits.
 pub fn placed_pages(
     alloc: Global,
     drafts: &[PageDraft<'_>],
@@ -37,6 +37,7 @@ pub fn placed_pages(
     Ok(pages)
 }
 
+/// Decodes one page.
 fn placed_page(alloc: Global, draft: &PageDraft<'_>) -> Result<PlacedPage, SessionFault>
     requires { PageFits (page_view draft.now) }
     ensures { GivesOr SessionFault.Hex placed_view (placed_of (page_view draft.now)) result }
@@ -50,7 +51,7 @@ fn placed_page(alloc: Global, draft: &PageDraft<'_>) -> Result<PlacedPage, Sessi
     }
 }
 
-/// The fault of digits that `hex` refuses: `Memory` if it ran out of memory, and else wrong digits.
+/// Returns the fault for an error of `hex`: `Memory` if memory ran out, otherwise `Hex`.
 fn hex_fault(refused: &FromHexError) -> SessionFault
     ensures memory { (result ≡ SessionFault.Memory) ↔ (refused.now ≡ FromHexError.OutOfMemory) }
     ensures hex { (result ≡ SessionFault.Hex) ↔ (refused.now ≢ FromHexError.OutOfMemory) }
@@ -61,7 +62,7 @@ fn hex_fault(refused: &FromHexError) -> SessionFault
     }
 }
 
-/// The page that begins with these bytes and goes on with zeros.
+/// Returns the page that these bytes begin; the rest of it is zeros.
 fn page_of(bytes: &[u8]) -> Page
     ensures { result.words ≡ words_of_bytes bytes.now }
 {
@@ -72,7 +73,7 @@ fn page_of(bytes: &[u8]) -> Page
     Page { words }
 }
 
-/// Word `i` of the page: four bytes, the lowest first.
+/// Returns word `i` of the page: four bytes, the lowest first.
 fn word(bytes: &[u8], i: usize) -> u32
     requires { i < 256 }
     ensures { result ≡ word_of_bytes bytes.now i }
@@ -82,7 +83,7 @@ fn word(bytes: &[u8], i: usize) -> u32
     low + (high << 16)
 }
 
-/// A byte of the page, which is 0 where none was read.
+/// Returns a byte of the page. A byte after the last digit is 0.
 fn byte(bytes: &[u8], place: usize) -> u32
     ensures value { result ≡ slice_index bytes.now place }
     ensures range { result < 2 ^ 8 }

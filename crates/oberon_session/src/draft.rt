@@ -1,4 +1,4 @@
-//! A session as its text writes it: its shape is right, and nothing else is tested yet.
+//! A session as its JSON has it: the shape is right, and no range or order is tested yet.
 
 ghost use Rattle.std.specs.Prelude.{◌≡◌, length};
 
@@ -12,14 +12,14 @@ pub struct InputDraft {
     pub value: u64,
 }
 
-/// A page: its place, and the digits of its first bytes.
+/// A page: its slot, and the hexadecimal digits of its first bytes.
 #[derive(Clone, Copy)]
 pub struct PageDraft<'a> {
     pub at: u64,
     pub hex: &'a str,
 }
 
-/// The members of a session that say something: its version, and the values of the others.
+/// The members of a session: its version, and the values of the others. `format` is the same in every session.
 #[derive(Clone, Copy)]
 pub struct Members<'a> {
     pub version: u64,
@@ -29,7 +29,7 @@ pub struct Members<'a> {
     pub checkpoints: &'a Value,
 }
 
-/// The numbers of the first state.
+/// The numbers of the initial state.
 #[derive(Drop)]
 pub struct StartDraft {
     pub registers: Vec<u64>,
@@ -41,7 +41,7 @@ pub struct StartDraft {
     pub ghost sixteen: { length registers.items ≡ 16 },
 }
 
-/// The whole of it.
+/// A session whose shape is right.
 #[derive(Drop)]
 pub struct Draft<'a> {
     pub start: StartDraft,

@@ -1,4 +1,4 @@
-//! The inputs of a session, tested and made.
+//! The inputs of a session: tests of their ranges and their order, and the events that they are.
 
 ghost use Rattle.std.specs.Prelude.{◌≡◌, IfOk, IfErr, map};
 ghost use Rattle.std.specs.List.{All};
@@ -15,7 +15,7 @@ use risc_devices::Input;
 use risc_model::{Event, Inputs};
 use std::alloc::Global;
 
-/// The inputs of a session, or the first rule of their ranges and their order that they break.
+/// Returns the inputs of a session, or the first rule on ranges and order that they break.
 pub fn inputs_of(alloc: Global, drafts: &[InputDraft]) -> Result<Inputs, SessionFault>
     ensures numbers { IfOk result (λ inputs. map numbers_of_event inputs ≡ map input_view drafts.now) }
     ensures fit { IfOk result (λ _. InputsFit (map input_view drafts.now)) }
@@ -32,7 +32,7 @@ pub fn inputs_of(alloc: Global, drafts: &[InputDraft]) -> Result<Inputs, Session
     }
 }
 
-/// The events of inputs that are all in their ranges.
+/// Returns the events of inputs that are all in their ranges, or `Range`.
 fn events(alloc: Global, drafts: &[InputDraft]) -> Result<Vec<Event>, SessionFault>
     ensures numbers { IfOk result (λ events. map numbers_of_event events.items ≡ map input_view drafts.now) }
     ensures fit { IfOk result (λ _. All InputFits (map input_view drafts.now)) }
@@ -48,7 +48,7 @@ fn events(alloc: Global, drafts: &[InputDraft]) -> Result<Vec<Event>, SessionFau
     Ok(events)
 }
 
-/// The event of an input that is in its range.
+/// Returns the event of an input, if its numbers are in their ranges.
 fn event(draft: &InputDraft) -> Option<Event>
     ensures { IsEventOf (input_view draft.now) result }
 {

@@ -1,14 +1,15 @@
-//! Why a recording is not extended. `specs/Extended.antt` says when each refusal comes.
+//! The faults for which a recording is not extended. `specs/Extended.antt` defines when each occurs.
 
 use std::alloc::{AllocError, AllocFailed};
 use thiserror::Error;
 
-/// What is wrong with a recording's next checkpoint, or too much for the recording, or that memory ran out.
+/// Why a recording is not extended: its next checkpoint is wrong, a limit would be exceeded, or memory ran out.
 ///
 /// The limits are this project's own choice.
 #[derive(Clone, Copy, Debug, PartialEq, Eq, Error)]
 pub enum ExtendFault {
-    /// The count is not above that of the last checkpoint, or is above 2^40; an input doesn't come between the two; or inputs fall.
+    /// The count is not above that of the last checkpoint, or is above 2^40; an input is not between the two; or the counts of inputs
+    /// fall.
     #[error("the checkpoint or an input does not come next")]
     Order,
     /// More than 1,000,000 inputs.
@@ -17,7 +18,7 @@ pub enum ExtendFault {
     /// More than 4,097 checkpoints.
     #[error("the recording has too many checkpoints")]
     Checkpoints,
-    /// More than 1,048,576 bytes are sent in all.
+    /// More than 1,048,576 bytes sent in all.
     #[error("the recording sends too much")]
     Output,
     /// More than 65,536 pages.

@@ -1,5 +1,5 @@
-//! Recordings that are made while a machine runs: one begins with a state, and gets a checkpoint more each time. No machine runs
-//! here, so whether what a checkpoint claims is true is for a check to say.
+//! Recordings that are made while a machine runs elsewhere: one begins with a state, and each call adds a checkpoint. No machine runs
+//! here, so only a check can find out whether a claim is true.
 
 ghost use Rattle.std.specs.Prelude.{◌≡◌, ◌+◌, ◌<◌, ◌≤◌, ◌^◌, ◌↔◌, ◌++◌, [], All, IfErr, IfNone, IfOk, IfSome, IsTrue, OnOk, length, map};
 ghost use Rattle.risc_core.specs.declared.branch.TheConstants.{COUNTER_END};
@@ -9,7 +9,7 @@ ghost use Rattle.risc_pages.specs.Pages.{ArePages};
 ghost use Rattle.risc_pages.specs.Tables.{IsNamed};
 ghost use Rattle.oberon_format.specs.CheckpointParts.{checkpoint_parts};
 ghost use Rattle.oberon_format.specs.Recording.{IsLawful, parts_of};
-ghost use Rattle.oberon_session.specs.Extended.{IsBegun, IsExtended, IsNext, IsTooMuch, outcome_of};
+ghost use Rattle.oberon_session.specs.Extended.{IsBegun, IsExtendFault, IsExtended, IsNext, outcome_of};
 ghost use Rattle.oberon_session.specs.inner.Growing.{HasGrown, NeedsPages, checkpoint_of, stored_on, last_stored};
 ghost use Rattle.oberon_session.specs.inner.Progress.{stored_view};
 
@@ -23,7 +23,7 @@ use risc_model::{Cpu, Event, Inputs};
 use risc_pages::{Pool, Table};
 use std::alloc::{AllocError, Global};
 
-/// The recording that begins with a state: no inputs, and checkpoint 0 alone. It fails only if memory runs out.
+/// Returns the recording that begins with a state: no inputs, and checkpoint 0 alone. It fails only if memory runs out.
 pub fn begin_recording(
     alloc: Global,
     cpu: Cpu,
@@ -52,14 +52,15 @@ pub fn begin_recording(
         sent: &[],
     };
     checkpoints.push(checkpoint_of(alloc, &claim, &stored.table)?)?;
-    // What the type of a pool says of its pages.
+    // The contract of `len` states that each page of the pool has 256 words.
     let _pages = stored.pool.len();
     Ok(recording_of(stored.pool, no_inputs(alloc), checkpoints))
 }
 
-/// The recording with the inputs that came since its last checkpoint, and one checkpoint more, which makes this claim.
+/// Returns the recording with these inputs, which came after its last checkpoint, and one more checkpoint, which makes this claim.
 ///
-/// A recording that is refused is dropped. The refusal says what is wrong or too much; if memory runs out, it is `Memory` instead.
+/// On an error the recording is dropped. The error says what is wrong, or which limit would be exceeded. If memory runs out, it is
+/// `Memory` instead.
 pub fn extend_recording(
     alloc: Global,
     recording: Recording,
@@ -69,33 +70,37 @@ pub fn extend_recording(
     requires counter { claim.now.cpu.pc < COUNTER_END }
     requires stop { claim.now.cpu.stop ≤ 4 }
     requires whole { length claim.now.words.now ≡ 262144 }
-    // The recording has the inputs and the checkpoint, and is else as it was.
+    // The result has the inputs and the checkpoint, and is otherwise as the recording was.
     ensures extended { IfOk result (IsExtended recording inputs.now claim.now.count (outcome_of claim.now)) }
-    // It is extended only by what comes next.
+    // Inputs and checkpoint come after the last checkpoint.
     ensures next { OnOk result (IsNext recording inputs.now claim.now.count) }
-    // It is within all limits.
+    // The result is within all limits.
     ensures lawful { IfOk result IsLawful }
-    // Else what the fault says is so.
-    ensures refused { IfErr result (IsTooMuch recording inputs.now claim.now.count (outcome_of claim.now)) }
+    // On an error, what it says is true.
+    ensures refused { IfErr result (IsExtendFault recording inputs.now claim.now.count (outcome_of claim.now)) }
 {
     let inputs = next_inputs(alloc, &recording, inputs, claim)?;
     let (stored, checkpoints) = next_checkpoints(alloc, recording, claim)?;
-    // All limits but that of the output were tested.
-    match made(stored.pool, inputs, checkpoints) {
+    // All limits except that of the output were tested.
+    match recording_if_lawful(stored.pool, inputs, checkpoints) {
         Some(recording) => Ok(recording),
         None => Err(ExtendFault::Output),
     }
 }
 
-/// The recording of parts, if they are lawful.
-fn made(pool: Pool, inputs: Inputs, checkpoints: Vec<Checkpoint>) -> Option<Recording>
-    ensures made { IfSome result (λ r. (r ≡ parts_of pool inputs checkpoints.items) × IsLawful (parts_of pool inputs checkpoints.items)) }
+/// Returns the recording of parts, if they are lawful.
+fn recording_if_lawful(
+    pool: Pool,
+    inputs: Inputs,
+    checkpoints: Vec<Checkpoint>,
+) -> Option<Recording>
+    ensures recording { IfSome result (λ r. (r ≡ parts_of pool inputs checkpoints.items) × IsLawful (parts_of pool inputs checkpoints.items)) }
     ensures unlawful { IfNone result (¬ (IsLawful (parts_of pool inputs checkpoints.items))) }
 {
     Recording::from_parts(pool, inputs, checkpoints).ok()
 }
 
-/// The inputs of a recording with those that come next, if it has room for these and for a checkpoint.
+/// Returns the inputs of a recording with those that come next, if the recording has room for these and for a checkpoint.
 fn next_inputs(
     alloc: Global,
     recording: &Recording,
@@ -106,7 +111,7 @@ fn next_inputs(
     ensures next { OnOk result (IsNext recording.now inputs.now claim.now.count) }
     ensures events { OnOk result (length (recording.now.inputs ++ inputs.now) ≤ MAX_EVENTS) }
     ensures checkpoints { OnOk result (length recording.now.checkpoints ≤ LAST_CHECKPOINT) }
-    ensures refused { IfErr result (IsTooMuch recording.now inputs.now claim.now.count (outcome_of claim.now)) }
+    ensures refused { IfErr result (IsExtendFault recording.now inputs.now claim.now.count (outcome_of claim.now)) }
 {
     let last = recording.checkpoint(recording.count() - 1).count;
     if claim.count <= last || claim.count > MAX_COUNT || !are_between(last, claim.count, inputs) {
@@ -126,7 +131,7 @@ fn next_inputs(
     }
 }
 
-/// Whether inputs come at one count or later, and before another one.
+/// Reports whether all counts of inputs are from `from` up to `to`, without `to`.
 fn are_between(from: u64, to: u64, inputs: &[Event]) -> bool
     ensures { IsTrue result ↔ All (λ e. (from ≤ e.count) × (e.count < to)) inputs.now }
 {
@@ -135,7 +140,7 @@ fn are_between(from: u64, to: u64, inputs: &[Event]) -> bool
         .all(|event| from <= event.count && event.count < to)
 }
 
-/// Events, and others after them.
+/// Returns events, followed by others.
 fn joined(alloc: Global, before: &[Event], after: &[Event]) -> Result<Vec<Event>, AllocError>
     requires { length before.now + length after.now < 2 ^ 32 }
     ensures { IfOk result (λ all. all.items ≡ before.now ++ after.now) }
@@ -146,7 +151,7 @@ fn joined(alloc: Global, before: &[Event], after: &[Event]) -> Result<Vec<Event>
     Ok(all)
 }
 
-/// The pages and the checkpoints of a recording, with the checkpoint that makes a claim.
+/// Returns the pages and the checkpoints of a recording, with those of a claim.
 fn next_checkpoints(
     alloc: Global,
     recording: Recording,
@@ -165,7 +170,7 @@ fn next_checkpoints(
     Ok((stored, checkpoints))
 }
 
-/// A pool with the pages of words that differ from the content of a table, and the table of the words.
+/// Adds the pages of words that differ from the content of a table to the pool. Returns the pool with the table of the words.
 fn next_stored(
     alloc: Global,
     pool: Pool,
@@ -191,13 +196,13 @@ fn next_stored(
     Ok(stored)
 }
 
-/// The checkpoint that makes a claim, over a table.
+/// Returns the checkpoint that makes a claim, with this table.
 fn checkpoint_of(alloc: Global, claim: &Claim<'_>, table: &Table) -> Result<Checkpoint, AllocError>
     ensures checkpoint { IfOk result (λ c. checkpoint_parts c ≡ checkpoint_of claim.now table.now) }
     ensures devices { IsDeviceState claim.now.devices }
     ensures bytes { All (λ byte. byte < 2 ^ 8) claim.now.sent.now }
 {
-    // Each read of devices says that they are in their ranges.
+    // The contract of `timer` states that devices are in their ranges.
     let _timer = claim.devices.timer();
     bytes_fit(claim.sent);
     Ok(Checkpoint {
@@ -209,7 +214,7 @@ fn checkpoint_of(alloc: Global, claim: &Claim<'_>, table: &Table) -> Result<Chec
     })
 }
 
-/// No inputs. Takes no memory.
+/// Returns an empty list of inputs. It allocates nothing.
 fn no_inputs(alloc: Global) -> Inputs
     ensures { result ≡ [] }
 {

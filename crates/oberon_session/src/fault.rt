@@ -1,4 +1,4 @@
-//! Why a text is no session. `specs/Rules.antt` has the rules in the order in which they are tested.
+//! The faults of session files. `specs/Rules.antt` has the rules in the order in which they are tested.
 
 ghost use Rattle.std.specs.Prelude.{◌≡◌};
 ghost use Rattle.oberon_session.specs.FaultNames.{session_fault_name, session_fault_number};
@@ -6,33 +6,33 @@ ghost use Rattle.oberon_session.specs.FaultNames.{session_fault_name, session_fa
 use std::alloc::{AllocError, AllocFailed};
 use thiserror::Error;
 
-/// The first rule that a text breaks, or that memory ran out.
+/// The first rule that a session file breaks, or that memory ran out.
 ///
 /// The numbers, the names and the rules are this project's own choice.
 #[derive(Clone, Copy, Debug, PartialEq, Eq, Error)]
 pub enum SessionFault {
-    /// 1, `json`: `serde_json` does not read the text.
+    /// 1, `json`: `serde_json` does not accept the bytes.
     #[error("the text is no JSON")]
     Json,
-    /// 2, `shape`: a member, a type, the number of registers, or one of the texts and numbers that are given is wrong.
+    /// 2, `shape`: a member, a type, the number of registers, or one of the fixed strings and numbers is wrong.
     #[error("the text has not the shape of a session")]
     Shape,
     /// 3, `range`: a number is out of its range, something is too long, or there are too many of something.
     #[error("a number of the session is out of its range")]
     Range,
-    /// 4, `order`: places of pages or counts of checkpoints don't rise, or counts of inputs fall.
+    /// 4, `order`: slots of pages or counts of checkpoints don't rise, or counts of inputs fall.
     #[error("the session is out of order")]
     Order,
     /// 5, `hex`: a page has an odd number of digits, or one that is not hexadecimal.
     #[error("a page of the session is not written in hexadecimal digits")]
     Hex,
-    /// Memory ran out. No fault of the text.
+    /// Memory ran out. It is not a fault of the file.
     #[error("no memory")]
     Memory,
 }
 
 impl SessionFault {
-    /// The fault's number, from 1 to 5; none for `Memory`.
+    /// Returns the fault's number, from 1 to 5; none for `Memory`.
     pub fn number(self) -> Option<u8>
         ensures { result ≡ session_fault_number self }
     {
@@ -46,7 +46,7 @@ impl SessionFault {
         }
     }
 
-    /// The fault's name.
+    /// Returns the fault's name.
     pub fn name(self) -> &'static str
         ensures { result.now ≡ session_fault_name self }
     {

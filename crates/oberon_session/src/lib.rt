@@ -1,9 +1,9 @@
-//! Sessions of the RISC5 workstation: a first state, inputs with their counts, and the counts at which checkpoints are to be made.
+//! Sessions of the RISC5 workstation: an initial state, inputs with their counts, and the counts at which to place checkpoints.
 //!
-//! A session is written in JSON, in a format of this project's own. Here its text is read, or refused with the first rule that it
-//! breaks, and its recording is made, or refused at the first checkpoint that is too much. JSON and hexadecimal digits are read by
-//! `serde_json` and `hex`. A session can be made of its parts, too; and a recording while a machine runs, from any state on and
-//! checkpoint by checkpoint.
+//! A session is JSON in this project's own format. This crate reads sessions, or reports the first rule that the JSON breaks. It makes
+//! the recording of a session, or reports which limit the recording would exceed. `serde_json` reads the JSON, and `hex` the digits of
+//! pages. A session can also be made from its parts. A recording can also be made while a machine runs: it begins with any state, and is
+//! extended checkpoint by checkpoint.
 #![tactic(auto)]
 
 mod claim;
@@ -13,17 +13,17 @@ mod events;
 mod extend_fault;
 mod extension;
 mod fault;
+mod json;
 mod laws;
 mod parts;
 mod range;
 mod reading;
 mod record_fault;
 mod recorder;
+mod running;
 mod session;
 mod shape;
 mod storing;
-mod walk;
-mod way;
 
 pub use claim::Claim;
 pub use digits::PlacedPage;

@@ -1,4 +1,4 @@
-//! The parts that a session is made of, tested by the rules of a session. Takes no memory.
+//! Tests of the parts of a session, by the rules of sessions. They allocate nothing.
 
 ghost use Rattle.std.specs.Prelude.{◌≡◌, ◌<◌, ◌↔◌, IfNone, IfSome, IsTrue};
 ghost use Rattle.std.specs.List.Sorted.{IsStrictlyIncreasing};
@@ -14,7 +14,7 @@ use oberon_format::MAX_EVENTS;
 use risc_core::COUNTER_END;
 use risc_model::{Cpu, Inputs};
 
-/// The first rule that parts break.
+/// Returns the first rule that parts break.
 pub fn parts_fault(
     cpu: &Cpu,
     rate: u32,
@@ -32,12 +32,12 @@ pub fn parts_fault(
     if !are_in_order(pages, counts) {
         return Some(SessionFault::Order);
     }
-    // What the type of inputs says of them.
+    // The contract of `events` states that inputs are in order.
     let _events = inputs.events();
     None
 }
 
-/// Whether numbers are in their ranges, there are few enough of them, and the processor runs.
+/// Reports whether numbers are in their ranges, no list is too long, and the processor runs.
 fn are_in_range(
     cpu: &Cpu,
     rate: u32,
@@ -55,28 +55,28 @@ fn are_in_range(
         && counts_fit(counts)
 }
 
-/// Whether places of pages and counts of checkpoints rise.
+/// Reports whether the slots of pages and the counts of checkpoints rise.
 fn are_in_order(pages: &[PlacedPage], counts: &[u64]) -> bool
     ensures { IsTrue result ↔ (RisesBy (λ page. page.at) pages.now × IsStrictlyIncreasing counts.now) }
 {
     places_rise(pages) && rises(counts)
 }
 
-/// Whether a processor runs, and its program counter is in its range.
+/// Reports whether a processor runs, and its program counter is in its range.
 fn runs(cpu: &Cpu) -> bool
     ensures { IsTrue result ↔ ((cpu.now.pc < COUNTER_END) × (cpu.now.stop ≡ 0)) }
 {
     cpu.pc < COUNTER_END && cpu.stop == 0
 }
 
-/// Whether there are at most 1,024 pages, each at a place below 1,024.
+/// Reports whether there are at most 1,024 pages, each in a slot below 1,024.
 fn pages_fit(pages: &[PlacedPage]) -> bool
     ensures { IsTrue result ↔ PlacedFit pages.now }
 {
     pages.len() <= PLACES as usize && pages.iter().all(|page| page.at < PLACES)
 }
 
-/// Whether the places of pages rise.
+/// Reports whether the slots of pages rise.
 fn places_rise(pages: &[PlacedPage]) -> bool
     ensures { IsTrue result ↔ RisesBy (λ page. page.at) pages.now }
 {

@@ -1,4 +1,4 @@
-//! The ranges of a session's numbers, and the order of its pages and checkpoints. `events` tests the inputs and makes them.
+//! Tests of the ranges of a session's numbers, and of the order of its pages and checkpoints. Those of the inputs are in `events`.
 
 ghost use Rattle.std.specs.Prelude.{◌≡◌, ◌<◌, ◌^◌, ◌↔◌, IsTrue};
 ghost use Rattle.std.specs.List.{All};
@@ -14,24 +14,24 @@ use oberon_format::{LAST_CHECKPOINT, MAX_COUNT};
 use risc_core::COUNTER_END;
 use risc_devices::is_phase_at;
 
-/// How many digits a page may have: two for each of its bytes.
+/// The most digits of a page: two for each of its bytes.
 const MOST_DIGITS: usize = 2_048;
 
-/// Whether the numbers of the first state, of pages and of checkpoints are in their ranges.
+/// Reports whether the numbers of the initial state, of pages and of checkpoints are in their ranges.
 pub fn is_in_range(draft: &Draft<'_>) -> bool
     ensures { IsTrue result ↔ NumbersFit draft.now }
 {
     start_fits(&draft.start) && pages_fit(&draft.pages) && counts_fit(&draft.checkpoints)
 }
 
-/// Whether the places of pages and the counts of checkpoints rise.
+/// Reports whether the slots of pages and the counts of checkpoints rise.
 pub fn is_rising(draft: &Draft<'_>) -> bool
     ensures { IsTrue result ↔ NumbersRise draft.now }
 {
     places_rise(&draft.pages) && rises(&draft.checkpoints)
 }
 
-/// Whether registers, H, program counter, flags, and the timer's rate and phase are in their ranges.
+/// Reports whether registers, H, program counter, flags, and the timer's rate and phase are in their ranges.
 fn start_fits(start: &StartDraft) -> bool
     ensures { IsTrue result ↔ StartFits (start_view start.now) }
 {
@@ -42,20 +42,21 @@ fn start_fits(start: &StartDraft) -> bool
         && timer_fits(start.rate, start.phase)
 }
 
-/// Whether a timer can have this rate and this phase.
+/// Reports whether a timer can have this rate and this phase.
 pub fn timer_fits(rate: u64, phase: u64) -> bool
     ensures { result ≡ timer_fits rate phase }
 {
     rate < 1 << 32 && phase < 1 << 32 && is_phase_at(rate as u32, phase as u32)
 }
 
+/// Reports whether each register is a word of 32 bits.
 fn registers_fit(registers: &[u64]) -> bool
     ensures { IsTrue result ↔ All (λ register. register < 2 ^ 32) registers.now }
 {
     registers.iter().all(|register| *register < 1 << 32)
 }
 
-/// Whether there are at most 1,024 pages, each at a place below 1,024 and with at most 2,048 digits.
+/// Reports whether there are at most 1,024 pages, each in a slot below 1,024 and with at most 2,048 digits.
 fn pages_fit(pages: &[PageDraft<'_>]) -> bool
     ensures { IsTrue result ↔ DraftPagesFit pages.now }
 {
@@ -63,7 +64,7 @@ fn pages_fit(pages: &[PageDraft<'_>]) -> bool
         && pages.iter().all(|page| page.at < PLACES as u64 && page.hex.len() <= MOST_DIGITS)
 }
 
-/// Whether there are at most 4,096 checkpoints, each at a count from 1 to 2^40.
+/// Reports whether there are at most 4,096 checkpoints, each at a count from 1 to 2^40.
 pub fn counts_fit(counts: &[u64]) -> bool
     ensures { IsTrue result ↔ CountsFit counts.now }
 {
@@ -73,14 +74,14 @@ pub fn counts_fit(counts: &[u64]) -> bool
             .all(|count| 1 <= *count && *count <= MAX_COUNT)
 }
 
-/// Whether the places of pages rise.
+/// Reports whether the slots of pages rise.
 fn places_rise(pages: &[PageDraft<'_>]) -> bool
     ensures { IsTrue result ↔ RisesBy (λ page. page.at) pages.now }
 {
     pages.windows(2).all(|pair| pair[0].at < pair[1].at)
 }
 
-/// Whether numbers rise.
+/// Reports whether numbers rise.
 pub fn rises(numbers: &[u64]) -> bool
     ensures { IsTrue result ↔ IsStrictlyIncreasing numbers.now }
 {

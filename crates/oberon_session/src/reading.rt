@@ -1,4 +1,4 @@
-//! Reading a session from its text.
+//! Reads a session from its JSON.
 
 ghost use Rattle.std.specs.Prelude.{◌≡◌, ◌↔◌, ◌<◌, ◌^◌, IfOk, IfErr, IsTrue, length, slice_index};
 ghost use Rattle.serde_json.specs.Errors.{IsMemory};
@@ -20,12 +20,12 @@ use risc_model::{Cpu, Flags, Inputs};
 use serde_json::{Error, Value};
 use std::alloc::Global;
 
-/// The session of a text, or the first rule that the text breaks.
+/// Returns the session that the bytes encode, or the first rule that they break.
 ///
-/// The rules, in the order in which they are tested: the text has at most `LONGEST_SESSION` bytes (`Range`), is JSON (`Json`),
-/// has the shape of a session (`Shape`), and its numbers are in their ranges (`Range`); places of pages and counts of
-/// checkpoints rise, and counts of inputs don't fall (`Order`); and pages are written in pairs of hexadecimal digits (`Hex`).
-/// If memory runs out, the answer is `Memory` instead, unless the text is too long.
+/// The rules, in the order in which they are tested: there are at most `LONGEST_SESSION` bytes (`Range`), they are JSON (`Json`), the
+/// JSON has the shape of a session (`Shape`), and its numbers are in their ranges (`Range`); slots of pages and counts of checkpoints
+/// rise, and counts of inputs don't fall (`Order`); and pages are pairs of hexadecimal digits (`Hex`). If memory runs out, the answer
+/// is `Memory` instead, unless there are too many bytes.
 pub fn read_session(alloc: Global, bytes: &[u8]) -> Result<Session, SessionFault>
     ensures ok { IfOk result (IsSession bytes.now) }
     ensures err { IfErr result (Breaks bytes.now) }
@@ -39,7 +39,7 @@ pub fn read_session(alloc: Global, bytes: &[u8]) -> Result<Session, SessionFault
     }
 }
 
-/// The fault of a text that `serde_json` refuses: `Memory` if it ran out of memory, and else no JSON.
+/// Returns the fault for an error of `serde_json`: `Memory` if memory ran out, otherwise `Json`.
 fn json_fault(refused: &Error) -> SessionFault
     ensures memory { (result ≡ SessionFault.Memory) ↔ IsMemory refused.now }
     ensures json { (result ≡ SessionFault.Json) ↔ (IsMemory refused.now → ⊥) }
@@ -51,7 +51,7 @@ fn json_fault(refused: &Error) -> SessionFault
     }
 }
 
-/// The session of a JSON value.
+/// Returns the session of a JSON value, or the first rule that the value breaks.
 fn session_in(alloc: Global, value: &Value) -> Result<Session, SessionFault>
     ensures ok { IfOk result (IsSessionIn (view value.now)) }
     ensures err { IfErr result (BreaksIn (view value.now)) }
@@ -60,7 +60,7 @@ fn session_in(alloc: Global, value: &Value) -> Result<Session, SessionFault>
     session_of(alloc, draft)
 }
 
-/// The session of a draft.
+/// Returns the session of a draft, or the first rule that the draft breaks.
 fn session_of(alloc: Global, draft: Draft<'_>) -> Result<Session, SessionFault>
     ensures range { IfOk result (λ _. InRange (draft_view draft.entry)) }
     ensures order { IfOk result (λ _. InOrder (draft_view draft.entry)) }
@@ -79,7 +79,7 @@ fn session_of(alloc: Global, draft: Draft<'_>) -> Result<Session, SessionFault>
     })
 }
 
-/// The inputs of a draft whose numbers are all in their ranges and in order.
+/// Returns the inputs of a draft whose numbers are all in their ranges and in order, or the first rule that it breaks.
 fn test_draft(alloc: Global, draft: &Draft<'_>) -> Result<Inputs, SessionFault>
     ensures ok { IfOk result (IsTested (draft_view draft.now)) }
     ensures err { IfErr result (BreaksDraft (draft_view draft.now)) }
@@ -94,7 +94,7 @@ fn test_draft(alloc: Global, draft: &Draft<'_>) -> Result<Inputs, SessionFault>
     Ok(inputs)
 }
 
-/// The processor of the first state.
+/// Returns the processor of the initial state.
 fn cpu_of(start: &StartDraft) -> Cpu
     requires { StartFits (start_view start.now) }
     ensures { cpu_state result ≡ cpu_of (start_view start.now) }

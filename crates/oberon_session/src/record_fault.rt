@@ -1,4 +1,4 @@
-//! Why a session has no recording. `specs/Recorded.antt` says when each refusal comes.
+//! The faults for which a session has no recording. `specs/Recorded.antt` defines when each occurs.
 
 ghost use Rattle.std.specs.Prelude.{◌≡◌};
 ghost use Rattle.oberon_session.specs.FaultNames.{record_fault_name, record_fault_number};
@@ -6,7 +6,7 @@ ghost use Rattle.oberon_session.specs.FaultNames.{record_fault_name, record_faul
 use std::alloc::{AllocError, AllocFailed};
 use thiserror::Error;
 
-/// What is too much for a recording, or that memory ran out.
+/// The limit that a recording would exceed, or that memory ran out.
 ///
 /// The numbers, the names and the limits are this project's own choice.
 #[derive(Clone, Copy, Debug, PartialEq, Eq, Error)]
@@ -17,13 +17,13 @@ pub enum RecordFault {
     /// 2, `pages`: more than 65,536 pages are needed up to a checkpoint.
     #[error("the session changes too many pages")]
     Pages,
-    /// Memory ran out. No fault of the session.
+    /// Memory ran out. It is not a fault of the session.
     #[error("no memory")]
     Memory,
 }
 
 impl RecordFault {
-    /// The fault's number, 1 or 2; none for `Memory`.
+    /// Returns the fault's number, 1 or 2; none for `Memory`.
     pub fn number(self) -> Option<u8>
         ensures { result ≡ record_fault_number self }
     {
@@ -34,7 +34,7 @@ impl RecordFault {
         }
     }
 
-    /// The fault's name.
+    /// Returns the fault's name.
     pub fn name(self) -> &'static str
         ensures { result.now ≡ record_fault_name self }
     {

@@ -1,4 +1,4 @@
-//! The recorder: the recording of a session.
+//! The recorder: makes the recording of a session.
 
 ghost use Rattle.std.specs.Prelude.{◌≡◌, ◌≢◌, ◌+◌, ◌<◌, ◌^◌, ℕ, All, length, None, Some, IfOk, IfErr, OnOk};
 ghost use Rattle.risc_devices.specs.DeviceState.{IsPhase};
@@ -8,16 +8,16 @@ ghost use Rattle.oberon_session.specs.Recorded.{first_devices, record_fault_of, 
 ghost use Rattle.oberon_session.specs.inner.Progress.{HasRecorded};
 
 use crate::record_fault::RecordFault;
+use crate::running::reach;
 use crate::session::Session;
 use crate::storing::{StoredPages, store_first, store_pages};
-use crate::way::reach;
 use oberon_format::{Checkpoint, MAX_OUTPUT, MAX_PAGES, Recording};
 use risc_devices::Devices;
 use risc_model::Inputs;
 use risc_pages::Pool;
 use std::alloc::Global;
 
-/// What was recorded so far: pages and the last table, checkpoints from 0 on, and the number of bytes that they send.
+/// What was recorded so far: pages and the last table, checkpoints from 0 on, and the number of bytes sent up to the last of them.
 #[derive(Drop)]
 struct Recorder {
     stored: StoredPages,
@@ -25,16 +25,16 @@ struct Recorder {
     sent: usize,
 }
 
-/// The recording of a session: its first state, its inputs, and the state and output at each of its counts, in one run.
+/// Returns the recording of a session: its initial state, its inputs, and the state and output of one run at each of its counts.
 ///
-/// Refused at the first checkpoint up to which more than 1,048,576 bytes are sent (`Output`) or else more than 65,536 pages are
+/// It stops at the first checkpoint up to which more than 1,048,576 bytes are sent (`Output`), or else more than 65,536 pages are
 /// needed (`Pages`). If memory runs out, the answer is `Memory` instead.
 pub fn make_recording(alloc: Global, session: &Session) -> Result<Recording, RecordFault>
     // The recording is that of the session.
     ensures recording { IfOk result (λ recording. recording ≡ recording_of session.now) }
-    // It is made only if nothing is too much.
+    // It is returned only if no checkpoint exceeds a limit.
     ensures made { OnOk result (record_fault_of session.now ≡ None) }
-    // Else the fault is that of the first checkpoint that is too much.
+    // Otherwise the fault is that of the first checkpoint that does.
     ensures refused { IfErr result (λ fault. fault ≢ RecordFault.Memory → record_fault_of session.now ≡ Some fault) }
     // All its checkpoints are true.
     ensures truth { IfOk result (λ recording. (k : ℕ) → k < length recording.checkpoints → IsTrueAt recording k) }
@@ -46,7 +46,7 @@ pub fn make_recording(alloc: Global, session: &Session) -> Result<Recording, Rec
     finish(alloc, session.inputs(), recorder)
 }
 
-/// Checkpoint 0 of a session.
+/// Records checkpoint 0 of a session.
 fn begin(alloc: Global, session: &Session) -> Result<Recorder, RecordFault>
     ensures recorded { IfOk result (HasRecorded session.now 0) }
     ensures memory { IfErr result (λ fault. fault ≡ RecordFault.Memory) }
@@ -68,7 +68,7 @@ fn begin(alloc: Global, session: &Session) -> Result<Recorder, RecordFault>
     })
 }
 
-/// Devices that are all zeros, save the timer's rate and phase.
+/// Returns devices that are all zeros, except the timer's rate and phase.
 fn first_devices(rate: u32, phase: u32) -> Devices
     requires { IsPhase rate phase }
     ensures { result ≡ first_devices rate phase }
@@ -103,7 +103,7 @@ fn record_next(
     let sent: &[u8] = &reached.sent;
     bytes_fit(sent);
     recorder.sent += sent.len();
-    // Each read of devices says that they are in their ranges.
+    // The contract of `timer` states that devices are in their ranges.
     let _timer = reached.devices.timer();
     recorder.checkpoints.push(Checkpoint {
         count,
@@ -115,12 +115,12 @@ fn record_next(
     Ok(())
 }
 
-/// Each byte is a number below 256, as its type says.
+/// States that each byte is below 256, which its type ensures.
 pub fn bytes_fit(bytes: &[u8])
     ensures { All (λ byte. byte < 2 ^ 8) bytes.now }
 {}
 
-/// The recording of all that was recorded.
+/// Returns the recording of all that was recorded.
 fn finish(alloc: Global, inputs: &Inputs, recorder: Recorder) -> Result<Recording, RecordFault>
     requires { IsLawful (parts_of recorder.stored.pool inputs.now recorder.checkpoints.items) }
     ensures recording { IfOk result (λ recording. recording ≡ parts_of recorder.stored.pool inputs.now recorder.checkpoints.items) }
@@ -130,7 +130,7 @@ fn finish(alloc: Global, inputs: &Inputs, recorder: Recorder) -> Result<Recordin
     Ok(recording_of(recorder.stored.pool, inputs, recorder.checkpoints))
 }
 
-/// The recording of parts that are known to be lawful.
+/// Returns the recording of lawful parts.
 pub fn recording_of(pool: Pool, inputs: Inputs, checkpoints: Vec<Checkpoint>) -> Recording
     requires { IsLawful (parts_of pool inputs checkpoints.items) }
     ensures parts { result ≡ parts_of pool inputs checkpoints.items }
@@ -142,7 +142,7 @@ pub fn recording_of(pool: Pool, inputs: Inputs, checkpoints: Vec<Checkpoint>) ->
     }
 }
 
-/// The same inputs again.
+/// Returns a copy of inputs.
 fn copy_inputs(alloc: Global, inputs: &Inputs) -> Result<Inputs, RecordFault>
     ensures same { IfOk result (λ copy. copy ≡ inputs.now) }
     ensures memory { IfErr result (λ fault. fault ≡ RecordFault.Memory) }

@@ -8,18 +8,18 @@ use crate::parts::parts_fault;
 use risc_model::{Cpu, Inputs};
 use std::marker::Model;
 
-/// A lawful session: a first state, inputs with their counts, and the counts of checkpoints 1 to K.
+/// A lawful session: an initial state, inputs with their counts, and the counts of checkpoints 1 to K.
 ///
 /// | what | limit |
 /// |---|---|
-/// | program counter of the first state | below 2^22 |
+/// | program counter of the initial state | below 2^22 |
 /// | the timer's rate and phase in it | below 2^32, the phase below the rate, or 0 if the rate is 0 |
-/// | pages of the first state's memory | at most 1,024, their places below 1,024 and rising |
+/// | pages of the initial memory | at most 1,024, their slots below 1,024 and rising |
 /// | inputs | at most 1,000,000, their counts not falling and at most 2^40 |
 /// | checkpoints | at most 4,096, their counts from 1 to 2^40 and rising |
 ///
-/// The first state is not stopped. All else in its devices is zeros, and so is its memory outside these pages. All limits are this
-/// project's own choice. In contracts a session is the record of its parts.
+/// The initial state is not stopped. Everything else in its devices is zero, and so is its memory outside these pages. All limits are
+/// this project's own choice. In contracts a session is the record of its parts.
 #[derive(Drop)]
 pub struct Session {
     pub(crate) cpu: Cpu,
@@ -47,11 +47,11 @@ impl Session {
     ghost use Rattle.oberon_session.specs.Parts.{BreaksParts, placed_view, session_of_parts};
     ghost use Rattle.oberon_session.specs.SessionParts.{IsLawful};
 
-    /// The session of these parts, or the first rule that they break: numbers are in their ranges, there are few enough of them and
-    /// the processor runs (`Range`), and then places of pages and counts of checkpoints rise (`Order`).
+    /// Returns the session of these parts, or the first rule that they break: numbers are in their ranges, no list is too long and the
+    /// processor runs (`Range`), and then slots of pages and counts of checkpoints rise (`Order`).
     ///
-    /// The timer of the first state has this rate and this phase; both are 0 for one that doesn't count by itself. Parts that are
-    /// refused are given up. Takes no memory.
+    /// The timer of the initial state has this rate and this phase; both are 0 for a timer that only inputs set. On an error the parts
+    /// are dropped. It allocates nothing.
     pub fn from_parts(
         cpu: Cpu,
         rate: u32,
@@ -62,9 +62,9 @@ impl Session {
     ) -> Result<Session, SessionFault>
         // The session has these parts.
         ensures session { IfOk result (λ session. session ≡ session_of_parts cpu rate phase pages.items inputs counts.items) }
-        // It is made exactly if they are lawful.
+        // It is returned exactly if they are lawful.
         ensures lawful { IsOk result ↔ IsLawful (session_of_parts cpu rate phase pages.items inputs counts.items) }
-        // Else the first rule that they break is the answer.
+        // Otherwise the error is the first rule that they break.
         ensures refused { IfErr result (BreaksParts (session_of_parts cpu rate phase pages.items inputs counts.items)) }
     {
         if let Some(fault) = parts_fault(&cpu, rate, phase, &pages, &inputs, &counts) {
@@ -80,7 +80,7 @@ impl Session {
         })
     }
 
-    /// The processor of the first state.
+    /// Returns the processor of the initial state.
     pub(crate) fn cpu(&self) -> Cpu
         ensures cpu { cpu_state result ≡ self.now.cpu }
         ensures lawful { IsLawful self.now }
@@ -88,7 +88,7 @@ impl Session {
         self.cpu
     }
 
-    /// The rate of the first state's timer.
+    /// Returns the rate of the initial state's timer.
     pub(crate) fn rate(&self) -> u32
         ensures rate { result ≡ self.now.rate }
         ensures lawful { IsLawful self.now }
@@ -96,7 +96,7 @@ impl Session {
         self.rate
     }
 
-    /// The phase of the first state's timer.
+    /// Returns the phase of the initial state's timer.
     pub(crate) fn phase(&self) -> u32
         ensures phase { result ≡ self.now.phase }
         ensures lawful { IsLawful self.now }
@@ -104,7 +104,7 @@ impl Session {
         self.phase
     }
 
-    /// The pages of the first state's memory, each with its place.
+    /// Returns the pages of the initial memory, each with its slot.
     pub(crate) fn pages(&self) -> &[PlacedPage]
         ensures pages { map placed_view result.now ≡ self.now.pages }
         ensures lawful { IsLawful self.now }
@@ -112,7 +112,7 @@ impl Session {
         &self.pages
     }
 
-    /// The inputs, with their counts.
+    /// Returns the inputs, with their counts.
     pub(crate) fn inputs(&self) -> &Inputs
         ensures inputs { result.now ≡ self.now.inputs }
         ensures lawful { IsLawful self.now }
@@ -120,7 +120,7 @@ impl Session {
         &self.inputs
     }
 
-    /// The counts of checkpoints 1 to K.
+    /// Returns the counts of checkpoints 1 to K.
     pub(crate) fn counts(&self) -> &[u64]
         ensures counts { result.now ≡ self.now.counts }
         ensures lawful { IsLawful self.now }

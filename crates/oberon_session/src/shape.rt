@@ -1,4 +1,4 @@
-//! Reading the shape of a session from a JSON value. Ranges and order are tested in `range`.
+//! Reads a draft of a session from a JSON value of the right shape. Ranges and order are tested in `range` and `events`.
 
 ghost use Rattle.std.specs.Prelude.{◌≡◌, map};
 ghost use Rattle.serde_json.specs.View.{view};
@@ -7,12 +7,14 @@ ghost use Rattle.oberon_session.specs.Draft.{draft_of, input_of, inputs_of, kind
 
 use crate::SessionFault;
 use crate::draft::{Draft, InputDraft, Members, PageDraft, StartDraft};
-use crate::walk::{exactly, items, member, number, numbers, text};
+use crate::json::{exactly, items, member, number, numbers, text};
 use serde_json::Value;
 use std::alloc::Global;
 
-/// The whole session. Its members are looked up before anything is made of them: what would drop the first parts at
-/// each exit between costs the prover more than all the rest.
+/// Returns the draft of the session, or `Shape`.
+///
+/// All members are looked up before anything that owns memory is made: code that drops it at each later exit costs the prover more than
+/// everything else.
 pub fn read_draft<'a>(alloc: Global, value: &'a Value) -> Result<Draft<'a>, SessionFault>
     ensures { Gives draft_view (draft_of (view value.now)) result }
 {
@@ -25,6 +27,7 @@ pub fn read_draft<'a>(alloc: Global, value: &'a Value) -> Result<Draft<'a>, Sess
     })
 }
 
+/// Returns the members of a session.
 fn members(value: &Value) -> Result<Members<'_>, SessionFault>
     ensures { Gives members_view (members_of (view value.now)) result }
 {
@@ -41,7 +44,7 @@ fn members(value: &Value) -> Result<Members<'_>, SessionFault>
     })
 }
 
-/// The version, 1 or 2.
+/// Returns the version, 1 or 2.
 fn version(value: &Value) -> Result<u64, SessionFault>
     ensures { Gives (λ n. n) (version_of (view value.now)) result }
 {
@@ -53,6 +56,7 @@ fn version(value: &Value) -> Result<u64, SessionFault>
     }
 }
 
+/// Returns the numbers of the initial state.
 fn start(alloc: Global, value: &Value, version: u64) -> Result<StartDraft, SessionFault>
     ensures { Gives start_view (start_of version (view value.now)) result }
 {
@@ -76,14 +80,14 @@ fn start(alloc: Global, value: &Value, version: u64) -> Result<StartDraft, Sessi
     })
 }
 
-/// How many members the first state has.
+/// Returns the number of members of the initial state.
 fn start_members(version: u64) -> usize
     ensures { result ≡ start_members version }
 {
     if version == 1 { 4 } else { 6 }
 }
 
-/// A number that version 2 has by this name, and that is 0 in version 1.
+/// Returns the number that version 2 has by this name. In version 1 it is 0.
 fn since_2(version: u64, name: &str, value: &Value) -> Result<u64, SessionFault>
     ensures { Gives (λ n. n) (since_2 version name.now (view value.now)) result }
 {
@@ -93,6 +97,7 @@ fn since_2(version: u64, name: &str, value: &Value) -> Result<u64, SessionFault>
     number(member(value, name)?)
 }
 
+/// Returns the drafts of pages.
 fn pages<'a>(alloc: Global, value: &'a Value) -> Result<Vec<PageDraft<'a>>, SessionFault>
     ensures { Gives (λ found. map page_view found.items) (pages_of (view value.now)) result }
 {
@@ -103,6 +108,7 @@ fn pages<'a>(alloc: Global, value: &'a Value) -> Result<Vec<PageDraft<'a>>, Sess
     Ok(pages)
 }
 
+/// Returns the draft of a page.
 fn page(value: &Value) -> Result<PageDraft<'_>, SessionFault>
     ensures { Gives page_view (page_of (view value.now)) result }
 {
@@ -113,6 +119,7 @@ fn page(value: &Value) -> Result<PageDraft<'_>, SessionFault>
     })
 }
 
+/// Returns the drafts of inputs.
 fn inputs(alloc: Global, value: &Value) -> Result<Vec<InputDraft>, SessionFault>
     ensures { Gives (λ found. map input_view found.items) (inputs_of (view value.now)) result }
 {
@@ -123,6 +130,7 @@ fn inputs(alloc: Global, value: &Value) -> Result<Vec<InputDraft>, SessionFault>
     Ok(inputs)
 }
 
+/// Returns the draft of an input: an array of its count, the name of its kind, and its value.
 fn input(value: &Value) -> Result<InputDraft, SessionFault>
     ensures { Gives input_view (input_of (view value.now)) result }
 {
@@ -136,7 +144,7 @@ fn input(value: &Value) -> Result<InputDraft, SessionFault>
     }
 }
 
-/// The number of the kind of input of this name.
+/// Returns the number of the kind of input of this name.
 fn kind_number(name: &str) -> Option<u8>
     ensures { result ≡ kind_of name.now }
 {

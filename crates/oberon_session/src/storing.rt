@@ -1,4 +1,4 @@
-//! Pages that are stored in a pool, and the table that names them.
+//! Memories stored as pages in a pool, and the table that names them.
 
 ghost use Rattle.std.specs.Prelude.{◌≡◌, ◌≢◌, ◌+◌, ◌<◌, ◌≤◌, ◌^◌, All, IfOk, OnOk, ℕ, length, map, slice_index};
 ghost use Rattle.risc_pages.specs.declared.page.Page.{Page};
@@ -13,7 +13,7 @@ use oberon_format::MAX_PAGES;
 use risc_pages::{Memory, Page, Pool, Table};
 use std::alloc::{AllocError, Global};
 
-/// How many words a memory has.
+/// The number of words of a memory.
 const WORDS: u32 = 262_144;
 
 /// The pages that were stored so far, and the table of the memory that was stored last.
@@ -23,7 +23,7 @@ pub struct StoredPages {
     pub table: Table,
 }
 
-/// Stores the pages of a session's first memory in their order, each named at its place.
+/// Stores the pages of a session's initial memory in their order, each named in its slot.
 pub fn store_first(alloc: Global, pages: &[PlacedPage]) -> Result<StoredPages, AllocError>
     requires few { length pages.now ≤ 1024 }
     requires places { All (λ page. page.at < 1024) pages.now }
@@ -38,7 +38,7 @@ pub fn store_first(alloc: Global, pages: &[PlacedPage]) -> Result<StoredPages, A
     Ok(StoredPages { pool, table })
 }
 
-/// Stores pages one after another, each at its place.
+/// Stores pages one after another, each in its slot.
 pub fn store_pages(stored: &mut StoredPages, changed: &[(u16, Page)]) -> Result<(), AllocError>
     requires few { length changed.now ≤ 1024 }
     requires room { length stored.old.pool ≤ MAX_PAGES }
@@ -52,7 +52,7 @@ pub fn store_pages(stored: &mut StoredPages, changed: &[(u16, Page)]) -> Result<
     Ok(())
 }
 
-/// Stores a page at a place: a page of zeros has number 0, and any other becomes a new page at the pool's end.
+/// Stores a page in a slot: a page of zeros has the page id 0, and any other is added at the end of the pool.
 #[tactic(auto, unfolding(crate::specs::Stored::store_page))]
 fn store_page(stored: &mut StoredPages, place: u16, page: &Page) -> Result<(), AllocError>
     requires place { place < 1024 }
@@ -69,7 +69,7 @@ fn store_page(stored: &mut StoredPages, place: u16, page: &Page) -> Result<(), A
     Ok(())
 }
 
-/// Whether a page is all zeros.
+/// Reports whether a page is all zeros.
 #[tactic(auto, unfolding(crate::specs::Stored::is_blank))]
 fn is_blank(page: &Page) -> bool
     ensures { result ≡ is_blank page.now.words }
@@ -77,7 +77,7 @@ fn is_blank(page: &Page) -> bool
     page.words.iter().all(|word| *word == 0)
 }
 
-/// Stores a memory of these words after another one: only the pages that differ from it.
+/// Stores a memory of these words after the memory of the last table: only the pages that differ.
 #[tactic(auto, unfolding(crate::specs::Stored::store))]
 pub fn store_words(alloc: Global, stored: &mut StoredPages, words: &[u32]) -> Result<(), AllocError>
     requires whole { length words.now ≡ 262144 }
@@ -90,7 +90,7 @@ pub fn store_words(alloc: Global, stored: &mut StoredPages, words: &[u32]) -> Re
     store_pages(stored, &changed)
 }
 
-/// The pages in which words differ from the content of a table, each with its place.
+/// Returns the pages of words that differ from the content of a table, each with its slot.
 fn changed_pages(
     alloc: Global,
     pool: &Pool,
@@ -107,13 +107,13 @@ fn changed_pages(
     Ok(delta.changed)
 }
 
-/// Gives a memory these words. A page that has its words already stays shared.
+/// Writes these words to a memory. A page that has its words already stays shared.
 fn write_words(memory: &mut Memory<'_>, words: &[u32]) -> Result<(), AllocError>
     requires { length words.now ≡ 262144 }
     ensures words { OnOk result (memory.new.words ≡ words.now) }
     ensures base { memory.new.base ≡ memory.old.base }
 {
-    // Each read of a memory says that it is whole.
+    // The contract of `read` states that a memory has all its words.
     let _first = memory.read(0);
     for word_no in 0..WORDS {
         write_word(memory, word_no, words[word_no as usize])?;
@@ -121,7 +121,7 @@ fn write_words(memory: &mut Memory<'_>, words: &[u32]) -> Result<(), AllocError>
     Ok(())
 }
 
-/// Gives a memory this word, if it has another one there.
+/// Writes a word to a memory, if the memory has another word there.
 fn write_word(memory: &mut Memory<'_>, word_no: u32, word: u32) -> Result<(), AllocError>
     requires inside { word_no < 262144 }
     requires whole { length memory.old.words ≡ 262144 }

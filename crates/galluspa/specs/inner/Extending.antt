@@ -3,7 +3,7 @@ use Rattle.std.specs.Prelude.{ℕ, List, ⊤}
 use Rattle.risc_model.specs.declared.event.Event.{Event}
 use Rattle.oberon_format.specs.Recording.{IsLawful, RecordingParts}
 use Rattle.oberon_format.specs.Text.{Text}
-use Rattle.oberon_session.specs.Extended.{IsExtended, IsNext, IsTooMuch, outcome_of}
+use Rattle.oberon_session.specs.Extended.{IsExtendFault, IsExtended, IsNext, outcome_of}
 use Rattle.oberon_session.specs.declared.claim.Claim.{Claim}
 use Rattle.oberon_session.specs.declared.extend_fault.ExtendFault.{ExtendFault}
 use Rattle.oberon_session.specs.declared.extend_fault.ExtendFault.TheVariants as fault
@@ -26,7 +26,7 @@ pub record IsMore (text : List ℕ) (events : List Event) (claim : Claim) (new :
 pub record IsFull (text : List ℕ) (events : List Event) (claim : Claim) (fault : ExtendFault) : Type 0 where
   pub recording : RecordingParts
   pub is_text : Text text recording
-  pub too_much : IsTooMuch recording events claim.count (outcome_of claim) fault
+  pub too_much : IsExtendFault recording events claim.count (outcome_of claim) fault
 
 -- what a caller gets
 abbrev pub unextended : ExtendFault → Unrecorded

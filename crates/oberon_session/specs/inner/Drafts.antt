@@ -1,4 +1,4 @@
--- What the readers of JSON give, and how contracts see their parts.
+-- What the readers of JSON return, and how contracts see their drafts.
 use Rattle.std.specs.Prelude.{◌≡◌, ◌≢◌, Option, Some, None, Result, MatchResult, map}
 use Rattle.oberon_session.specs.declared.fault.SessionFault.{SessionFault}
 use Rattle.oberon_session.specs.declared.fault.SessionFault.TheVariants.{Memory, Shape}
@@ -10,7 +10,7 @@ use Rattle.oberon_session.specs.declared.draft.Members.{Members as MembersValue}
 use Rattle.oberon_session.specs.Draft.{Start, PageText, InputNumbers, Members, Draft}
 use Rattle.serde_json.specs.View.{view}
 
--- the result is what the definition gives, and this fault comes only if it gives nothing
+-- the result is the value of the definition, and this fault is returned only if that has no value
 abbrev pub GivesOr : {T X : Type 0} → SessionFault → (T → X) → Option X → Result T SessionFault → Type 0
 GivesOr why view found result =
     MatchResult result (λ value. found ≡ Some (view value))

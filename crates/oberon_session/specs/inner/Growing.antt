@@ -1,4 +1,4 @@
--- What a recording is on the way to its next checkpoint.
+-- A recording while its next checkpoint is added.
 use Rattle.std.specs.Prelude.{ℕ, ◌≡◌, ◌≢◌, ◌<◌, ◌≤◌, ◌^◌, List, [], ◌∷◌, ◌++◌, length}
 use Rattle.std.specs.List.{All}
 use Rattle.risc_devices.specs.DeviceState.{IsDeviceState}
@@ -12,7 +12,7 @@ use Rattle.oberon_session.specs.Stored.{Stored, store}
 use Rattle.oberon_session.specs.declared.claim.Claim.{Claim}
 use Rattle.oberon_session.specs.declared.extend_fault.ExtendFault.{ExtendFault}
 
--- the checkpoint that makes a claim, over a table
+-- the checkpoint that makes a claim, with this table
 abbrev pub checkpoint_of : Claim → List ℕ → CheckpointParts
 checkpoint_of c table = record { count = c.count; cpu = cpu_state c.cpu; devices = c.devices; sent = c.sent.now; table = table }
 
@@ -24,15 +24,15 @@ stored_on stored words = store (table_words stored.pool stored.table) words stor
 abbrev pub last_stored : RecordingParts → Stored
 last_stored r = record { pool = r.pool; table = (checkpoint_at r (last_of r)).table }
 
--- the memory of a claim is stored, and its checkpoint has joined those of the recording
+-- the memory of a claim is stored, and its checkpoint is added to those of the recording
 pub record HasGrown (r : RecordingParts) (claim : Claim) (stored : Stored) (checkpoints : List CheckpointParts) : Type 0 where
-  pub stored_so : stored ≡ stored_on (last_stored r) claim.words.now
+  pub stored_is : stored ≡ stored_on (last_stored r) claim.words.now
   pub pushed : checkpoints ≡ r.checkpoints ++ checkpoint_of claim stored.table ∷ []
   pub few : length stored.pool ≤ MAX_PAGES
   pub pages : ArePages stored.pool
   pub devices : IsDeviceState claim.devices
   pub bytes : All (λ byte. byte < 2 ^ 8) claim.sent.now
 
--- unless memory ran out, words need more pages than there may be
+-- unless memory ran out, words need more pages than a recording may have
 abbrev pub NeedsPages : Stored → List ℕ → ExtendFault → Type 0
 NeedsPages stored words fault = fault ≢ ExtendFault.Memory → (fault ≡ ExtendFault.Pages) × (MAX_PAGES < length (stored_on stored words).pool)

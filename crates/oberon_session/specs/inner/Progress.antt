@@ -1,4 +1,4 @@
--- What the recorder holds on its way.
+-- What the recorder holds after each checkpoint.
 use Rattle.std.specs.Prelude.{ℕ, ◌≡◌, ◌≢◌, ◌+◌, ◌-◌, ◌<◌, ◌≤◌, List, length, map, None}
 use Rattle.std.specs.List.{range_with_len}
 use Rattle.risc_pages.specs.declared.page.Page.{Page}
@@ -15,17 +15,17 @@ use Rattle.oberon_session.specs.SessionParts.{SessionParts}
 use Rattle.oberon_session.specs.declared.storing.StoredPages.{StoredPages}
 use Rattle.oberon_session.specs.declared.record_fault.RecordFault.{RecordFault}
 use Rattle.oberon_session.specs.declared.recorder.Recorder.{Recorder}
-use Rattle.oberon_session.specs.declared.way.Reached.{Reached}
+use Rattle.oberon_session.specs.declared.running.Reached.{Reached}
 
 -- a pool and a table, as Rust has them
 abbrev pub stored_view : StoredPages → Stored
 stored_view l = record { pool = l.pool; table = l.table }
 
--- a changed page and its place
+-- a changed page and its slot
 abbrev pub page_view : ℕ × Page → ℕ × List ℕ
 page_view c = (c.0, c.1.words)
 
--- a machine that began in a state of these words came to a state and sent these bytes, and these are its changes
+-- a machine that began with these words ended in this state and sent these bytes, and these are its changes
 pub record IsReached (begun : List ℕ) (state : State) (sent : List ℕ) (r : Reached) : Type 0 where
   pub cpu : cpu_state r.cpu ≡ state.cpu
   pub devices : r.devices ≡ state.devices
@@ -42,17 +42,17 @@ checkpoints_to s k = map (checkpoint_of s) (range_with_len 0 (k + 1))
 abbrev pub IsContentOf : SessionParts → List (List ℕ) → ℕ → Type 0
 IsContentOf s pool j = table_words pool (stored_of s j).table ≡ (state_of s j).words
 
--- the session was recorded up to checkpoint k, of which nothing is too much
+-- the session is recorded up to checkpoint k, which exceeds no limit
 pub record IsRecorded (s : SessionParts) (k : ℕ) (stored : Stored) (checkpoints : List CheckpointParts) (sent : ℕ) : Type 0 where
-  pub stored_so : stored ≡ stored_of s k
+  pub stored_is : stored ≡ stored_of s k
   pub recorded : checkpoints ≡ checkpoints_to s k
   pub output : output_of checkpoints ≡ output_up_to s (count_of s k)
-  pub long : sent ≡ length (output_up_to s (count_of s k))
+  pub sent_is : sent ≡ length (output_up_to s (count_of s k))
   pub lawful : IsLawful (record { pool = stored.pool; inputs = s.inputs; checkpoints = checkpoints })
   pub content : (j : ℕ) → j ≤ k → IsContentOf s stored.pool j
-  pub faultless : first_fault s k ≡ None
+  pub no_fault : first_fault s k ≡ None
 
--- what the recorder holds when the session was recorded up to checkpoint k
+-- what the recorder holds when the session is recorded up to checkpoint k
 abbrev pub HasRecorded : SessionParts → ℕ → Recorder → Type 0
 HasRecorded s k r = IsRecorded s k (stored_view r.stored) (map checkpoint_parts r.checkpoints.items) r.sent
 
@@ -64,11 +64,11 @@ SendsTooMuch room sent fault = fault ≢ RecordFault.Memory → (fault ≡ Recor
 abbrev pub claimed : List (List ℕ) → CheckpointParts → State
 claimed pool c = (claim_of pool c).state
 
--- what is sent from checkpoint c up to a count
+-- the bytes sent from checkpoint c up to a count
 abbrev pub sent_on : List (List ℕ) → List Event → CheckpointParts → ℕ → List ℕ
 sent_on pool events c to = sent_of events c.count (to - c.count) (claimed pool c)
 
--- what a machine came to that ran from checkpoint c up to a count
+-- where a machine ended that ran from checkpoint c up to a count
 abbrev pub HasReached : List (List ℕ) → List Event → CheckpointParts → ℕ → Reached → Type 0
 HasReached pool events c to reached =
     IsReached (claimed pool c).words (run_of events c.count (to - c.count) (claimed pool c)) (sent_on pool events c to) reached

@@ -1,5 +1,4 @@
--- What single tests of a draft say, in the words of their proofs. `proofs/Deciding.antt` proves that the tests of the
--- table are right about them.
+-- The tests of a draft as propositions. `proofs/Deciding.antt` proves that the tests of `specs/Ranges.antt` decide them.
 use Rattle.std.specs.Prelude.{◌≡◌, ◌≢◌, ◌+◌, ◌<◌, ◌≤◌, ◌^◌, ℕ, List, Option, MatchOption, length, map, slice_index, slice_index_or, Some, None, IsTrue, IsUtf8, ⊤}
 use Rattle.std.specs.List.{All}
 use Rattle.std.specs.List.Sorted.{IsStrictlyIncreasing}
@@ -64,21 +63,21 @@ pub record InOrder (draft : Draft) : Type 0 where
 abbrev pub RisesBy : {X : Type 0} → (X → ℕ) → List X → Type 0
 RisesBy {X} number xs = (k : ℕ) (d : X) → k + 1 < length xs → number (slice_index_or xs k d) < number (slice_index_or xs (k + 1) d)
 
--- few enough pages, each in its ranges
+-- not too many pages, each in its ranges
 abbrev pub DraftPagesFit : List PageDraft → Type 0
 DraftPagesFit pages = (length pages ≤ 1024) × All (λ page. PageFits (page_view page)) pages
 
--- the numbers of the first state, of pages and of checkpoints are in their ranges
+-- the numbers of the initial state, of pages and of checkpoints are in their ranges
 abbrev pub NumbersFit : DraftValue → Type 0
 NumbersFit d = StartFits (start_view d.start) × DraftPagesFit d.pages.items × CountsFit d.checkpoints.items
 
--- places of pages and counts of checkpoints rise
+-- slots of pages and counts of checkpoints rise
 abbrev pub NumbersRise : DraftValue → Type 0
 NumbersRise d = RisesBy (λ page. page.at) d.pages.items × IsStrictlyIncreasing d.checkpoints.items
 
 -- ---- the parts of a session, as Rust has them
 
--- few enough pages, each at one of the 1,024 places
+-- not too many pages, each in one of the 1,024 slots
 abbrev pub PlacedFit : List PlacedPage → Type 0
 PlacedFit pages = (length pages ≤ 1024) × All (λ page. page.at < 1024) pages
 
@@ -117,11 +116,11 @@ pub record IsTested (draft : Draft) (inputs : List Event) : Type 0 where
 
 -- ---- a JSON value
 
--- `serde_json` reads the text as this value
+-- `serde_json` reads the bytes as this value
 abbrev pub IsJson : List ℕ → Data → Type 0
 IsJson bytes json = IsUtf8 bytes × (read bytes ≡ Some json)
 
--- the value breaks no rule, and is that of this session
+-- the value breaks no rule, and encodes this session
 abbrev pub IsSessionIn : Data → SessionParts → Type 0
 IsSessionIn json session = (draft : Draft) × (draft_of json ≡ Some draft) × InRange draft × InOrder draft × Says draft session
 
@@ -135,7 +134,7 @@ BreaksIn json fault.Hex =
     (draft : Draft) × (draft_of json ≡ Some draft) × InRange draft × InOrder draft × (all_placed_of draft.pages ≡ None)
 BreaksIn json fault.Memory = ⊤
 
--- the event of an input that is in its range, and none of another
+-- the event of an input, if that is in its range
 abbrev pub IsEventOf : InputNumbers → Option Event → Type 0
 IsEventOf input event = MatchOption event (InputFits input → ⊥) (λ e. (numbers_of_event e ≡ input) × InputFits input)
 

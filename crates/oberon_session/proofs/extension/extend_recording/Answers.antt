@@ -11,7 +11,7 @@ returns-in_err-stored-clause-refused c =
 pub returns-in-Some-clause-extended : goal.returns-in-Some-clause-extended
 returns-in-Some-clause-extended c =
     grown-extended c.args.recording c.in_ok-stored.ensures.lawful c.args.inputs.now c.in_ok-inputs.inputs c.args.claim.now c.requires.whole
-    c.in_ok-stored.stored c.in_ok-stored.checkpoints.items c.in_ok-stored.ensures.grown c.in_ok-inputs.ensures.inputs c.in-Some.recording c.in-Some.ensures.made.0
+    c.in_ok-stored.stored c.in_ok-stored.checkpoints.items c.in_ok-stored.ensures.grown c.in_ok-inputs.ensures.inputs c.in-Some.recording c.in-Some.ensures.recording.0
 
 pub returns-in-None-clause-refused : goal.returns-in-None-clause-refused
 returns-in-None-clause-refused c =

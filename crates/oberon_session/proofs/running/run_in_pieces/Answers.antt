@@ -2,7 +2,7 @@ use Rattle.std.proofs.Common.{◌-◌, ◌≤◌, ◌++◌, ◌∙◌, ap, arith
 use Rattle.risc_model.specs.Replay.{sent_of}
 use Rattle.risc_model.proofs.RunLemmas.{run_of-none, sent_of-none}
 use Rattle.oberon_session.proofs.Runs.{run-on, sent-grows, sent-on}
-use Rattle.oberon_session.proofs.way.run_in_pieces.Goals as goal
+use Rattle.oberon_session.proofs.running.run_in_pieces.Goals as goal
 
 pub loop-at-init : goal.loop-at-init
 loop-at-init c =

@@ -16,10 +16,10 @@ use risc_model::{Cpu, Inputs};
 use risc_pages::{Page, Pool};
 use std::alloc::Global;
 
-/// The most steps that are done before the length of the output is looked at.
+/// The most steps of a piece of a run. The length of the output is tested after each piece.
 const PIECE: u64 = 1_048_576;
 
-/// What a machine came to, what it sent on the way, and the pages that changed since it was started, each with its place.
+/// Where a run ended: the processor, the devices, the bytes sent since the start, and the pages that changed, each with its slot.
 #[derive(Drop)]
 pub struct Reached {
     pub cpu: Cpu,
@@ -28,7 +28,7 @@ pub struct Reached {
     pub changed: Vec<(u16, Page)>,
 }
 
-/// Starts a machine at a checkpoint and runs it up to the count `to`, if it sends at most `room` bytes on the way.
+/// Starts a machine at a checkpoint and runs it up to the count `to`. Returns `Output` if it sends more than `room` bytes.
 pub fn reach(
     alloc: Global,
     pool: &Pool,
@@ -47,7 +47,7 @@ pub fn reach(
 {
     let mut machine = Machine::start(alloc, pool, &last.table, last.cpu, last.devices.copy())?;
     let sent = run_in_pieces(alloc, &mut machine, inputs, last.count, to, room)?;
-    // Each read of a memory says that it is whole.
+    // The contract of `owned` states that a memory has all its words.
     let _owned = machine.memory().owned(0);
     let (cpu, devices, delta) = machine.close()?;
     Ok(Reached {
@@ -58,7 +58,7 @@ pub fn reach(
     })
 }
 
-/// Runs a machine from one count up to another, and returns what it sends, if that is at most `room` bytes.
+/// Runs a machine from one count up to another, and returns what it sends. Returns `Output` if that is more than `room` bytes.
 fn run_in_pieces(
     alloc: Global,
     machine: &mut Machine<'_>,
@@ -90,7 +90,8 @@ fn run_in_pieces(
     Ok(sent)
 }
 
-/// Where a piece of a run ends that begins at a count. A stopped machine does nothing more, and gets there at once.
+/// Returns the count at which the piece of a run that begins at a count ends. For a stopped machine that is `to`, since no step is left
+/// to do.
 fn piece_end(machine: &Machine<'_>, at: u64, to: u64) -> u64
     requires { at < to }
     ensures further { at < result }

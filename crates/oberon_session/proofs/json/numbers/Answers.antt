@@ -4,7 +4,7 @@ use Rattle.serde_json.specs.View.{view}
 use Rattle.serde_json.specs.declared.value.Value.{Value}
 use Rattle.oberon_session.proofs.Shapes.{each-none, each-step}
 use Rattle.oberon_session.specs.Shape.{number_of}
-use Rattle.oberon_session.proofs.walk.numbers.Goals as goal
+use Rattle.oberon_session.proofs.json.numbers.Goals as goal
 
 pub returns-in_err-number : goal.returns-in_err-number
 returns-in_err-number c =

@@ -1,4 +1,4 @@
-//! Looking into a JSON value that has to have a given shape.
+//! Accessors of a JSON value that has to have a given shape. Each returns `Shape` if it does not.
 ghost use Rattle.std.specs.Prelude.{◌≡◌, List, ℕ, length, map};
 ghost use Rattle.serde_json.specs.Data.{Data};
 ghost use Rattle.serde_json.specs.Find.{get};
@@ -10,7 +10,7 @@ use crate::SessionFault;
 use serde_json::Value;
 use std::alloc::Global;
 
-/// The value, an object of `count` members.
+/// Returns the value, if it is an object of `count` members.
 pub fn exactly(value: &Value, count: usize) -> Result<&Value, SessionFault>
     ensures { Gives (λ found. view found.now) (exactly count (view value.now)) result }
 {
@@ -24,27 +24,28 @@ pub fn exactly(value: &Value, count: usize) -> Result<&Value, SessionFault>
     }
 }
 
-/// The member of a name.
+/// Returns the member of a name.
 pub fn member<'a>(value: &'a Value, name: &str) -> Result<&'a Value, SessionFault>
     ensures { Gives (λ found. view found.now) (get name.now (view value.now)) result }
 {
     value.get(name).ok_or(SessionFault::Shape)
 }
 
-/// A whole number below 2^64.
+/// Returns a whole number below 2^64.
 pub fn number(value: &Value) -> Result<u64, SessionFault>
     ensures { Gives (λ n. n) (number_of (view value.now)) result }
 {
     value.as_u64().ok_or(SessionFault::Shape)
 }
 
+/// Returns a string.
 pub fn text(value: &Value) -> Result<&str, SessionFault>
     ensures { Gives (λ found. found.now) (text_of (view value.now)) result }
 {
     value.as_str().ok_or(SessionFault::Shape)
 }
 
-/// The items of an array.
+/// Returns the items of an array.
 pub fn items(value: &Value) -> Result<&[Value], SessionFault>
     ensures { Gives (λ found. map view found.now) (items_of (view value.now)) result }
 {
@@ -54,7 +55,7 @@ pub fn items(value: &Value) -> Result<&[Value], SessionFault>
     }
 }
 
-/// The numbers of an array.
+/// Returns the numbers of an array.
 pub fn numbers(alloc: Global, value: &Value) -> Result<Vec<u64>, SessionFault>
     ensures { Gives (λ found. found.items) (numbers_of (view value.now)) result }
 {

@@ -1,6 +1,6 @@
 use Rattle.std.proofs.Common.{◌≡◌, ◌-◌, ◌≤◌, length}
 use Rattle.risc_model.specs.Replay.{run_of, sent_of}
-use Rattle.oberon_session.proofs.way.run_in_pieces.Given as goal
+use Rattle.oberon_session.proofs.running.run_in_pieces.Given as goal
 
 abbrev pub invariant-loop-at : goal.invariant-loop-at
 invariant-loop-at l = record {

@@ -1,6 +1,6 @@
 use Rattle.std.proofs.Common.{◌∙◌, refl, sym}
 use Rattle.oberon_session.proofs.Shapes.{exactly-held, exactly-other}
-use Rattle.oberon_session.proofs.walk.exactly.Goals as goal
+use Rattle.oberon_session.proofs.json.exactly.Goals as goal
 
 pub returns-then-len-count : goal.returns-then-len-count
 returns-then-len-count c = exactly-held c.args.count _ _ c.in-Some.ensures (sym c.len.ensures.len ∙ c.if-len-count.true)

@@ -4,7 +4,7 @@ use Rattle.risc_pages.specs.Tables.{table_words}
 use Rattle.risc_model.specs.MachineState.{CpuState, State, IsCpuState, cpu_state}
 use Rattle.risc_model.specs.Replay.{run_of, sent_of}
 use Rattle.oberon_session.proofs.StoredPages.{changes}
-use Rattle.oberon_session.proofs.way.reach.Goals as goal
+use Rattle.oberon_session.proofs.running.reach.Goals as goal
 
 pub returns-clause-reached : goal.returns-clause-reached
 returns-clause-reached c =
