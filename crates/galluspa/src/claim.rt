@@ -10,8 +10,20 @@ use oberon_format::{Fault, read};
 use risc_pages::Memory;
 use std::alloc::Global;
 
-/// Writes what checkpoint `at` of a recording claims; or returns the number of a refusal, and writes nothing.
-pub fn claim(alloc: Global, text: &[u8], at: u32, state: &mut RawState, words: &mut [u32]) -> u8
+/// Reads what checkpoint `at` of a recording claims, its state and its words, and returns 0 (`DONE`). Whether the claim is true is
+/// not tested. Checkpoint 0 is the recording's first state.
+///
+/// Otherwise nothing is written, and the result is 1 (`OUT_OF_RANGE`) if `words` is not of 262,144 words, 3 (`OUT_OF_MEMORY`) if
+/// memory ran out, 4 (`NO_RECORDING`) if the bytes are no recording, and 5 (`NO_CHECKPOINT`) if the recording has no such
+/// checkpoint.
+#[unsafe(no_mangle)]
+pub extern "C" fn galluspa_claim(
+    alloc: Global,
+    text: &[u8],
+    at: u32,
+    state: &mut RawState,
+    words: &mut [u32],
+) -> u8
     ensures claim { result ≡ DONE → IsClaim text.now at state.new words.new }
     ensures written { result ≡ DONE → IsWritten state.new words.new }
     ensures unchanged { result ≢ DONE → (state.new ≡ state.old) × (words.new ≡ words.old) }

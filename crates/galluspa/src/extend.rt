@@ -179,9 +179,14 @@ fn put(bytes: &[u8], out: &mut [u8], out_count: &mut usize) -> u8
     DONE
 }
 
-/// Writes the recording that begins with a state to the front of `out`, and its length; or returns the number of a refusal, and
-/// writes nothing but the length that is needed.
-pub fn begin(
+/// Begins a recording: writes the one that has no inputs, and checkpoint 0 alone, which claims this state, to the front of `out`,
+/// and its length to `out_count`; and returns 0 (`DONE`). `count` of the state is 0: a recording counts from its first state.
+///
+/// Otherwise `out` is as it was, and the result is 1 (`OUT_OF_RANGE`) if `words` is not of 262,144 words, `count` is not 0, or a
+/// number of the state is out of its range; 2 (`NO_ROOM`) if `out` has no room for the recording, whose length is then written to
+/// `out_count`; and 3 (`OUT_OF_MEMORY`) if memory ran out.
+#[unsafe(no_mangle)]
+pub extern "C" fn galluspa_begin(
     alloc: Global,
     state: &RawState,
     words: &[u32],
@@ -205,9 +210,17 @@ pub fn begin(
     }
 }
 
-/// Writes the recording with a checkpoint more to the front of `out`, and its length; or returns the number of a refusal, and
-/// writes nothing but the length that is needed.
-pub fn extend(
+/// Extends a recording by its next checkpoint: writes the recording with these inputs and a checkpoint more, which claims this
+/// state and that these bytes were sent since the checkpoint before, to the front of `out`, and its length to `out_count`; and
+/// returns 0 (`DONE`). Whether the claim is true is not tested.
+///
+/// Otherwise `out` is as it was, and the result is 1 (`OUT_OF_RANGE`) if `words` is not of 262,144 words, a number of the state or
+/// of an input is out of its range, the state's count is not above that of the last checkpoint, or an input doesn't come between
+/// the two; 2 (`NO_ROOM`) if `out` has no room for the recording, whose length is then written to `out_count`; 3 (`OUT_OF_MEMORY`)
+/// if memory ran out; 4 (`NO_RECORDING`) if the bytes are no recording; and 6 to 9 (`TOO_MANY_INPUTS`, `TOO_MANY_CHECKPOINTS`,
+/// `TOO_MUCH_OUTPUT`, `TOO_MANY_PAGES`) if the recording would have more of these than a recording may have.
+#[unsafe(no_mangle)]
+pub extern "C" fn galluspa_extend(
     alloc: Global,
     text: &[u8],
     inputs: &[RawInput],

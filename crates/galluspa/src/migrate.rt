@@ -1,13 +1,14 @@
 //! A recording in the version of the format that is written now.
-ghost use Rattle.std.specs.Prelude.{IfOk};
+ghost use Rattle.std.specs.Prelude.{◌≡◌, ◌<◌, ◌≤◌, IfOk, drop, length, take};
 ghost use Rattle.galluspa.specs.Migrate.{IsMigration};
+ghost use Rattle.galluspa.specs.Room.{IsAnswer, NeedsRoom};
 
-use crate::answer::Answer;
+use crate::answer::{Answer, put};
 use oberon_format::{Fault, migrate, refusal};
 use std::alloc::{AllocError, Global};
 
 /// The bytes of the same recording in the version that is written now, or the line of the first rule that the bytes break.
-pub fn answer_to(alloc: Global, text: &[u8]) -> Result<Answer, AllocError>
+fn answer_to(alloc: Global, text: &[u8]) -> Result<Answer, AllocError>
     ensures { IfOk result (λ answer. IsMigration text.now answer.bytes.items answer.status) }
 {
     match migrate(alloc, text) {
@@ -17,5 +18,28 @@ pub fn answer_to(alloc: Global, text: &[u8]) -> Result<Answer, AllocError>
             let bytes = refusal(alloc, &fault)?;
             Ok(Answer { bytes, status: 2 })
         }
+    }
+}
+
+/// Migrates a recording: writes it, in the version of the format that is written now, to the front of `out`, and status 0; or
+/// the line of the first rule that the bytes break, and status 2. The recording isn't replayed.
+///
+/// Returns the length of what is written, as `galluspa_check` does.
+#[unsafe(no_mangle)]
+pub extern "C" fn galluspa_migrate(
+    alloc: Global,
+    text: &[u8],
+    out: &mut [u8],
+    status: &mut u8,
+) -> usize
+    ensures migrated { 0 < result → result ≤ length out.old → IsMigration text.now (take result out.new) status.new }
+    ensures rest { drop result out.new ≡ drop result out.old }
+    ensures needed { length out.old < result → NeedsRoom (IsAnswer (IsMigration text.now)) (length out.old) result }
+    ensures no_room { length out.old < result → (out.new ≡ out.old) × (status.new ≡ status.old) }
+    ensures no_memory { result ≡ 0 → (out.new ≡ out.old) × (status.new ≡ status.old) }
+{
+    match answer_to(alloc, text) {
+        Ok(answer) => put(&answer, out, status),
+        Err(_) => 0,
     }
 }

@@ -1,14 +1,15 @@
 //! The recording of a session's text.
-ghost use Rattle.std.specs.Prelude.{IfOk};
+ghost use Rattle.std.specs.Prelude.{◌≡◌, ◌<◌, ◌≤◌, IfOk, drop, length, take};
 ghost use Rattle.galluspa.specs.Record.{IsRecord, IsRecordOf, IsRefusal};
+ghost use Rattle.galluspa.specs.Room.{IsAnswer, NeedsRoom};
 
-use crate::answer::Answer;
+use crate::answer::{Answer, put};
 use oberon_format::write;
 use oberon_session::{Session, make_recording, read_session};
 use std::alloc::{AllocError, Global};
 
 /// The recording of the session that the bytes say, or the line of the refusal.
-pub fn answer_to(alloc: Global, text: &[u8]) -> Result<Answer, AllocError>
+fn answer_to(alloc: Global, text: &[u8]) -> Result<Answer, AllocError>
     ensures { IfOk result (λ answer. IsRecord text.now answer.bytes.items answer.status) }
 {
     match read_session(alloc, text) {
@@ -44,5 +45,28 @@ fn refused(alloc: Global, what: &str, number: Option<u8>, name: &str) -> Result<
             })
         }
         None => Err(AllocError),
+    }
+}
+
+/// Records a session: writes its recording to the front of `out`, and status 0; or the line of the refusal, and status 2. The
+/// bytes and the status are those of the command `record`.
+///
+/// Returns the length of what is written, as `galluspa_check` does.
+#[unsafe(no_mangle)]
+pub extern "C" fn galluspa_record(
+    alloc: Global,
+    session: &[u8],
+    out: &mut [u8],
+    status: &mut u8,
+) -> usize
+    ensures recording { 0 < result → result ≤ length out.old → IsRecord session.now (take result out.new) status.new }
+    ensures rest { drop result out.new ≡ drop result out.old }
+    ensures needed { length out.old < result → NeedsRoom (IsAnswer (IsRecord session.now)) (length out.old) result }
+    ensures no_room { length out.old < result → (out.new ≡ out.old) × (status.new ≡ status.old) }
+    ensures no_memory { result ≡ 0 → (out.new ≡ out.old) × (status.new ≡ status.old) }
+{
+    match answer_to(alloc, session) {
+        Ok(answer) => put(&answer, out, status),
+        Err(_) => 0,
     }
 }

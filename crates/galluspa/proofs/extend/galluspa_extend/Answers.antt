@@ -1,5 +1,5 @@
 use Rattle.std.proofs.Common.{rules}
-use Rattle.galluspa.proofs.extend.extend.Goals as goal
+use Rattle.galluspa.proofs.extend.galluspa_extend.Goals as goal
 
 pub returns-in-Err-Pages-clause-output : goal.returns-in-Err-Pages-clause-output
 returns-in-Err-Pages-clause-output c = search rules

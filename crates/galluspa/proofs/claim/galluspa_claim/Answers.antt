@@ -1,6 +1,6 @@
 use Rattle.std.proofs.Common.{arith, rules}
 use Rattle.std.proofs.lemmas.Grind.{common_steps}
-use Rattle.galluspa.proofs.claim.claim.Goals as goal
+use Rattle.galluspa.proofs.claim.galluspa_claim.Goals as goal
 
 pub returns-clause-claim : goal.returns-clause-claim
 returns-clause-claim c = grind (arith, common_steps)
