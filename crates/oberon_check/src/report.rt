@@ -9,7 +9,7 @@ ghost use Rattle.oberon_format.specs.declared.fault.Fault.{Fault};
 
 use crate::check::{CheckFault, check_recording};
 use crate::gate::Gate;
-use crate::verdict::{Verdict, line, status};
+use crate::verdict::Verdict;
 use oberon_format::{Fault, read, refusal};
 use std::alloc::Global;
 use std::sync::Wait;
@@ -56,8 +56,8 @@ fn answered(alloc: Global, verdict: &Verdict) -> Result<Report, CheckFault>
     ensures status { IfOk result (λ report. report.status ≡ status_of verdict.now) }
 {
     Ok(Report {
-        line: line(alloc, verdict)?,
-        status: status(verdict),
+        line: verdict.line(alloc)?,
+        status: verdict.status(),
     })
 }
 

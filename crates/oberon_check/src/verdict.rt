@@ -1,6 +1,4 @@
 //! The verdict on a recording, its line and its exit status. `collector` makes it from segment verdicts.
-ghost use Rattle.std.specs.Prelude.{◌≡◌, IfOk};
-ghost use Rattle.oberon_check.specs.Line.{line_of, status_of};
 
 use crate::part::Part;
 use std::alloc::{AllocError, Global};
@@ -26,29 +24,34 @@ pub enum Verdict {
     },
 }
 
-/// Returns the verdict line, ended by a line feed.
-pub(crate) fn line(alloc: Global, verdict: &Verdict) -> Result<Vec<u8>, AllocError>
-    ensures { IfOk result (λ bytes. bytes.items ≡ line_of verdict.now) }
-{
-    let text = match verdict {
-        Verdict::Accepted { checkpoints, steps } => {
-            format!(in alloc; "accepted {checkpoints} checkpoints {steps} steps\n")?
-        }
-        Verdict::FalseAt {
-            checkpoint,
-            count,
-            part,
-        } => format!(in alloc; "false checkpoint {checkpoint} at {count} part {part}\n")?,
-    };
-    Ok(text.into_bytes())
-}
+impl Verdict {
+    ghost use Rattle.std.specs.Prelude.{◌≡◌, IfOk};
+    ghost use Rattle.oberon_check.specs.Line.{line_of, status_of};
 
-/// Returns the exit status of a verdict: 0 accepted, 1 false.
-pub(crate) fn status(verdict: &Verdict) -> u8
-    ensures { result ≡ status_of verdict.now }
-{
-    match verdict {
-        Verdict::Accepted { .. } => 0,
-        Verdict::FalseAt { .. } => 1,
+    /// Returns the verdict line, ended by a line feed.
+    pub fn line(&self, alloc: Global) -> Result<Vec<u8>, AllocError>
+        ensures { IfOk result (λ bytes. bytes.items ≡ line_of self.now) }
+    {
+        let text = match self {
+            Verdict::Accepted { checkpoints, steps } => {
+                format!(in alloc; "accepted {checkpoints} checkpoints {steps} steps\n")?
+            }
+            Verdict::FalseAt {
+                checkpoint,
+                count,
+                part,
+            } => format!(in alloc; "false checkpoint {checkpoint} at {count} part {part}\n")?,
+        };
+        Ok(text.into_bytes())
+    }
+
+    /// Returns the exit status of the verdict: 0 accepted, 1 false.
+    pub fn status(&self) -> u8
+        ensures { result ≡ status_of self.now }
+    {
+        match self {
+            Verdict::Accepted { .. } => 0,
+            Verdict::FalseAt { .. } => 1,
+        }
     }
 }

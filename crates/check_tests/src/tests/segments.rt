@@ -130,3 +130,17 @@ fn collect_nothing_of_a_recording_without_pages(rt: HostRuntime) -> Result<(), F
     assert!(rt; same, "another verdict");
     Ok(())
 }
+
+/// Reports whether a verdict has this line and this status.
+fn is_shown(alloc: Global, verdict: &Verdict, line: &[u8], status: u8) -> Result<bool, AllocError> {
+    let written = verdict.line(alloc)?;
+    Ok(written.as_slice() == line && verdict.status() == status)
+}
+
+#[test]
+fn line_of_a_verdict(rt: HostRuntime) -> Result<(), Fail> {
+    let line = b"accepted 0 checkpoints 0 steps\n";
+    let same = is_shown(rt.alloc(), &NOTHING, line, 0)?;
+    assert!(rt; same, "another line or status");
+    Ok(())
+}

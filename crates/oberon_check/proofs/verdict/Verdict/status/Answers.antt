@@ -1,5 +1,5 @@
 use Rattle.std.proofs.Common.{rules}
-use Rattle.oberon_check.proofs.verdict.status.Goals as goal
+use Rattle.oberon_check.proofs.verdict.Verdict.status.Goals as goal
 
 pub returns-in-Accepted : goal.returns-in-Accepted
 returns-in-Accepted c = search rules
