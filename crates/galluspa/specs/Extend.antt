@@ -1,4 +1,4 @@
--- A recording that a caller makes while a machine runs: how it begins, and its next checkpoint.
+-- A recording that a caller makes while a machine runs: the beginning, and the next checkpoint.
 use Rattle.std.specs.Prelude.{ℕ, ◌≡◌, ◌⊎◌, List}
 use Rattle.oberon_format.specs.Defined.{Outcome}
 use Rattle.oberon_format.specs.Recording.{RecordingParts}
@@ -27,7 +27,7 @@ pub record IsBeginning (state : RawState) (words text : List ℕ) : Type 0 where
 
 -- ---- the next checkpoint
 
--- what the checkpoint claims: a state, and the bytes sent since the checkpoint before
+-- what the checkpoint claims: a state, and the bytes sent since the previous checkpoint
 abbrev pub claim_of : RawState → List ℕ → List ℕ → Outcome
 claim_of state words sent = record { state = state_of state words; sent = sent }
 
@@ -53,7 +53,7 @@ pub record IsOutOfPlace (text : List ℕ) (inputs : List RawInput) (state : RawS
 abbrev pub DoesNotFollow : List ℕ → List RawInput → RawState → List ℕ → Type 0
 DoesNotFollow text inputs state words = ¬ (IsWhole state words) ⊎ (AreNoEvents inputs ⊎ IsOutOfPlace text inputs state)
 
--- the second bytes are the recording that the first are, with these inputs and a checkpoint more, which claims this
+-- the second bytes are the recording of the first, with these inputs and one more checkpoint, which claims this
 pub record IsExtension (text : List ℕ) (inputs : List RawInput) (state : RawState) (words sent new_text : List ℕ) : Type 0 where
   pub old : RecordingParts
   pub is_text : Text text old

@@ -1,5 +1,5 @@
--- What joins the calls of a caller into one run, with the law of `risc_model` that a run goes on from a run (`RunLaw`), and what
--- makes the recordings of such a run true.
+-- The laws that join the calls of a caller into one run, with the law of `risc_model` that a run continues a run (`RunLaw`), and that make
+-- the recordings of such a run true.
 use Rattle.std.specs.Prelude.{ℕ, ◌≡◌, ◌+◌, ◌<◌, ◌≤◌, List, ◌++◌, length}
 use Rattle.std.specs.List.{All}
 use Rattle.risc_model.specs.declared.event.Event.{Event}
@@ -49,8 +49,8 @@ pub record IsTrueUpTo (text : List ℕ) (state : RawState) (words : List ℕ) : 
   pub claims : (claimed recording (last_of recording)).state ≡ state_of state words
   pub past : All (λ e. e.count < state.count) recording.inputs
 
--- the recording that begins with a state is true up to it; one that is extended by what a run gives is true up to the state that
--- the run comes to; and a check accepts each such recording
+-- the recording that begins with a state is true up to it; one that is extended by the result of a run is true up to the state in which
+-- the run ends; and a check accepts each such recording
 abbrev pub RecordLaw : Type 0
 RecordLaw =
     ((state : RawState) (words text : List ℕ) → IsBeginning state words text → IsTrueUpTo text state words)

@@ -1,4 +1,4 @@
--- What a caller in C gets. Read it in this order:
+-- The definitions of the contracts for C, in reading order.
 pub mod Raw
 pub mod Room
 pub mod Advance

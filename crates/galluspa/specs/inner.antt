@@ -1,3 +1,3 @@
--- What private functions say of themselves. No public contract and no law names anything of it, so none of it has to be believed.
+-- Definitions for contracts of private functions. No public contract and no law uses them, so nobody has to believe them.
 pub mod Extending
 pub mod Replaying

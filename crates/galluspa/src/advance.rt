@@ -13,7 +13,7 @@ use risc_machine::Machine;
 use risc_model::{Event, Inputs};
 use std::alloc::Global;
 
-/// The event of an input at a count, if its kind and its value are in their ranges.
+/// Returns the event of an input at a count, if its kind and its value are in their ranges.
 fn event_at(count: u64, kind: u32, value: u32) -> Option<Event>
     ensures event { IfSome result (λ event. raw_input event ≡ record { count = count; kind = kind; value = value }) }
     ensures range { IfNone result (¬ (IsInput kind value)) }
@@ -27,7 +27,7 @@ fn event_at(count: u64, kind: u32, value: u32) -> Option<Event>
     }
 }
 
-/// The events of inputs whose kinds and values are in their ranges.
+/// Returns the events of inputs whose kinds and values are in their ranges.
 fn events_of(alloc: Global, inputs: &[RawInput]) -> Result<Vec<Event>, Refusal>
     ensures events { IfOk result (λ events. map raw_input events.items ≡ inputs.now) }
     ensures refusal { IfErr result (λ refusal. refusal ≢ Refusal.Room) }
@@ -43,7 +43,7 @@ fn events_of(alloc: Global, inputs: &[RawInput]) -> Result<Vec<Event>, Refusal>
     Ok(events)
 }
 
-/// The inputs of a caller, if each is in its range and their counts are in order.
+/// Returns the inputs of a caller, if each is in its range and their counts are in order.
 pub fn inputs_of(alloc: Global, inputs: &[RawInput]) -> Result<Inputs, Refusal>
     ensures events { IfOk result (λ events. AreEvents inputs.now events) }
     ensures refusal { IfErr result (λ refusal. refusal ≢ Refusal.Room) }

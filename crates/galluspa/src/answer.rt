@@ -1,4 +1,4 @@
-//! An answer of bytes with its status, and how it gets into a caller's memory.
+//! An answer of bytes with its status, and how it is written to the memory of a caller.
 ghost use Rattle.std.specs.Prelude.{◌≡◌, ◌<◌, ◌≤◌, drop, length, take, vec_len};
 
 use crate::front::copy_to_front;

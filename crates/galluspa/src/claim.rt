@@ -1,4 +1,4 @@
-//! What a checkpoint of a recording claims, in the memory of a caller.
+//! What a checkpoint of a recording claims, written to the memory of a caller.
 ghost use Rattle.std.specs.Prelude.{◌≡◌, ◌≢◌, ◌≤◌, length};
 ghost use Rattle.galluspa.specs.Claim.{HasNoCheckpoint, IsClaim, IsNoRecording};
 ghost use Rattle.galluspa.specs.Raw.{IsWritten};
@@ -11,7 +11,7 @@ use risc_pages::Memory;
 use std::alloc::Global;
 
 /// Reads what checkpoint `at` of a recording claims, its state and its words, and returns 0 (`DONE`). Whether the claim is true is
-/// not tested. Checkpoint 0 is the recording's first state.
+/// not tested. Checkpoint 0 is the initial state.
 ///
 /// Otherwise nothing is written, and the result is 1 (`OUT_OF_RANGE`) if `words` is not of 262,144 words, 3 (`OUT_OF_MEMORY`) if
 /// memory ran out, 4 (`NO_RECORDING`) if the bytes are no recording, and 5 (`NO_CHECKPOINT`) if the recording has no such

@@ -1,4 +1,4 @@
-//! Recordings that a caller makes while a machine runs: how one begins, and its next checkpoint.
+//! Recordings that a caller makes while a machine runs: the beginning, and the next checkpoint.
 ghost use Rattle.std.specs.Prelude.{◌≡◌, ◌≢◌, ◌<◌, ◌≤◌, ◌⊎◌, IfErr, IfNone, IfOk, IfSome, drop, length, take};
 ghost use Rattle.risc_core.specs.declared.branch.TheConstants.{COUNTER_END};
 ghost use Rattle.oberon_session.specs.Extended.{outcome_of};
@@ -41,7 +41,7 @@ pub enum Unrecorded {
     Memory,
 }
 
-/// What a state claims, with its words and the bytes that were sent, if its numbers are in their ranges.
+/// Returns the claim of a state with its words and the bytes that were sent, if its numbers are in their ranges.
 fn claim_of<'a>(state: &RawState, words: &'a [u32], sent: &'a [u8]) -> Option<Claim<'a>>
     ensures count { IfSome result (λ claim. claim.count ≡ state.now.count) }
     ensures outcome { IfSome result (λ claim. outcome_of claim ≡ claim_of state.now words.now sent.now) }
@@ -69,7 +69,7 @@ fn claim_of<'a>(state: &RawState, words: &'a [u32], sent: &'a [u8]) -> Option<Cl
     })
 }
 
-/// The text of the recording that begins with a state.
+/// Returns the bytes of the recording that begins with a state.
 fn beginning(alloc: Global, state: &RawState, words: &[u32]) -> Result<Vec<u8>, Unrecorded>
     ensures beginning { IfOk result (λ bytes. IsBeginning state.now words.now bytes.items) }
     ensures whole { IfOk result (λ _. CanBegin state.now words.now) }
@@ -92,7 +92,7 @@ fn beginning(alloc: Global, state: &RawState, words: &[u32]) -> Result<Vec<u8>, 
     }
 }
 
-/// Why a recording is not extended.
+/// Returns why a recording was not extended.
 fn unextended(fault: ExtendFault) -> Unrecorded
     ensures { result ≡ unextended fault }
 {
@@ -106,7 +106,7 @@ fn unextended(fault: ExtendFault) -> Unrecorded
     }
 }
 
-/// The recording of a text, extended by a claim.
+/// Returns the recording of the bytes, extended by a claim.
 fn extended(
     alloc: Global,
     text: &[u8],
@@ -130,7 +130,7 @@ fn extended(
     }
 }
 
-/// The text of a recording with the inputs and the state that come next.
+/// Returns the bytes of the recording with the inputs and the state that come next.
 fn extension(
     alloc: Global,
     text: &[u8],
@@ -180,7 +180,7 @@ fn put(bytes: &[u8], out: &mut [u8], out_count: &mut usize) -> u8
 }
 
 /// Begins a recording: writes the one that has no inputs, and checkpoint 0 alone, which claims this state, to the front of `out`,
-/// and its length to `out_count`; and returns 0 (`DONE`). `count` of the state is 0: a recording counts from its first state.
+/// and its length to `out_count`; and returns 0 (`DONE`). `count` of the state is 0: a recording counts from its initial state.
 ///
 /// Otherwise `out` is as it was, and the result is 1 (`OUT_OF_RANGE`) if `words` is not of 262,144 words, `count` is not 0, or a
 /// number of the state is out of its range; 2 (`NO_ROOM`) if `out` has no room for the recording, whose length is then written to
@@ -210,8 +210,8 @@ pub extern "C" fn galluspa_begin(
     }
 }
 
-/// Extends a recording by its next checkpoint: writes the recording with these inputs and a checkpoint more, which claims this
-/// state and that these bytes were sent since the checkpoint before, to the front of `out`, and its length to `out_count`; and
+/// Extends a recording by its next checkpoint: writes the recording with these inputs and one more checkpoint, which claims this
+/// state and that these bytes were sent since the previous checkpoint, to the front of `out`, and its length to `out_count`; and
 /// returns 0 (`DONE`). Whether the claim is true is not tested.
 ///
 /// Otherwise `out` is as it was, and the result is 1 (`OUT_OF_RANGE`) if `words` is not of 262,144 words, a number of the state or

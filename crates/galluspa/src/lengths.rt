@@ -1,4 +1,4 @@
-//! How long a verdict line is. These functions do nothing: their contracts state what follows from the types of the numbers.
+//! The length of a verdict line. These functions do nothing: their contracts state what follows from the types of the numbers.
 ghost use Rattle.std.specs.Prelude.{◌≤◌, ◌<◌, length};
 ghost use Rattle.std.specs.Fmt.{decimal};
 ghost use Rattle.oberon_format.specs.Line.{fault_line};

@@ -7,8 +7,8 @@
 //! tested, and one that is out of its range is refused.
 //!
 //! Three laws join the calls. A run needs only the inputs of its own counts (`frame_law`). Calls from count to count are one run
-//! (`join_law`). A recording that is begun, and extended by what `galluspa_advance` gives, claims only what is true, and is
-//! accepted (`record_law`).
+//! (`join_law`). A recording that begins with a state, and is extended by what `galluspa_advance` returns, claims only what is true, and
+//! is accepted (`record_law`).
 #![tactic(auto)]
 
 mod advance;

@@ -1,4 +1,4 @@
-//! A recording in the version of the format that is written now.
+//! A recording in the current version of the format.
 ghost use Rattle.std.specs.Prelude.{◌≡◌, ◌<◌, ◌≤◌, IfOk, drop, length, take};
 ghost use Rattle.galluspa.specs.Migrate.{IsMigration};
 ghost use Rattle.galluspa.specs.Room.{IsAnswer, NeedsRoom};
@@ -7,7 +7,7 @@ use crate::answer::{Answer, put};
 use oberon_format::{Fault, migrate, refusal};
 use std::alloc::{AllocError, Global};
 
-/// The bytes of the same recording in the version that is written now, or the line of the first rule that the bytes break.
+/// Returns the bytes of the same recording in the current version, or the line of the first rule that the bytes break.
 fn answer_to(alloc: Global, text: &[u8]) -> Result<Answer, AllocError>
     ensures { IfOk result (λ answer. IsMigration text.now answer.bytes.items answer.status) }
 {
@@ -21,7 +21,7 @@ fn answer_to(alloc: Global, text: &[u8]) -> Result<Answer, AllocError>
     }
 }
 
-/// Migrates a recording: writes it, in the version of the format that is written now, to the front of `out`, and status 0; or
+/// Migrates a recording: writes it, in the current version of the format, to the front of `out`, and status 0; or
 /// the line of the first rule that the bytes break, and status 2. The recording isn't replayed.
 ///
 /// Returns the length of what is written, as `galluspa_check` does.

@@ -1,4 +1,4 @@
-//! A machine's state and its inputs in the memory of a caller: plain numbers in the layout of C.
+//! The state of a machine and its inputs in the memory of a caller: plain numbers in the layout of C.
 ghost use Rattle.std.specs.Prelude.{◌≡◌, ◌≤◌, ◌<◌, ◌^◌, ◌↔◌, ◌++◌, ◌-◌, ℕ, All, IfSome, IsSome, drop, length, replicate, slice_index};
 ghost use Rattle.risc_core.specs.declared.branch.TheConstants.{COUNTER_END};
 ghost use Rattle.risc_core.specs.Flags.{flags_of};
@@ -29,7 +29,7 @@ pub struct RawState {
     pub stop: u32,
     /// The timer, in milliseconds.
     pub timer: u32,
-    /// Instructions in a millisecond, or 0 for a timer that doesn't count by itself.
+    /// Instructions in a millisecond, or 0 for a timer that only inputs set.
     pub rate: u32,
     /// Instructions of the current millisecond: below `rate`, or 0.
     pub phase: u32,
@@ -59,12 +59,12 @@ pub struct RawInput {
     pub value: u32,
 }
 
-/// Each word is a number of four bytes, as its type says.
+/// States that each word is below 2^32, which its type ensures.
 fn words_fit(words: &[u32])
     ensures { (i : ℕ) → slice_index words.now i < 2 ^ 32 }
 {}
 
-/// The processor of these parts.
+/// Returns the processor of these parts.
 fn cpu_of_parts(r: [u32; 16], h: u32, pc: u32, flags: u32, stop: u8) -> Cpu
     ensures { cpu_state result ≡ record { r = r; h = h; pc = pc; flags = flags_of flags; stop = stop } }
 {
@@ -78,7 +78,7 @@ fn cpu_of_parts(r: [u32; 16], h: u32, pc: u32, flags: u32, stop: u8) -> Cpu
     }
 }
 
-/// The processor of a state, if its numbers are in their ranges.
+/// Returns the processor of a state, if its numbers are in their ranges.
 pub fn cpu_of(state: &RawState) -> Option<Cpu>
     ensures cpu { IfSome result (λ cpu. cpu_state cpu ≡ cpu_of state.now) }
     ensures counter { IfSome result (λ cpu. cpu.pc < COUNTER_END) }
@@ -91,7 +91,7 @@ pub fn cpu_of(state: &RawState) -> Option<Cpu>
     Some(cpu_of_parts(state.r, state.h, state.pc, state.flags, state.stop as u8))
 }
 
-/// The devices of a state, if their numbers are in their ranges.
+/// Returns the devices of a state, if their numbers are in their ranges.
 pub fn devices_of(state: &RawState) -> Option<Devices>
     ensures devices { IfSome result (λ devices. devices ≡ devices_of state.now) }
     ensures range { IsSome result ↔ AreDevices state.now }
@@ -113,7 +113,7 @@ pub fn devices_of(state: &RawState) -> Option<Devices>
     .ok()
 }
 
-/// Key codes, with zeros after them.
+/// Returns key codes, followed by zeros.
 fn sixteen(codes: &[u8]) -> [u8; 16]
     requires { length codes.now ≤ 16 }
     ensures { result ≡ codes.now ++ replicate (16 - length codes.now) 0 }
@@ -123,7 +123,7 @@ fn sixteen(codes: &[u8]) -> [u8; 16]
     keys
 }
 
-/// The state of a processor and devices at a count.
+/// Returns the state of a processor and devices at a count.
 #[tactic(auto, using(risc_core::proofs::FlagsLemmas::flags_back, crate::proofs::RawLemmas::written_devices))]
 pub fn state_of(count: u64, cpu: &Cpu, devices: &Devices) -> RawState
     requires counter { cpu.now.pc < COUNTER_END }

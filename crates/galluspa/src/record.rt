@@ -1,4 +1,4 @@
-//! The recording of a session's text.
+//! The recording of a session file.
 ghost use Rattle.std.specs.Prelude.{◌≡◌, ◌<◌, ◌≤◌, IfOk, drop, length, take};
 ghost use Rattle.galluspa.specs.Record.{IsRecord, IsRecordOf, IsRefusal};
 ghost use Rattle.galluspa.specs.Room.{IsAnswer, NeedsRoom};
@@ -8,7 +8,7 @@ use oberon_format::write;
 use oberon_session::{Session, make_recording, read_session};
 use std::alloc::{AllocError, Global};
 
-/// The recording of the session that the bytes say, or the line of the refusal.
+/// Returns the recording of the session that the bytes encode, or the line of the refusal.
 fn answer_to(alloc: Global, text: &[u8]) -> Result<Answer, AllocError>
     ensures { IfOk result (λ answer. IsRecord text.now answer.bytes.items answer.status) }
 {
@@ -18,7 +18,7 @@ fn answer_to(alloc: Global, text: &[u8]) -> Result<Answer, AllocError>
     }
 }
 
-/// The answer on a session.
+/// Returns the recording of a session, or the line of the refusal.
 #[tactic(auto, using(oberon_check::proofs::Accepting::accepted))]
 fn answer_of(alloc: Global, session: &Session) -> Result<Answer, AllocError>
     ensures { IfOk result (λ answer. IsRecordOf session.now answer.bytes.items answer.status) }
@@ -32,7 +32,7 @@ fn answer_of(alloc: Global, session: &Session) -> Result<Answer, AllocError>
     }
 }
 
-/// The answer on a fault of this number and this name. One without a number means that memory ran out.
+/// Returns the line of a fault of this number and this name. A fault without a number means that memory ran out.
 fn refused(alloc: Global, what: &str, number: Option<u8>, name: &str) -> Result<Answer, AllocError>
     ensures { IfOk result (λ answer. IsRefusal what.now number name.now answer.bytes.items answer.status) }
 {

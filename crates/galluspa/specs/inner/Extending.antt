@@ -1,4 +1,4 @@
--- A recording on the way to its next checkpoint.
+-- A recording while its next checkpoint is added.
 use Rattle.std.specs.Prelude.{ℕ, List, ⊤}
 use Rattle.risc_model.specs.declared.event.Event.{Event}
 use Rattle.oberon_format.specs.Recording.{IsLawful, RecordingParts}
@@ -28,7 +28,7 @@ pub record IsFull (text : List ℕ) (events : List Event) (claim : Claim) (fault
   pub is_text : Text text recording
   pub too_much : IsExtendFault recording events claim.count (outcome_of claim) fault
 
--- what a caller gets
+-- the refusal for a fault of the extension
 abbrev pub unextended : ExtendFault → Unrecorded
 unextended fault.Order = refusal.Range
 unextended fault.Inputs = refusal.Inputs
@@ -47,7 +47,7 @@ IsNoMore text events claim refusal.Output = IsFull text events claim ExtendFault
 IsNoMore text events claim refusal.Pages = IsFull text events claim ExtendFault.Pages
 IsNoMore text events claim refusal.Memory = ⊤
 
--- .. in the words of a caller
+-- the same in terms of the caller's numbers
 abbrev pub IsUnextended : List ℕ → List RawInput → RawState → List ℕ → List ℕ → Unrecorded → Type 0
 IsUnextended text inputs state words sent refusal.Range = ¬ (CanFollow text inputs state words)
 IsUnextended text inputs state words sent refusal.NoRecording = IsNoRecording text
