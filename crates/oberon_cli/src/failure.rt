@@ -2,7 +2,6 @@
 ghost use Rattle.std.specs.Prelude.{◌≡◌};
 ghost use Rattle.oberon_cli.specs.Reply.{failure_line, failure_status};
 
-use crate::reading::ReadFault;
 use std::alloc::AllocError;
 
 /// Why there is no answer.
@@ -44,21 +43,7 @@ impl From<AllocError> for Failure {
 
     ghost from_gives = { λ _ failure. failure ≡ Failure.Memory };
 
-    fn from(_wanting: AllocError) -> Failure {
+    fn from(_error: AllocError) -> Failure {
         Failure::Memory
-    }
-}
-
-impl From<ReadFault> for Failure {
-    ghost use Rattle.std.specs.Prelude.{◌≡◌};
-    ghost use Rattle.oberon_cli.specs.inner.Failures.{failure_by};
-
-    ghost from_gives = { λ fault failure. failure ≡ failure_by fault };
-
-    fn from(fault: ReadFault) -> Failure {
-        match fault {
-            ReadFault::Failed => Failure::Read,
-            ReadFault::Memory => Failure::Memory,
-        }
     }
 }

@@ -11,16 +11,13 @@ mod command;
 mod failure;
 mod migrate;
 mod process;
-mod reading;
 mod record;
-mod refusal;
 mod reply;
 mod screen;
 mod service;
 mod sink;
 mod source;
 mod words;
-mod writing;
 
 pub use failure::Failure;
 pub use process::{fail, process_words, run, texts};

@@ -2,8 +2,7 @@
 ghost use Rattle.std.specs.Prelude.{IfOk};
 ghost use Rattle.oberon_cli.specs.Migrate.{IsMigration};
 
-use crate::refusal::{of_text, refusal_reply};
-use crate::reply::Reply;
+use crate::reply::{Reply, of_text, refusal_reply};
 use std::alloc::{AllocError, Global};
 
 /// Returns the file, in the current version, of the recording of a file. For a file that is refused, returns the line of its

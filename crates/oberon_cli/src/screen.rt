@@ -3,8 +3,7 @@ ghost use Rattle.std.specs.Prelude.{◌≡◌, ◌<◌, length, IfOk};
 ghost use Rattle.risc_devices.specs.Picture.{IsPicture};
 ghost use Rattle.oberon_cli.specs.Screen.{IsScreen, IsScreenOf, display_of, missing_line};
 
-use crate::refusal::{of_text, refusal_reply};
-use crate::reply::Reply;
+use crate::reply::{Reply, of_text, refusal_reply};
 use oberon_format::{Recording, read};
 use risc_devices::picture;
 use risc_pages::Memory;

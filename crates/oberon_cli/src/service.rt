@@ -8,12 +8,10 @@ ghost use Rattle.oberon_cli.specs.Transfer.{TakesAtMost};
 
 use crate::answer::answer;
 use crate::failure::Failure;
-use crate::reading::read_up_to;
 use crate::reply::Reply;
-use crate::sink::{Sink, WriteFault};
-use crate::source::Source;
+use crate::sink::{Sink, WriteFault, write_whole};
+use crate::source::{Source, read_up_to};
 use crate::words::{Refusal, request_in};
-use crate::writing::write_whole;
 use std::alloc::Global;
 use std::sync::Wait;
 use std::thread::Threads;

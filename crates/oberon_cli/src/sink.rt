@@ -1,7 +1,7 @@
-//! Sinks: writers whose contracts say whether a write failed.
+//! Sinks: writers whose contracts say whether a write failed; and writing all bytes to one, by a loop that counts its turns.
 ghost use Rattle.std.specs.Prelude.{◌<◌, ◌≤◌, IfOk, OnErr, OnOk, length, true};
 ghost use Rattle.std.specs.Io.KnownBytes.{Keeps, WriteAppends};
-ghost use Rattle.oberon_cli.specs.Transfer.{Known, Fails, Goes};
+ghost use Rattle.oberon_cli.specs.Transfer.{Known, Fails, GainsPrefix, GainsWhole, Goes};
 
 use std::io::Write;
 
@@ -46,4 +46,21 @@ impl<W: Write> Sink for W {
             Err(_) => Err(WriteFault),
         }
     }
+}
+
+/// Writes all of the bytes, and flushes the writer, in at most one turn more than there are bytes.
+///
+/// The first call that fails ends it; then a prefix of the bytes was written, and nothing else.
+pub fn write_whole<W: Sink>(output: &mut W, text: &[u8]) -> Result<(), WriteFault>
+    ensures whole { OnOk result (GainsWhole text.now (W.known output.old) (W.known output.new)) }
+    ensures prefix { OnErr result (GainsPrefix text.now (W.known output.old) (W.known output.new)) }
+{
+    let mut done = 0;
+    for _turn in 0..text.len() + 1 {
+        if done == text.len() {
+            return output.finish();
+        }
+        done += output.put(&text[done..])?;
+    }
+    Err(WriteFault)
 }

@@ -62,7 +62,7 @@ impl From<AllocError> for Refusal {
 
     ghost from_gives = { λ _ refusal. refusal ≡ Refusal.Memory };
 
-    fn from(_wanting: AllocError) -> Refusal {
+    fn from(_error: AllocError) -> Refusal {
         Refusal::Memory
     }
 }

@@ -1,7 +1,7 @@
 use Rattle.std.proofs.Common.{◌≤◌, length, take}
 use Rattle.std.specs.Io.KnownBytes.{Appends}
 use Rattle.oberon_cli.specs.Transfer.{Goes}
-use Rattle.oberon_cli.proofs.writing.write_whole.Given as goal
+use Rattle.oberon_cli.proofs.sink.write_whole.Given as goal
 
 abbrev pub invariant-loop-turn : goal.invariant-loop-turn
 invariant-loop-turn g l = record {

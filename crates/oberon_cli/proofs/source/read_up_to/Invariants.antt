@@ -1,7 +1,7 @@
 use Rattle.std.proofs.Common.{◌≤◌, length}
 use Rattle.std.specs.Io.KnownBytes.{Consumes}
 use Rattle.oberon_cli.specs.Transfer.{Goes}
-use Rattle.oberon_cli.proofs.reading.read_up_to.Given as goal
+use Rattle.oberon_cli.proofs.source.read_up_to.Given as goal
 
 abbrev pub invariant-loop-turn : goal.invariant-loop-turn
 invariant-loop-turn g l = record {

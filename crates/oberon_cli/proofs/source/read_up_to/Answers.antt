@@ -1,6 +1,6 @@
 use Rattle.std.proofs.Common.{◌≡◌, ◌∙◌, ◌-◌, min, length, rules}
 use Rattle.oberon_cli.proofs.TurnLemmas.{fits_limit, lost_within, more_counted, more_taken, more_within}
-use Rattle.oberon_cli.proofs.reading.read_up_to.Goals as goal
+use Rattle.oberon_cli.proofs.source.read_up_to.Goals as goal
 
 pub returns-in_err-read_turn-clause-most : goal.returns-in_err-read_turn-clause-most
 returns-in_err-read_turn-clause-most g c =
@@ -39,3 +39,6 @@ loop-turn-preserved g c =
       taken = more_taken _ _ _ _ got.0 _ got.1 c.loop-turn.invariant.taken got.4;
       goes = c.in_ok-read_turn.ensures.goes ∙ c.loop-turn.invariant.goes;
     }
+
+pub returns-clause-fault : goal.returns-clause-fault
+returns-clause-fault g c = search rules
