@@ -166,7 +166,7 @@ class SlurmTest(RecipesTest):
             ProctrackType=proctrack/linuxproc\nTaskPlugin=task/none
             CommunicationParameters=NoInAddrAny,NoCtldInAddrAny\nSelectType=select/cons_tres\nSelectTypeParameters=CR_CPU
             SchedulerType=sched/builtin\nSchedulerParameters=batch_sched_delay=0,sched_interval=1,sched_min_interval=0
-            MinJobAge=2\nNodeName={host} NodeAddr=127.0.0.1 CPUs={os.cpu_count()} State=UNKNOWN
+            NodeName={host} NodeAddr=127.0.0.1 CPUs={os.cpu_count()} State=UNKNOWN
             PartitionName=main Nodes=ALL Default=YES State=UP\n""".replace("            ", ""))
         for name in ("state", "spool"):
             (it / name).mkdir()
