@@ -1,3 +1,4 @@
+use Rattle.std.proofs.Common.{rules}
 use Rattle.std.proofs.lemmas.Result.{err_from_is_err_and}
 use Rattle.oberon_format.proofs.One.{same_recording}
 use Rattle.galluspa.proofs.ExtendLemmas.{can-follow, is-extension, unextended}
@@ -20,3 +21,6 @@ pub returns-in-Ok-write-clause-follows : goal.returns-in-Ok-write-clause-follows
 returns-in-Ok-write-clause-follows c =
     can-follow c.args.text.now c.args.inputs.now c.in-Ok.inputs c.args.state.now c.args.words.now c.args.sent.now c.in-Some.claim
     c.in-Ok.ensures.events c.in-Some.ensures.count c.in-Some.ensures.outcome c.in_ok-more.more c.in_ok-more.ensures.more c.in-Some.ensures.whole
+
+pub returns-in-Err-Memory-clause-refused : goal.returns-in-Err-Memory-clause-refused
+returns-in-Err-Memory-clause-refused c = search rules

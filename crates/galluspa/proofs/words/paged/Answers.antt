@@ -1,4 +1,5 @@
 use Rattle.std.proofs.Common.{arith}
+use Rattle.std.proofs.lemmas.Grind.{common_steps}
 use Rattle.galluspa.proofs.WordLemmas.{words_whole}
 use Rattle.galluspa.proofs.words.paged.Goals as goal
 
@@ -6,3 +7,6 @@ pub returns-clause-words : goal.returns-clause-words
 returns-clause-words c =
     let l = c.loop-place in
     words_whole c.args.words.now l.pool l.table c.requires c.len-pages.ensures.pages (omega (arith, l.invariant.pages)) l.invariant.places l.invariant.each (λ k d h. l.invariant.number k d (omega arith))
+
+pub loop-place-preserved : goal.loop-place-preserved
+loop-place-preserved c = grind (arith, common_steps)

@@ -1,0 +1,5 @@
+use Rattle.std.proofs.Common.{rules}
+use Rattle.oberon_format.proofs.reading.checkpoint_of.Goals as goal
+
+pub returns : goal.returns
+returns c = search rules

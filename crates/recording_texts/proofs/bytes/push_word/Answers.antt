@@ -1,0 +1,5 @@
+use Rattle.std.proofs.Common.{rules}
+use Rattle.recording_texts.proofs.bytes.push_word.Goals as goal
+
+pub returns : goal.returns
+returns c = search rules
