@@ -1,16 +1,18 @@
 //! A run of a machine in the memory of a caller.
-ghost use Rattle.std.specs.Prelude.{◌≡◌, ◌≢◌, ◌≤◌, IfErr, IfNone, IfOk, IfSome, OnErr, OnOk, drop, length, map, take};
-ghost use Rattle.galluspa.specs.Advance.{HasRun, IsInRange, SendsMore};
-ghost use Rattle.galluspa.specs.Raw.{AreEvents, AreNoEvents, IsWhole, IsWritten, raw_input};
+ghost use Rattle.std.specs.Prelude.{◌≡◌, ◌≢◌, ◌<◌, ◌≤◌, ◌-◌, IfErr, IfNone, IfOk, IfSome, OnErr, OnOk, drop, length, map, take};
 ghost use Rattle.risc_devices.specs.InputKind.{IsInput};
+ghost use Rattle.risc_model.specs.MachineState.{cpu_state};
+ghost use Rattle.risc_model.specs.Replay.{run_of, sent_of};
+ghost use Rattle.galluspa.specs.Advance.{HasRun, IsInRange, SendsMore};
+ghost use Rattle.galluspa.specs.Raw.{AreEvents, AreNoEvents, IsWhole, IsWritten, cpu_of, devices_of, raw_input, state_of};
 
 use crate::front::copy_to_front;
-use crate::raw::{RawInput, RawState, cpu_of, devices_of, state_of};
+use crate::raw::{RawInput, RawState, parts_of, state_of};
 use crate::refusal::{DONE, NO_ROOM, OUT_OF_MEMORY, OUT_OF_RANGE, Refusal};
-use crate::words::{WORDS, copy_words, paged};
-use risc_devices::Input;
+use crate::words::{copy_words, paged};
+use risc_devices::{Devices, Input};
 use risc_machine::Machine;
-use risc_model::{Event, Inputs};
+use risc_model::{Cpu, Event, Inputs};
 use std::alloc::Global;
 
 /// Returns the event of an input at a count, if its kind and its value are in their ranges.
@@ -55,6 +57,46 @@ pub fn inputs_of(alloc: Global, inputs: &[RawInput]) -> Result<Inputs, Refusal>
     }
 }
 
+/// Runs the machine of a state with its words, whose processor and devices are `parts`, up to a count. Writes the state and the words
+/// after it, and returns the bytes that it sends, of which there are at most `room`. Otherwise nothing is written.
+fn run_parts(
+    alloc: Global,
+    parts: (Cpu, Devices),
+    state: &mut RawState,
+    words: &mut [u32],
+    inputs: &Inputs,
+    to: u64,
+    room: usize,
+) -> Result<Vec<u8>, Refusal>
+    requires cpu { cpu_state parts.0 ≡ cpu_of state.old }
+    requires devices { parts.1 ≡ devices_of state.old }
+    requires whole { IsWhole state.old words.old }
+    requires forward { state.old.count ≤ to }
+    ensures count { OnOk result (state.new.count ≡ to) }
+    ensures state { OnOk result (state_of state.new words.new ≡ run_of inputs.now state.old.count (to - state.old.count) (state_of state.old words.old)) }
+    ensures sent { IfOk result (λ sent. sent.items ≡ sent_of inputs.now state.old.count (to - state.old.count) (state_of state.old words.old)) }
+    ensures room { IfOk result (λ sent. length sent.items ≤ room) }
+    ensures written { OnOk result (IsWritten state.new words.new) }
+    ensures unchanged { OnErr result ((state.new ≡ state.old) × (words.new ≡ words.old)) }
+    ensures no_room { IfErr result (λ refusal.
+        refusal ≡ Refusal.Room → room < length (sent_of inputs.now state.old.count (to - state.old.count) (state_of state.old words.old))) }
+    ensures refusal { IfErr result (λ refusal. refusal ≢ Refusal.Range) }
+{
+    let (cpu, devices) = parts;
+    let (pool, table) = paged(alloc, words)?;
+    let mut machine = Machine::start(alloc, &pool, &table, cpu, devices)?;
+    let mut sent = Vec::new(alloc);
+    let Ok(()) = machine.run(inputs, state.count, to, &mut sent) else {
+        return Err(Refusal::Memory);
+    };
+    if sent.len() > room {
+        return Err(Refusal::Room);
+    }
+    *state = state_of(to, machine.cpu(), machine.devices());
+    copy_words(machine.memory(), words);
+    Ok(sent)
+}
+
 /// Runs a machine up to a count, and returns the bytes that it sends, of which there are at most `room`.
 fn run(
     alloc: Global,
@@ -78,28 +120,14 @@ fn run(
     ensures range { IfErr result (λ refusal.
         refusal ≡ Refusal.Range → ¬ (IsInRange inputs.now to state.old words.old)) }
 {
-    if words.len() != WORDS || to < state.count {
+    if to < state.count {
         return Err(Refusal::Range);
     }
-    let Some(cpu) = cpu_of(state) else {
-        return Err(Refusal::Range);
-    };
-    let Some(devices) = devices_of(state) else {
+    let Some(parts) = parts_of(state, words) else {
         return Err(Refusal::Range);
     };
     let inputs = inputs_of(alloc, inputs)?;
-    let (pool, table) = paged(alloc, words)?;
-    let mut machine = Machine::start(alloc, &pool, &table, cpu, devices)?;
-    let mut sent = Vec::new(alloc);
-    let Ok(()) = machine.run(&inputs, state.count, to, &mut sent) else {
-        return Err(Refusal::Memory);
-    };
-    if sent.len() > room {
-        return Err(Refusal::Room);
-    }
-    *state = state_of(to, machine.cpu(), machine.devices());
-    copy_words(machine.memory(), words);
-    Ok(sent)
+    run_parts(alloc, parts, state, words, &inputs, to, room)
 }
 
 /// Runs a machine from the count of its state up to the count `to`, with the inputs of these counts and perhaps others, and

@@ -11,7 +11,7 @@ ghost use Rattle.galluspa.specs.inner.Extending.{IsMore, IsNoMore, IsUnextended,
 
 use crate::advance::inputs_of;
 use crate::front::copy_to_front;
-use crate::raw::{RawInput, RawState, cpu_of, devices_of};
+use crate::raw::{RawInput, RawState, parts_of};
 use crate::refusal::{
     DONE, NO_RECORDING, NO_ROOM, OUT_OF_MEMORY, OUT_OF_RANGE, Refusal, TOO_MANY_CHECKPOINTS,
     TOO_MANY_INPUTS, TOO_MANY_PAGES, TOO_MUCH_OUTPUT,
@@ -51,13 +51,7 @@ fn claim_of<'a>(state: &RawState, words: &'a [u32], sent: &'a [u8]) -> Option<Cl
     ensures whole { IfSome result (λ _. IsWhole state.now words.now) }
     ensures range { IfNone result (¬ (IsWhole state.now words.now)) }
 {
-    if words.len() != WORDS {
-        return None;
-    }
-    let Some(cpu) = cpu_of(state) else {
-        return None;
-    };
-    let Some(devices) = devices_of(state) else {
+    let Some((cpu, devices)) = parts_of(state, words) else {
         return None;
     };
     Some(Claim {

@@ -1,11 +1,12 @@
 //! The state of a machine and its inputs in the memory of a caller: plain numbers in the layout of C.
-ghost use Rattle.std.specs.Prelude.{◌≡◌, ◌≤◌, ◌<◌, ◌^◌, ◌↔◌, ◌++◌, ◌-◌, ℕ, All, IfSome, IsSome, drop, length, replicate, slice_index};
+ghost use Rattle.std.specs.Prelude.{◌≡◌, ◌≤◌, ◌<◌, ◌^◌, ◌↔◌, ◌++◌, ◌-◌, ℕ, All, IfNone, IfSome, IsSome, drop, length, replicate, slice_index};
 ghost use Rattle.risc_core.specs.declared.branch.TheConstants.{COUNTER_END};
 ghost use Rattle.risc_core.specs.Flags.{flags_of};
 ghost use Rattle.risc_model.specs.MachineState.{cpu_state};
-ghost use Rattle.galluspa.specs.Raw.{AreDevices, IsCpu, cpu_of, devices_of};
+ghost use Rattle.galluspa.specs.Raw.{AreDevices, IsCpu, IsWhole, cpu_of, devices_of};
 
 use crate::front::copy_to_front;
+use crate::words::WORDS;
 use risc_core::COUNTER_END;
 use risc_devices::Devices;
 use risc_model::{Cpu, Flags};
@@ -79,7 +80,7 @@ fn cpu_of_parts(r: [u32; 16], h: u32, pc: u32, flags: u32, stop: u8) -> Cpu
 }
 
 /// Returns the processor of a state, if its numbers are in their ranges.
-pub fn cpu_of(state: &RawState) -> Option<Cpu>
+fn cpu_of(state: &RawState) -> Option<Cpu>
     ensures cpu { IfSome result (λ cpu. cpu_state cpu ≡ cpu_of state.now) }
     ensures counter { IfSome result (λ cpu. cpu.pc < COUNTER_END) }
     ensures stop { IfSome result (λ cpu. cpu.stop ≤ 4) }
@@ -92,7 +93,7 @@ pub fn cpu_of(state: &RawState) -> Option<Cpu>
 }
 
 /// Returns the devices of a state, if their numbers are in their ranges.
-pub fn devices_of(state: &RawState) -> Option<Devices>
+fn devices_of(state: &RawState) -> Option<Devices>
     ensures devices { IfSome result (λ devices. devices ≡ devices_of state.now) }
     ensures range { IsSome result ↔ AreDevices state.now }
 {
@@ -111,6 +112,27 @@ pub fn devices_of(state: &RawState) -> Option<Devices>
         keys,
     )
     .ok()
+}
+
+/// Returns the processor and the devices of a state, if its numbers are in their ranges and it has the words of a memory.
+pub fn parts_of(state: &RawState, words: &[u32]) -> Option<(Cpu, Devices)>
+    ensures cpu { IfSome result (λ parts. cpu_state parts.0 ≡ cpu_of state.now) }
+    ensures devices { IfSome result (λ parts. parts.1 ≡ devices_of state.now) }
+    ensures counter { IfSome result (λ parts. parts.0.pc < COUNTER_END) }
+    ensures stop { IfSome result (λ parts. parts.0.stop ≤ 4) }
+    ensures whole { IfSome result (λ _. IsWhole state.now words.now) }
+    ensures range { IfNone result (¬ (IsWhole state.now words.now)) }
+{
+    if words.len() != WORDS {
+        return None;
+    }
+    let Some(cpu) = cpu_of(state) else {
+        return None;
+    };
+    let Some(devices) = devices_of(state) else {
+        return None;
+    };
+    Some((cpu, devices))
 }
 
 /// Returns key codes, followed by zeros.

@@ -1,4 +1,4 @@
-use Rattle.std.proofs.Common.{arith, rules}
+use Rattle.std.proofs.Common.{arith}
 use Rattle.risc_devices.proofs.InputLemmas.{kind_fits}
 use Rattle.galluspa.proofs.advance.event_at.Goals as goal
 
@@ -9,7 +9,7 @@ returns-then-kind-gt5-clause-range c = λ lawful.
     omega arith
 
 pub returns-in-Ok-clause-event : goal.returns-in-Ok-clause-event
-returns-in-Ok-clause-event c = search rules
+returns-in-Ok-clause-event c = search arith
 
 pub returns-in-Err-clause-range : goal.returns-in-Err-clause-range
-returns-in-Err-clause-range c = search rules
+returns-in-Err-clause-range c = search arith

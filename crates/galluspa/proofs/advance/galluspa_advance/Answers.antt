@@ -1,4 +1,4 @@
-use Rattle.std.proofs.Common.{arith, rules}
+use Rattle.std.proofs.Common.{arith}
 use Rattle.std.proofs.lemmas.Grind.{common_steps}
 use Rattle.galluspa.proofs.advance.galluspa_advance.Goals as goal
 
@@ -6,4 +6,10 @@ pub returns-in-Ok-clause-run : goal.returns-in-Ok-clause-run
 returns-in-Ok-clause-run c = grind (arith, common_steps)
 
 pub returns-in-Err-Room-clause-range : goal.returns-in-Err-Room-clause-range
-returns-in-Err-Room-clause-range c = search rules
+returns-in-Err-Room-clause-range c = search arith
+
+pub returns-in-Err-Range-clause-range : goal.returns-in-Err-Range-clause-range
+returns-in-Err-Range-clause-range c = search arith
+
+pub returns-in-Err-Room-clause-no_room : goal.returns-in-Err-Room-clause-no_room
+returns-in-Err-Room-clause-no_room c = search arith

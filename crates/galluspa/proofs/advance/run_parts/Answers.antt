@@ -1,0 +1,14 @@
+use Rattle.std.proofs.Common.{◌≡◌, ◌-◌, ℕ, List, ap, arith, length}
+use Rattle.risc_model.specs.Replay.{sent_of}
+use Rattle.galluspa.specs.Raw.{state_of}
+use Rattle.galluspa.proofs.advance.run_parts.Goals as goal
+
+pub returns-clause-state : goal.returns-clause-state
+returns-clause-state c = search arith
+
+pub returns-then-len-room-clause-no_room : goal.returns-then-len-room-clause-no_room
+returns-then-len-room-clause-no_room c =
+    let a = c.args in
+    let all : c.run.new.sent.items ≡ sent_of a.inputs.now a.state.now.count (a.to - a.state.now.count) (state_of a.state.now a.words.now) = search arith in
+    let long = ap (λ (bytes : List ℕ). length bytes) all in
+    λ _. omega (arith, c.len.ensures, c.if-len-room.true)
