@@ -1,4 +1,4 @@
-use Rattle.std.proofs.Common.{rules}
+use Rattle.std.proofs.Common.{arith}
 use Rattle.std.proofs.lemmas.Result.{err_from_is_err_and}
 use Rattle.oberon_format.proofs.One.{same_recording}
 use Rattle.galluspa.proofs.ExtendLemmas.{can-follow, is-extension, unextended}
@@ -23,4 +23,7 @@ returns-in-Ok-write-clause-follows c =
     c.in-Ok.ensures.events c.in-Some.ensures.count c.in-Some.ensures.outcome c.in_ok-more.more c.in_ok-more.ensures.more c.in-Some.ensures.whole
 
 pub returns-in-Err-Memory-clause-refused : goal.returns-in-Err-Memory-clause-refused
-returns-in-Err-Memory-clause-refused c = search rules
+returns-in-Err-Memory-clause-refused c = search arith
+
+pub returns-in-Err-Memory-clause-reason : goal.returns-in-Err-Memory-clause-reason
+returns-in-Err-Memory-clause-reason c = search arith

@@ -1,4 +1,4 @@
-use Rattle.std.proofs.Common.{ℕ, ◌<◌, length, inl, refl, subst, rules}
+use Rattle.std.proofs.Common.{ℕ, ◌<◌, length, inl, refl, subst, arith}
 use Rattle.oberon_format.specs.Defined.{IsTrueAt}
 use Rattle.oberon_format.specs.Recording.{RecordingParts}
 use Rattle.oberon_format.specs.Text.{TextIn}
@@ -19,4 +19,4 @@ returns-in_ok-bytes-in-Ok c =
     inl (record { no_fault = made.made; text_is = file; accepted = accepted (recording_of session) text file truth; status_is = refl })
 
 pub returns-in-Err : goal.returns-in-Err
-returns-in-Err c = search rules
+returns-in-Err c = search arith
