@@ -1,4 +1,4 @@
-use Rattle.std.proofs.Common.{sym, ap, ◌∙◌, arith, Bool, cond, rules}
+use Rattle.std.proofs.Common.{sym, ap, ◌∙◌, arith, Bool, cond}
 use Rattle.oberon_claims.specs.Pass.{BookId, PassRecord}
 use Rattle.oberon_claims.proofs.Steps.{may_take}
 use Rattle.oberon_claims.proofs.claims.Claims.claim.Goals as goal
@@ -12,10 +12,10 @@ fetch_add-found-requires c =
     (ap (λ (b : BookId). b.table) same, omega arith, may_take _ _ _ _ (ap (λ (b : BookId). b.jobs) same ∙ sym i.0) unmarked (omega arith))
 
 pub invariant_of-pass : goal.invariant_of-pass
-invariant_of-pass c = search rules
+invariant_of-pass c = search arith
 
 pub invariant_of-pass-else-found-from : goal.invariant_of-pass-else-found-from
-invariant_of-pass-else-found-from c = search rules
+invariant_of-pass-else-found-from c = search arith
 
 pub returns-then-found-from-clause-above : goal.returns-then-found-from-clause-above
-returns-then-found-from-clause-above c = search rules
+returns-then-found-from-clause-above c = search arith

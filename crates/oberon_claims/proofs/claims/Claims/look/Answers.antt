@@ -1,4 +1,4 @@
-use Rattle.std.proofs.Common.{sym, ap, ◌∙◌, arith, rules}
+use Rattle.std.proofs.Common.{sym, ap, ◌∙◌, arith}
 use Rattle.oberon_claims.specs.Pass.{BookId, PassRecord}
 use Rattle.oberon_claims.proofs.Steps.{may_look}
 use Rattle.oberon_claims.proofs.claims.Claims.look.Goals as goal
@@ -11,7 +11,7 @@ load-requires c =
     (ap (λ (b : BookId). b.table) same, omega arith, may_look _ _ _ _ (omega arith))
 
 pub returns-clause-joins : goal.returns-clause-joins
-returns-clause-joins c = search rules
+returns-clause-joins c = search arith
 
 pub returns-clause-none : goal.returns-clause-none
-returns-clause-none c = search rules
+returns-clause-none c = search arith

@@ -1,4 +1,4 @@
-use Rattle.std.proofs.Common.{◌≡◌, ℕ, false, [], ◌∷◌, ◌++◌, replicate, ◌-◌, sym, ap, ◌∙◌, arith, rules}
+use Rattle.std.proofs.Common.{◌≡◌, ℕ, false, [], ◌∷◌, ◌++◌, replicate, ◌-◌, sym, ap, ◌∙◌, arith}
 use Rattle.std.proofs.lemmas.List.{replicate_more}
 use Rattle.atomic_table.specs.Table.{Me}
 use Rattle.atomic_table.specs.Seated.{TableId}
@@ -52,4 +52,4 @@ returns-clause-passes c =
     c.loop-worker.invariant.3 ∙ (λ k. replicate (n k) (fresh_pass record { table = c.in_ok-table.table.shared.table_id; jobs = c.args.jobs; workers = sym workers k }))
 
 pub of_words-requires : goal.of_words-requires
-of_words-requires c = search rules
+of_words-requires c = search arith

@@ -1,4 +1,4 @@
-use Rattle.std.proofs.Common.{sym, ap, ◌∙◌, arith, rules}
+use Rattle.std.proofs.Common.{sym, ap, ◌∙◌, arith}
 use Rattle.oberon_claims.specs.Pass.{BookId, PassRecord}
 use Rattle.oberon_claims.proofs.Steps.{may_tell}
 use Rattle.oberon_claims.proofs.claims.Claims.tell.Goals as goal
@@ -11,4 +11,4 @@ fetch_min-requires c =
     (ap (λ (b : BookId). b.table) same, omega arith, may_tell _ _ _ _ _ (omega (arith, c.from.ensures, c.ranges.segment.fits)) (omega arith))
 
 pub returns : goal.returns
-returns c = search rules
+returns c = search arith

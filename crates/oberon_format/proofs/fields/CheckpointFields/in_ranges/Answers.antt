@@ -1,5 +1,5 @@
-use Rattle.std.proofs.Common.{rules}
+use Rattle.std.proofs.Common.{arith}
 use Rattle.oberon_format.proofs.fields.CheckpointFields.in_ranges.Goals as goal
 
 pub returns-then-self-lt-SERIAL_END : goal.returns-then-self-lt-SERIAL_END
-returns-then-self-lt-SERIAL_END c = search rules
+returns-then-self-lt-SERIAL_END c = search arith
