@@ -1,4 +1,4 @@
-use Rattle.std.proofs.Common.{◌<◌, ◌+◌, ℕ, length, false, sym, ◌∙◌, subst, arith, rules}
+use Rattle.std.proofs.Common.{◌<◌, ◌+◌, ℕ, length, false, sym, ◌∙◌, subst, arith}
 use Rattle.std.proofs.lemmas.List.{length-replicate, length-set}
 use Rattle.oberon_check.specs.Segment.{Finding}
 use Rattle.oberon_check.specs.inner.Tally.{IsTally}
@@ -31,10 +31,10 @@ loop-verdict-preserved c =
     }
 
 pub returns-clause-ok : goal.returns-clause-ok
-returns-clause-ok c = search rules
+returns-clause-ok c = search arith
 
 pub returns-clause-findings : goal.returns-clause-findings
-returns-clause-findings c = search rules
+returns-clause-findings c = search arith
 
 pub returns-clause-double : goal.returns-clause-double
-returns-clause-double c = search rules
+returns-clause-double c = search arith

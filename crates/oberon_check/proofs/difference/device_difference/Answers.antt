@@ -1,24 +1,24 @@
-use Rattle.std.proofs.Common.{arith, rules}
+use Rattle.std.proofs.Common.{arith}
 use Rattle.std.proofs.lemmas.Grind.{common_steps}
 use Rattle.oberon_check.proofs.difference.device_difference.Goals as goal
 
 pub returns-then-timer : goal.returns-then-timer
-returns-then-timer c = search rules
+returns-then-timer c = search arith
 
 pub returns-then-rate : goal.returns-then-rate
-returns-then-rate c = search rules
+returns-then-rate c = search arith
 
 pub returns-then-phase : goal.returns-then-phase
-returns-then-phase c = search rules
+returns-then-phase c = search arith
 
 pub returns-then-switches : goal.returns-then-switches
-returns-then-switches c = search rules
+returns-then-switches c = search arith
 
 pub returns-then-leds : goal.returns-then-leds
-returns-then-leds c = search rules
+returns-then-leds c = search arith
 
 pub returns-then-mouse : goal.returns-then-mouse
-returns-then-mouse c = search rules
+returns-then-mouse c = search arith
 
 pub returns-then-serial : goal.returns-then-serial
 returns-then-serial c = grind (arith, common_steps)

@@ -1,4 +1,4 @@
-use Rattle.std.proofs.Common.{List, subst, rules}
+use Rattle.std.proofs.Common.{List, subst, arith}
 use Rattle.std.specs.Prelude.{All}
 use Rattle.oberon_check.specs.Segment.{Finding, IsTrueFinding}
 use Rattle.oberon_check.proofs.gathering.gather.Goals as goal
@@ -9,4 +9,4 @@ returns-clause-gathered c =
     c.in_ok-verdicts.ensures.gathered c.in-Ok.ensures.lawful findings c.in-Ok.verdict c.in-Ok.ensures.verdict
 
 pub returns-clause-verdict : goal.returns-clause-verdict
-returns-clause-verdict c = search rules
+returns-clause-verdict c = search arith

@@ -1,5 +1,5 @@
-use Rattle.std.proofs.Common.{rules}
+use Rattle.std.proofs.Common.{arith}
 use Rattle.oberon_check.proofs.report.refused.Goals as goal
 
 pub returns-clause-line : goal.returns-clause-line
-returns-clause-line c = search rules
+returns-clause-line c = search arith

@@ -1,4 +1,4 @@
-use Rattle.std.proofs.Common.{ap, ◌∙◌, arith, rules}
+use Rattle.std.proofs.Common.{ap, ◌∙◌, arith}
 use Rattle.oberon_claims.specs.Pass.{PassRecord}
 use Rattle.oberon_check.proofs.Tops.{top, top_below, top_more}
 use Rattle.oberon_check.proofs.Runs.{done_more, adds_recordings}
@@ -26,4 +26,4 @@ loop-job-preserved g c =
     }
 
 pub invariant_of-result : goal.invariant_of-result
-invariant_of-result g c = search rules
+invariant_of-result g c = search arith

@@ -1,4 +1,4 @@
-use Rattle.std.proofs.Common.{◌∙◌, ap, arith, length, rules}
+use Rattle.std.proofs.Common.{◌∙◌, ap, arith, length}
 use Rattle.oberon_cli.proofs.DisplayLemmas.{range_length}
 use Rattle.oberon_cli.proofs.screen.claimed_picture.Goals as goal
 
@@ -8,4 +8,4 @@ picture-requires c =
     ∙ range_length c.in_ok-memory.memory.words c.in_ok-words.words.items 237504 24576 c.in_ok-words.ensures (omega (arith, c.in_ok-memory.ensures.memory.words))
 
 pub returns-clause-picture : goal.returns-clause-picture
-returns-clause-picture c = search rules
+returns-clause-picture c = search arith

@@ -1,4 +1,4 @@
-use Rattle.std.proofs.Common.{◌∙◌, arith, rules}
+use Rattle.std.proofs.Common.{◌∙◌, arith}
 use Rattle.std.proofs.lemmas.List.{take_rest}
 use Rattle.std.proofs.KnownBytes.{Appends-trans}
 use Rattle.std.proofs.Math.Seq.{take-add}
@@ -14,4 +14,4 @@ loop-turn-preserved g c = record {
 }
 
 pub returns-clause-prefix : goal.returns-clause-prefix
-returns-clause-prefix g c = search rules
+returns-clause-prefix g c = search arith

@@ -1,10 +1,10 @@
-use Rattle.std.proofs.Common.{◌≡◌, ◌∙◌, ◌-◌, min, length, rules}
+use Rattle.std.proofs.Common.{◌≡◌, ◌∙◌, ◌-◌, min, length, arith}
 use Rattle.oberon_cli.proofs.TurnLemmas.{fits_limit, lost_within, more_counted, more_taken, more_within}
 use Rattle.oberon_cli.proofs.source.read_up_to.Goals as goal
 
 pub returns-in_err-read_turn-clause-most : goal.returns-in_err-read_turn-clause-most
 returns-in_err-read_turn-clause-most g c =
-    let room_is : c.min-room.result ≡ min (c.args.limit - length c.loop-turn.bytes.items) 65536 = search rules in
+    let room_is : c.min-room.result ≡ min (c.args.limit - length c.loop-turn.bytes.items) 65536 = search arith in
     lost_within c.args.limit 65536 c.min-room.result c.loop-turn.chunk c.loop-turn.bytes.items
     (g.R.Source.known c.args.input.now) (g.R.Source.known c.loop-turn.input) (g.R.Source.known c.read_turn.new.input)
     c.loop-turn.invariant.within room_is c.loop-turn.invariant.taken c.in_err-read_turn.ensures.lost
@@ -12,7 +12,7 @@ returns-in_err-read_turn-clause-most g c =
 pub returns-then-branch-clause-read : goal.returns-then-branch-clause-read
 returns-then-branch-clause-read g c =
     let got = c.in_ok-read_turn.ensures.gained in
-    let room_is : c.min-room.result ≡ min (c.args.limit - length c.loop-turn.bytes.items) 65536 = search rules in
+    let room_is : c.min-room.result ≡ min (c.args.limit - length c.loop-turn.bytes.items) 65536 = search arith in
     let fits = fits_limit c.args.limit _ 65536 c.min-room.result c.loop-turn.chunk got.0 c.loop-turn.invariant.within room_is got.2 in
     record {
       taken = more_taken _ _ _ _ got.0 _ got.1 c.loop-turn.invariant.taken got.4;
@@ -24,14 +24,14 @@ returns-then-branch-clause-read g c =
 pub returns-then-branch-clause-most : goal.returns-then-branch-clause-most
 returns-then-branch-clause-most g c =
     let got = c.in_ok-read_turn.ensures.gained in
-    let room_is : c.min-room.result ≡ min (c.args.limit - length c.loop-turn.bytes.items) 65536 = search rules in
+    let room_is : c.min-room.result ≡ min (c.args.limit - length c.loop-turn.bytes.items) 65536 = search arith in
     let fits = fits_limit c.args.limit _ 65536 c.min-room.result c.loop-turn.chunk got.0 c.loop-turn.invariant.within room_is got.2 in
     (c.read_turn.new.bytes.items, more_within c.args.limit _ got.0 _ got.1 fits, more_taken _ _ _ _ got.0 _ got.1 c.loop-turn.invariant.taken got.4)
 
 pub loop-turn-preserved : goal.loop-turn-preserved
 loop-turn-preserved g c =
     let got = c.in_ok-read_turn.ensures.gained in
-    let room_is : c.min-room.result ≡ min (c.args.limit - length c.loop-turn.bytes.items) 65536 = search rules in
+    let room_is : c.min-room.result ≡ min (c.args.limit - length c.loop-turn.bytes.items) 65536 = search arith in
     let fits = fits_limit c.args.limit _ 65536 c.min-room.result c.loop-turn.chunk got.0 c.loop-turn.invariant.within room_is got.2 in
     record {
       within = more_within c.args.limit _ got.0 _ got.1 fits;
@@ -41,4 +41,4 @@ loop-turn-preserved g c =
     }
 
 pub returns-clause-fault : goal.returns-clause-fault
-returns-clause-fault g c = search rules
+returns-clause-fault g c = search arith

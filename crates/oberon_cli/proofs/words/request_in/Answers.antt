@@ -1,5 +1,5 @@
 use Rattle.std.proofs.lemmas.Grind.{common_steps}
-use Rattle.std.proofs.Common.{◌≡◌, ◌∙◌, ◌<◌, [], List, map, length, sym, ap, option_and_then, arith, rules}
+use Rattle.std.proofs.Common.{◌≡◌, ◌∙◌, ◌<◌, [], List, map, length, sym, ap, option_and_then, arith}
 use Rattle.std.proofs.lemmas.List.{length-map}
 use Rattle.clap.specs.Words.{is_simple, subcommand_rows_of, Text}
 use Rattle.clap.specs.Faults.{is_simple_and_free}
@@ -30,10 +30,10 @@ returns-in-Err-clause-err c =
     rw c.refusal_of.ensures (refused words c.in-Err.error some kinds)
 
 pub returns-in-Err-clause-ok : goal.returns-in-Err-clause-ok
-returns-in-Err-clause-ok c = search rules
+returns-in-Err-clause-ok c = search arith
 
 pub returns-then-is_empty-clause-err : goal.returns-then-is_empty-clause-err
-returns-then-is_empty-clause-err c = search rules
+returns-then-is_empty-clause-err c = search arith
 
 pub returns-then-is_empty-clause-ok : goal.returns-then-is_empty-clause-ok
 returns-then-is_empty-clause-ok c = grind (arith, common_steps)

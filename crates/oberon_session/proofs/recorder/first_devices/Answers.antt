@@ -1,4 +1,4 @@
-use Rattle.std.proofs.Common.{arith, refl, rules}
+use Rattle.std.proofs.Common.{arith, refl}
 use Rattle.std.proofs.lemmas.Bool.{false≢true}
 use Rattle.risc_devices.specs.InputKind.{is_mouse}
 use Rattle.oberon_session.proofs.recorder.first_devices.Goals as goal
@@ -9,4 +9,4 @@ unreachable-requires c =
     false≢true (c.in-Err.ensures.range.1 (record { phase_fits = c.requires; switches_fit = omega arith; mouse_fits = refl; serial_fits = omega arith; keys_fit = omega arith }))
 
 pub returns : goal.returns
-returns c = search rules
+returns c = search arith

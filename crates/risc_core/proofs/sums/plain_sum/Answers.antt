@@ -1,4 +1,4 @@
-use Rattle.std.proofs.Common.{arith, rules}
+use Rattle.std.proofs.Common.{arith}
 use Rattle.std.proofs.lemmas.Grind.{common_steps}
 use Rattle.risc_core.proofs.sums.plain_sum.Goals as goal
 
@@ -6,4 +6,4 @@ pub returns : goal.returns
 returns c = grind (arith, common_steps)
 
 pub overflow_add-signed : goal.overflow_add-signed
-overflow_add-signed c = search rules
+overflow_add-signed c = search arith

@@ -1,5 +1,5 @@
-use Rattle.std.proofs.Common.{rules}
+use Rattle.std.proofs.Common.{arith}
 use Rattle.risc_core.proofs.flags.Flags.number.Goals as goal
 
 pub returns-clause-value : goal.returns-clause-value
-returns-clause-value c = search rules
+returns-clause-value c = search arith
