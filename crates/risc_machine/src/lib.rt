@@ -22,6 +22,7 @@ mod predecode;
 mod processor;
 mod ram;
 mod registers;
+mod row_index;
 mod run_exit;
 mod sink;
 mod slow_step;
