@@ -7,6 +7,7 @@
 mod act;
 mod board;
 mod clocked;
+mod condition;
 mod decode_cache;
 mod decoded_op;
 mod destination;
