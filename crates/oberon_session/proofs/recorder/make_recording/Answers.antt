@@ -39,3 +39,6 @@ returns-clause-truth c =
     (λ (x : RecordingParts). (k : ℕ) → k < length x.checkpoints → IsTrueAt x k)
     (λ x is. truth-of s (stored_view r.stored) cs r.sent c.loop-k.k all c.loop-k.invariant x
     (is ∙ recording-of s (stored_view r.stored) cs r.sent c.loop-k.k all c.loop-k.invariant c.inputs.result.now c.inputs.ensures.inputs)) c.finish.ensures.recording
+
+pub loop-k-init : goal.loop-k-init
+loop-k-init c = search arith
