@@ -1,4 +1,4 @@
-use Rattle.std.proofs.Common.{rules, nat_lt}
+use Rattle.std.proofs.Common.{nat_lt, arith}
 use Rattle.std.proofs.lemmas.List.Sorted.{IsPartitionedBy-ltb, IsPartitionPoint-from_clause}
 use Rattle.risc_model.specs.declared.event.Event.{Event}
 use Rattle.risc_machine.proofs.DueLemmas.{counts-rise, found-next}
@@ -10,4 +10,4 @@ returns c =
     found-next es _ c.args.at c.requires c.partition_point.ensures.bound
     (IsPartitionPoint-from_clause (λ (e : Event). nat_lt e.count c.args.at) es _ c.partition_point.ensures.partitioned
     (IsPartitionedBy-ltb (λ (e : Event). e.count) es c.args.at (counts-rise es c.requires))
-    (λ a r f' k. search rules))
+    (λ a r f' k. search arith))
