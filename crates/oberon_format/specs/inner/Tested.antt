@@ -43,7 +43,7 @@ HasNumbers table number = (p : ℕ) → p < PLACES → slice_index table p ≡ n
 
 -- the result for checkpoint k of version 1, at an offset: its fields if it meets its rules, and else its first fault
 abbrev pub IsWholeTested : List ℕ → ℕ → ℕ → ℕ → Result CheckpointFields Fault → Type 0
-IsWholeTested text k offset sent told = MatchResult told
+IsWholeTested text k offset sent outcome = MatchResult outcome
     (λ fields. (fields ≡ checkpoint_of text offset)
     × (sent + fields.output ≤ MAX_OUTPUT)
     × (first_broken (checkpoint_rules (fields_of text) k) ≡ None))
@@ -51,7 +51,7 @@ IsWholeTested text k offset sent told = MatchResult told
 
 -- the result for checkpoint k of version 2, at an offset, which changes a table into its own
 abbrev pub IsChangedTested : List ℕ → ℕ → ℕ → ℕ → List ℕ → Result CheckpointFields Fault → Type 0
-IsChangedTested text k offset sent table told = MatchResult told
+IsChangedTested text k offset sent table outcome = MatchResult outcome
     (λ fields. (fields ≡ checkpoint_of text offset)
     × (sent + fields.output ≤ MAX_OUTPUT)
     × (start text (suc k) ≤ length text)
@@ -62,7 +62,7 @@ IsChangedTested text k offset sent table told = MatchResult told
 
 -- the result for all checkpoints: where they end and how much they sent if they meet their rules, and else their first fault
 abbrev pub AreTested : List ℕ → Result End Fault → Type 0
-AreTested text told = MatchResult told
+AreTested text outcome = MatchResult outcome
     (λ end. (end.output ≡ output_offset text)
     × (end.output ≤ length text)
     × (end.sent ≡ sent_below (fields_of text) (checkpoints text))
@@ -72,7 +72,7 @@ AreTested text told = MatchResult told
 
 -- the result for a file: the offset of its output if it breaks no rule, and else its first fault
 abbrev pub IsTested : List ℕ → Result ℕ Fault → Type 0
-IsTested text told = MatchResult told
+IsTested text outcome = MatchResult outcome
     (λ output. (first_fault_of text ≡ None) × (output ≡ output_offset text))
     (λ f. first_fault_of text ≡ Some f)
 

@@ -33,16 +33,16 @@ loop-k-preserved c =
     let lt : k < checkpoints text = omega arith in
     let tested : AreTested text k offset c.loop-k.sent fields c.if-is_first.table = elim c.if-is_first.branch [
       | then-is_first w ↦
-          let told = rw (← w.tested-is, c.in-Ok.is) at w.whole_checkpoint-tested.ensures in
+          let facts = rw (← w.tested-is, c.in-Ok.is) at w.whole_checkpoint-tested.ensures in
           let test : (version text == FIRST_VERSION) ≡ true = sym c.is_first_version-is_first.ensures ∙ w.if-is_first.true in
           let is = eqb-true _ _ test in
           let room = whole_room text k c.requires lt is in
           let next = start_next text k in
           let size = size_first (version text) (change_count text (start text k)) is in
-          record { read = told.0; small = told.1; there = omega arith; numbers = λ later. absurd (omega arith); met = told.2 }
+          record { read = facts.0; small = facts.1; there = omega arith; numbers = λ later. absurd (omega arith); met = facts.2 }
       | else-is_first w ↦
-          let told = rw (← w.tested-is, c.in-Ok.is) at w.changed_checkpoint-tested.ensures in
-          record { read = told.0; small = told.1; there = told.2; numbers = λ is. rw w.table-is told.4; met = told.5 }
+          let facts = rw (← w.tested-is, c.in-Ok.is) at w.changed_checkpoint-tested.ensures in
+          record { read = facts.0; small = facts.1; there = facts.2; numbers = λ is. rw w.table-is facts.4; met = facts.5 }
     ] in
     let many : fields.changes ≡ change_count text offset = ap (λ (x : CheckpointFields). x.changes) tested.read in
     let next = offset_next text k offset fields.changes c.checkpoint_len-offset.result at many c.checkpoint_len-offset.ensures in
