@@ -14,8 +14,7 @@ use Rattle.oberon_format.specs.declared.fault.Fault.TheVariants as fault
 event_agrees : (text : List ℕ) (offset : ℕ) (e : Event) → HasBytes text offset (event_bytes e) → event_of text offset ≡ event_fields e
 unfolding event_bytes words_from
 event_agrees text offset e s =
-    let kind = kind_of e.input in
-    let value = value_of e.input in
+    let kind = kind_of e.input in let value = value_of e.input in
     let count = long_read text offset e.count e.range (bytes_left text offset (long_bytes e.count) (words_bytes (kind ∷ value ∷ [])) s) in
     let words = words_read text offset KIND_AT (offset + KIND_AT) 2 (kind ∷ value ∷ []) refl refl
     (All-from_recursion (λ x. x < 2 ^ 32) (kind ∷ value ∷ []) (omega (arith, kind_fits kind value e.input.lawful, value_fits kind value e.input.lawful)))
@@ -33,17 +32,14 @@ pub record HasCommon (text : List ℕ) (p : ℕ) (c : CheckpointParts) : Type 0 
 common_agrees : (text : List ℕ) (p : ℕ) (c : CheckpointParts) → IsWritable c → HasBytes text p (common_bytes c) → HasCommon text p c
 unfolding common_bytes words_from
 common_agrees text p c fits s =
-    let a = long_bytes c.count in
-    let r = words_bytes c.cpu.r in
+    let a = long_bytes c.count in let r = words_bytes c.cpu.r in
     let f = words_bytes (field_words c) in
     let k = key_bytes c.devices in
     let n = words_bytes (length c.sent ∷ []) in
     let s3 = bytes_left text p (a ++ r ++ f ++ k) n s in
     let s2 = bytes_left text p (a ++ r ++ f) k s3 in
     let s1 = bytes_left text p (a ++ r) f s2 in
-    let count = fits.formed.registers in
-    let la = length-long_bytes c.count in
-    let lr = length-words_bytes c.cpu.r in
+    let count = fits.formed.registers in let la = length-long_bytes c.count in let lr = length-words_bytes c.cpu.r in
     let lar = length-append a r in
     let lf : length (a ++ r ++ f) ≡ KEYS_AT = length-append (a ++ r) f ∙ omega (arith, length-words_bytes (field_words c)) in
     let lk : length (a ++ r ++ f ++ k) ≡ SENT_AT = length-append (a ++ r ++ f) k ∙ omega (arith, length-key_bytes c.devices fits.formed.devices.keys) in
@@ -126,9 +122,7 @@ change_agrees : (v : ℕ) (text : List ℕ) (p : ℕ) (before : List ℕ) (c : C
     → (i : ℕ) → i < length (changes before c.table) → change_of text p i ≡ change_in before c.table i
 unfolding change_bytes words_from
 change_agrees v text p before c second fits s i lt =
-    let cs = changes before c.table in
-    let change = change_in before c.table i in
-    let at = change_offset p i in
+    let cs = changes before c.table in let change = change_in before c.table i in let at = change_offset p i in
     let words = words_bytes (later_words before c) in
     let all = bytes_right text (p + RATE_AT) (p + CHANGES_AT) words (flat_map change_bytes cs) (omega (arith, length-words_bytes (later_words before c)))
     (later_is_at v text p before c fits second s) in
@@ -214,8 +208,7 @@ module _ (v : ℕ) (text : List ℕ) (r : RecordingParts) (known : is_version v 
         (later k (omega arith)).count ∙ rw second refl in
         ap (λ (n : ℕ). number_after (change_of text (start text k)) (number_before text k) n p) many
         ∙ after-same (change_of text (start text k)) (change_in before table) (number_before text k) (slice_index before) (length (changes before table)) p
-        (λ i less. changes_agree k i second (omega arith) less) (tables_agree k p second (omega arith) lt)
-        ∙ changes-make before table p lt
+        (λ i less. changes_agree k i second (omega arith) less) (tables_agree k p second (omega arith) lt) ∙ changes-make before table p lt
         ∙ ap (λ (t : List ℕ). slice_index t p) (sym (table_next r.checkpoints k))
 
     -- the page ids of either version
@@ -225,14 +218,11 @@ module _ (v : ℕ) (text : List ℕ) (r : RecordingParts) (known : is_version v 
         elim (version_cases v known) [
           | inl first ↦
               let table = (fit k lt).formed.table in
-              let count = table.count in
-              let at = start text k in
+              let count = table.count in let at = start text k in
               let words = words_read text at TABLE_AT (at + TABLE_AT) PLACES c.table refl (sym count) table.fit
               (table_is_at v text at (table_before r.checkpoints k) c (fit k lt) first (at_start k lt)) in
               let e : at + TABLE_AT + 4 * p ≡ at + (TABLE_AT + 4 * p) = omega arith in
-              number_first text k p (version_is ∙ first)
-              ∙ ap (word_at text) e
-              ∙ sym (word_of text at TABLE_AT PLACES p 0 less)
+              number_first text k p (version_is ∙ first) ∙ ap (word_at text) e ∙ sym (word_of text at TABLE_AT PLACES p 0 less)
               ∙ ap (λ (ws : List ℕ). slice_index ws p) words
           | inr second ↦
               number_second text k p (version_is ∙ second) ∙ tables_agree (suc k) p second (omega arith) less
@@ -243,8 +233,7 @@ module _ (v : ℕ) (text : List ℕ) (r : RecordingParts) (known : is_version v 
     all_changes : (k i : ℕ) → k < length r.checkpoints → i < changes_in v (table_before r.checkpoints k) (checkpoint_at r k)
         → change_of text (start text k) i ≡ change_in (table_before r.checkpoints k) (checkpoint_at r k).table i
     all_changes k i lt less =
-        let before = table_before r.checkpoints k in
-        let c = checkpoint_at r k in
+        let before = table_before r.checkpoints k in let c = checkpoint_at r k in
         elim (version_cases v known) [
           | inl first ↦ let none : changes_in v before c ≡ 0 = rw first refl in absurd (omega arith)
           | inr second ↦ let all : changes_in v before c ≡ length (changes before c.table) = rw second refl in changes_agree k i second lt (omega arith)
@@ -253,8 +242,7 @@ module _ (v : ℕ) (text : List ℕ) (r : RecordingParts) (known : is_version v 
     -- all fields
     fields_agree : length text ≡ start_in v r (length r.checkpoints) + length (output_of r.checkpoints) → SameFields (fields_of text) (fields_in v r)
     fields_agree long =
-        let f = fields_of text in
-        let g = fields_in v r in
+        let f = fields_of text in let g = fields_in v r in
         record {
           first = number 0 (omega arith);
           version = version_is;

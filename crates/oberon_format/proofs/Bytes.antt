@@ -70,11 +70,9 @@ bytes_whole text = record { is = ap (take (length text)) (sym (append-nil text))
 -- two parts that follow each other
 pub bytes_join : (text : List ℕ) (p q : ℕ) (xs ys : List ℕ) → q ≡ p + length xs → HasBytes text p xs → HasBytes text q ys → HasBytes text p (xs ++ ys)
 bytes_join text p q xs ys e a b = record {
-  is = ap (λ (n : ℕ). take n (drop p text)) (length-append xs ys)
-      ∙ take-add (length xs) (length ys) (drop p text)
+  is = ap (λ (n : ℕ). take n (drop p text)) (length-append xs ys) ∙ take-add (length xs) (length ys) (drop p text)
       ∙ ap (λ (l : List ℕ). l ++ take (length ys) (drop (length xs) (drop p text))) a.is
-      ∙ ap (λ (l : List ℕ). xs ++ take (length ys) l) (drop-drop (length xs) p text)
-      ∙ ap (λ (k : ℕ). xs ++ take (length ys) (drop k text)) (sym e)
+      ∙ ap (λ (l : List ℕ). xs ++ take (length ys) l) (drop-drop (length xs) p text) ∙ ap (λ (k : ℕ). xs ++ take (length ys) (drop k text)) (sym e)
       ∙ ap (λ (l : List ℕ). xs ++ l) b.is;
 }
 
@@ -85,24 +83,17 @@ bytes_left text p xs ys s = record {
 
 pub bytes_right : (text : List ℕ) (p q : ℕ) (xs ys : List ℕ) → q ≡ p + length xs → HasBytes text p (xs ++ ys) → HasBytes text q ys
 bytes_right text p q xs ys e s = record {
-  is = ap (λ (k : ℕ). take (length ys) (drop k text)) e
-      ∙ ap (take (length ys)) (sym (drop-drop (length xs) p text))
-      ∙ sym (drop-take (length xs) (length ys) (drop p text))
-      ∙ ap (λ (n : ℕ). drop (length xs) (take n (drop p text))) (sym (length-append xs ys))
-      ∙ ap (drop (length xs)) s.is
-      ∙ drop_at xs ys (length xs) refl;
+  is = ap (λ (k : ℕ). take (length ys) (drop k text)) e ∙ ap (take (length ys)) (sym (drop-drop (length xs) p text))
+      ∙ sym (drop-take (length xs) (length ys) (drop p text)) ∙ ap (λ (n : ℕ). drop (length xs) (take n (drop p text))) (sym (length-append xs ys))
+      ∙ ap (drop (length xs)) s.is ∙ drop_at xs ys (length xs) refl;
 }
 
 -- numbers that are read where they were written
 number_read : (n : ℕ) (text : List ℕ) (p x : ℕ) → x < 256 ^ n → HasBytes text p (bytes_low_first 0 n x) → little_from p n text ≡ x
 number_read n text p x lt s =
-    let bytes = bytes_low_first 0 n x in
-    let len : length bytes ≡ n = length-bytes_low_first 0 n x in
-    ap (λ (k : ℕ). little_from k n text) (sym (add-zero p))
-    ∙ sym (little_from-drop n 0 p text)
-    ∙ sym (little_from-take 0 n n (drop p text) (omega arith))
-    ∙ ap (λ (m : ℕ). little_from 0 n (take m (drop p text))) (sym len)
-    ∙ ap (little_from 0 n) (s.is ∙ sym (append-nil bytes))
+    let bytes = bytes_low_first 0 n x in let len : length bytes ≡ n = length-bytes_low_first 0 n x in
+    ap (λ (k : ℕ). little_from k n text) (sym (add-zero p)) ∙ sym (little_from-drop n 0 p text) ∙ sym (little_from-take 0 n n (drop p text) (omega arith))
+    ∙ ap (λ (m : ℕ). little_from 0 n (take m (drop p text))) (sym len) ∙ ap (little_from 0 n) (s.is ∙ sym (append-nil bytes))
     ∙ little_number-reads_back n x [] lt
 
 pub word_read : (text : List ℕ) (p x : ℕ) → x < 2 ^ 32 → HasBytes text p (word_bytes x) → word_at text p ≡ x
@@ -175,8 +166,7 @@ pub parts_back : {X : Type 0} (f : X → List ℕ) (n : ℕ) (text : List ℕ) (
 parts_back {X} f n text p [] len each = record { is = refl }
 parts_back {X} f n text p (x ∷ xs) len each =
     let first = len 0 x (omega arith) in
-    let at : p + n * 0 ≡ p = omega arith in
-    let e : (i : ℕ) → p + n * suc i ≡ p + n + n * i = λ i. omega arith in
+    let at : p + n * 0 ≡ p = omega arith in let e : (i : ℕ) → p + n * suc i ≡ p + n + n * i = λ i. omega arith in
     bytes_join text p (p + n) (f x) (flat_map f xs) (omega arith) (subst (λ (q : ℕ). HasBytes text q (f x)) at (each 0 x (omega arith)))
     (parts_back f n text (p + n) xs (λ k d lt. len (suc k) d (omega arith)) (λ i d lt. subst (λ (q : ℕ). HasBytes text q (f (get_or xs i d))) (e i) (each (suc i) d (omega arith))))
 
@@ -204,8 +194,7 @@ pub words_read : (text : List ℕ) (offset from p n : ℕ) (xs : List ℕ) → p
     → words_from text offset from n ≡ xs
 words_read text offset from p n xs at count wide s =
     sym (words_made text offset from n xs (sym count) (λ i lt.
-    let e : p + 4 * i ≡ offset + (from + 4 * i) = omega arith in
-    let less : i < length xs = omega arith in
+    let e : p + 4 * i ≡ offset + (from + 4 * i) = omega arith in let less : i < length xs = omega arith in
     sym (ap (word_at text) (sym e) ∙ word_read text (p + 4 * i) (get_or xs i 0) (wide i 0 less) (parts_read word_bytes 4 text p xs (four xs) s i 0 less))))
 
 pub words_back : (text : List ℕ) (offset from p n : ℕ) → p ≡ offset + from → IsBytes text → p + 4 * n ≤ length text → HasBytes text p (words_bytes (words_from text offset from n))

@@ -135,11 +135,9 @@ are_more before table n cs ne are =
           (push_each (λ (j : ℕ) (x : Change). place_floor (member_of cs) j ≤ x.place) cs c are.rises are.floor i lt);
       differs = push_each (λ (i : ℕ) (x : Change). slice_index table x.place ≢ slice_index before x.place) cs c are.differs (λ e. ne (sym e));
       new = push_each (λ (i : ℕ) (x : Change). x.number ≡ slice_index table x.place) cs c are.new refl;
-      makes = λ p lt. ap (λ (m : ℕ). number_after change (slice_index before) m p) long
-          ∙ ⊎_elim (λ (less : p < n).
+      makes = λ p lt. ap (λ (m : ℕ). number_after change (slice_index before) m p) long ∙ ⊎_elim (λ (less : p < n).
           after_other change (slice_index before) (length cs) p (λ e. omega arith)
-          ∙ after-same change (member_of cs) (slice_index before) (slice_index before) (length cs) p (λ i under. sym (old i under)) refl
-          ∙ are.makes p less)
+          ∙ after-same change (member_of cs) (slice_index before) (slice_index before) (length cs) p (λ i under. sym (old i under)) refl ∙ are.makes p less)
           (λ (more : n ≤ p).
           let e : n ≡ p = omega arith in
           after_here change (slice_index before) (length cs) p (at ∙ e) ∙ ap (λ (x : Change). x.number) last ∙ ap (slice_index table) e)
@@ -192,9 +190,7 @@ module _ (before table : List ℕ) (change : ℕ → Change) where
 
   one_more : (n p : ℕ) → Make (suc n) (suc p) → (change n).place ≡ p → AreThese (changes_below p before table) change n → AreThese (changes_below (suc p) before table) change (suc n)
   one_more n p make at are =
-      let cs = changes_below p before table in
-      let c = change_to table p in
-      let count = are.0 in
+      let cs = changes_below p before table in let c = change_to table p in let count = are.0 in
       let number : slice_index table p ≡ (change n).number = make.makes p (omega arith) ∙ after_here change (slice_index before) n p at in
       let differ : slice_index before p ≢ slice_index table p = λ e. make.lawful.differs n (omega arith) (sym number ∙ sym e ∙ ap (slice_index before) (sym at)) in
       let place = sym at in
@@ -210,8 +206,7 @@ module _ (before table : List ℕ) (change : ℕ → Change) where
   made_are (suc p) zero make =
       none_more zero p make (omega arith) (made_are p zero (record { lawful = make.lawful; floor = omega arith; makes = λ q lt. make.makes q (omega arith) }))
   made_are (suc p) (suc n) make =
-      let floor = floor_next change n in
-      let low = make.floor in
+      let floor = floor_next change n in let low = make.floor in
       let rise = make.lawful.rises n (omega arith) in
       ⊎_elim (λ (at : (change n).place ≡ p). one_more n p make at (made_are p n (record {
         lawful = record {

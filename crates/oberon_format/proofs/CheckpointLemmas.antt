@@ -10,7 +10,6 @@ pub fit_at : (r : RecordingParts) (pool : List (List ℕ)) (inputs : List Event)
 fit_at r pool inputs cs k c same lawful lt is =
     let pools : pool ≡ r.pool = ap (λ (x : RecordingParts). x.pool) same in
     let count : length (map checkpoint_parts cs) ≡ length r.checkpoints = ap (λ (x : RecordingParts). length x.checkpoints) same in
-    let len = length-map cs checkpoint_parts in
-    let inside : k < length cs = omega arith in
+    let len = length-map cs checkpoint_parts in let inside : k < length cs = omega arith in
     let fit : IsFit pool (get_or (map checkpoint_parts cs) k no_checkpoint) = lawful.fit k (omega arith) in
     subst (λ (p : List (List ℕ)). IsFit p (checkpoint_parts c)) pools (subst (IsFit pool) (checkpoint_at-is cs k c inside is) fit)

@@ -31,8 +31,7 @@ slice_range-take n text from to within =
       | inl past ↦ let none : to - from ≡ 0 = omega arith in rw none refl
       | inr here ↦
           let split : n ≡ from + (n - from) = omega arith in
-          ap (λ m. take (to - from) (drop from (take m text))) split
-          ∙ ap (take (to - from)) (drop-take from (n - from) text)
+          ap (λ m. take (to - from) (drop from (take m text))) split ∙ ap (take (to - from)) (drop-take from (n - from) text)
           ∙ take-take (to - from) (n - from) (drop from text) (omega arith)
     ]
 
@@ -163,8 +162,7 @@ module _ (n : ℕ) (text : List ℕ) (over : LONGEST_TEXT < n) (within : n ≤ l
       number_here : (p : ℕ) → p < PLACES → page_number_of cut k p ≡ page_number_of text k p
       number_here p inside =
           let own = ap (λ (offset : ℕ). word_at cut (page_number_offset offset p)) below.place ∙ word_at-take n text (page_number_offset (start text k) p) (omega (arith, room)) in
-          let version_here = version-take n text over in
-          let changed = changed_here p inside in
+          let version_here = version-take n text over in let changed = changed_here p inside in
           λ i. if version_here i == FIRST_VERSION then own i else changed i
 
     -- what rules look at in it
@@ -233,12 +231,10 @@ module _ (n : ℕ) (text : List ℕ) (over : LONGEST_TEXT < n) (within : n ≤ l
       checkpoint = λ k less met. here few k less (below_met few k (omega arith) met);
       ends = λ met so_far.
           let below = below_met few (checkpoints text) (omega arith) met in
-          let end = so_far.start in
-          let sent = so_far.sent in
+          let end = so_far.start in let sent = so_far.sent in
           let bounds : (start text (checkpoints text) + sent_below g (checkpoints text)) ≤ LONGEST_TEXT = omega (arith, few.pages, few.events, few.checkpoints, below.near, below.sent) in
           too_long (start cut (checkpoints text) + sent_below f (checkpoints text)) (length cut) (omega (arith, long))
-          ∙ ap₂ (λ (a b : ℕ). Some (fault.Trailing (a + b))) end sent
-          ∙ sym (too_long (whole g) (length text) (omega arith));
+          ∙ ap₂ (λ (a b : ℕ). Some (fault.Trailing (a + b))) end sent ∙ sym (too_long (whole g) (length text) (omega arith));
     };
   }
 

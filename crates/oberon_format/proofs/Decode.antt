@@ -169,8 +169,7 @@ module _ (text : List ℕ) (bytes : AreBytes text) (meets : Meets text) where
     common_back =
         let there = room in
         let len = length-words_from text o REGISTERS_AT 16 in
-        let a = long_bytes c.count in
-        let r = words_bytes c.cpu.r in
+        let a = long_bytes c.count in let r = words_bytes c.cpu.r in
         let f = words_bytes (field_words c) in
         let ks = key_bytes c.devices in
         let n = words_bytes (length c.sent ∷ []) in
@@ -180,9 +179,7 @@ module _ (text : List ℕ) (bytes : AreBytes text) (meets : Meets text) where
         let keys : HasBytes text (o + KEYS_AT) ks = record {
           is = ap (λ (m : ℕ). take m (drop (o + KEYS_AT) text)) many ∙ rw keys_len (keys-are_at text o room few.keys);
         } in
-        let la = length-long_bytes c.count in
-        let lr = length-words_bytes c.cpu.r in
-        let lar = length-append a r in
+        let la = length-long_bytes c.count in let lr = length-words_bytes c.cpu.r in let lar = length-append a r in
         let lf : length (a ++ r ++ f) ≡ KEYS_AT = length-append (a ++ r) f ∙ omega (arith, length-words_bytes (field_words c)) in
         let lk : length (a ++ r ++ f ++ ks) ≡ SENT_AT = length-append (a ++ r ++ f) ks ∙ omega arith in
         let s1 = bytes_join text o (o + REGISTERS_AT) a r (omega arith) (long_back text o each_byte (omega arith)) (words_back text o REGISTERS_AT (o + REGISTERS_AT) 16 refl each_byte (omega arith)) in
@@ -214,9 +211,7 @@ module _ (text : List ℕ) (bytes : AreBytes text) (meets : Meets text) where
     unfolding words_from change_bytes
     changed_back second before has =
         let there = changes_there text k meets lt second in
-        let cs = changes before c.table in
-        let are = changes_are second before has in
-        let len = are.0 in
+        let cs = changes before c.table in let are = changes_are second before has in let len = are.0 in
         let room = common_there text k meets lt in
         let rate = sym (later_second text (o + RATE_AT) second) in
         let phase = sym (later_second text (o + PHASE_AT) second) in
@@ -275,8 +270,7 @@ module _ (text : List ℕ) (bytes : AreBytes text) (meets : Meets text) where
       ap (slice_range text (output_offset text)) none ∙ between_none text (output_offset text)
   outputs (suc n) le =
       let from = output_offset text + output_below text n in
-      let more = output_below_more text n in
-      let next : n + 1 ≡ suc n = omega arith in
+      let more = output_below_more text n in let next : n + 1 ≡ suc n = omega arith in
       let end : output_offset text + output_below text (suc n) ≡ from + word_at text (start text n + SENT_AT) = ap (λ (m : ℕ). output_offset text + output_below text m) (sym next) ∙ omega arith in
       ap (slice_range text (output_offset text)) end
       ∙ output_more text n from (checkpoints_at text n) (decoded text n) meets (omega arith) refl (outputs n (omega arith)) refl
@@ -330,12 +324,8 @@ module _ (text : List ℕ) (bytes : AreBytes text) (meets : Meets text) where
     event_back : (i : ℕ) (d : Event) → i < length inputs → HasBytes text (event_offset text i) (event_bytes (get_or inputs i d))
     unfolding event_bytes words_from
     event_back i d lt =
-        let at = event_offset text i in
-        let e = get_or inputs i d in
-        let is = each_event i d lt in
-        let there = events_there text meets.sized in
-        let kind = is.kind in
-        let value = is.value in
+        let at = event_offset text i in let e = get_or inputs i d in let is = each_event i d lt in
+        let there = events_there text meets.sized in let kind = is.kind in let value = is.value in
         let words : words_from text at KIND_AT 2 ≡ kind_of e.input ∷ value_of e.input ∷ [] = λ j. kind j ∷ value j ∷ [] in
         bytes_join text at (at + KIND_AT) (long_bytes e.count) (words_bytes (kind_of e.input ∷ value_of e.input ∷ [])) (omega (arith, length-long_bytes e.count))
         (subst (λ (x : ℕ). HasBytes text at (long_bytes x)) is.count (long_back text at each_byte (omega arith)))
@@ -344,13 +334,8 @@ module _ (text : List ℕ) (bytes : AreBytes text) (meets : Meets text) where
     are_at : AreAt (version text) text r
     unfolding header_bytes words_from
     are_at =
-        let sized = meets.sized in
-        let header = sized.header in
-        let there = events_there text sized in
-        let magic = meets.magic_is in
-        let last = meets.zero_is in
-        let np = sym pages_len in
-        let ne = sym count in
+        let sized = meets.sized in let header = sized.header in let there = events_there text sized in
+        let magic = meets.magic_is in let last = meets.zero_is in let np = sym pages_len in let ne = sym count in
         let nk = sym (length-checkpoints_at K) in
         let words : words_from text 0 0 6 ≡ header_words (version text) r = λ i. magic i ∷ version text ∷ np i ∷ ne i ∷ nk i ∷ last i ∷ [] in
         record {
@@ -367,8 +352,7 @@ module _ (text : List ℕ) (bytes : AreBytes text) (meets : Meets text) where
 
     pub decoded_is : IsLawful r × Text text r
     decoded_is =
-        let v = version text in
-        let known = meets.sized.known in
+        let v = version text in let known = meets.sized.known in
         let is = parts_encoding v r all_pages all_formed text are_at in
         let all_unclocked : v ≡ FIRST_VERSION → All IsUnclocked r.checkpoints = λ first k d lt.
         subst IsUnclocked (sym (checkpoint_is K k d (inside k lt))) (unclocked k (inside k lt) first) in

@@ -28,8 +28,7 @@ length-key_bytes d few = simp (length-append, length-replicate) (omega arith)
 pub length-common_bytes : (c : CheckpointParts) → IsFormed c → length (common_bytes c) ≡ COMMON_LEN
 unfolding common_bytes
 length-common_bytes c formed =
-    let registers = formed.registers in
-    let few = formed.devices.keys in
+    let registers = formed.registers in let few = formed.devices.keys in
     simp (length-append, length-long_bytes, length-word_bytes, length-words_bytes, length-replicate) (omega arith)
 
 pub length-checkpoint_bytes : (v : ℕ) (before : List ℕ) (c : CheckpointParts) → IsFormed c → length (checkpoint_bytes v before c) ≡ checkpoint_size v (changes_in v before c)
@@ -38,8 +37,7 @@ length-checkpoint_bytes v before c formed = go (v == FIRST_VERSION) where
   go : (b : Bool) → length (common_bytes c ++ cond b (words_bytes c.table) (words_bytes (later_words before c) ++ flat_map change_bytes (changes before c.table)))
       ≡ cond b CHECKPOINT_LEN (CHANGES_AT + CHANGE_LEN * cond b 0 (length (changes before c.table)))
   go true =
-      let front = length-common_bytes c formed in
-      let table = formed.table.count in
+      let front = length-common_bytes c formed in let table = formed.table.count in
       simp (length-append, length-words_bytes) (omega arith)
   go false =
       let front = length-common_bytes c formed in
@@ -149,9 +147,7 @@ module _ (v : ℕ) (r : RecordingParts) (paged : ArePages r.pool) (formed : AreF
       let hp = bytes_join text 0 HEADER_LEN H P (omega (arith, length-header_bytes v r)) are.header p in
       let hpe = bytes_join text 0 (page_offset (length r.pool)) (H ++ P) E (omega (arith, ends.pages)) hp e in
       let all = bytes_join text 0 (start_in v r 0) (H ++ P ++ E) C (omega (arith, ends.events)) hpe c in
-      sym (take-append-drop n text)
-      ∙ ap (λ (m : ℕ). take m text ++ drop n text) ends.checkpoints
-      ∙ ap (λ (l : List ℕ). l ++ drop n text) all.is
+      sym (take-append-drop n text) ∙ ap (λ (m : ℕ). take m text ++ drop n text) ends.checkpoints ∙ ap (λ (l : List ℕ). l ++ drop n text) all.is
       ∙ ap (λ (l : List ℕ). H ++ P ++ E ++ C ++ l) are.output
 
 -- a phase is a number of four bytes, as its rate is

@@ -24,15 +24,13 @@ faults-of-headers : Answers first_fault_of (
     ∷ (header 1 0 0 1 1, Some (fault.Limit 20))
     ∷ (header 1 0 0 1 0, Some (fault.Short 24))
     ∷ (header 2 0 0 1 0, Some (fault.Short 24))
-    ∷ []
-    )
+    ∷ [])
 unfolding rules word_at start each total checkpoint_rules word_bytes
 faults-of-headers = refl
 
 -- in version 1 one checkpoint and nothing else take 4,252 bytes: they are cut, or the checkpoint is at count 1
 faults-of-version-one : Answers (λ body. first_fault_of (header 1 0 0 1 0 ++ body)) (
-    (replicate 4227 0, Some (fault.Short 4251)) ∷ (1 ∷ replicate 4227 0, Some (fault.Checkpoint 24)) ∷ []
-    )
+    (replicate 4227 0, Some (fault.Short 4251)) ∷ (1 ∷ replicate 4227 0, Some (fault.Checkpoint 24)) ∷ [])
 unfolding rules word_at long_at start each total checkpoint_rules word_bytes
 faults-of-version-one = refl
 
@@ -55,8 +53,7 @@ faults-of-changes : Answers (λ words. first_fault_of (with_changes words)) (
     ∷ (0 ∷ 0 ∷ 1 ∷ 0 ∷ [], Some (fault.Short 172))
     ∷ (0 ∷ 0 ∷ 1 ∷ 0 ∷ 0 ∷ [], Some (fault.Page 168))
     ∷ (0 ∷ 0 ∷ 1 ∷ 0 ∷ 1 ∷ [], Some (fault.Page 168))
-    ∷ []
-    )
+    ∷ [])
 unfolding rules word_at long_at start each total checkpoint_rules is_phase input.is_mouse word_bytes
 faults-of-changes = refl
 
@@ -97,8 +94,7 @@ rules-of-changes : Answers (λ (change : ℕ → Change). first_broken (each 2 (
     ∷ (two_of 1024 1 0 0, Some (fault.Page 1192))
     ∷ (two_of 3 2 0 0, Some (fault.Page 1192))
     ∷ (two_of 4 1 0 0, Some (fault.Page 1192))
-    ∷ []
-    )
+    ∷ [])
 unfolding each
 rules-of-changes = refl
 
@@ -114,8 +110,7 @@ changes-between = refl
 
 -- parts without a checkpoint, and with a first one at count 7
 faults-of-parts : Answers (λ checkpoints. fault_of_parts (record { pool = []; inputs = []; checkpoints = checkpoints })) (
-    ([], Some (fault.Limit 16)) ∷ (record no_checkpoint { count = 7; table = replicate 1024 0 } ∷ [], Some (fault.Checkpoint 24)) ∷ []
-    )
+    ([], Some (fault.Limit 16)) ∷ (record no_checkpoint { count = 7; table = replicate 1024 0 } ∷ [], Some (fault.Checkpoint 24)) ∷ [])
 unfolding rules start_in each total checkpoint_rules changes_below zero_numbers is_phase
 faults-of-parts = refl
 
@@ -133,8 +128,7 @@ events : Answers (is_event 5) (
     ∷ (record { count = 4; kind = 1; value = 0 }, false)
     ∷ (record { count = 5; kind = 2; value = 4096 }, false)
     ∷ (record { count = 5; kind = 6; value = 0 }, false)
-    ∷ []
-    )
+    ∷ [])
 unfolding input.is_input
 events = refl
 
@@ -149,8 +143,7 @@ offsets : Answers (λ (x : ℕ). x) (
     ∷ (event_start 1 0 + checkpoint_size 2 3, 1216)
     ∷ (change_offset 1048 1, 1200)
     ∷ (event_start 65536 1000000 + checkpoint_size 2 1024 * 4097 + 1048576, LONGEST_TEXT)
-    ∷ []
-    )
+    ∷ [])
 offsets = refl
 
 -- the bytes of a number, of a count, of the header of a file of version 2 with no page, no event and one checkpoint (it begins with
@@ -160,8 +153,7 @@ bytes : Answers (λ (x : List ℕ). x) (
     ∷ (long_bytes 100, 100 ∷ 0 ∷ 0 ∷ 0 ∷ 0 ∷ 0 ∷ 0 ∷ 0 ∷ [])
     ∷ (header_bytes VERSION (record { pool = []; inputs = []; checkpoints = no_checkpoint ∷ [] }), 0x4F ∷ 0x52 ∷ 0x53 ∷ 0x52 ∷ 2 ∷ 0 ∷ 0 ∷ 0 ∷ 0 ∷ 0 ∷ 0 ∷ 0 ∷ 0 ∷ 0 ∷ 0 ∷ 0 ∷ 1 ∷ 0 ∷ 0 ∷ 0 ∷ 0 ∷ 0 ∷ 0 ∷ 0 ∷ [])
     ∷ (change_bytes (record { place = 0; number = 1 }), 0 ∷ 0 ∷ 0 ∷ 0 ∷ 1 ∷ 0 ∷ 0 ∷ 0 ∷ [])
-    ∷ []
-    )
+    ∷ [])
 unfolding header_bytes word_bytes long_bytes change_bytes
 bytes = refl
 

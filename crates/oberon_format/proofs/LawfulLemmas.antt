@@ -68,10 +68,8 @@ parts_limits v r known =
     let front : List (Rule Fault) = (nat_le HEADER_LEN f.long, fault.Short f.long) ∷ (f.first == MAGIC, fault.Magic MAGIC_AT) ∷ (is_version v, fault.Version VERSION_AT) ∷ [] in
     let limits = limit_rules (length r.pool) (length r.inputs) (length r.checkpoints) in
     let back : List (Rule Fault) = (f.last == 0, fault.Limit LAST_AT) ∷ (nat_le (named_len f) f.long, fault.Short f.long) ∷ [] in
-    met-append front (limits ++ back) (hold_none front (le-leb _ _ long, (refl, (known, tt))))
-    ∙ first_append limits back
-    ∙ ap (option_or (first_broken limits)) (hold_none back (refl, (le-leb _ _ (named_there v r), tt)))
-    ∙ or_none (first_broken limits)
+    met-append front (limits ++ back) (hold_none front (le-leb _ _ long, (refl, (known, tt)))) ∙ first_append limits back
+    ∙ ap (option_or (first_broken limits)) (hold_none back (refl, (le-leb _ _ (named_there v r), tt))) ∙ or_none (first_broken limits)
 
 parts_header : (v : ℕ) (r : RecordingParts) → is_version v ≡ true → IsWithin (fields_in v r) → first_broken (header_rules (fields_in v r)) ≡ None
 parts_header v r known within =
@@ -93,8 +91,7 @@ first_output sent own h = grind (arith, nat_tests)
 
 -- the page ids of a table of version 2 are those before, or those of lawful changes
 changed_numbers : (v : ℕ) (r : RecordingParts) (k p : ℕ) → v ≡ VERSION → ChangedMet (fields_in v r) k → p < PLACES
-    → slice_index (table_before r.checkpoints k) p ≤ length r.pool
-    → slice_index (checkpoint_at r k).table p ≤ length r.pool
+    → slice_index (table_before r.checkpoints k) p ≤ length r.pool → slice_index (checkpoint_at r k).table p ≤ length r.pool
 changed_numbers v r k p later met lt old =
     let before = table_before r.checkpoints k in
     let table = (checkpoint_at r k).table in
@@ -120,9 +117,7 @@ met_lawful : (v : ℕ) (r : RecordingParts) → is_version v ≡ true → ArePag
     → AreMet (fields_in v r) → IsLawful r
 unfolding total
 met_lawful v r known pages ordered formed met =
-    let f = fields_in v r in
-    let n = length r.checkpoints in
-    let within = header_within f met.header in
+    let f = fields_in v r in let n = length r.checkpoints in let within = header_within f met.header in
     let some = within.some in
     let each_met = λ (k : ℕ) (lt : k < n). fields_hold f k (each_holds (checkpoint_rules f) n k lt met.checkpoints) in
     let zero_met = each_met 0 (omega arith) in
@@ -143,8 +138,7 @@ met_lawful v r known pages ordered formed met =
       silent = nil_from_length (checkpoint_at r 0).sent (first_output (sent_below f 0) (length (checkpoint_at r 0).sent) zero_met.output);
       output = omega arith;
       fit = λ k lt.
-          let m = each_met k lt in
-          let own = formed k no_checkpoint lt in
+          let m = each_met k lt in let own = formed k no_checkpoint lt in
           record {
             bounded = bounded_count k (count_before f k) (count_at r k) m.count;
             cpu = record { count = own.registers; registers = own.words; auxiliary = own.auxiliary; counter = m.pc; stops = m.stop };
@@ -166,12 +160,9 @@ event_count (e ∷ es) (suc i) = event_count es i
 
 event_met : (v : ℕ) (r : RecordingParts) (i : ℕ) → AreOrdered r.inputs → i < length r.inputs → first_broken (event_rules (fields_in v r) i) ≡ None
 event_met v r i ordered lt =
-    let f = fields_in v r in
-    let right = ordered i lt in
-    let count = event_count r.inputs i in
+    let f = fields_in v r in let right = ordered i lt in let count = event_count r.inputs i in
     let floor : event_floor f i ≡ before_count r.inputs i = ap (λ (n : ℕ). if i == 0 then 0 else n) (event_count r.inputs (i - 1)) in
-    let d = member r.inputs i lt in
-    let e = get_or r.inputs i d in
+    let d = member r.inputs i lt in let e = get_or r.inputs i d in
     let input : is_input (f.event i).kind (f.event i).value ≡ true = ap (λ x. is_input x.kind x.value) (event_here v r i d lt) ∙ e.input.lawful in
     let low : nat_le (event_floor f i) (f.event i).count ≡ true = le-leb _ _ (omega (arith, right.0)) in
     let high : nat_le (f.event i).count MAX_COUNT ≡ true = le-leb _ _ (omega (arith, right.1)) in
@@ -195,8 +186,7 @@ unfolding total
 output_met v r zero lawful lt = let own = ap (λ (l : List ℕ). length l) lawful.silent in grind (arith, nat_tests)
 output_met v r (suc k) lawful lt =
     let up = total_rises (λ i. ((fields_in v r).checkpoint i).output) (suc (suc k)) (length r.checkpoints) (omega arith) in
-    let all = sent_all v r in
-    let limit = lawful.output in
+    let all = sent_all v r in let limit = lawful.output in
     grind (arith, nat_tests)
 
 -- the page ids of a lawful recording
@@ -222,11 +212,8 @@ change_met v r k i lawful lt less =
 checkpoint_rules_met : (v : ℕ) (r : RecordingParts) (k : ℕ) → is_version v ≡ true → AreFormed r.checkpoints → IsLawful r → k < length r.checkpoints
     → first_broken (checkpoint_rules (fields_in v r) k) ≡ None
 checkpoint_rules_met v r k known formed lawful lt =
-    let f = fields_in v r in
-    let before = table_before r.checkpoints k in
-    let c = checkpoint_at r k in
-    let own = formed k no_checkpoint lt in
-    let fit = lawful.fit k lt in
+    let f = fields_in v r in let before = table_before r.checkpoints k in let c = checkpoint_at r k in
+    let own = formed k no_checkpoint lt in let fit = lawful.fit k lt in
     let ranges = ranges_met v before c own (lt-ltb _ _ fit.cpu.counter) (le-leb _ _ fit.cpu.stops) in
     let test : is_checkpoint k (count_before f k) (sent_below f k) (f.checkpoint k) ≡ true =
     both _ _ (both _ _ (both _ _ (count_met v r k lawful lt) ranges) (keys_met v before c own)) (output_met v r k lawful lt) in
@@ -274,11 +261,9 @@ lawful_faultless v r known lawful = parts_met (fields_in v r) (lawful_met v r kn
 
 -- the first fault of parts in order is that of their checkpoints, if their counts are within limits
 pub parts_rest : (r : RecordingParts) (n : ℕ) (o : Option Fault) → n ≡ length r.checkpoints → AreOrdered r.inputs
-    → first_broken (header_rules (fields_in VERSION r)) ≡ None
-    → first_broken (each n (checkpoint_rules (fields_in VERSION r))) ≡ o → fault_of_parts r ≡ o
+    → first_broken (header_rules (fields_in VERSION r)) ≡ None → first_broken (each n (checkpoint_rules (fields_in VERSION r))) ≡ o → fault_of_parts r ≡ o
 parts_rest r n o len ordered h e =
-    let f = fields_in VERSION r in
-    let events = events_met VERSION r ordered in
+    let f = fields_in VERSION r in let events = events_met VERSION r ordered in
     let checkpoints = ap (λ (m : ℕ). first_broken (each m (checkpoint_rules f))) (sym len) ∙ e in
     let ends = ends_met VERSION r in
     let all : first_broken (rules f) ≡ in_order None None o None = rules_first f ∙ (λ i. in_order (h i) (events i) (checkpoints i) (ends i)) in

@@ -63,8 +63,7 @@ module _ (v : ℕ) (text : List ℕ) (r s : RecordingParts) (known : is_version 
   checkpoint_same : (k : ℕ) → k < length r.checkpoints → checkpoint_at r k ≡ checkpoint_at s k
   checkpoint_same k lt =
       let lt' : k < length s.checkpoints = subst (λ (n : ℕ). k < n) len lt in
-      let c = checkpoint_at r k in
-      let d = checkpoint_at s k in
+      let c = checkpoint_at r k in let d = checkpoint_at s k in
       let fc = (fr.checkpoints k no_checkpoint lt).formed in
       let fd = (fs.checkpoints k no_checkpoint lt').formed in
       let x = common v text r known fr a unclocked k lt in
@@ -80,8 +79,7 @@ module _ (v : ℕ) (text : List ℕ) (r s : RecordingParts) (known : is_version 
       let table = same_lists c.table d.table (fc.table.count ∙ sym fd.table.count) (λ p e less.
       get_or_default c.table p e 0 less ∙ sym (numbers_agree v text r known fr a unclocked k p lt (omega arith)) ∙ numbers_agree v text s known fs b unclocked' k p lt' (omega arith)
       ∙ get_or_default d.table p 0 e (omega (arith, fd.table.count))) in
-      let own = sent k lt in
-      let counts = sym x.count ∙ y.count in
+      let own = sent k lt in let counts = sym x.count ∙ y.count in
       λ i. record {
         count = counts i;
         cpu = record { r = registers i; h = field 0 i; pc = field 1 i; flags = flags i; stop = field 3 i };
@@ -92,8 +90,7 @@ module _ (v : ℕ) (text : List ℕ) (r s : RecordingParts) (known : is_version 
 
   same_event_at : (i : ℕ) (d : Event) → i < length r.inputs → get_or r.inputs i d ≡ get_or s.inputs i d
   same_event_at i d lt =
-      let e = get_or r.inputs i d in
-      let f = get_or s.inputs i d in
+      let e = get_or r.inputs i d in let f = get_or s.inputs i d in
       let fields = sym (event_is v text r known fr a i d lt) ∙ event_is v text s known fs b i d (subst (λ (n : ℕ). i < n) events_len lt) in
       same_event e f (ap (λ x. x.count) fields) (same_input e.input f.input (ap (λ x. x.kind) fields) (ap (λ x. x.value) fields))
 

@@ -13,10 +13,8 @@ zeros-are (x ∷ xs) h =
 -- two parts of a list that follow each other
 pub range-split : (xs : List ℕ) (a b c : ℕ) → a ≤ b → b ≤ c → slice_range xs a c ≡ slice_range xs a b ++ slice_range xs b c
 range-split xs a b c ab bc =
-    let sum : c - a ≡ b - a + (c - b) = omega arith in
-    let from : a + (b - a) ≡ b = omega arith in
-    ap (λ (k : ℕ). take k (drop a xs)) sum
-    ∙ take-add (b - a) (c - b) (drop a xs)
+    let sum : c - a ≡ b - a + (c - b) = omega arith in let from : a + (b - a) ≡ b = omega arith in
+    ap (λ (k : ℕ). take k (drop a xs)) sum ∙ take-add (b - a) (c - b) (drop a xs)
     ∙ ap (λ (ys : List ℕ). take (b - a) (drop a xs) ++ take (c - b) ys) (drop-drop (b - a) a xs ∙ ap (λ (k : ℕ). drop k xs) from)
 
 -- the end of a part of a list
@@ -51,10 +49,8 @@ pub output_more : (text : List ℕ) (k from : ℕ) (cs : List CheckpointParts) (
     → slice_range text (output_offset text) (from + word_at text (start text k + SENT_AT)) ≡ output_of (cs ++ c ∷ [])
 output_more text k from cs c meets lt is so_far sent =
     let n = word_at text (start text k + SENT_AT) in
-    range-split text (output_offset text) from (from + n) (omega arith) (omega arith)
-    ∙ ap (λ (l : List ℕ). l ++ slice_range text from (from + n)) so_far
-    ∙ ap (λ (l : List ℕ). output_of cs ++ l) (sym sent)
-    ∙ sym (output_of_push cs c)
+    range-split text (output_offset text) from (from + n) (omega arith) (omega arith) ∙ ap (λ (l : List ℕ). l ++ slice_range text from (from + n)) so_far
+    ∙ ap (λ (l : List ℕ). output_of cs ++ l) (sym sent) ∙ sym (output_of_push cs c)
 
 -- all output, after every checkpoint is read
 pub output_all : (text : List ℕ) (k from : ℕ) (cs : List CheckpointParts) → Meets text → k ≡ checkpoints text → from ≡ output_offset text + output_below text k

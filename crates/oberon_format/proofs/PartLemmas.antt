@@ -90,8 +90,7 @@ output_total : (cs : List CheckpointParts) → total (λ i. length (get_or cs i 
 unfolding total
 output_total [] = refl
 output_total (c ∷ cs) =
-    total_head (λ i. length (get_or (c ∷ cs) i no_checkpoint).sent) (length cs)
-    ∙ ap (λ (n : ℕ). length c.sent + n) (output_total cs)
+    total_head (λ i. length (get_or (c ∷ cs) i no_checkpoint).sent) (length cs) ∙ ap (λ (n : ℕ). length c.sent + n) (output_total cs)
     ∙ sym (length-append c.sent (output_of cs))
 
 pub sent_all : (v : ℕ) (r : RecordingParts) → sent_below (fields_in v r) (length r.checkpoints) ≡ length (output_of r.checkpoints)

@@ -49,8 +49,7 @@ named_later text is = let test = is_later (version text) is in rw test refl
 -- the events are there
 pub events_there : (text : List ℕ) → IsSized text → event_offset text (events text) ≤ length text
 events_there text sized =
-    let none = start_none text in
-    let long = sized.long in
+    let none = start_none text in let long = sized.long in
     elim (version_cases (version text) sized.known) [
       | inl first ↦ let named = named_first text first in omega arith
       | inr later ↦ let named = named_later text later in omega arith

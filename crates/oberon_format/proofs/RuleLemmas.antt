@@ -165,9 +165,7 @@ each_all rules (suc n) h = met-append (each n rules) (rules n) (each_all rules n
 pub none_meets : (text : List ℕ) → first_fault_of text ≡ None → Meets text
 none_meets text h =
     let are = met_parts (fields_of text) h in
-    let sized = header_sized text are.header in
-    let header = are.header in
-    let ends = are.ends in
+    let sized = header_sized text are.header in let header = are.header in let ends = are.ends in
     record {
       faultless = h;
       magic_is = grind (arith, nat_tests);

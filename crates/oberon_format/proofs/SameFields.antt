@@ -45,8 +45,7 @@ changes_same pages offset n s t a b stands same =
     same_each n (change_rules pages offset s a) (change_rules pages offset t b) (λ i lt.
     let floor : place_floor a i ≡ place_floor b i = floor_same a b i (λ j less. same j (omega arith)) in
     let test : is_change pages (place_floor a i) s (a i) ≡ is_change pages (place_floor b i) t (b i) =
-    ap (λ (m : ℕ). is_change pages m s (a i)) floor
-    ∙ ap (λ (c : Change). is_change pages (place_floor b i) s c) (same i lt)
+    ap (λ (m : ℕ). is_change pages m s (a i)) floor ∙ ap (λ (c : Change). is_change pages (place_floor b i) s c) (same i lt)
     ∙ change_same pages (place_floor b i) s t (b i) (λ p above less. stands p less) in
     ap (λ (holds : Bool). first_broken ((holds, fault.Page (change_offset offset i)) ∷ [])) test)
 
@@ -179,9 +178,7 @@ few_by g met = record { pages = grind (arith, nat_tests); events = grind (arith,
 mixed_rules : (f g : Fields) → SameFields f g → Same (rules (mixed f g)) (rules g)
 unfolding rules
 mixed_rules f g same =
-    let m = mixed f g in
-    let size = size_rules HEADER_LEN f in
-    let size' = size_rules HEADER_LEN g in
+    let m = mixed f g in let size = size_rules HEADER_LEN f in let size' = size_rules HEADER_LEN g in
     let named = size_rules (named_len m) f in
     let named' = size_rules (named_len g) g in
     let numbers = number_rules g in

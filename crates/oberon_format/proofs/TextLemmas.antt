@@ -61,13 +61,11 @@ prior_is text (suc k) p is = prior_more (fields_of text) k p ∙ number_second t
 -- the rules of a checkpoint of version 2, as its fields and its changes are read after the table before
 pub changed_read : (text : List ℕ) (k offset before sent number : ℕ) (c : CheckpointFields) (table : List ℕ) → version text ≡ VERSION → offset ≡ start text k
     → before ≡ count_before (fields_of text) k → sent ≡ sent_below (fields_of text) k → number ≡ pages text → c ≡ checkpoint_of text offset
-    → HasNumbers table (number_before text k)
-    → first_broken (checkpoint_rules (fields_of text) k)
+    → HasNumbers table (number_before text k) → first_broken (checkpoint_rules (fields_of text) k)
     ≡ option_or (first_broken (size_read text (offset + CHANGES_AT))) (option_or (first_broken (field_rules offset k before sent c))
     (option_or (first_broken (size_read text (change_offset offset c.changes))) (first_broken (changes_read text number offset c.changes table))))
 changed_read text k offset before sent number c table is at b s count same has =
-    let at_k = start text k in
-    let n = change_count text at_k in
+    let at_k = start text k in let n = change_count text at_k in
     let read = changes_read text (pages text) at_k n table in
     let fields : List (Rule Fault) = field_rules at_k k (count_before (fields_of text) k) (sent_below (fields_of text) k) (checkpoint_of text at_k) in
     let front = size_read text (at_k + CHANGES_AT) ++ fields in
@@ -88,8 +86,7 @@ pub numbers_next : (text : List ℕ) (k offset count : ℕ) (before after : List
     → HasNumbers after (number_after (change_of text offset) (slice_index before) count) → HasNumbers after (number_before text (suc k))
 unfolding number_before
 numbers_next text k offset count before after at many has made p lt =
-    made p lt
-    ∙ ap (λ (n : ℕ). number_after (change_of text offset) (slice_index before) n p) many
+    made p lt ∙ ap (λ (n : ℕ). number_after (change_of text offset) (slice_index before) n p) many
     ∙ ap (λ (q : ℕ). number_after (change_of text q) (slice_index before) (change_count text q) p) at
     ∙ after-same (change_of text (start text k)) (change_of text (start text k)) (slice_index before) (number_before text k) (change_count text (start text k)) p (λ i less. refl) (has p lt)
 

@@ -13,8 +13,7 @@ change_made change prior_number n table len inside was p lt =
     ∙ get_or-set_same table (change n).place (change n).number 0 (omega arith)
     ∙ sym (after_next change prior_number n p ∙ after_here change prior_number n p here))
     (λ (other : (change n).place ≢ p).
-    get_or-set_other table (change n).place p (change n).number 0 (λ e. other (sym e))
-    ∙ was p lt
+    get_or-set_other table (change n).place p (change n).number 0 (λ e. other (sym e)) ∙ was p lt
     ∙ sym (after_next change prior_number n p ∙ after_other change prior_number n p other))
     (cases_eq (change n).place p)
 
@@ -32,8 +31,7 @@ change_same pages floor s t change same =
 pub change_tested : (pages floor i : ℕ) (prior_number now : ℕ → ℕ) (change : ℕ → Change) (read : Change) → read ≡ change i → floor ≡ place_floor change i
     → ((p : ℕ) → floor ≤ p → p < PLACES → now p ≡ prior_number p) → is_change pages floor now read ≡ is_change pages (place_floor change i) prior_number (change i)
 change_tested pages floor i prior_number now change read same at rest =
-    ap (λ (c : Change). is_change pages floor now c) same
-    ∙ change_same pages floor now prior_number (change i) rest
+    ap (λ (c : Change). is_change pages floor now c) same ∙ change_same pages floor now prior_number (change i) rest
     ∙ ap (λ (n : ℕ). is_change pages n prior_number (change i)) at
 
 -- the slot of a lawful change rises, and is one of the table's
@@ -88,8 +86,7 @@ pub record IsNext (p : ℕ) (before table : List ℕ) : Type 0 where
 
 next_change : (p : ℕ) (before table : List ℕ) → p < PLACES → slice_index before p ≢ slice_index table p → IsNext p before table
 next_change p before table lt ne =
-    let cs = changes_below p before table in
-    let c = change_to table p in
+    let cs = changes_below p before table in let c = change_to table p in
     let first = below_first (suc p) PLACES before table (omega arith) in
     let all : changes before table ≡ (cs ++ c ∷ []) ++ first.0 = first.1 ∙ ap (λ (ds : List Change). ds ++ first.0) (below_more p before table ne) in
     let long = ap (λ (ds : List Change). length ds) all in
@@ -107,8 +104,7 @@ third_left a b false d ha hb hd = rw (ha, hb) refl
 pub number_tested : (pages i : ℕ) (before table : List ℕ) → i < length (changes before table)
     → is_change pages (place_floor (change_in before table) i) (slice_index before) (change_in before table i) ≡ nat_le (change_in before table i).number pages
 number_tested pages i before table lt =
-    let c = change_in before table i in
-    let are = changes-lawful before table in
+    let c = change_in before table i in let are = changes-lawful before table in
     let differs : (c.number == slice_index before c.place) ≡ false = ne_eqb _ _ (are.differs i lt) in
     third_left _ _ (nat_le c.number pages) _ (le-leb _ _ (are.rises i lt)) (lt-ltb _ _ (are.inside i lt)) (ap not differs)
 

@@ -8,9 +8,7 @@ use Rattle.oberon_format.proofs.parts.changes_fault.Goals as goal
 
 pub returns-then-entry-pages : goal.returns-then-entry-pages
 returns-then-entry-pages c =
-    let before = c.args.before.now in
-    let table = c.args.table.now in
-    let p = c.loop-p.p in
+    let before = c.args.before.now in let table = c.args.table.now in let p = c.loop-p.p in
     let m = length (changes_below p before table) in
     let rules = change_rules c.args.pages c.args.offset (slice_index before) (change_in before table) in
     let differ : slice_index before p ≢ slice_index table p = λ e. c.if-entry.true (c.entry.ensures.number ∙ e ∙ sym c.entry-in-loop-p.ensures.number) in
@@ -21,14 +19,10 @@ returns-then-entry-pages c =
 
 pub loop-p-preserved : goal.loop-p-preserved
 loop-p-preserved c =
-    let before = c.args.before.now in
-    let table = c.args.table.now in
-    let p = c.loop-p.p in
+    let before = c.args.before.now in let table = c.args.table.now in let p = c.loop-p.p in
     let m = length (changes_below p before table) in
     let rules = change_rules c.args.pages c.args.offset (slice_index before) (change_in before table) in
-    let old = c.entry.ensures.number in
-    let new = c.entry-in-loop-p.ensures.number in
-    let so_far = c.loop-p.invariant in
+    let old = c.entry.ensures.number in let new = c.entry-in-loop-p.ensures.number in let so_far = c.loop-p.invariant in
     elim c.if-entry.branch [
       | then-entry+else-entry-pages w ↦
           let differ : slice_index before p ≢ slice_index table p = λ e. w.if-entry.true (old ∙ e ∙ sym new) in

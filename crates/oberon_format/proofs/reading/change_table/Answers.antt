@@ -5,8 +5,7 @@ use Rattle.oberon_format.proofs.reading.change_table.Goals as goal
 
 pub loop-i-preserved : goal.loop-i-preserved
 loop-i-preserved c =
-    let text = c.args.text.now in
-    let i = c.loop-i.i in
+    let text = c.args.text.now in let i = c.loop-i.i in
     let inside : (change_of text c.args.offset i).place < PLACES = c.requires.places i (omega (arith, later_second text (c.args.offset + CHANGE_COUNT_AT) c.requires.version)) in
     rw (c.set.ensures, c.of_text-change.ensures) (record {
       len = length-set c.loop-i.table (change_of text c.args.offset i).place (change_of text c.args.offset i).number ∙ c.loop-i.invariant.len;

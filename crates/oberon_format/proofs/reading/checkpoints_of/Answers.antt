@@ -31,14 +31,9 @@ checkpoint_len-requires-clause-changes c =
 
 pub loop-k-preserved : goal.loop-k-preserved
 loop-k-preserved c =
-    let text = c.args.text.now in
-    let k = c.loop-k.k in
-    let lt : k < checkpoints text = omega arith in
-    let at = c.loop-k.invariant.offset_is in
-    let checkpoint = c.in_ok-checkpoint_of.field-0 in
-    let own = rw at at c.u32_at.ensures in
-    let more = output_below_more text k in
-    let items = c.loop-k.list.items in
+    let text = c.args.text.now in let k = c.loop-k.k in let lt : k < checkpoints text = omega arith in
+    let at = c.loop-k.invariant.offset_is in let checkpoint = c.in_ok-checkpoint_of.field-0 in
+    let own = rw at at c.u32_at.ensures in let more = output_below_more text k in let items = c.loop-k.list.items in
     let table = c.advance_table.new.table in
     let made = table_made text table k c.numbers-numbers.ensures.table.count c.advance_table.ensures in
     let part : checkpoint_parts checkpoint ≡ decoded text k = c.in_ok-checkpoint_of.ensures ∙ rw (at, c.loop-k.invariant.from_is, made) in
@@ -49,6 +44,5 @@ loop-k-preserved c =
       from_is = omega arith;
       decoded = map-append checkpoint_parts items (checkpoint ∷ [])
           ∙ ap (λ (l : List CheckpointParts). l ++ checkpoint_parts checkpoint ∷ []) c.loop-k.invariant.decoded
-          ∙ ap (λ (x : CheckpointParts). checkpoints_at text k ++ x ∷ []) part
-          ∙ sym (map-range_with_len_more (decoded text) 0 k k (omega arith));
+          ∙ ap (λ (x : CheckpointParts). checkpoints_at text k ++ x ∷ []) part ∙ sym (map-range_with_len_more (decoded text) 0 k k (omega arith));
     })

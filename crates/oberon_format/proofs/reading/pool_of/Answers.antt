@@ -8,9 +8,7 @@ push-requires c =
 
 pub loop-p-preserved : goal.loop-p-preserved
 loop-p-preserved c =
-    let text = c.args.text.now in
-    let p = c.loop-p.p in
-    c.in_ok-push.ensures.ok
-    ∙ ap (λ (pool : List (List ℕ)). pool ++ c.words_from-words.result ∷ []) c.loop-p.invariant
+    let text = c.args.text.now in let p = c.loop-p.p in
+    c.in_ok-push.ensures.ok ∙ ap (λ (pool : List (List ℕ)). pool ++ c.words_from-words.result ∷ []) c.loop-p.invariant
     ∙ ap (λ (page : List ℕ). pages_at text p ++ page ∷ []) (c.words_from-words.ensures ∙ ap (λ (at : ℕ). words_from text at 0 256) c.page_start.ensures)
     ∙ sym (map-range_with_len_more (page_at text) 0 p p (omega arith))

@@ -7,11 +7,8 @@ use Rattle.oberon_format.proofs.rules.changes_fault.Goals as goal
 
 pub loop-i-preserved : goal.loop-i-preserved
 loop-i-preserved c =
-    let text = c.args.text.now in
-    let i = c.loop-i.i in
-    let change = change_of text c.args.offset in
-    let prior_number = slice_index c.args.table.now in
-    let table = c.loop-i.table in
+    let text = c.args.text.now in let i = c.loop-i.i in let change = change_of text c.args.offset in
+    let prior_number = slice_index c.args.table.now in let table = c.loop-i.table in
     let tested = change_tested c.args.pages c.loop-i.floor i prior_number (slice_index table) change c.of_text-change.result c.of_text-change.ensures c.loop-i.invariant.floor_is c.loop-i.invariant.rest in
     let holds : is_change c.args.pages (place_floor change i) prior_number (change i) ≡ true = sym tested ∙ sym c.is_lawful.ensures ∙ c.if-not-is_lawful.false in
     let low = change_rises c.args.pages (place_floor change i) prior_number (change i) holds in
@@ -29,9 +26,7 @@ loop-i-preserved c =
 
 pub returns-then-not-is_lawful-clause-fault : goal.returns-then-not-is_lawful-clause-fault
 returns-then-not-is_lawful-clause-fault c =
-    let text = c.args.text.now in
-    let i = c.loop-i.i in
-    let change = change_of text c.args.offset in
+    let text = c.args.text.now in let i = c.loop-i.i in let change = change_of text c.args.offset in
     let prior_number = slice_index c.args.table.now in
     let tested = change_tested c.args.pages c.loop-i.floor i prior_number (slice_index c.loop-i.table) change c.of_text-change.result c.of_text-change.ensures c.loop-i.invariant.floor_is c.loop-i.invariant.rest in
     let fails : is_change c.args.pages (place_floor change i) prior_number (change i) ≡ false = sym tested ∙ sym c.is_lawful.ensures ∙ c.if-not-is_lawful.true in

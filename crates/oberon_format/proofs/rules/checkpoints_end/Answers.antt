@@ -6,8 +6,7 @@ use Rattle.oberon_format.proofs.rules.checkpoints_end.Goals as goal
 
 pub returns-in-Err : goal.returns-in-Err
 returns-in-Err c =
-    let text = c.args.text.now in
-    let k = c.loop-k.k in
+    let text = c.args.text.now in let k = c.loop-k.k in
     let rules = checkpoint_rules (fields_of text) in
     let one : first_broken (rules k) ≡ Some c.in-Err.fault = elim c.if-is_first.branch [
       | then-is_first w ↦ rw (← w.tested-is, c.in-Err.is) at w.whole_checkpoint-tested.ensures
@@ -25,11 +24,8 @@ record AreTested (text : List ℕ) (k offset sent : ℕ) (fields : CheckpointFie
 
 pub loop-k-preserved : goal.loop-k-preserved
 loop-k-preserved c =
-    let text = c.args.text.now in
-    let k = c.loop-k.k in
-    let offset = c.loop-k.offset in
-    let at = c.loop-k.invariant.offset_is in
-    let fields = c.in-Ok.fields in
+    let text = c.args.text.now in let k = c.loop-k.k in let offset = c.loop-k.offset in
+    let at = c.loop-k.invariant.offset_is in let fields = c.in-Ok.fields in
     let lt : k < checkpoints text = omega arith in
     let tested : AreTested text k offset c.loop-k.sent fields c.if-is_first.table = elim c.if-is_first.branch [
       | then-is_first w ↦
@@ -51,11 +47,8 @@ loop-k-preserved c =
       offset_is = next;
       room = omega (arith, ap (start text) (add-one k), tested.there);
       before_is = ap (λ (x : CheckpointFields). x.count) tested.read ∙ ap (long_at text) at ∙ sym (count_before_more text k);
-      sent_is =
-          ap (λ (n : ℕ). n + fields.output) c.loop-k.invariant.sent_is
-          ∙ ap (λ (x : CheckpointFields). output_below text k + x.output) tested.read
-          ∙ ap (λ (p : ℕ). output_below text k + word_at text (p + SENT_AT)) at
-          ∙ sym (output_below_more text k);
+      sent_is = ap (λ (n : ℕ). n + fields.output) c.loop-k.invariant.sent_is ∙ ap (λ (x : CheckpointFields). output_below text k + x.output) tested.read
+          ∙ ap (λ (p : ℕ). output_below text k + word_at text (p + SENT_AT)) at ∙ sym (output_below_more text k);
       small = tested.small;
       table = λ is. subst (λ (n : ℕ). HasNumbers c.if-is_first.table (number_before text n)) (sym (add-one k)) (tested.numbers is);
     }

@@ -5,9 +5,7 @@ use Rattle.oberon_format.proofs.rules.page_numbers_fault.Goals as goal
 
 pub returns-then-u32_at-pages : goal.returns-then-u32_at-pages
 returns-then-u32_at-pages c =
-    let text = c.args.text.now in
-    let offset = c.args.offset in
-    let is = c.u32_at.ensures in
+    let text = c.args.text.now in let offset = c.args.offset in let is = c.u32_at.ensures in
     let fails : nat_le (word_at text (page_number_offset offset c.loop-j.j)) c.args.pages ≡ false = lt-leb _ _ (omega arith) in
     let found = each_unmet (λ k. nat_le (word_at text (page_number_offset offset k)) c.args.pages) (λ k. fault.Page (page_number_offset offset k)) c.loop-j.j PLACES c.loop-j-test.true c.loop-j.invariant fails in
     cc

@@ -9,11 +9,8 @@ loop-p-init c = sym (append-nil _)
 
 pub loop-p-preserved : goal.loop-p-preserved
 loop-p-preserved c =
-    let before : List ℕ = c.args.before.now in
-    let table : List ℕ = c.args.table.now in
-    let start : List ℕ = c.args.out.now.items in
-    let p = c.loop-p.p in
-    let here = c.entry.ensures.number in
+    let before : List ℕ = c.args.before.now in let table : List ℕ = c.args.table.now in
+    let start : List ℕ = c.args.out.now.items in let p = c.loop-p.p in let here = c.entry.ensures.number in
     let now = c.entry-in-loop-p.ensures.number in
     elim c.if-entry.branch [
       | then-entry+in_ok-push_change w ↦

@@ -4,8 +4,7 @@ use Rattle.oberon_format.proofs.writing.text_len.Goals as goal
 
 pub loop-k-preserved : goal.loop-k-preserved
 loop-k-preserved c =
-    let r = c.args.r.now in
-    let k = c.loop-k.k in
+    let r = c.args.r.now in let k = c.loop-k.k in
     let before = c.table_before-before.ensures ∙ ap (λ (cs : List CheckpointParts). table_before cs k) c.checkpoints.ensures.checkpoints in
     let count : c.change_count.result ≡ length (changes (table_before r.checkpoints k) (checkpoint_at r k).table) = c.change_count.ensures
     ∙ ap (λ (t : List ℕ). length (changes t c.checkpoint.result.now.table)) before
