@@ -1,5 +1,5 @@
 -- What is written for a list, member by member.
-use Rattle.oberon_format.proofs.Common.{[], ap, arith, Change, change_bytes, changes_below, CheckpointParts, flat_map, flat_map_more, get_or, length, length-append, List, nat_tests, output_of, page_of, slice_index, suc, sym, take, take_more, zero, zero_page, ℕ, ◌++◌, ◌+◌, ◌<◌, ◌∙◌, ◌∷◌, ◌≡◌, ◌≢◌, ◌≤◌}
+use Rattle.oberon_format.proofs.Common.{[], add-one, ap, append_assoc, arith, Change, change_bytes, changes_below, checkpoint_bytes, CheckpointParts, checkpoints_bytes, encoding, event_bytes, flat_map, flat_map_more, get_or, header_bytes, length, length-append, List, nat_tests, no_checkpoint, output_of, page_of, RecordingParts, slice_index, suc, sym, table_before, take, take_more, VERSION, words_bytes, zero, zero_page, ℕ, ◌++◌, ◌+◌, ◌<◌, ◌∙◌, ◌∷◌, ◌≡◌, ◌≢◌, ◌≤◌}
 use Rattle.oberon_format.proofs.Walk.{below_stays, below_grows}
 
 -- the bytes of one member more
@@ -21,6 +21,23 @@ changes_next before table start out more p other so_far now =
     let below = changes_below p before table in
     now ∙ ap (λ (l : List ℕ). l ++ change_bytes here) so_far ∙ flat_map_more change_bytes start below here
     ∙ ap (λ (cs : List Change). start ++ flat_map change_bytes cs) (sym (below_grows p before table other))
+
+-- the bytes of one checkpoint more
+pub checkpoint_next : (cs : List CheckpointParts) (start out more before : List ℕ) (k : ℕ) (c : CheckpointParts) → out ≡ start ++ checkpoints_bytes VERSION cs k
+    → before ≡ table_before cs k → c ≡ get_or cs k no_checkpoint → more ≡ out ++ checkpoint_bytes VERSION before c → more ≡ start ++ checkpoints_bytes VERSION cs (k + 1)
+unfolding checkpoints_bytes
+checkpoint_next cs start out more before k c so_far table here now =
+    now ∙ (λ i. so_far i ++ checkpoint_bytes VERSION (table i) (here i)) ∙ append_assoc start (checkpoints_bytes VERSION cs k) _
+    ∙ ap (λ (n : ℕ). start ++ checkpoints_bytes VERSION cs n) (sym (add-one k))
+
+-- the bytes of all parts
+pub parts_joined : (r : RecordingParts) (a b c d e f : List ℕ) → a ≡ [] → b ≡ a ++ header_bytes VERSION r → c ≡ b ++ flat_map words_bytes r.pool → d ≡ c ++ flat_map event_bytes r.inputs
+    → e ≡ d ++ checkpoints_bytes VERSION r.checkpoints (length r.checkpoints) → f ≡ e ++ output_of r.checkpoints → f ≡ encoding VERSION r
+unfolding encoding
+parts_joined r a b c d e f none header pages inputs checkpoints output =
+    let front = header ∙ ap (λ (l : List ℕ). l ++ header_bytes VERSION r) none in
+    let lists = inputs ∙ ap (λ (l : List ℕ). l ++ flat_map event_bytes r.inputs) (pages ∙ ap (λ (l : List ℕ). l ++ flat_map words_bytes r.pool) front) in
+    output ∙ ap (λ (l : List ℕ). l ++ output_of r.checkpoints) (checkpoints ∙ ap (λ (l : List ℕ). l ++ checkpoints_bytes VERSION r.checkpoints (length r.checkpoints)) lists)
 
 -- page id p + 1 is that of page p of the pool
 pub next_page : (pool : List (List ℕ)) (p : ℕ) → page_of pool (p + 1) ≡ get_or pool p zero_page

@@ -1,17 +1,74 @@
-use Rattle.std.proofs.Common.{arith}
+use Rattle.oberon_format.proofs.Common.{[], ap, arith, checkpoints, eq-eqb, events, false, Fault, fields_of, first_broken, FIRST_VERSION, HEADER_LEN, header_rules, is_version, LAST_AT, le-leb, length, limit_rules, List, lt-leb, MAGIC, MAGIC_AT, named_len, nat_le, ne_eqb, Option, option_or, pages, refl, Rule, sym, true, VERSION, version, word_at, ℕ, ◌==◌, ◌∙◌, ◌∷◌, ◌≡◌, ◌≤◌}
+use Rattle.oberon_format.proofs.RuleLemmas.{first_append}
+use Rattle.oberon_format.specs.declared.fault.Fault.TheVariants as fault
 use Rattle.oberon_format.proofs.rules.header_fault.Goals as goal
 
-pub returns-then-version-ne-VERSION-clause-fault : goal.returns-then-version-ne-VERSION-clause-fault
-returns-then-version-ne-VERSION-clause-fault c = search arith
+-- the rules after the limits, and the first fault of a header that is there and of a known version
+abbrev last_rules : List ℕ → List (Rule Fault)
+last_rules text = (word_at text LAST_AT == 0, fault.Limit LAST_AT) ∷ (nat_le (named_len (fields_of text)) (length text), fault.Short (length text)) ∷ []
 
-pub returns-clause-fault : goal.returns-clause-fault
-returns-clause-fault c = search arith
+limited : (text : List ℕ) (p e n : ℕ) (o : Option Fault) → HEADER_LEN ≤ length text → word_at text MAGIC_AT ≡ MAGIC → is_version (version text) ≡ true → p ≡ pages text
+    → e ≡ events text → n ≡ checkpoints text → o ≡ first_broken (limit_rules p e n) → first_broken (header_rules (fields_of text)) ≡ option_or o (first_broken (last_rules text))
+limited text p e n o long magic known ps es cs is =
+    rw (le-leb HEADER_LEN (length text) long, eq-eqb (word_at text MAGIC_AT) MAGIC magic, known) (first_append (limit_rules (pages text) (events text) (checkpoints text)) (last_rules text))
+    ∙ ap (λ (x : Option Fault). option_or x (first_broken (last_rules text))) (sym (is ∙ (λ i. first_broken (limit_rules (ps i) (es i) (cs i)))))
 
-pub returns-then-text-named_len-clause-fault : goal.returns-then-text-named_len-clause-fault
-returns-then-text-named_len-clause-fault c = search arith
+pub page_count-pages-requires : goal.page_count-pages-requires
+page_count-pages-requires c = omega arith
+
+pub event_count-events-requires : goal.event_count-events-requires
+event_count-events-requires c = omega arith
+
+pub checkpoint_count-checkpoints-requires : goal.checkpoint_count-checkpoints-requires
+checkpoint_count-checkpoints-requires c = omega arith
+
+pub u32_at-requires-2 : goal.u32_at-requires-2
+u32_at-requires-2 c = omega arith
+
+pub named_len-requires-clause-header : goal.named_len-requires-clause-header
+named_len-requires-clause-header c = omega arith
 
 pub returns-then-u32_at-ne-MAGIC-clause-fault : goal.returns-then-u32_at-ne-MAGIC-clause-fault
 returns-then-u32_at-ne-MAGIC-clause-fault c = search arith
 
+pub returns-then-version-ne-VERSION-clause-fault : goal.returns-then-version-ne-VERSION-clause-fault
+returns-then-version-ne-VERSION-clause-fault c =
+    let text = c.args.text.now in
+    let long : nat_le HEADER_LEN (length text) ≡ true = le-leb _ _ (omega arith) in
+    let magic : (word_at text MAGIC_AT == MAGIC) ≡ true = eq-eqb _ _ (omega arith) in
+    let first : (version text == FIRST_VERSION) ≡ false = ne_eqb _ _ (λ e. omega arith) in
+    let second : (version text == VERSION) ≡ false = ne_eqb _ _ (λ e. omega arith) in
+    rw (long, magic, first, second) refl
+
 pub returns-in-Some-clause-fault : goal.returns-in-Some-clause-fault
-returns-in-Some-clause-fault c = search arith
+returns-in-Some-clause-fault c =
+    sym (limited c.args.text.now _ _ _ _ (omega arith) (omega arith) (search arith) c.page_count-pages.ensures c.event_count-events.ensures c.checkpoint_count-checkpoints.ensures
+    (sym c.in-Some.is ∙ c.limits_fault.ensures.fault))
+
+pub returns-then-u32_at-ne0-clause-fault : goal.returns-then-u32_at-ne0-clause-fault
+returns-then-u32_at-ne0-clause-fault c =
+    let other : (word_at c.args.text.now LAST_AT == 0) ≡ false = ne_eqb _ _ (λ e. omega arith) in
+    sym (limited c.args.text.now _ _ _ _ (omega arith) (omega arith) (search arith) c.page_count-pages.ensures c.event_count-events.ensures c.checkpoint_count-checkpoints.ensures
+    (sym c.in_default.is ∙ c.limits_fault.ensures.fault) ∙ rw other refl)
+
+pub returns-then-text-named_len-clause-fault : goal.returns-then-text-named_len-clause-fault
+returns-then-text-named_len-clause-fault c =
+    let zero : (word_at c.args.text.now LAST_AT == 0) ≡ true = eq-eqb _ _ (omega arith) in
+    let cut : nat_le (named_len (fields_of c.args.text.now)) (length c.args.text.now) ≡ false = lt-leb _ _ (omega arith) in
+    sym (limited c.args.text.now _ _ _ _ (omega arith) (omega arith) (search arith) c.page_count-pages.ensures c.event_count-events.ensures c.checkpoint_count-checkpoints.ensures
+    (sym c.in_default.is ∙ c.limits_fault.ensures.fault) ∙ rw (zero, cut) refl)
+
+pub returns-clause-fault : goal.returns-clause-fault
+returns-clause-fault c =
+    let zero : (word_at c.args.text.now LAST_AT == 0) ≡ true = eq-eqb _ _ (omega arith) in
+    let whole : nat_le (named_len (fields_of c.args.text.now)) (length c.args.text.now) ≡ true = le-leb _ _ (omega arith) in
+    sym (limited c.args.text.now _ _ _ _ (omega arith) (omega arith) (search arith) c.page_count-pages.ensures c.event_count-events.ensures c.checkpoint_count-checkpoints.ensures
+    (sym c.in_default.is ∙ c.limits_fault.ensures.fault) ∙ rw (zero, whole) refl)
+
+pub returns-clause-sized : goal.returns-clause-sized
+returns-clause-sized c =
+    let within = c.in_default.ensures in
+    record {
+      header = omega arith; known = search arith; long = omega arith;
+      pages = omega (arith, within.pages); events = omega (arith, within.events); some = omega (arith, within.some); few = omega (arith, within.few);
+    }
