@@ -51,8 +51,8 @@ rules_here pool inputs checkpoints k x pages offset before sent fields old lt is
 pub by_fields : (a b : Option Fault) (f : Fault) → a ≡ Some f → option_or a b ≡ Some f
 by_fields a b f is = ap (λ (o : Option Fault). option_or o b) is
 
-pub by_changes : (pages offset : ℕ) (old passed new : List ℕ) (a b o : Option Fault) → a ≡ None → b ≡ first_broken (encoded_change_rules pages offset passed new)
-    → b ≡ o → passed ≡ old → option_or a (first_broken (encoded_change_rules pages offset old new)) ≡ o
+pub by_changes : (pages offset : ℕ) (old passed new : List ℕ) (a b o : Option Fault)
+    → a ≡ None → b ≡ first_broken (encoded_change_rules pages offset passed new) → b ≡ o → passed ≡ old → option_or a (first_broken (encoded_change_rules pages offset old new)) ≡ o
 by_changes pages offset old passed new a b o none is found same =
     (λ i. option_or (none i) (first_broken (encoded_change_rules pages offset (sym same i) new))) ∙ sym is ∙ found
 

@@ -23,21 +23,24 @@ changes_next before table start out more p other so_far now =
     ∙ ap (λ (cs : List Change). start ++ flat_map change_bytes cs) (sym (below_grows p before table other))
 
 -- the bytes of one checkpoint more
-pub checkpoint_next : (cs : List CheckpointParts) (start out more before : List ℕ) (k : ℕ) (c : CheckpointParts) → out ≡ start ++ checkpoints_bytes VERSION cs k
-    → before ≡ table_before cs k → c ≡ get_or cs k no_checkpoint → more ≡ out ++ checkpoint_bytes VERSION before c → more ≡ start ++ checkpoints_bytes VERSION cs (k + 1)
+pub checkpoint_next : (cs : List CheckpointParts) (start out more before : List ℕ) (k : ℕ) (c : CheckpointParts)
+    → out ≡ start ++ checkpoints_bytes VERSION cs k → before ≡ table_before cs k → c ≡ get_or cs k no_checkpoint → more ≡ out ++ checkpoint_bytes VERSION before c
+    → more ≡ start ++ checkpoints_bytes VERSION cs (k + 1)
 unfolding checkpoints_bytes
 checkpoint_next cs start out more before k c so_far table here now =
     now ∙ (λ i. so_far i ++ checkpoint_bytes VERSION (table i) (here i)) ∙ append_assoc start (checkpoints_bytes VERSION cs k) _
     ∙ ap (λ (n : ℕ). start ++ checkpoints_bytes VERSION cs n) (sym (add-one k))
 
 -- the bytes of all parts
-pub parts_joined : (r : RecordingParts) (a b c d e f : List ℕ) → a ≡ [] → b ≡ a ++ header_bytes VERSION r → c ≡ b ++ flat_map words_bytes r.pool → d ≡ c ++ flat_map event_bytes r.inputs
-    → e ≡ d ++ checkpoints_bytes VERSION r.checkpoints (length r.checkpoints) → f ≡ e ++ output_of r.checkpoints → f ≡ encoding VERSION r
+pub parts_joined : (r : RecordingParts) (a b c d e f : List ℕ) → a ≡ [] → b ≡ a ++ header_bytes VERSION r
+    → c ≡ b ++ flat_map words_bytes r.pool → d ≡ c ++ flat_map event_bytes r.inputs → e ≡ d ++ checkpoints_bytes VERSION r.checkpoints (length r.checkpoints)
+    → f ≡ e ++ output_of r.checkpoints → f ≡ encoding VERSION r
 unfolding encoding
 parts_joined r a b c d e f none header pages inputs checkpoints output =
     let front = header ∙ ap (λ (l : List ℕ). l ++ header_bytes VERSION r) none in
     let lists = inputs ∙ ap (λ (l : List ℕ). l ++ flat_map event_bytes r.inputs) (pages ∙ ap (λ (l : List ℕ). l ++ flat_map words_bytes r.pool) front) in
-    output ∙ ap (λ (l : List ℕ). l ++ output_of r.checkpoints) (checkpoints ∙ ap (λ (l : List ℕ). l ++ checkpoints_bytes VERSION r.checkpoints (length r.checkpoints)) lists)
+    output
+    ∙ ap (λ (l : List ℕ). l ++ output_of r.checkpoints) (checkpoints ∙ ap (λ (l : List ℕ). l ++ checkpoints_bytes VERSION r.checkpoints (length r.checkpoints)) lists)
 
 -- page id p + 1 is that of page p of the pool
 pub next_page : (pool : List (List ℕ)) (p : ℕ) → page_of pool (p + 1) ≡ get_or pool p zero_page

@@ -12,7 +12,8 @@ returns-in-Some c =
     let so_far = c.loop-k.invariant in
     let here = rules_here c.args.pool.now c.args.inputs.now checkpoints c.loop-k.k c.index-checkpoints-k.result c.len-pages.result c.loop-k.offset c.loop-k.before c.loop-k.sent c.of_parts-fields.result c.table_before-table.result.now
     c.loop-k-test.true c.index-checkpoints-k.is c.len-pages.ensures.count so_far.offset_is so_far.before_is so_far.sent_is c.table_before-table.ensures c.of_parts-fields.ensures in
-    sym (each_broken rules c.loop-k.k (length checkpoints) c.in-Some.fault c.loop-k-test.true so_far.met (here.1 ∙ by_fields _ _ _ (sym c.fields_fault.ensures.fault ∙ c.in-Some.is)))
+    sym (each_broken rules c.loop-k.k (length checkpoints) c.in-Some.fault c.loop-k-test.true so_far.met
+    (here.1 ∙ by_fields _ _ _ (sym c.fields_fault.ensures.fault ∙ c.in-Some.is)))
 
 pub returns-in-Some-changes_fault : goal.returns-in-Some-changes_fault
 returns-in-Some-changes_fault c =
@@ -22,12 +23,14 @@ returns-in-Some-changes_fault c =
     let here = rules_here c.args.pool.now c.args.inputs.now checkpoints c.loop-k.k c.index-checkpoints-k.result c.len-pages.result c.loop-k.offset c.loop-k.before c.loop-k.sent c.of_parts-fields.result c.table_before-table.result.now
     c.loop-k-test.true c.index-checkpoints-k.is c.len-pages.ensures.count so_far.offset_is so_far.before_is so_far.sent_is c.table_before-table.ensures c.of_parts-fields.ensures in
     sym (each_broken rules c.loop-k.k (length checkpoints) c.in-Some-changes_fault.fault c.loop-k-test.true so_far.met
-    (here.1 ∙ by_changes _ _ c.table_before-table.result.now _ _ _ _ _ (sym c.fields_fault.ensures.fault ∙ c.in_default.is) c.changes_fault.ensures c.in-Some-changes_fault.is refl))
+    (here.1 ∙ by_changes _ _ c.table_before-table.result.now _ _ _ _ _ (sym c.fields_fault.ensures.fault ∙ c.in_default.is)
+    c.changes_fault.ensures c.in-Some-changes_fault.is refl))
 
 pub loop-k-init : goal.loop-k-init
 loop-k-init c =
     let r = parts_of c.args.pool.now c.args.inputs.now c.args.checkpoints.now in
-    let at = ap (λ (n : ℕ). event_start n (length c.events.result.now)) c.len-pages.ensures.count ∙ ap (λ (es : List Event). event_start (length r.pool) (length es)) c.events.ensures.events in
+    let at = ap (λ (n : ℕ). event_start n (length c.events.result.now)) c.len-pages.ensures.count
+    ∙ ap (λ (es : List Event). event_start (length r.pool) (length es)) c.events.ensures.events in
     record {
       met = each_none (checkpoint_rules (fields_in VERSION r));
       offset_is = c.event_start-offset.ensures ∙ at ∙ sym (start_in_first VERSION r);
@@ -52,7 +55,8 @@ overflow_add-offset c =
 pub returns : goal.returns
 returns c =
     let all : c.loop-k.k ≡ length c.args.checkpoints.now = omega arith in
-    sym (ap (λ (n : ℕ). first_broken (encoded_checkpoint_rules n (parts_of c.args.pool.now c.args.inputs.now c.args.checkpoints.now))) (sym all) ∙ c.loop-k.invariant.met)
+    let r = parts_of c.args.pool.now c.args.inputs.now c.args.checkpoints.now in
+    sym (ap (λ (n : ℕ). first_broken (encoded_checkpoint_rules n r)) (sym all) ∙ c.loop-k.invariant.met)
 
 pub loop-k-preserved : goal.loop-k-preserved
 loop-k-preserved c =
@@ -62,7 +66,8 @@ loop-k-preserved c =
     c.loop-k-test.true c.index-checkpoints-k.is c.len-pages.ensures.count so_far.offset_is so_far.before_is so_far.sent_is c.table_before-table.ensures c.of_parts-fields.ensures in
     let fields : c.of_parts-fields.result ≡ f.checkpoint k = here.0 in
     record {
-      met = each_more (checkpoint_rules f) k so_far.met (here.1 ∙ by_changes _ _ c.table_before-table.result.now _ _ _ _ _ (sym c.fields_fault.ensures.fault ∙ c.in_default.is) c.changes_fault.ensures c.in_default-changes_fault.is refl);
+      met = each_more (checkpoint_rules f) k so_far.met (here.1 ∙ by_changes _ _ c.table_before-table.result.now _ _ _ _ _
+          (sym c.fields_fault.ensures.fault ∙ c.in_default.is) c.changes_fault.ensures c.in_default-changes_fault.is refl);
       offset_is = next_offset r k c.loop-k.offset c.changed_len-offset.result c.of_parts-fields.result so_far.offset_is fields c.changed_len-offset.ensures;
       before_is = ap (λ (y : CheckpointFields). y.count) fields ∙ sym (ap (count_before f) (add-one k) ∙ before_next f k);
       sent_is = ap (λ (n : ℕ). n + c.of_parts-fields.result.output) so_far.sent_is ∙ ap (λ (y : CheckpointFields). sent_below f k + y.output) fields ∙ sym (sent_more f k);

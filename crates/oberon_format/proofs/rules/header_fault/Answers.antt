@@ -7,10 +7,12 @@ use Rattle.oberon_format.proofs.rules.header_fault.Goals as goal
 abbrev last_rules : List ℕ → List (Rule Fault)
 last_rules text = (word_at text LAST_AT == 0, fault.Limit LAST_AT) ∷ (nat_le (named_len (fields_of text)) (length text), fault.Short (length text)) ∷ []
 
-limited : (text : List ℕ) (p e n : ℕ) (o : Option Fault) → HEADER_LEN ≤ length text → word_at text MAGIC_AT ≡ MAGIC → is_version (version text) ≡ true → p ≡ pages text
-    → e ≡ events text → n ≡ checkpoints text → o ≡ first_broken (limit_rules p e n) → first_broken (header_rules (fields_of text)) ≡ option_or o (first_broken (last_rules text))
+limited : (text : List ℕ) (p e n : ℕ) (o : Option Fault) → HEADER_LEN ≤ length text → word_at text MAGIC_AT ≡ MAGIC → is_version (version text) ≡ true
+    → p ≡ pages text → e ≡ events text → n ≡ checkpoints text → o ≡ first_broken (limit_rules p e n)
+    → first_broken (header_rules (fields_of text)) ≡ option_or o (first_broken (last_rules text))
 limited text p e n o long magic known ps es cs is =
-    rw (le-leb HEADER_LEN (length text) long, eq-eqb (word_at text MAGIC_AT) MAGIC magic, known) (first_append (limit_rules (pages text) (events text) (checkpoints text)) (last_rules text))
+    rw (le-leb HEADER_LEN (length text) long, eq-eqb (word_at text MAGIC_AT) MAGIC magic, known)
+    (first_append (limit_rules (pages text) (events text) (checkpoints text)) (last_rules text))
     ∙ ap (λ (x : Option Fault). option_or x (first_broken (last_rules text))) (sym (is ∙ (λ i. first_broken (limit_rules (ps i) (es i) (cs i)))))
 
 pub page_count-pages-requires : goal.page_count-pages-requires
@@ -42,28 +44,28 @@ returns-then-version-ne-VERSION-clause-fault c =
 
 pub returns-in-Some-clause-fault : goal.returns-in-Some-clause-fault
 returns-in-Some-clause-fault c =
-    sym (limited c.args.text.now _ _ _ _ (omega arith) (omega arith) (search arith) c.page_count-pages.ensures c.event_count-events.ensures c.checkpoint_count-checkpoints.ensures
-    (sym c.in-Some.is ∙ c.limits_fault.ensures.fault))
+    sym (limited c.args.text.now _ _ _ _ (omega arith) (omega arith) (search arith) c.page_count-pages.ensures c.event_count-events.ensures
+    c.checkpoint_count-checkpoints.ensures (sym c.in-Some.is ∙ c.limits_fault.ensures.fault))
 
 pub returns-then-u32_at-ne0-clause-fault : goal.returns-then-u32_at-ne0-clause-fault
 returns-then-u32_at-ne0-clause-fault c =
     let other : (word_at c.args.text.now LAST_AT == 0) ≡ false = ne_eqb _ _ (λ e. omega arith) in
-    sym (limited c.args.text.now _ _ _ _ (omega arith) (omega arith) (search arith) c.page_count-pages.ensures c.event_count-events.ensures c.checkpoint_count-checkpoints.ensures
-    (sym c.in_default.is ∙ c.limits_fault.ensures.fault) ∙ rw other refl)
+    sym (limited c.args.text.now _ _ _ _ (omega arith) (omega arith) (search arith) c.page_count-pages.ensures c.event_count-events.ensures
+    c.checkpoint_count-checkpoints.ensures (sym c.in_default.is ∙ c.limits_fault.ensures.fault) ∙ rw other refl)
 
 pub returns-then-text-named_len-clause-fault : goal.returns-then-text-named_len-clause-fault
 returns-then-text-named_len-clause-fault c =
     let zero : (word_at c.args.text.now LAST_AT == 0) ≡ true = eq-eqb _ _ (omega arith) in
     let cut : nat_le (named_len (fields_of c.args.text.now)) (length c.args.text.now) ≡ false = lt-leb _ _ (omega arith) in
-    sym (limited c.args.text.now _ _ _ _ (omega arith) (omega arith) (search arith) c.page_count-pages.ensures c.event_count-events.ensures c.checkpoint_count-checkpoints.ensures
-    (sym c.in_default.is ∙ c.limits_fault.ensures.fault) ∙ rw (zero, cut) refl)
+    sym (limited c.args.text.now _ _ _ _ (omega arith) (omega arith) (search arith) c.page_count-pages.ensures c.event_count-events.ensures
+    c.checkpoint_count-checkpoints.ensures (sym c.in_default.is ∙ c.limits_fault.ensures.fault) ∙ rw (zero, cut) refl)
 
 pub returns-clause-fault : goal.returns-clause-fault
 returns-clause-fault c =
     let zero : (word_at c.args.text.now LAST_AT == 0) ≡ true = eq-eqb _ _ (omega arith) in
     let whole : nat_le (named_len (fields_of c.args.text.now)) (length c.args.text.now) ≡ true = le-leb _ _ (omega arith) in
-    sym (limited c.args.text.now _ _ _ _ (omega arith) (omega arith) (search arith) c.page_count-pages.ensures c.event_count-events.ensures c.checkpoint_count-checkpoints.ensures
-    (sym c.in_default.is ∙ c.limits_fault.ensures.fault) ∙ rw (zero, whole) refl)
+    sym (limited c.args.text.now _ _ _ _ (omega arith) (omega arith) (search arith) c.page_count-pages.ensures c.event_count-events.ensures
+    c.checkpoint_count-checkpoints.ensures (sym c.in_default.is ∙ c.limits_fault.ensures.fault) ∙ rw (zero, whole) refl)
 
 pub returns-clause-sized : goal.returns-clause-sized
 returns-clause-sized c =

@@ -9,4 +9,5 @@ push_checkpoint-requires c = let own = ap (λ (x : CheckpointParts). length x.se
 pub loop-k-preserved : goal.loop-k-preserved
 loop-k-preserved c =
     let before = c.table_before.ensures ∙ ap (λ (cs : List CheckpointParts). table_before cs c.loop-k.k) c.checkpoints.ensures.checkpoints in
-    checkpoint_next c.args.r.now.checkpoints c.args.out.now.items c.loop-k.out.items _ _ c.loop-k.k _ c.loop-k.invariant before c.checkpoint.ensures.checkpoint c.in_ok-push_checkpoint.ensures
+    checkpoint_next c.args.r.now.checkpoints c.args.out.now.items c.loop-k.out.items _ _ c.loop-k.k _ c.loop-k.invariant before
+    c.checkpoint.ensures.checkpoint c.in_ok-push_checkpoint.ensures
