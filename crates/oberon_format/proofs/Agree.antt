@@ -39,8 +39,7 @@ common_agrees text p c fits s =
     let s3 = bytes_left text p (a ++ r ++ f ++ k) n s in
     let s2 = bytes_left text p (a ++ r ++ f) k s3 in
     let s1 = bytes_left text p (a ++ r) f s2 in
-    let count = fits.formed.registers in let la = length-long_bytes c.count in let lr = length-words_bytes c.cpu.r in
-    let lar = length-append a r in
+    let count = fits.formed.registers in let la = length-long_bytes c.count in let lr = length-words_bytes c.cpu.r in let lar = length-append a r in
     let lf : length (a ++ r ++ f) ≡ KEYS_AT = length-append (a ++ r) f ∙ omega (arith, length-words_bytes (field_words c)) in
     let lk : length (a ++ r ++ f ++ k) ≡ SENT_AT = length-append (a ++ r ++ f) k ∙ omega (arith, length-key_bytes c.devices fits.formed.devices.keys) in
     let keys = bytes_right text p (p + KEYS_AT) (a ++ r ++ f) k (omega arith) s3 in

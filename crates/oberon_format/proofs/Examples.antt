@@ -23,8 +23,7 @@ faults-of-headers : Answers first_fault_of (
     ∷ (header 1 0 0 0 0, Some (fault.Limit 16))
     ∷ (header 1 0 0 1 1, Some (fault.Limit 20))
     ∷ (header 1 0 0 1 0, Some (fault.Short 24))
-    ∷ (header 2 0 0 1 0, Some (fault.Short 24))
-    ∷ [])
+    ∷ (header 2 0 0 1 0, Some (fault.Short 24)) ∷ [])
 unfolding rules word_at start each total checkpoint_rules word_bytes
 faults-of-headers = refl
 
@@ -52,8 +51,7 @@ faults-of-changes : Answers (λ words. first_fault_of (with_changes words)) (
     ∷ (0 ∷ 0 ∷ 1025 ∷ [], Some (fault.Checkpoint 24))
     ∷ (0 ∷ 0 ∷ 1 ∷ 0 ∷ [], Some (fault.Short 172))
     ∷ (0 ∷ 0 ∷ 1 ∷ 0 ∷ 0 ∷ [], Some (fault.Page 168))
-    ∷ (0 ∷ 0 ∷ 1 ∷ 0 ∷ 1 ∷ [], Some (fault.Page 168))
-    ∷ [])
+    ∷ (0 ∷ 0 ∷ 1 ∷ 0 ∷ 1 ∷ [], Some (fault.Page 168)) ∷ [])
 unfolding rules word_at long_at start each total checkpoint_rules is_phase input.is_mouse word_bytes
 faults-of-changes = refl
 
@@ -93,8 +91,7 @@ rules-of-changes : Answers (λ (change : ℕ → Change). first_broken (each 2 (
     ∷ (two_of 3 1 3 1, Some (fault.Page 1200))
     ∷ (two_of 1024 1 0 0, Some (fault.Page 1192))
     ∷ (two_of 3 2 0 0, Some (fault.Page 1192))
-    ∷ (two_of 4 1 0 0, Some (fault.Page 1192))
-    ∷ [])
+    ∷ (two_of 4 1 0 0, Some (fault.Page 1192)) ∷ [])
 unfolding each
 rules-of-changes = refl
 
@@ -127,8 +124,7 @@ events : Answers (is_event 5) (
     (record { count = 5; kind = 1; value = 0xFFFFFFFF }, true)
     ∷ (record { count = 4; kind = 1; value = 0 }, false)
     ∷ (record { count = 5; kind = 2; value = 4096 }, false)
-    ∷ (record { count = 5; kind = 6; value = 0 }, false)
-    ∷ [])
+    ∷ (record { count = 5; kind = 6; value = 0 }, false) ∷ [])
 unfolding input.is_input
 events = refl
 
@@ -142,8 +138,7 @@ offsets : Answers (λ (x : ℕ). x) (
     ∷ (page_number_offset 5276 0, 5408)
     ∷ (event_start 1 0 + checkpoint_size 2 3, 1216)
     ∷ (change_offset 1048 1, 1200)
-    ∷ (event_start 65536 1000000 + checkpoint_size 2 1024 * 4097 + 1048576, LONGEST_TEXT)
-    ∷ [])
+    ∷ (event_start 65536 1000000 + checkpoint_size 2 1024 * 4097 + 1048576, LONGEST_TEXT) ∷ [])
 offsets = refl
 
 -- the bytes of a number, of a count, of the header of a file of version 2 with no page, no event and one checkpoint (it begins with
@@ -152,8 +147,7 @@ bytes : Answers (λ (x : List ℕ). x) (
     (word_bytes 0x40000005, 5 ∷ 0 ∷ 0 ∷ 0x40 ∷ [])
     ∷ (long_bytes 100, 100 ∷ 0 ∷ 0 ∷ 0 ∷ 0 ∷ 0 ∷ 0 ∷ 0 ∷ [])
     ∷ (header_bytes VERSION (record { pool = []; inputs = []; checkpoints = no_checkpoint ∷ [] }), 0x4F ∷ 0x52 ∷ 0x53 ∷ 0x52 ∷ 2 ∷ 0 ∷ 0 ∷ 0 ∷ 0 ∷ 0 ∷ 0 ∷ 0 ∷ 0 ∷ 0 ∷ 0 ∷ 0 ∷ 1 ∷ 0 ∷ 0 ∷ 0 ∷ 0 ∷ 0 ∷ 0 ∷ 0 ∷ [])
-    ∷ (change_bytes (record { place = 0; number = 1 }), 0 ∷ 0 ∷ 0 ∷ 0 ∷ 1 ∷ 0 ∷ 0 ∷ 0 ∷ [])
-    ∷ [])
+    ∷ (change_bytes (record { place = 0; number = 1 }), 0 ∷ 0 ∷ 0 ∷ 0 ∷ 1 ∷ 0 ∷ 0 ∷ 0 ∷ []) ∷ [])
 unfolding header_bytes word_bytes long_bytes change_bytes
 bytes = refl
 

@@ -117,8 +117,7 @@ met_lawful : (v : ℕ) (r : RecordingParts) → is_version v ≡ true → ArePag
     → AreMet (fields_in v r) → IsLawful r
 unfolding total
 met_lawful v r known pages ordered formed met =
-    let f = fields_in v r in let n = length r.checkpoints in let within = header_within f met.header in
-    let some = within.some in
+    let f = fields_in v r in let n = length r.checkpoints in let within = header_within f met.header in let some = within.some in
     let each_met = λ (k : ℕ) (lt : k < n). fields_hold f k (each_holds (checkpoint_rules f) n k lt met.checkpoints) in
     let zero_met = each_met 0 (omega arith) in
     let last = n - 1 in

@@ -168,8 +168,7 @@ checkpoint_same f g k so_far same = go (g.version == FIRST_VERSION) where
 -- the rules of the numbers in the header
 abbrev number_rules : Fields → List (Rule Fault)
 number_rules g =
-    ((g.first == MAGIC, fault.Magic MAGIC_AT) ∷ (is_version g.version, fault.Version VERSION_AT) ∷ [])
-    ++ limit_rules g.pages g.events g.checkpoints
+    ((g.first == MAGIC, fault.Magic MAGIC_AT) ∷ (is_version g.version, fault.Version VERSION_AT) ∷ []) ++ limit_rules g.pages g.events g.checkpoints
     ++ ((g.last == 0, fault.Limit LAST_AT) ∷ [])
 
 few_by : (g : Fields) → first_broken (number_rules g) ≡ None → AreFew g

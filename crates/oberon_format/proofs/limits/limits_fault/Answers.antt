@@ -1,8 +1,28 @@
-use Rattle.std.proofs.Common.{arith}
+use Rattle.oberon_format.proofs.Common.{arith, false, le-leb, lt-leb, MAX_CHECKPOINTS, MAX_EVENTS, MAX_PAGES, nat_le, refl, true, ◌≡◌}
 use Rattle.oberon_format.proofs.limits.limits_fault.Goals as goal
+
+pub returns-then-events-clause-fault : goal.returns-then-events-clause-fault
+returns-then-events-clause-fault c =
+    let pages : nat_le c.args.pages MAX_PAGES ≡ true = le-leb _ _ (omega arith) in
+    let events : nat_le c.args.events MAX_EVENTS ≡ false = lt-leb _ _ (omega arith) in
+    rw (pages, events) refl
 
 pub returns-then-checkpoints-lt1-clause-fault : goal.returns-then-checkpoints-lt1-clause-fault
 returns-then-checkpoints-lt1-clause-fault c = search arith
 
 pub returns-clause-fault : goal.returns-clause-fault
-returns-clause-fault c = search arith
+returns-clause-fault c =
+    let pages : nat_le c.args.pages MAX_PAGES ≡ true = le-leb _ _ (omega arith) in
+    let events : nat_le c.args.events MAX_EVENTS ≡ true = le-leb _ _ (omega arith) in
+    let some : nat_le 1 c.args.checkpoints ≡ true = le-leb _ _ (omega arith) in
+    let few : nat_le c.args.checkpoints MAX_CHECKPOINTS ≡ true = le-leb _ _ (omega arith) in
+    rw (pages, events, some, few) refl
+
+pub returns-clause-pages : goal.returns-clause-pages
+returns-clause-pages c = omega arith
+
+pub returns-clause-events : goal.returns-clause-events
+returns-clause-events c = omega arith
+
+pub returns-clause-some : goal.returns-clause-some
+returns-clause-some c = omega arith

@@ -54,8 +54,7 @@ overflow_add-offset c =
 
 pub returns : goal.returns
 returns c =
-    let all : c.loop-k.k ≡ length c.args.checkpoints.now = omega arith in
-    let r = parts_of c.args.pool.now c.args.inputs.now c.args.checkpoints.now in
+    let all : c.loop-k.k ≡ length c.args.checkpoints.now = omega arith in let r = parts_of c.args.pool.now c.args.inputs.now c.args.checkpoints.now in
     sym (ap (λ (n : ℕ). first_broken (encoded_checkpoint_rules n r)) (sym all) ∙ c.loop-k.invariant.met)
 
 pub loop-k-preserved : goal.loop-k-preserved

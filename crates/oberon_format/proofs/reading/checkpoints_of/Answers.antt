@@ -18,12 +18,10 @@ loop-k-init c =
     })
 
 pub checkpoint_of-requires-clause-ranges : goal.checkpoint_of-requires-clause-ranges
-checkpoint_of-requires-clause-ranges c =
-    rw c.loop-k.invariant.offset_is (checkpoint_holds c.args.text.now c.loop-k.k c.requires.meets (omega arith)).ranges
+checkpoint_of-requires-clause-ranges c = rw c.loop-k.invariant.offset_is (checkpoint_holds c.args.text.now c.loop-k.k c.requires.meets (omega arith)).ranges
 
 pub checkpoint_of-requires-clause-keys : goal.checkpoint_of-requires-clause-keys
-checkpoint_of-requires-clause-keys c =
-    rw c.loop-k.invariant.offset_is (checkpoint_holds c.args.text.now c.loop-k.k c.requires.meets (omega arith)).keys
+checkpoint_of-requires-clause-keys c = rw c.loop-k.invariant.offset_is (checkpoint_holds c.args.text.now c.loop-k.k c.requires.meets (omega arith)).keys
 
 pub checkpoint_len-requires-clause-changes : goal.checkpoint_len-requires-clause-changes
 checkpoint_len-requires-clause-changes c =

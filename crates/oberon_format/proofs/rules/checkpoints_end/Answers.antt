@@ -25,8 +25,7 @@ record AreTested (text : List ℕ) (k offset sent : ℕ) (fields : CheckpointFie
 pub loop-k-preserved : goal.loop-k-preserved
 loop-k-preserved c =
     let text = c.args.text.now in let k = c.loop-k.k in let offset = c.loop-k.offset in
-    let at = c.loop-k.invariant.offset_is in let fields = c.in-Ok.fields in
-    let lt : k < checkpoints text = omega arith in
+    let at = c.loop-k.invariant.offset_is in let fields = c.in-Ok.fields in let lt : k < checkpoints text = omega arith in
     let tested : AreTested text k offset c.loop-k.sent fields c.if-is_first.table = elim c.if-is_first.branch [
       | then-is_first w ↦
           let facts = rw (← w.tested-is, c.in-Ok.is) at w.whole_checkpoint-tested.ensures in

@@ -10,6 +10,5 @@ returns-in-Some-clause-lawful c =
 
 pub returns-in-Some-clause-named : goal.returns-in-Some-clause-named
 returns-in-Some-clause-named c =
-    let found = rw c.deref.ensures.value at c.in-Some.ensures.fault in
-    let r = parts_of c.args.pool c.args.inputs c.args.checkpoints.items in
+    let found = rw c.deref.ensures.value at c.in-Some.ensures.fault in let r = parts_of c.args.pool c.args.inputs c.args.checkpoints.items in
     subst (λ (o : Option Fault). IfSome o IsNamedFault) {x = fault_of_parts r} (sym {b = fault_of_parts r} found) (parts_named r)
