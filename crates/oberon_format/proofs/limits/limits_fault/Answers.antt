@@ -1,11 +1,5 @@
-use Rattle.oberon_format.proofs.Common.{arith, false, le-leb, lt-leb, MAX_CHECKPOINTS, MAX_EVENTS, MAX_PAGES, nat_le, refl, true, ◌≡◌}
+use Rattle.oberon_format.proofs.Common.{arith, le-leb, MAX_CHECKPOINTS, MAX_EVENTS, MAX_PAGES, nat_le, refl, true, ◌≡◌}
 use Rattle.oberon_format.proofs.limits.limits_fault.Goals as goal
-
-pub returns-then-events-clause-fault : goal.returns-then-events-clause-fault
-returns-then-events-clause-fault c =
-    let pages : nat_le c.args.pages MAX_PAGES ≡ true = le-leb _ _ (omega arith) in
-    let events : nat_le c.args.events MAX_EVENTS ≡ false = lt-leb _ _ (omega arith) in
-    rw (pages, events) refl
 
 pub returns-then-checkpoints-lt1-clause-fault : goal.returns-then-checkpoints-lt1-clause-fault
 returns-then-checkpoints-lt1-clause-fault c = search arith
