@@ -22,11 +22,11 @@ joined-All code keys byte bytes = grind (arith, common_steps)
 -- an input leaves the devices in their ranges
 pub taken_value-range : (kind : Kind) (value : ℕ) (d : DeviceState) → IsInput (kind_number kind) value → IsDeviceState d → IsDeviceState (taken_value kind value d)
 unfolding taken_value
-taken_value-range Timer value d lawful fits = record { timer = timer_fits value lawful; rate = fits.rate; phase = fits.phase; switches = fits.switches; leds = fits.leds; mouse = fits.mouse; serial = fits.serial; keys = fits.keys; codes = fits.codes }
-taken_value-range Switches value d lawful fits = record { timer = fits.timer; rate = fits.rate; phase = fits.phase; switches = switches_fit value lawful; leds = fits.leds; mouse = fits.mouse; serial = fits.serial; keys = fits.keys; codes = fits.codes }
-taken_value-range Mouse value d lawful fits = record { timer = fits.timer; rate = fits.rate; phase = fits.phase; switches = fits.switches; leds = fits.leds; mouse = mouse_fits value lawful; serial = fits.serial; keys = fits.keys; codes = fits.codes }
-taken_value-range Key value d lawful fits = record { timer = fits.timer; rate = fits.rate; phase = fits.phase; switches = fits.switches; leds = fits.leds; mouse = fits.mouse; serial = fits.serial; keys = joined-length value d.keys fits.keys; codes = joined-All value d.keys (key_fits value lawful) fits.codes }
-taken_value-range Serial value d lawful fits = record { timer = fits.timer; rate = fits.rate; phase = fits.phase; switches = fits.switches; leds = fits.leds; mouse = fits.mouse; serial = serial_fits value lawful; keys = fits.keys; codes = fits.codes }
+taken_value-range Timer value d lawful fits = search (timer_fits value lawful)
+taken_value-range Switches value d lawful fits = search (switches_fit value lawful)
+taken_value-range Mouse value d lawful fits = search (mouse_fits value lawful)
+taken_value-range Key value d lawful fits = search (joined-length value d.keys fits.keys, joined-All value d.keys (key_fits value lawful) fits.codes)
+taken_value-range Serial value d lawful fits = search (serial_fits value lawful)
 
 -- the serial line's number determines its byte and "received"
 serial_parts : (x y : ℕ) (r s : Bool) → x < 2 ^ 8 → y < 2 ^ 8 → x + (if r then 2 ^ 8 else 0) ≡ y + (if s then 2 ^ 8 else 0) → (x ≡ y) × (r ≡ s)
