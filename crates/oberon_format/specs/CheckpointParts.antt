@@ -1,6 +1,6 @@
 -- The parts of a checkpoint.
 use Rattle.std.specs.Prelude.{ℕ, false, List, [], ◌-◌, ◌++◌, length, replicate}
-use Rattle.risc_devices.specs.DeviceState.{DeviceState}
+use Rattle.risc_devices.specs.DeviceState.{DeviceState, zero_devices}
 use Rattle.risc_model.specs.MachineState.{CpuState, cpu_state}
 use Rattle.oberon_format.specs.declared.checkpoint.Checkpoint.{Checkpoint}
 use Rattle.oberon_format.specs.declared.ranges.TheConstants.{MAX_KEYS}
@@ -23,7 +23,7 @@ abbrev pub no_checkpoint : CheckpointParts
 no_checkpoint = record {
   count = 0;
   cpu = record { r = []; h = 0; pc = 0; flags = record { n = false; z = false; c = false; v = false }; stop = 0 };
-  devices = record { timer = 0; rate = 0; phase = 0; switches = 0; leds = 0; mouse = 0; serial = 0; received = false; keys = [] };
+  devices = zero_devices;
   sent = [];
   table = [];
 }

@@ -7,7 +7,7 @@ use Rattle.std.proofs.lemmas.Bool.{and_parts, ltb-true}
 use Rattle.std.specs.Prelude.{nat_lt, slice_index}
 use Rattle.risc_model.specs.MachineState.{CpuState, State}
 use Rattle.risc_devices.specs.DeviceState.{DeviceState, IsDeviceState, IsPhase, is_phase}
-use Rattle.risc_devices.specs.InputKind.{is_mouse}
+use Rattle.risc_devices.proofs.DeviceLemmas.{timer_fit}
 use Rattle.risc_pages.specs.Tables.{table_words, zero_numbers}
 use Rattle.risc_pages.specs.Pages.{ArePages, IsPage}
 use Rattle.oberon_format.specs.CheckpointParts.{CheckpointParts, no_checkpoint}
@@ -62,18 +62,7 @@ module _ (rate phase : ℕ) (fits : timer_fits rate phase ≡ true) where
 
 -- a rate and a phase that fit are those of devices
 fitting-devices : (rate phase : ℕ) → timer_fits rate phase ≡ true → IsDeviceState (first_devices rate phase)
-unfolding is_mouse
-fitting-devices rate phase fits = record {
-  timer = omega arith;
-  rate = timer-rate rate phase fits;
-  phase = timer-phase rate phase fits;
-  switches = omega arith;
-  leds = omega arith;
-  mouse = refl;
-  serial = omega arith;
-  keys = omega arith;
-  codes = λ k d lt. absurd (omega arith);
-}
+fitting-devices rate phase fits = timer_fit 0 rate phase (omega arith) (timer-rate rate phase fits) (timer-phase rate phase fits)
 
 module _ (s : SessionParts) where
   -- the parts of the checkpoint

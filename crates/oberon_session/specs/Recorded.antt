@@ -1,9 +1,9 @@
 -- The recording of a session, or why it has none. Limits, pages and page ids are this project's own choice.
-use Rattle.std.specs.Prelude.{ℕ, zero, suc, ◌+◌, ◌-◌, nat_lt, false, List, [], length, map, slice_index, slice_set, Option, Some, None, if◌then◌else◌}
+use Rattle.std.specs.Prelude.{ℕ, zero, suc, ◌+◌, ◌-◌, nat_lt, List, length, map, slice_index, slice_set, Option, Some, None, if◌then◌else◌}
 use Rattle.std.specs.List.{range_with_len}
 use Rattle.std.specs.Option.{option_or}
 use Rattle.risc_pages.specs.Tables.{table_words, zero_numbers}
-use Rattle.risc_devices.specs.DeviceState.{DeviceState}
+use Rattle.risc_devices.specs.DeviceState.{DeviceState, zero_devices}
 use Rattle.risc_model.specs.MachineState.{State}
 use Rattle.risc_model.specs.OneRun.{sent_between, state_from}
 use Rattle.recording_limits.specs.declared.limits.TheConstants.{MAX_OUTPUT, MAX_PAGES}
@@ -28,8 +28,7 @@ first_stored pages = record { pool = map (λ page. page.words) pages; table = nu
 
 -- devices that are all zeros, with no keys, except the timer's rate and phase
 abbrev pub first_devices : ℕ → ℕ → DeviceState
-first_devices rate phase =
-    record { timer = 0; rate = rate; phase = phase; switches = 0; leds = 0; mouse = 0; serial = 0; received = false; keys = [] }
+first_devices rate phase = record zero_devices { rate = rate; phase = phase }
 
 -- the initial state of the session
 unfoldable pub first_state : SessionParts → State

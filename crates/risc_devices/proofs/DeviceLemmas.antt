@@ -3,8 +3,8 @@ use Rattle.std.proofs.Common.{◌≡◌, ℕ, ◌+◌, ◌^◌, ◌<◌, ◌≤�
 use Rattle.std.specs.Prelude.{All, if◌then◌else◌}
 use Rattle.std.proofs.lemmas.Grind.{common_steps}
 use Rattle.risc_devices.specs.KeyCodes.{joined}
-use Rattle.risc_devices.specs.DeviceState.{DeviceState, IsDeviceState, serial_number}
-use Rattle.risc_devices.specs.InputKind.{kind_number, IsInput}
+use Rattle.risc_devices.specs.DeviceState.{DeviceState, zero_devices, IsDeviceState, IsPhase, serial_number}
+use Rattle.risc_devices.specs.InputKind.{kind_number, is_mouse, IsInput}
 use Rattle.risc_devices.specs.Input.{taken_value}
 use Rattle.risc_devices.specs.declared.kind.Kind.{Kind}
 use Rattle.risc_devices.specs.declared.kind.Kind.TheVariants.{Timer, Switches, Mouse, Key, Serial}
@@ -27,6 +27,11 @@ taken_value-range Switches value d lawful fits = search (switches_fit value lawf
 taken_value-range Mouse value d lawful fits = search (mouse_fits value lawful)
 taken_value-range Key value d lawful fits = search (joined-length value d.keys fits.keys, joined-All value d.keys (key_fits value lawful) fits.codes)
 taken_value-range Serial value d lawful fits = search (serial_fits value lawful)
+
+-- devices that are all zeros except for the timer are in their ranges if it is
+pub timer_fit : (timer rate phase : ℕ) → timer < 2 ^ 32 → rate < 2 ^ 32 → IsPhase rate phase → IsDeviceState (record zero_devices { timer = timer; rate = rate; phase = phase })
+unfolding is_mouse
+timer_fit timer rate phase timer_fits rate_fits phase_fits = grind arith
 
 -- the serial line's number determines its byte and "received"
 serial_parts : (x y : ℕ) (r s : Bool) → x < 2 ^ 8 → y < 2 ^ 8 → x + (if r then 2 ^ 8 else 0) ≡ y + (if s then 2 ^ 8 else 0) → (x ≡ y) × (r ≡ s)

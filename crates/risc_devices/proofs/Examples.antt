@@ -1,15 +1,12 @@
 -- Worked examples of the definitions, computed.
-use Rattle.std.proofs.Common.{◌≡◌, true, false, [], ◌∷◌, Some, None, refl}
-use Rattle.risc_devices.specs.DeviceState.{DeviceState, state_of_parts, is_phase}
+use Rattle.std.proofs.Common.{◌≡◌, ℕ, true, false, [], ◌∷◌, Some, None, refl}
+use Rattle.risc_devices.specs.DeviceState.{DeviceState, zero_devices as idle, is_phase}
 use Rattle.risc_devices.specs.DeviceWords.{read_value, after_read, after_write, sent_byte}
 use Rattle.risc_devices.specs.Input.{taken_value, is_input, is_mouse}
 use Rattle.risc_devices.specs.Ticks.{ticked, ticked_times}
 use Rattle.risc_devices.specs.KeyCodes.{joined}
 use Rattle.risc_devices.specs.Picture.{picture_head, dot}
 use Rattle.risc_devices.specs.declared.kind.Kind.TheVariants.{Key, Serial}
-
-abbrev idle : DeviceState
-idle = state_of_parts 0 0 0 0 0 0 0 []
 
 -- the mouse word's mask, and each bit that is not in it
 mask : is_mouse 0x073FF3FF ≡ true
@@ -80,20 +77,24 @@ corner = refl
 head : picture_head ≡ 80 ∷ 52 ∷ 10 ∷ 49 ∷ 48 ∷ 50 ∷ 52 ∷ 32 ∷ 55 ∷ 54 ∷ 56 ∷ 10 ∷ []
 head = refl
 
+-- devices with this timer, rate and phase
+abbrev timer_of : ℕ → ℕ → ℕ → DeviceState
+timer_of timer rate phase = record idle { timer = timer; rate = rate; phase = phase }
+
 -- a timer of ten instructions a millisecond, after 25 of them; one of rate 1; one in its last phase; one of rate 0
-counting : ticked_times 25 (state_of_parts 0 10 0 0 0 0 0 []) ≡ state_of_parts 2 10 5 0 0 0 0 []
+counting : ticked_times 25 (timer_of 0 10 0) ≡ timer_of 2 10 5
 unfolding ticked_times ticked
 counting = refl
 
-each_instruction : ticked_times 3 (state_of_parts 7 1 0 0 0 0 0 []) ≡ state_of_parts 10 1 0 0 0 0 0 []
+each_instruction : ticked_times 3 (timer_of 7 1 0) ≡ timer_of 10 1 0
 unfolding ticked_times ticked
 each_instruction = refl
 
-last_phase : ticked (state_of_parts 0xFFFFFFFF 0xFFFFFFFF 0xFFFFFFFE 0 0 0 0 []) ≡ state_of_parts 0 0xFFFFFFFF 0 0 0 0 0 []
+last_phase : ticked (timer_of 0xFFFFFFFF 0xFFFFFFFF 0xFFFFFFFE) ≡ timer_of 0 0xFFFFFFFF 0
 unfolding ticked
 last_phase = refl
 
-still : ticked (state_of_parts 7 0 0 0 0 0 0 []) ≡ state_of_parts 7 0 0 0 0 0 0 []
+still : ticked (timer_of 7 0 0) ≡ timer_of 7 0 0
 unfolding ticked
 still = refl
 

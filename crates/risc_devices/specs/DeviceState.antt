@@ -1,6 +1,6 @@
 -- The state of the devices ("Project Oberon" 2013, the hardware chapters: a timer, buttons and switches, LEDs, a mouse, a serial
 -- line and a keyboard). What is this project's own choice is marked as such.
-use Rattle.std.specs.Prelude.{ℕ, ◌+◌, ◌/◌, ◌%◌, ◌^◌, ◌<◌, ◌≤◌, Bool, ◌==◌, nat_lt, if◌then◌else◌, IsTrue, List, length, All}
+use Rattle.std.specs.Prelude.{ℕ, ◌+◌, ◌/◌, ◌%◌, ◌^◌, ◌<◌, ◌≤◌, Bool, false, ◌==◌, nat_lt, if◌then◌else◌, IsTrue, List, [], length, All}
 use Rattle.risc_devices.specs.InputKind.{is_mouse}
 
 -- the state of the devices. The timer counts milliseconds: `rate` is the number of instructions in a millisecond, 0 for a timer
@@ -18,6 +18,10 @@ pub record DeviceState : Type 0 where
   pub serial : ℕ
   pub received : Bool
   pub keys : List ℕ
+
+-- devices that are all zeros, with no keys
+abbrev pub zero_devices : DeviceState
+zero_devices = record { timer = 0; rate = 0; phase = 0; switches = 0; leds = 0; mouse = 0; serial = 0; received = false; keys = [] }
 
 -- a phase is below its rate, or 0 if the rate is 0 (this project's own choice)
 unfoldable pub is_phase : ℕ → ℕ → Bool
