@@ -73,7 +73,7 @@ fn first_devices(rate: u32, phase: u32) -> Devices
     requires { IsPhase rate phase }
     ensures { result ≡ first_devices rate phase }
 {
-    match Devices::new(0, rate, phase, 0, 0, 0, 0, &[]) {
+    match Devices::with_timer(0, rate, phase) {
         Ok(devices) => devices,
         Err(_) => unreachable!(),
     }

@@ -103,7 +103,7 @@ fn first_place() -> Table
 fn start(alloc: Global, pool: &Pool) -> Result<Machine<'_>, AllocError>
     requires { length pool.now ≡ 1 }
 {
-    let Ok(devices) = Devices::new(0, RATE, 0, 0, 0, 0, 0, &[]) else {
+    let Ok(devices) = Devices::with_timer(0, RATE, 0) else {
         return Err(AllocError);
     };
     let flags = Flags {

@@ -1,9 +1,9 @@
 -- The ranges of the devices, and that the parts determine the devices.
-use Rattle.std.proofs.Common.{◌≡◌, ℕ, ◌+◌, ◌^◌, ◌<◌, ◌≤◌, Bool, true, false, List, length, refl, arith}
+use Rattle.std.proofs.Common.{◌≡◌, ℕ, ◌+◌, ◌^◌, ◌<◌, ◌≤◌, Bool, true, false, List, [], length, refl, arith}
 use Rattle.std.specs.Prelude.{All, if◌then◌else◌}
 use Rattle.std.proofs.lemmas.Grind.{common_steps}
 use Rattle.risc_devices.specs.KeyCodes.{joined}
-use Rattle.risc_devices.specs.DeviceState.{DeviceState, zero_devices, IsDeviceState, IsPhase, serial_number}
+use Rattle.risc_devices.specs.DeviceState.{DeviceState, zero_devices, IsDeviceState, IsPhase, AreParts, serial_number}
 use Rattle.risc_devices.specs.InputKind.{kind_number, is_mouse, IsInput}
 use Rattle.risc_devices.specs.Input.{taken_value}
 use Rattle.risc_devices.specs.declared.kind.Kind.{Kind}
@@ -32,6 +32,10 @@ taken_value-range Serial value d lawful fits = search (serial_fits value lawful)
 pub timer_fit : (timer rate phase : ℕ) → timer < 2 ^ 32 → rate < 2 ^ 32 → IsPhase rate phase → IsDeviceState (record zero_devices { timer = timer; rate = rate; phase = phase })
 unfolding is_mouse
 timer_fit timer rate phase timer_fits rate_fits phase_fits = grind arith
+
+pub zero_parts : (rate phase : ℕ) → IsPhase rate phase → AreParts rate phase 0 0 0 []
+unfolding is_mouse
+zero_parts rate phase fits = record { phase_fits = fits; switches_fit = omega arith; mouse_fits = refl; serial_fits = omega arith; keys_fit = omega arith }
 
 -- the serial line's number determines its byte and "received"
 serial_parts : (x y : ℕ) (r s : Bool) → x < 2 ^ 8 → y < 2 ^ 8 → x + (if r then 2 ^ 8 else 0) ≡ y + (if s then 2 ^ 8 else 0) → (x ≡ y) × (r ≡ s)

@@ -205,7 +205,7 @@ fn makes_devices_of_the_largest_parts(rt: HostRuntime) {
 
 /// Returns devices with this timer, rate and phase, and all else 0 or empty.
 fn timer_devices((timer, rate, phase): (u32, u32, u32)) -> Option<Devices> {
-    Devices::new(timer, rate, phase, 0, 0, 0, 0, &[]).ok()
+    Devices::with_timer(timer, rate, phase).ok()
 }
 
 /// Returns the timer, rate and phase of devices.

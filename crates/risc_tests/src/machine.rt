@@ -122,7 +122,7 @@ fn machine_at<'a>(
 ) -> Option<Machine<'a>>
     requires { length pool.now ≡ 1 }
 {
-    let devices = Devices::new(clock.timer, clock.rate, clock.phase, 0, 0, 0, 0, &[]).ok()?;
+    let devices = Devices::with_timer(clock.timer, clock.rate, clock.phase).ok()?;
     Machine::start(alloc, pool, &first_place(), cpu_of(example), devices).ok()
 }
 

@@ -28,7 +28,7 @@ fn checkpoint(alloc: Global, row: Row) -> Option<Checkpoint> {
         c: false,
         v: false,
     };
-    let devices = Devices::new(0, 0, 0, 0, 0, 0, 0, &[]).ok()?;
+    let devices = Devices::with_timer(0, 0, 0).ok()?;
     Some(Checkpoint {
         count,
         cpu: Cpu {
@@ -74,7 +74,7 @@ fn is_fault_of(alloc: Global, rows: &[Row], fault: Option<Fault>) -> bool {
 
 /// Returns two checkpoints, the last with a timer of this rate and phase, if they are in their range.
 fn with_timer(alloc: Global, rate: u32, phase: u32) -> Option<Vec<Checkpoint>> {
-    let devices = Devices::new(7, rate, phase, 0, 0, 0, 0, &[]).ok()?;
+    let devices = Devices::with_timer(7, rate, phase).ok()?;
     let mut checkpoints = checkpoints_of(alloc, &[ZERO, TEN])?;
     match checkpoints.last_mut() {
         Some(last) => last.devices = devices,
