@@ -1,6 +1,5 @@
 -- The lemmas of this crate.
 mod WordLemmas
-mod RawLemmas
 mod FirstLemmas
 mod LineLemmas
 mod FrameLemmas

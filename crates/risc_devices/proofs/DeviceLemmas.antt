@@ -1,9 +1,9 @@
 -- The ranges of the devices, and that the parts determine the devices.
-use Rattle.std.proofs.Common.{◌≡◌, ℕ, ◌+◌, ◌^◌, ◌<◌, ◌≤◌, Bool, true, false, List, [], length, refl, arith}
-use Rattle.std.specs.Prelude.{All, if◌then◌else◌}
+use Rattle.std.proofs.Common.{◌≡◌, ℕ, ◌+◌, ◌/◌, ◌%◌, ◌^◌, ◌<◌, ◌≤◌, Bool, true, false, List, [], length, refl, sym, ◌∙◌, arith}
+use Rattle.std.specs.Prelude.{◌==◌, All, if◌then◌else◌}
 use Rattle.std.proofs.lemmas.Grind.{common_steps}
 use Rattle.risc_devices.specs.KeyCodes.{joined}
-use Rattle.risc_devices.specs.DeviceState.{DeviceState, zero_devices, IsDeviceState, IsPhase, AreParts, serial_number}
+use Rattle.risc_devices.specs.DeviceState.{DeviceState, zero_devices, IsDeviceState, IsPhase, AreParts, serial_number, state_of_parts}
 use Rattle.risc_devices.specs.InputKind.{kind_number, is_mouse, IsInput}
 use Rattle.risc_devices.specs.Input.{taken_value}
 use Rattle.risc_devices.specs.declared.kind.Kind.{Kind}
@@ -38,16 +38,36 @@ unfolding is_mouse
 zero_parts rate phase fits = record { phase_fits = fits; switches_fit = omega arith; mouse_fits = refl; serial_fits = omega arith; keys_fit = omega arith }
 
 -- the serial line's number determines its byte and "received"
-serial_parts : (x y : ℕ) (r s : Bool) → x < 2 ^ 8 → y < 2 ^ 8 → x + (if r then 2 ^ 8 else 0) ≡ y + (if s then 2 ^ 8 else 0) → (x ≡ y) × (r ≡ s)
-serial_parts x y true true x_fits y_fits e = (omega arith, refl)
-serial_parts x y false false x_fits y_fits e = (omega arith, refl)
-serial_parts x y true false x_fits y_fits e = absurd (omega arith)
-serial_parts x y false true x_fits y_fits e = absurd (omega arith)
+byte : (serial : ℕ) (received : Bool) → serial < 2 ^ 8 → (serial + (if received then 2 ^ 8 else 0)) % 2 ^ 8 ≡ serial
+byte serial true fits = omega arith
+byte serial false fits = omega arith
 
--- devices in their ranges are equal if their parts are, the serial line's as one number
+bit : (serial : ℕ) (received : Bool) → serial < 2 ^ 8 → ((serial + (if received then 2 ^ 8 else 0)) / 2 ^ 8 == 1) ≡ received
+bit serial true fits = let one : (serial + 2 ^ 8) / 2 ^ 8 ≡ 1 = omega arith in rw one refl
+bit serial false fits = let none : (serial + 0) / 2 ^ 8 ≡ 0 = omega arith in rw none refl
+
+number : (serial : ℕ) (received : Bool) → serial < 2 ^ 8 → serial + (if received then 2 ^ 8 else 0) < 2 ^ 9
+number serial true low = omega arith
+number serial false low = omega arith
+
+-- devices are those of their parts
+pub devices_back : (d : DeviceState) → IsDeviceState d → state_of_parts d.timer d.rate d.phase d.switches d.leds d.mouse (serial_number d) d.keys ≡ d
+devices_back d fits =
+    let b = byte d.serial d.received fits.serial in
+    let r = bit d.serial d.received fits.serial in
+    λ i. record d { serial = b i; received = r i }
+
+-- the parts of devices are in their ranges
+pub parts_fit : (d : DeviceState) → IsDeviceState d → AreParts d.rate d.phase d.switches d.mouse (serial_number d) d.keys
+parts_fit d fits = record {
+  phase_fits = fits.phase;
+  switches_fit = fits.switches;
+  mouse_fits = fits.mouse;
+  serial_fits = number d.serial d.received fits.serial;
+  keys_fit = fits.keys;
+}
+
+-- devices in their ranges are equal if their parts are
 pub same_devices : (a b : DeviceState) → IsDeviceState a → IsDeviceState b → a.timer ≡ b.timer → a.rate ≡ b.rate → a.phase ≡ b.phase → a.switches ≡ b.switches → a.leds ≡ b.leds → a.mouse ≡ b.mouse → serial_number a ≡ serial_number b → a.keys ≡ b.keys → a ≡ b
 same_devices a b fits_a fits_b timer rate phase switches leds mouse serial keys =
-    let line : (a.serial ≡ b.serial) × (a.received ≡ b.received) = serial_parts a.serial b.serial a.received b.received fits_a.serial fits_b.serial serial in
-    let byte : a.serial ≡ b.serial = line.0 in
-    let received : a.received ≡ b.received = line.1 in
-    λ i. record { timer = timer i; rate = rate i; phase = phase i; switches = switches i; leds = leds i; mouse = mouse i; serial = byte i; received = received i; keys = keys i }
+    sym (devices_back a fits_a) ∙ (λ i. state_of_parts (timer i) (rate i) (phase i) (switches i) (leds i) (mouse i) (serial i) (keys i)) ∙ devices_back b fits_b
