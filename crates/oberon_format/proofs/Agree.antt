@@ -1,5 +1,6 @@
 -- An encoding of parts has their fields, and so their first fault.
-use Rattle.oberon_format.proofs.Common.{[], add-zero, All, All-from_recursion, ap, ap₂, AreFormed, AreWritable, arith, AUXILIARY_AT, change_bytes, change_count, CHANGE_LEN, change_of, change_offset, changes, CHANGES_AT, changes_in, checkpoint_at, checkpoint_bytes, checkpoint_fields, checkpoint_of, checkpoint_size, CheckpointParts, checkpoints, common_bytes, drop, encoding, Event, event_bytes, event_fields, event_of, event_offset, event_start, events, field_words, fields_in, fields_of, first_broken, first_fault_of, FIRST_VERSION, flat_map, get_or, get_or-map, get_or_default, header_bytes, HEADER_LEN, if◌then◌else◌, inl, inr, is_version, IsUnclocked, IsWritable, key_bytes, KEYS_AT, KIND_AT, kind_fits, kind_of, later_word, later_words, length, length-append, List, long_at, long_bytes, named_len, nat_le, no_change, no_checkpoint, no_event, number_after, number_before, output_of, page_at, page_number_of, page_offset, pages, PHASE_AT, PLACES, RATE_AT, RecordingParts, refl, REGISTERS_AT, SENT_AT, slice_index, slice_range, start, start_in, subst, suc, sym, TABLE_AT, table_before, tail_bytes, take, true, value_fits, value_of, VERSION, version, word_at, words_bytes, words_from, zero, ℕ, ◌*◌, ◌++◌, ◌+◌, ◌-◌, ◌<◌, ◌==◌, ◌^◌, ◌∙◌, ◌∷◌, ◌≡◌, ◌≤◌}
+use Rattle.oberon_format.proofs.Common.{[], add-zero, All, All-from_recursion, ap, ap₂, AreFormed, AreWritable, arith, AUXILIARY_AT, change_bytes, change_count, CHANGE_LEN, change_of, change_offset, changes, CHANGES_AT, changes_in, checkpoint_at, checkpoint_bytes, checkpoint_fields, checkpoint_of, checkpoint_size, CheckpointParts, checkpoints, clock_words, common_bytes, drop, encoding, Event, event_bytes, event_fields, event_of, event_offset, event_start, events, field_words, fields_in, fields_of, first_broken, first_fault_of, FIRST_VERSION, flat_map, get_or, get_or-map, get_or_default, header_bytes, HEADER_LEN, if◌then◌else◌, inl, inr, is_version, IsUnclocked, IsWritable, key_bytes, KEYS_AT, KIND_AT, kind_fits, kind_of, later_word, later_words, length, length-append, List, long_at, long_bytes, named_len, nat_le, no_change, no_checkpoint, no_event, number_after, number_before, output_of, page_at, page_number_of, page_offset, pages, PLACES, RATE_AT, RecordingParts, refl, REGISTERS_AT, SENT_AT, slice_index, slice_range, start, start_in, subst, suc, sym, TABLE_AT, table_before, tail_bytes, take, true, value_fits, value_of, VERSION, version, word_at, words_bytes, words_from, zero, ℕ, ◌*◌, ◌++◌, ◌+◌, ◌-◌, ◌<◌, ◌==◌, ◌^◌, ◌∙◌, ◌∷◌, ◌≡◌, ◌≤◌}
+use Rattle.std.proofs.lemmas.List.{get_or_append_left}
 use Rattle.oberon_format.specs.Rules.{rules}
 use Rattle.oberon_format.proofs.Bytes.{HasBytes, bytes_left, bytes_right, long_read, words_read, word_of, parts_read, length-long_bytes, length-words_bytes}
 use Rattle.oberon_format.proofs.ChangeLemmas.{change_in, changes_few, changes-make, after-same}
@@ -7,7 +8,7 @@ use Rattle.oberon_format.proofs.Encoded.{AreAt, encoding_parts, length-encoding,
 use Rattle.oberon_format.proofs.PartLemmas.{member, table_next}
 use Rattle.oberon_format.proofs.RuleLemmas.{version_cases}
 use Rattle.oberon_format.proofs.SameFields.{SameFields, mixed, same_rules, same_size}
-use Rattle.oberon_format.proofs.TextLemmas.{number_first, number_second, numbers_none}
+use Rattle.oberon_format.proofs.TextLemmas.{later_first, later_second, number_first, number_second, numbers_none}
 use Rattle.oberon_format.specs.declared.fault.Fault.TheVariants as fault
 
 -- an event at an offset has its fields there
@@ -71,8 +72,7 @@ later_is_at v text p before c fits second s =
 
 -- the fields that only version 2 has
 pub record HasLater (v : ℕ) (text : List ℕ) (p : ℕ) (before : List ℕ) (c : CheckpointParts) : Type 0 where
-  pub rate : later_word text (p + RATE_AT) ≡ c.devices.rate
-  pub phase : later_word text (p + PHASE_AT) ≡ c.devices.phase
+  pub clock : (i : ℕ) → i < length (clock_words c.devices) → later_word text (p + (RATE_AT + 4 * i)) ≡ slice_index (clock_words c.devices) i
   pub count : change_count text p ≡ changes_in v before c
 
 later_agrees : (v : ℕ) (text : List ℕ) (p : ℕ) (before : List ℕ) (c : CheckpointParts) → is_version v ≡ true → version text ≡ v → IsWritable c
@@ -80,16 +80,24 @@ later_agrees : (v : ℕ) (text : List ℕ) (p : ℕ) (before : List ℕ) (c : Ch
 unfolding words_from
 later_agrees v text p before c known of fits unclocked s =
     elim (version_cases v known) [
-      | inl first ↦ let none = unclocked first in record { rate = rw (of, first) (sym none.rate); phase = rw (of, first) (sym none.phase); count = rw (of, first) refl }
+      | inl first ↦ record {
+        clock = λ i lt. later_first text (p + (RATE_AT + 4 * i)) (of ∙ first) ∙ sym ((unclocked first).zeros i 0 lt);
+        count = rw (of, first) refl;
+      }
       | inr second ↦
           let words = words_bytes (later_words before c) in
           let cs = flat_map change_bytes (changes before c.table) in
-          let later = words_read text p RATE_AT (p + RATE_AT) 3 (later_words before c) refl refl (later_wide before c fits (omega (arith, changes_few before c.table)))
+          let n = length (later_words before c) in
+          let count = length (changes before c.table) in
+          let later = words_read text p RATE_AT (p + RATE_AT) n (later_words before c) refl refl (later_wide before c fits (omega (arith, changes_few before c.table)))
           (bytes_left text (p + RATE_AT) words cs (later_is_at v text p before c fits second s)) in
+          let word : (i : ℕ) → i < n → later_word text (p + (RATE_AT + 4 * i)) ≡ slice_index (later_words before c) i = λ i lt.
+          later_second text (p + (RATE_AT + 4 * i)) (of ∙ second) ∙ sym (word_of text p RATE_AT n i 0 lt) ∙ ap (λ (ws : List ℕ). slice_index ws i) later in
+          let all : length (later_words before c) ≡ length (clock_words c.devices) + 1 = length-append (clock_words c.devices) (count ∷ []) in
+          let last : change_count text p ≡ count = word (length (clock_words c.devices)) (omega arith) in
           record {
-            rate = rw (of, second) (ap (λ (ws : List ℕ). slice_index ws 0) later);
-            phase = rw (of, second) (ap (λ (ws : List ℕ). slice_index ws 1) later);
-            count = rw (of, second) (ap (λ (ws : List ℕ). slice_index ws 2) later);
+            clock = λ i lt. word i (omega arith) ∙ get_or_append_left (clock_words c.devices) (count ∷ []) 0 i lt;
+            count = last ∙ rw second refl;
           }
     ]
 
@@ -111,8 +119,8 @@ checkpoint_agrees v text p before c front later =
       waiting = word 9 i;
       keys = front.keys i;
       output = front.sent i;
-      rate = later.rate i;
-      phase = later.phase i;
+      rate = later.clock 0 (omega arith) i;
+      phase = later.clock 1 (omega arith) i;
       changes = later.count i;
     }
 

@@ -40,7 +40,7 @@ unfoldable pub use Rattle.risc_pages.specs.Tables.{zero_numbers}
 pub use Rattle.risc_pages.specs.Tables.{IsTable}
 unfoldable pub use Rattle.oberon_format.specs.Changes.{changes, changes_below, no_change, number_after}
 pub use Rattle.oberon_format.specs.CheckpointParts.{CheckpointParts, checkpoint_parts, key_bytes, no_checkpoint}
-unfoldable pub use Rattle.oberon_format.specs.Encoding.{change_bytes, checkpoint_bytes, checkpoints_bytes, common_bytes, encoding, event_bytes, field_words, header_bytes, later_words, long_bytes, tail_bytes, word_bytes, words_bytes}
+unfoldable pub use Rattle.oberon_format.specs.Encoding.{change_bytes, checkpoint_bytes, checkpoints_bytes, clock_words, common_bytes, encoding, event_bytes, field_words, header_bytes, later_words, long_bytes, tail_bytes, word_bytes, words_bytes}
 unfoldable pub use Rattle.oberon_format.specs.Fields.{total}
 pub use Rattle.oberon_format.specs.Fields.{EventFields, Fields, sent_below}
 unfoldable pub use Rattle.oberon_format.specs.FirstFault.{each, first_broken, Rule}

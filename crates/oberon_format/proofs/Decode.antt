@@ -1,5 +1,5 @@
 -- What the reader makes of a file without a fault is the recording that the file encodes.
-use Rattle.oberon_format.proofs.Common.{[], add-zero, All, All-drop, All-take, ap, AreBytes, AreFormed, AreOrdered, ArePages, AreWritable, arith, AUXILIARY_AT, before_count, between_none, cases_lt, Change, change_bytes, change_count, CHANGE_COUNT_AT, CHANGE_LEN, change_of, change_offset, changes, CHANGES_AT, changes_in, checkpoint_at, checkpoint_bytes, checkpoint_of, checkpoint_size, CheckpointParts, checkpoints, CHECKPOINTS_AT, checkpoints_at, common_bytes, count_before, COUNTER_AT, decoded, drop, EachAt, Event, event_bytes, event_floor, event_offset, event_rules, events, EVENTS_AT, field_words, fields_of, fill_by_all, first_fault_of, FIRST_VERSION, FLAGS_AT, flat_map, get_or, get_or-map, get_or-map-range_with_len, get_or_default, get_or_past, HasNumbers, header_bytes, if◌then◌else◌, inl, inr, IsEventAt, IsFormed, IsLawful, IsPage, IsUnclocked, IsWritable, key_bytes, KEYS_AT, KIND_AT, kind_of, later_word, later_words, leb-true, LEDS_AT, length, length-append, length-between, length-map-range_with_len, List, little_from-lt, long_at, long_bytes, map-range_with_len_more, MAX_COUNT, Meets, MOUSE_AT, no_change, no_checkpoint, NUMBER_AT, number_back, number_before, output_of, output_offset, page_at, page_number_of, page_number_offset, page_offset, pages, PAGES_AT, pages_at, PHASE_AT, place_floor, PLACES, prior_number, RATE_AT, RecordingParts, refl, REGISTERS_AT, SENT_AT, SERIAL_AT, slice_index, slice_range, start, start_in, STOP_AT, subst, suc, SWITCHES_AT, sym, TABLE_AT, table_at, table_before, tail_bytes, take, Text, TIMER_AT, value_of, VERSION, version, WAITING_AT, word_at, words_bytes, words_from, zero, ℕ, ◌*◌, ◌++◌, ◌+◌, ◌-◌, ◌<◌, ◌==◌, ◌^◌, ◌∙◌, ◌∷◌, ◌≡◌, ◌≤◌}
+use Rattle.oberon_format.proofs.Common.{[], add-zero, All, All-drop, All-from_recursion, All-take, ap, AreBytes, AreFormed, AreOrdered, ArePages, AreWritable, arith, AUXILIARY_AT, before_count, between_none, cases_lt, Change, change_bytes, change_count, CHANGE_COUNT_AT, CHANGE_LEN, change_of, change_offset, changes, CHANGES_AT, changes_in, checkpoint_at, checkpoint_bytes, checkpoint_of, checkpoint_size, CheckpointParts, checkpoints, CHECKPOINTS_AT, checkpoints_at, clock_words, common_bytes, count_before, COUNTER_AT, decoded, drop, EachAt, Event, event_bytes, event_floor, event_offset, event_rules, events, EVENTS_AT, field_words, fields_of, fill_by_all, first_fault_of, FIRST_VERSION, FLAGS_AT, flat_map, get_or, get_or-map, get_or-map-range_with_len, get_or_default, get_or_past, HasNumbers, header_bytes, if◌then◌else◌, inl, inr, IsEventAt, IsFormed, IsLawful, IsPage, IsUnclocked, IsWritable, key_bytes, KEYS_AT, KIND_AT, kind_of, later_word, later_words, leb-true, LEDS_AT, length, length-append, length-between, length-map-range_with_len, List, little_from-lt, long_at, long_bytes, map-range_with_len_more, MAX_COUNT, Meets, MOUSE_AT, no_change, no_checkpoint, NUMBER_AT, number_back, number_before, output_of, output_offset, page_at, page_number_of, page_number_offset, page_offset, pages, PAGES_AT, pages_at, place_floor, PLACES, prior_number, RATE_AT, RecordingParts, refl, REGISTERS_AT, SENT_AT, SERIAL_AT, slice_index, slice_range, start, start_in, STOP_AT, subst, suc, SWITCHES_AT, sym, TABLE_AT, table_at, table_before, tail_bytes, take, Text, TIMER_AT, value_of, VERSION, version, WAITING_AT, word_at, words_bytes, words_from, zero, ℕ, ◌*◌, ◌++◌, ◌+◌, ◌-◌, ◌<◌, ◌==◌, ◌^◌, ◌∙◌, ◌∷◌, ◌≡◌, ◌≤◌}
 use Rattle.risc_model.specs.InputOrder.{count_at}
 use Rattle.oberon_format.proofs.ChangeLemmas.{AreLawful, after-bounded, after-same, change_in, lawful-are}
 use Rattle.oberon_format.proofs.PartLemmas.{member, table_next}
@@ -213,10 +213,9 @@ module _ (text : List ℕ) (bytes : AreBytes text) (meets : Meets text) where
         let there = changes_there text k meets lt second in
         let cs = changes before c.table in let are = changes_are second before has in let len = are.0 in
         let room = common_there text k meets lt in
-        let rate = sym (later_second text (o + RATE_AT) second) in
-        let phase = sym (later_second text (o + PHASE_AT) second) in
-        let count = sym (later_second text (o + CHANGE_COUNT_AT) second) ∙ sym len in
-        let words : words_from text o RATE_AT 3 ≡ later_words before c = λ i. rate i ∷ phase i ∷ count i ∷ [] in
+        let word : (i : ℕ) → word_at text (o + (RATE_AT + 4 * i)) ≡ later_word text (o + (RATE_AT + 4 * i)) = λ i.
+        sym (later_second text (o + (RATE_AT + 4 * i)) second) in
+        let words : words_from text o RATE_AT 3 ≡ later_words before c = λ i. word 0 i ∷ word 1 i ∷ (word 2 ∙ sym len) i ∷ [] in
         let later = subst (λ (ws : List ℕ). HasBytes text (o + RATE_AT) (words_bytes ws)) words (words_back text o RATE_AT (o + RATE_AT) 3 refl each_byte (omega arith)) in
         let each : EachAt (λ i x. HasBytes text (o + CHANGES_AT + CHANGE_LEN * i) (change_bytes x)) cs = λ i d less.
         (let at = change_offset o i in
@@ -249,7 +248,9 @@ module _ (text : List ℕ) (bytes : AreBytes text) (meets : Meets text) where
         ]
 
     unclocked : v ≡ FIRST_VERSION → IsUnclocked c
-    unclocked first = record { rate = later_first text (o + RATE_AT) first; phase = later_first text (o + PHASE_AT) first }
+    unclocked first =
+        let word : (i : ℕ) → later_word text (o + (RATE_AT + 4 * i)) ≡ 0 = λ i. later_first text (o + (RATE_AT + 4 * i)) first in
+        record { zeros = All-from_recursion (λ x. x ≡ 0) (clock_words c.devices) (word 0, (word 1, tt)) }
 
   -- the checkpoints
   length-checkpoints_at : (n : ℕ) → length (checkpoints_at text n) ≡ n

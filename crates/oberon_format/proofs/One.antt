@@ -1,5 +1,5 @@
 -- A file is that of at most one recording: an encoding determines what it encodes, and where it ends.
-use Rattle.oberon_format.proofs.Common.{[], All, ap, AreWritable, arith, checkpoint_at, CheckpointParts, DeviceState, drop, drop_at, Event, field_words, FIRST_VERSION, Flags, flags_back, flags_number, flags_of, get_or, get_or_default, Input, is_version, IsUnclocked, key_bytes, length, List, MAX_KEYS, no_checkpoint, output_of, props, RecordingParts, refl, replicate, same_devices, same_input, same_lists, slice_index, start, start_in, subst, suc, sym, take, take_at, Text, TextIn, true, version, zero, ℕ, ◌-◌, ◌<◌, ◌^◌, ◌∙◌, ◌∷◌, ◌≡◌}
+use Rattle.oberon_format.proofs.Common.{[], All, ap, AreWritable, arith, checkpoint_at, CheckpointParts, clock_words, DeviceState, drop, drop_at, Event, field_words, FIRST_VERSION, Flags, flags_back, flags_number, flags_of, get_or, get_or_default, Input, is_version, IsUnclocked, key_bytes, length, List, MAX_KEYS, no_checkpoint, output_of, props, RecordingParts, refl, replicate, same_devices, same_input, same_lists, slice_index, start, start_in, subst, suc, sym, take, take_at, Text, TextIn, true, version, zero, ℕ, ◌-◌, ◌<◌, ◌^◌, ◌∙◌, ◌∷◌, ◌≡◌}
 use Rattle.oberon_format.proofs.Agree.{version_of, pages_are, events_are, checkpoints_are, page_is, event_is, start_is, later, common, numbers_agree}
 use Rattle.oberon_format.proofs.Encoded.{AreAt, text_parts, writable}
 
@@ -71,9 +71,11 @@ module _ (v : ℕ) (text : List ℕ) (r s : RecordingParts) (known : is_version 
       let later_x = later v text r known fr a unclocked k lt in
       let later_y = later v text s known fs b unclocked' k lt' in
       let field : (i : ℕ) → slice_index (field_words c) i ≡ slice_index (field_words d) i = λ i. ap (λ (ws : List ℕ). slice_index ws i) (sym x.fields ∙ y.fields) in
+      let clock : (i : ℕ) → i < length (clock_words c.devices) → slice_index (clock_words c.devices) i ≡ slice_index (clock_words d.devices) i = λ i less.
+      sym (later_x.clock i less) ∙ later_y.clock i less in
       let registers = sym x.registers ∙ y.registers in
       let flags = same_flags c.cpu.flags d.cpu.flags (field 2) in
-      let devices = same_devices c.devices d.devices fc.devices fd.devices (field 4) (sym later_x.rate ∙ later_y.rate) (sym later_x.phase ∙ later_y.phase)
+      let devices = same_devices c.devices d.devices fc.devices fd.devices (field 4) (clock 0 (omega arith)) (clock 1 (omega arith))
       (field 5) (field 6) (field 7) (field 8) (same_keys c.devices d.devices (field 9) (sym x.keys ∙ y.keys)) in
       let count = fc.table.count in
       let table = same_lists c.table d.table (fc.table.count ∙ sym fd.table.count) (λ p e less.

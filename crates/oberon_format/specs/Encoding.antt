@@ -3,7 +3,7 @@ use Rattle.std.specs.Prelude.{ℕ, zero, suc, ◌==◌, if◌then◌else◌, Lis
 use Rattle.std.specs.List.{flat_map}
 use Rattle.byteorder.specs.Endian.{little_bytes}
 use Rattle.risc_core.specs.Flags.{flags_number}
-use Rattle.risc_devices.specs.DeviceState.{serial_number}
+use Rattle.risc_devices.specs.DeviceState.{DeviceState, serial_number}
 use Rattle.risc_devices.specs.Input.{kind_of, value_of}
 use Rattle.risc_model.specs.declared.event.Event.{Event}
 use Rattle.oberon_format.specs.declared.layout.TheConstants.{MAGIC, FIRST_VERSION}
@@ -49,9 +49,13 @@ common_bytes c =
 unfoldable pub change_bytes : Change → List ℕ
 change_bytes change = words_bytes (change.place ∷ change.number ∷ [])
 
--- the fields that only version 2 has: the rate and the phase of the timer, and the number of changes from a table
+-- the parts of the devices that only version 2 has a word for: the rate and the phase of the timer
+abbrev pub clock_words : DeviceState → List ℕ
+clock_words d = d.rate ∷ d.phase ∷ []
+
+-- the fields that only version 2 has: these words, and the number of changes from a table
 abbrev pub later_words : List ℕ → CheckpointParts → List ℕ
-later_words before c = c.devices.rate ∷ c.devices.phase ∷ length (changes before c.table) ∷ []
+later_words before c = clock_words c.devices ++ (length (changes before c.table) ∷ [])
 
 -- the rest of a checkpoint: its table in version 1; in version 2 these fields, and the changes from the table before
 unfoldable pub tail_bytes : ℕ → List ℕ → CheckpointParts → List ℕ

@@ -2,17 +2,15 @@
 use Rattle.std.specs.Prelude.{ℕ, true, ◌≡◌, ◌<◌, ◌^◌, List, All}
 use Rattle.oberon_format.specs.declared.layout.TheConstants.{FIRST_VERSION}
 use Rattle.oberon_format.specs.CheckpointParts.{CheckpointParts}
-use Rattle.oberon_format.specs.Encoding.{encoding}
+use Rattle.oberon_format.specs.Encoding.{clock_words, encoding}
 use Rattle.oberon_format.specs.Ranges.{is_version}
 use Rattle.oberon_format.specs.Recording.{RecordingParts, IsLawful}
 
--- the timer of a checkpoint has rate and phase 0
+-- the parts of a checkpoint that only version 2 has a word for are 0
 pub record IsUnclocked (c : CheckpointParts) : Type 0 where
-  pub rate : c.devices.rate ≡ 0
-  pub phase : c.devices.phase ≡ 0
+  pub zeros : All (λ word. word ≡ 0) (clock_words c.devices)
 
--- the bytes are the encoding of a lawful recording in a known version. Version 1 has no field for the rate and the phase of a
--- timer, so both are 0
+-- the bytes are the encoding of a lawful recording in a known version. Version 1 has no field for some parts, so these are 0
 pub record TextIn (version : ℕ) (text : List ℕ) (r : RecordingParts) : Type 0 where
   pub lawful : IsLawful r
   pub known : is_version version ≡ true
