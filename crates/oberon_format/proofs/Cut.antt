@@ -242,7 +242,7 @@ module _ (n : ℕ) (text : List ℕ) (over : LONGEST_TEXT < n) (within : n ≤ l
 pub first_fault_of-take : (n : ℕ) (text : List ℕ) → LONGEST_TEXT < n → n ≤ length text → first_fault_of (take n text) ≡ first_fault_of text
 first_fault_of-take n text over within = same_rules (fields_of (take n text)) (fields_of text) (agree n text over within)
 
--- the longest file has 118,310,056 bytes: 24 of the header, 65,536 pages, 1,000,000 events, 4,097 checkpoints that change each
+-- the longest file has a header, 65,536 pages, 1,000,000 events, 4,097 checkpoints that change each
 -- slot of the table, and the output
 pub text_within : (text : List ℕ) (r : RecordingParts) → Text text r → length text ≤ LONGEST_TEXT
 text_within text r some =
