@@ -1,5 +1,5 @@
 -- A recording's next checkpoint, in the words of a caller.
-use Rattle.std.proofs.Common.{◌≡◌, ◌∙◌, ℕ, List, [], ◌∷◌, ap, inr, map, refl, subst, sym}
+use Rattle.std.proofs.Common.{◌≡◌, ◌==◌, ◌∙◌, if◌then◌else◌, ℕ, List, [], ◌∷◌, ap, inr, map, refl, subst, sym}
 use Rattle.risc_devices.proofs.InputLemmas.{same_input}
 use Rattle.risc_model.specs.declared.event.Event.{Event}
 use Rattle.oberon_format.proofs.One.{same_event}
@@ -17,7 +17,7 @@ use Rattle.galluspa.specs.declared.extend.Unrecorded.{Unrecorded}
 use Rattle.galluspa.specs.declared.extend.Unrecorded.TheVariants as refusal
 use Rattle.galluspa.specs.declared.raw.RawState.{RawState}
 use Rattle.galluspa.specs.declared.raw.RawInput.{RawInput}
-use Rattle.galluspa.specs.inner.Extending.{IsFull, IsMore, IsNoMore, IsUnextended}
+use Rattle.galluspa.specs.inner.Extending.{IsFull, IsMore, IsNoMore, IsUnextended, code_of}
 
 same-one : (e f : Event) → raw_input e ≡ raw_input f → e ≡ f
 same-one e f same =
@@ -101,3 +101,34 @@ module _ (text : List ℕ) (inputs : List RawInput) (events : List Event) (state
   unextended one refusal.Output full = too-much ExtendFault.Output full
   unextended one refusal.Pages full = too-much ExtendFault.Pages full
   unextended one refusal.Memory none = tt
+
+-- the refusal with a code
+abbrev pub refusal_of : ℕ → Unrecorded
+refusal_of n =
+    if n == 1 then refusal.Range
+    else if n == 4 then refusal.NoRecording
+    else if n == 6 then refusal.Inputs
+    else if n == 7 then refusal.Checkpoints
+    else if n == 8 then refusal.Output
+    else if n == 9 then refusal.Pages
+    else refusal.Memory
+
+refusal-coded : (why : Unrecorded) → refusal_of (code_of why) ≡ why
+refusal-coded refusal.Range = refl
+refusal-coded refusal.NoRecording = refl
+refusal-coded refusal.Inputs = refl
+refusal-coded refusal.Checkpoints = refl
+refusal-coded refusal.Output = refl
+refusal-coded refusal.Pages = refl
+refusal-coded refusal.Memory = refl
+
+-- a refusal with a code is the one of this number
+pub refusal-by : (why : Unrecorded) (code : ℕ) → code ≡ code_of why → (n : ℕ) → code ≡ n → why ≡ refusal_of n
+refusal-by why code coded n same = sym (refusal-coded why) ∙ ap refusal_of (sym coded ∙ same)
+
+-- a code says why a recording is not extended
+pub unextended-by : (text : List ℕ) (inputs : List RawInput) (state : RawState) (words sent : List ℕ) (why : Unrecorded)
+    → IsUnextended text inputs state words sent why → (code : ℕ) → code ≡ code_of why → (n : ℕ) → code ≡ n
+    → IsUnextended text inputs state words sent (refusal_of n)
+unextended-by text inputs state words sent why is code coded n same =
+    subst (IsUnextended text inputs state words sent) (refusal-by why code coded n same) is

@@ -7,7 +7,7 @@ ghost use Rattle.galluspa.specs.Claim.{IsNoRecording};
 ghost use Rattle.galluspa.specs.Extend.{CanBegin, CanFollow, DoesNotFollow, HasTooMuch, IsBeginning, IsExtension, claim_of};
 ghost use Rattle.galluspa.specs.Raw.{AreInOrder, IsWhole};
 ghost use Rattle.galluspa.specs.Room.{NeedsRoom};
-ghost use Rattle.galluspa.specs.inner.Extending.{IsMore, IsNoMore, IsUnextended, unextended};
+ghost use Rattle.galluspa.specs.inner.Extending.{IsMore, IsNoMore, IsUnextended, code_of, unextended};
 
 use crate::advance::inputs_of;
 use crate::front::copy_to_front;
@@ -39,6 +39,25 @@ pub enum Unrecorded {
     Pages,
     /// An allocation failed.
     Memory,
+}
+
+impl Unrecorded {
+    /// Returns the number that a caller in C gets.
+    fn code(self) -> u8
+        ensures code { result ≡ code_of self }
+        ensures refused { (result ≡ OUT_OF_RANGE) ⊎ (OUT_OF_MEMORY ≤ result) }
+        ensures codes { result ≤ TOO_MANY_PAGES }
+    {
+        match self {
+            Unrecorded::Range => OUT_OF_RANGE,
+            Unrecorded::NoRecording => NO_RECORDING,
+            Unrecorded::Inputs => TOO_MANY_INPUTS,
+            Unrecorded::Checkpoints => TOO_MANY_CHECKPOINTS,
+            Unrecorded::Output => TOO_MUCH_OUTPUT,
+            Unrecorded::Pages => TOO_MANY_PAGES,
+            Unrecorded::Memory => OUT_OF_MEMORY,
+        }
+    }
 }
 
 /// Returns the claim of a state with its words and the bytes that were sent, if its numbers are in their ranges.
@@ -246,12 +265,6 @@ pub extern "C" fn galluspa_extend(
 {
     match extension(alloc, text, inputs, state, words, sent) {
         Ok(bytes) => put(&bytes, out, out_count),
-        Err(Unrecorded::Range) => OUT_OF_RANGE,
-        Err(Unrecorded::NoRecording) => NO_RECORDING,
-        Err(Unrecorded::Inputs) => TOO_MANY_INPUTS,
-        Err(Unrecorded::Checkpoints) => TOO_MANY_CHECKPOINTS,
-        Err(Unrecorded::Output) => TOO_MUCH_OUTPUT,
-        Err(Unrecorded::Pages) => TOO_MANY_PAGES,
-        Err(Unrecorded::Memory) => OUT_OF_MEMORY,
+        Err(refusal) => refusal.code(),
     }
 }

@@ -9,6 +9,7 @@ use Rattle.oberon_session.specs.declared.extend_fault.ExtendFault.{ExtendFault}
 use Rattle.oberon_session.specs.declared.extend_fault.ExtendFault.TheVariants as fault
 use Rattle.galluspa.specs.declared.extend.Unrecorded.{Unrecorded}
 use Rattle.galluspa.specs.declared.extend.Unrecorded.TheVariants as refusal
+use Rattle.galluspa.specs.declared.refusal.TheConstants.{NO_RECORDING, OUT_OF_MEMORY, OUT_OF_RANGE, TOO_MANY_CHECKPOINTS, TOO_MANY_INPUTS, TOO_MANY_PAGES, TOO_MUCH_OUTPUT}
 use Rattle.galluspa.specs.declared.raw.RawState.{RawState}
 use Rattle.galluspa.specs.declared.raw.RawInput.{RawInput}
 use Rattle.galluspa.specs.Claim.{IsNoRecording}
@@ -56,3 +57,13 @@ IsUnextended text inputs state words sent refusal.Checkpoints = HasTooMuch text 
 IsUnextended text inputs state words sent refusal.Output = HasTooMuch text inputs state words sent ExtendFault.Output
 IsUnextended text inputs state words sent refusal.Pages = HasTooMuch text inputs state words sent ExtendFault.Pages
 IsUnextended text inputs state words sent refusal.Memory = ⊤
+
+-- the number that a caller in C gets
+abbrev pub code_of : Unrecorded → ℕ
+code_of refusal.Range = OUT_OF_RANGE
+code_of refusal.NoRecording = NO_RECORDING
+code_of refusal.Inputs = TOO_MANY_INPUTS
+code_of refusal.Checkpoints = TOO_MANY_CHECKPOINTS
+code_of refusal.Output = TOO_MUCH_OUTPUT
+code_of refusal.Pages = TOO_MANY_PAGES
+code_of refusal.Memory = OUT_OF_MEMORY

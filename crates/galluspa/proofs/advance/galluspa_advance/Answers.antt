@@ -1,9 +1,8 @@
 use Rattle.std.proofs.Common.{arith}
-use Rattle.std.proofs.lemmas.Grind.{common_steps}
 use Rattle.galluspa.proofs.advance.galluspa_advance.Goals as goal
 
 pub returns-in-Ok-clause-run : goal.returns-in-Ok-clause-run
-returns-in-Ok-clause-run c = grind (arith, common_steps)
+returns-in-Ok-clause-run c = search arith
 
 pub returns-in-Err-Room-clause-range : goal.returns-in-Err-Room-clause-range
 returns-in-Err-Room-clause-range c = search arith

@@ -1,6 +1,6 @@
 use Rattle.std.proofs.Common.{◌∙◌, List, subst, sym, arith}
-use Rattle.oberon_check.specs.Segment.{Finding}
 use Rattle.std.proofs.lemmas.Grind.{common_steps}
+use Rattle.oberon_check.specs.Segment.{Finding}
 use Rattle.galluspa.specs.inner.Replaying.{AreFirst}
 use Rattle.galluspa.proofs.FirstLemmas.{first_more}
 use Rattle.galluspa.proofs.check.replay_into.Goals as goal

@@ -1,6 +1,8 @@
-use Rattle.std.proofs.Common.{◌∙◌, arith, subst, sym}
+use Rattle.std.proofs.Common.{◌∙◌, ap, arith, subst, sym}
 use Rattle.galluspa.specs.Extend.{IsExtension}
-use Rattle.galluspa.specs.inner.Extending.{IsUnextended}
+use Rattle.galluspa.specs.declared.refusal.TheConstants.{NO_RECORDING, OUT_OF_RANGE, TOO_MANY_CHECKPOINTS, TOO_MANY_INPUTS, TOO_MANY_PAGES, TOO_MUCH_OUTPUT}
+use Rattle.galluspa.specs.inner.Extending.{code_of}
+use Rattle.galluspa.proofs.ExtendLemmas.{refusal-by, unextended-by}
 use Rattle.galluspa.proofs.extend.galluspa_extend.Goals as goal
 
 pub returns-in-Ok-clause-extended : goal.returns-in-Ok-clause-extended
@@ -21,51 +23,41 @@ returns-in-Ok-clause-in_range c = λ _ _. c.in-Ok.ensures.follows
 pub returns-in-Ok-clause-ordered : goal.returns-in-Ok-clause-ordered
 returns-in-Ok-clause-ordered c = λ _ _. (c.in-Ok.ensures.follows.events, c.in-Ok.ensures.follows.are_events)
 
-pub returns-in-Err-Range-clause-range : goal.returns-in-Err-Range-clause-range
-returns-in-Err-Range-clause-range c = λ _.
-    subst (IsUnextended c.args.text.now c.args.inputs.now c.args.state.now c.args.words.now c.args.sent.now) c.in-Err-Range.field-0-is
-    c.in-Err-Range.ensures.refused
+pub returns-in-Err-clause-whole : goal.returns-in-Err-clause-whole
+returns-in-Err-clause-whole c = λ some. c.in-Err.ensures.whole (λ is. some (c.code.ensures.code ∙ ap code_of is))
 
-pub returns-in-Err-Range-clause-reason : goal.returns-in-Err-Range-clause-reason
-returns-in-Err-Range-clause-reason c = λ _. c.in-Err-Range.ensures.reason c.in-Err-Range.field-0-is
+pub returns-in-Err-clause-ordered : goal.returns-in-Err-clause-ordered
+returns-in-Err-clause-ordered c = λ some found. c.in-Err.ensures.ordered (λ is. some (c.code.ensures.code ∙ ap code_of is)) (λ is. found (c.code.ensures.code ∙ ap code_of is))
 
-pub returns-in-Err-NoRecording-clause-ordered : goal.returns-in-Err-NoRecording-clause-ordered
-returns-in-Err-NoRecording-clause-ordered c = λ _ _. c.in-Err-NoRecording.ensures.ordered (λ e. cc) (λ e. cc)
+pub returns-in-Err-clause-range : goal.returns-in-Err-clause-range
+returns-in-Err-clause-range c =
+    unextended-by c.args.text.now c.args.inputs.now c.args.state.now c.args.words.now c.args.sent.now c.in-Err.refusal c.in-Err.ensures.refused
+    c.code.result c.code.ensures.code OUT_OF_RANGE
 
-pub returns-in-Err-Inputs-clause-ordered : goal.returns-in-Err-Inputs-clause-ordered
-returns-in-Err-Inputs-clause-ordered c = λ _ _. c.in-Err-Inputs.ensures.ordered (λ e. cc) (λ e. cc)
+pub returns-in-Err-clause-reason : goal.returns-in-Err-clause-reason
+returns-in-Err-clause-reason c = λ is. c.in-Err.ensures.reason (refusal-by c.in-Err.refusal c.code.result c.code.ensures.code OUT_OF_RANGE is)
 
-pub returns-in-Err-Inputs-clause-inputs : goal.returns-in-Err-Inputs-clause-inputs
-returns-in-Err-Inputs-clause-inputs c = λ _.
-    subst (IsUnextended c.args.text.now c.args.inputs.now c.args.state.now c.args.words.now c.args.sent.now) c.in-Err-Inputs.field-0-is
-    c.in-Err-Inputs.ensures.refused
+pub returns-in-Err-clause-no_recording : goal.returns-in-Err-clause-no_recording
+returns-in-Err-clause-no_recording c =
+    unextended-by c.args.text.now c.args.inputs.now c.args.state.now c.args.words.now c.args.sent.now c.in-Err.refusal c.in-Err.ensures.refused
+    c.code.result c.code.ensures.code NO_RECORDING
 
-pub returns-in-Err-Checkpoints-clause-whole : goal.returns-in-Err-Checkpoints-clause-whole
-returns-in-Err-Checkpoints-clause-whole c = λ _. c.in-Err-Checkpoints.ensures.whole (λ e. cc)
+pub returns-in-Err-clause-inputs : goal.returns-in-Err-clause-inputs
+returns-in-Err-clause-inputs c =
+    unextended-by c.args.text.now c.args.inputs.now c.args.state.now c.args.words.now c.args.sent.now c.in-Err.refusal c.in-Err.ensures.refused
+    c.code.result c.code.ensures.code TOO_MANY_INPUTS
 
-pub returns-in-Err-Checkpoints-clause-ordered : goal.returns-in-Err-Checkpoints-clause-ordered
-returns-in-Err-Checkpoints-clause-ordered c = λ _ _. c.in-Err-Checkpoints.ensures.ordered (λ e. cc) (λ e. cc)
+pub returns-in-Err-clause-checkpoints : goal.returns-in-Err-clause-checkpoints
+returns-in-Err-clause-checkpoints c =
+    unextended-by c.args.text.now c.args.inputs.now c.args.state.now c.args.words.now c.args.sent.now c.in-Err.refusal c.in-Err.ensures.refused
+    c.code.result c.code.ensures.code TOO_MANY_CHECKPOINTS
 
-pub returns-in-Err-Checkpoints-clause-checkpoints : goal.returns-in-Err-Checkpoints-clause-checkpoints
-returns-in-Err-Checkpoints-clause-checkpoints c = λ _.
-    subst (IsUnextended c.args.text.now c.args.inputs.now c.args.state.now c.args.words.now c.args.sent.now) c.in-Err-Checkpoints.field-0-is
-    c.in-Err-Checkpoints.ensures.refused
+pub returns-in-Err-clause-output : goal.returns-in-Err-clause-output
+returns-in-Err-clause-output c =
+    unextended-by c.args.text.now c.args.inputs.now c.args.state.now c.args.words.now c.args.sent.now c.in-Err.refusal c.in-Err.ensures.refused
+    c.code.result c.code.ensures.code TOO_MUCH_OUTPUT
 
-pub returns-in-Err-Output-clause-ordered : goal.returns-in-Err-Output-clause-ordered
-returns-in-Err-Output-clause-ordered c = λ _ _. c.in-Err-Output.ensures.ordered (λ e. cc) (λ e. cc)
-
-pub returns-in-Err-Output-clause-output : goal.returns-in-Err-Output-clause-output
-returns-in-Err-Output-clause-output c = λ _.
-    subst (IsUnextended c.args.text.now c.args.inputs.now c.args.state.now c.args.words.now c.args.sent.now) c.in-Err-Output.field-0-is
-    c.in-Err-Output.ensures.refused
-
-pub returns-in-Err-Pages-clause-ordered : goal.returns-in-Err-Pages-clause-ordered
-returns-in-Err-Pages-clause-ordered c = λ _ _. c.in-Err-Pages.ensures.ordered (λ e. cc) (λ e. cc)
-
-pub returns-in-Err-Pages-clause-output : goal.returns-in-Err-Pages-clause-output
-returns-in-Err-Pages-clause-output c = λ is. absurd (omega (arith, is))
-
-pub returns-in-Err-Pages-clause-pages : goal.returns-in-Err-Pages-clause-pages
-returns-in-Err-Pages-clause-pages c = λ _.
-    subst (IsUnextended c.args.text.now c.args.inputs.now c.args.state.now c.args.words.now c.args.sent.now) c.in-Err-Pages.field-0-is
-    c.in-Err-Pages.ensures.refused
+pub returns-in-Err-clause-pages : goal.returns-in-Err-clause-pages
+returns-in-Err-clause-pages c =
+    unextended-by c.args.text.now c.args.inputs.now c.args.state.now c.args.words.now c.args.sent.now c.in-Err.refusal c.in-Err.ensures.refused
+    c.code.result c.code.ensures.code TOO_MANY_PAGES
