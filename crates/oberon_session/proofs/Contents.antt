@@ -227,5 +227,5 @@ memory-stored base words old good pages content whole =
         → (page_at words p ≡ page_at base p → IsShown words (store_pages old (changed_pages base words)) p)
         → ((page_at words p ≡ page_at base p → ⊥) → IsShown words (store_pages old (changed_pages base words)) p)
         → IsShown words (store_pages old (changed_pages base words)) p
-    either p lt true told same other = same told
-    either p lt false told same other = other told
+    either p lt true is same other = same is
+    either p lt false is same other = other is
