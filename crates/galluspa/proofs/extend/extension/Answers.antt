@@ -23,7 +23,7 @@ returns-in-Ok-write-clause-follows c =
     c.in-Ok.ensures.events c.in-Some.ensures.count c.in-Some.ensures.outcome c.in_ok-more.more c.in_ok-more.ensures.more c.in-Some.ensures.whole
 
 pub returns-in-Err-Memory-clause-refused : goal.returns-in-Err-Memory-clause-refused
-returns-in-Err-Memory-clause-refused c = search arith
+returns-in-Err-Memory-clause-refused c = tt
 
 pub returns-in-Err-Memory-clause-reason : goal.returns-in-Err-Memory-clause-reason
 returns-in-Err-Memory-clause-reason c = search arith
