@@ -1,7 +1,7 @@
 -- Offsets of the parts of a file (this project's own format). Numbers are unsigned, lowest byte first, and offsets count bytes
 -- from 0. A file is a header of 24 bytes, pages of 1,024, events of 16, the checkpoints, and the output. A checkpoint of version
--- 1 has its whole table; one of version 2 has 8 bytes for each change of its table. The names of these lengths, and of the offsets
--- of fields, are in the code's module `layout`.
+-- 1 has 4,228 bytes; one of version 2 has 144, and 8 more for each change of its table. The names of these lengths, and of the
+-- offsets of fields, are in the code's module `layout`.
 use Rattle.std.specs.Prelude.{ℕ, zero, suc, ◌+◌, ◌*◌, ◌==◌, if◌then◌else◌, List}
 use Rattle.byteorder.specs.Endian.{little_from}
 use Rattle.oberon_format.specs.declared.layout.TheConstants.{FIRST_VERSION, HEADER_LEN, PAGE_LEN, EVENT_LEN, CHECKPOINT_LEN, CHANGE_LEN, VERSION_AT, PAGES_AT, EVENTS_AT, CHECKPOINTS_AT, TABLE_AT, CHANGE_COUNT_AT, CHANGES_AT}

@@ -65,8 +65,8 @@ impl CheckpointFields {
     ghost use Rattle.oberon_format.specs.Ranges.{in_ranges, are_keys, is_checkpoint};
     ghost use Rattle.oberon_format.specs.TextFields.{checkpoint_of};
 
-    /// Returns the fields of the checkpoint at an offset of a file. In either version as many bytes are there as come before the
-    /// changes of version 2, though not all of them are read.
+    /// Returns the fields of the checkpoint at an offset of a file. In either version 144 bytes are there, though not all of them
+    /// are read.
     pub(crate) fn of_text(text: &[u8], offset: usize) -> CheckpointFields
         requires { offset + CHANGES_AT ≤ length text.now }
         ensures { result ≡ checkpoint_of text.now offset }
