@@ -9,7 +9,7 @@ returns-in-Some c =
     let checkpoints = c.args.checkpoints.now in
     let rules = checkpoint_rules (fields_in VERSION (parts_of c.args.pool.now c.args.inputs.now checkpoints)) in
     let so_far = c.loop-k.invariant in
-    let here = rules_here c.args.pool.now c.args.inputs.now checkpoints c.loop-k.k c.index-checkpoints-k.result c.len-pages.result c.loop-k.offset c.loop-k.before c.loop-k.sent c.of_parts-fields.result c.table_before-table.result.now
+    let here = rules_here c.args.pool.now c.args.inputs.now checkpoints c.loop-k.k c.index-checkpoints-k.result c.len-pages.result c.loop-k.offset c.loop-k.before c.loop-k.sent c.of_parts-fields.result c.table_before-table.result.now.numbers
     c.loop-k-test.true c.index-checkpoints-k.is c.len-pages.ensures.count so_far.offset_is so_far.before_is so_far.sent_is c.table_before-table.ensures c.of_parts-fields.ensures in
     sym (each_broken rules c.loop-k.k (length checkpoints) c.in-Some.fault c.loop-k-test.true so_far.met (here.1 ∙ rw (sym c.fields_fault.ensures.fault, c.in-Some.is) refl))
 
@@ -18,7 +18,7 @@ returns-in-Some-changes_fault c =
     let checkpoints = c.args.checkpoints.now in
     let rules = checkpoint_rules (fields_in VERSION (parts_of c.args.pool.now c.args.inputs.now checkpoints)) in
     let so_far = c.loop-k.invariant in
-    let here = rules_here c.args.pool.now c.args.inputs.now checkpoints c.loop-k.k c.index-checkpoints-k.result c.len-pages.result c.loop-k.offset c.loop-k.before c.loop-k.sent c.of_parts-fields.result c.table_before-table.result.now
+    let here = rules_here c.args.pool.now c.args.inputs.now checkpoints c.loop-k.k c.index-checkpoints-k.result c.len-pages.result c.loop-k.offset c.loop-k.before c.loop-k.sent c.of_parts-fields.result c.table_before-table.result.now.numbers
     c.loop-k-test.true c.index-checkpoints-k.is c.len-pages.ensures.count so_far.offset_is so_far.before_is so_far.sent_is c.table_before-table.ensures c.of_parts-fields.ensures in
     sym (each_broken rules c.loop-k.k (length checkpoints) c.in-Some-changes_fault.fault c.loop-k-test.true so_far.met
     (here.1 ∙ rw (sym c.fields_fault.ensures.fault, c.in_default.is, sym c.changes_fault.ensures, c.in-Some-changes_fault.is) refl))
@@ -30,7 +30,7 @@ loop-k-preserved c =
     let f = fields_in VERSION r in
     let k = c.loop-k.k in
     let so_far = c.loop-k.invariant in
-    let here = rules_here c.args.pool.now c.args.inputs.now checkpoints k c.index-checkpoints-k.result c.len-pages.result c.loop-k.offset c.loop-k.before c.loop-k.sent c.of_parts-fields.result c.table_before-table.result.now
+    let here = rules_here c.args.pool.now c.args.inputs.now checkpoints k c.index-checkpoints-k.result c.len-pages.result c.loop-k.offset c.loop-k.before c.loop-k.sent c.of_parts-fields.result c.table_before-table.result.now.numbers
     c.loop-k-test.true c.index-checkpoints-k.is c.len-pages.ensures.count so_far.offset_is so_far.before_is so_far.sent_is c.table_before-table.ensures c.of_parts-fields.ensures in
     let fields : c.of_parts-fields.result ≡ f.checkpoint k = here.0 in
     record {

@@ -11,5 +11,5 @@ returns-else-is_first_version c =
     let is = later_by _ c.requires.meets.sized.known test in
     let count = change_count text c.args.offset in
     λ p lt.
-    numbers_next text k c.args.offset count c.args.table.now c.change_table.new.table c.requires.offset refl (λ q less. c.requires.table q less ∙ prior_is text k q is) c.change_table.ensures p lt
+    numbers_next text k c.args.offset count c.args.table.now.numbers c.change_table.new.table.numbers c.requires.offset refl (λ q less. c.requires.table q less ∙ prior_is text k q is) c.change_table.ensures p lt
     ∙ sym (number_second text k p is)

@@ -1,6 +1,6 @@
 use Rattle.std.proofs.Common.{◌≡◌, ◌/◌, ◌%◌, get_or, set, true, ap, arith}
 use Rattle.std.proofs.lemmas.List.{map-set}
-use Rattle.risc_pages.proofs.PlaceLemmas.{IsMemory-contents_of, base_set, words_set}
+use Rattle.risc_pages.proofs.PlaceLemmas.{base_set, words_set}
 use Rattle.risc_pages.specs.Contents.{Contents}
 use Rattle.risc_pages.specs.declared.place.Copied.{Copied}
 use Rattle.risc_pages.specs.declared.place.Place.{Place}
