@@ -1,7 +1,9 @@
 -- The page slots of a memory, and what they hold.
-use Rattle.std.proofs.Common.{◌≡◌, ℕ, ◌*◌, ◌/◌, ◌%◌, ◌<◌, ◌^◌, List, [], ◌∷◌, Bool, true, false, length, get_or, set, map, refl, ap, sym, subst, ◌∙◌, arith, take, drop}
-use Rattle.std.specs.List.{All, flat_map}
-use Rattle.std.proofs.lemmas.List.{length-map, map-set, set-set}
+use Rattle.std.proofs.Common.{◌≡◌, ℕ, ◌*◌, ◌/◌, ◌%◌, ◌<◌, ◌^◌, List, [], ◌∷◌, Bool, true, false, length, get_or, set, map, refl, ap, sym, subst, ◌∙◌, arith, take, drop, Option, Some}
+use Rattle.std.specs.List.{All, flat_map, slice_get}
+use Rattle.std.specs.Option.{option_map}
+use Rattle.std.proofs.lemmas.List.{length-map, map-set, set-get_or, set-set}
+use Rattle.std.proofs.lemmas.Option.{slice_get-map, slice_get_read}
 use Rattle.risc_pages.proofs.Paging.{All-pages, flat_map-set, flat_map-set_same, get_or-pages, length-pages, take-drop-pages}
 use Rattle.risc_pages.specs.Tables.{IsContent}
 use Rattle.risc_pages.specs.Contents.{Contents, IsMemory}
@@ -106,3 +108,25 @@ owned_taken places new w p base words owned view taken =
 pub base_taken : (places new : List Place) (w : ℕ) (p : Place) (words b : List ℕ) → length places ≡ 1024 → w < 262144 → p ≡ get_or places (w / 256) p → flat_map base_of places ≡ b → TakesCopy (set places (w / 256) p) new (w / 256) (base_of p) words → flat_map base_of new ≡ b
 base_taken places new w p words b count h is view taken =
     ap (λ (z : List Place). flat_map base_of z) (taken_items _ _ _ _ _ _ taken) ∙ base_set places (w / 256) p taken.own b (omega arith) is view taken.base_is
+
+-- a slot holds the page that was found there
+pub in_slot : (places : List Place) (i : ℕ) {p q : Place} → q ≡ get_or places i q → q ≡ p → p ≡ get_or places i p
+in_slot places i found is = subst (λ (z : Place). z ≡ get_or places i z) is found
+
+-- nothing changes if a slot gets back the page that was found there
+pub contents_kept : (places new : List Place) (i : ℕ) {p q : Place} {m : Contents} → q ≡ get_or places i q → q ≡ p → new ≡ set places i p
+    → contents_of places ≡ m → contents_of new ≡ m
+contents_kept places new i {p} found is same view =
+    ap (λ (z : List Place). contents_of z) (same ∙ ap (λ (z : Place). set places i z) (in_slot places i found is) ∙ set-get_or places i p) ∙ view
+
+-- the page that was found in a slot says whether the slot is owned
+pub owned_at : (places : List Place) (i : ℕ) {p q : Place} {m : Contents} → q ≡ get_or places i q → q ≡ p
+    → contents_of places ≡ m → length places ≡ 1024 → i < 1024 → slice_get m.owned i ≡ Some (is_owned p)
+owned_at places i {p} found is view count h =
+    ap (λ (m : Contents). slice_get m.owned i) (sym view)
+    ∙ slice_get-map is_owned places i
+    ∙ ap (λ (o : Option Place). option_map is_owned o) (slice_get_read places (length places) i p refl (omega arith) (in_slot places i found is))
+
+-- a slot is not both shared and owned
+pub owned_once : {o : Option Bool} → o ≡ Some false → o ≡ Some true → ⊥
+owned_once shared owned = cc

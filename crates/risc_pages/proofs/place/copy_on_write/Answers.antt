@@ -1,4 +1,5 @@
-use Rattle.std.proofs.Common.{refl, ap}
+use Rattle.std.proofs.Common.{◌<◌, ◌^◌, length-set, refl, ap, ◌∙◌}
+use Rattle.std.proofs.lemmas.List.Elements.{All-set}
 use Rattle.risc_pages.specs.declared.place.Copied.{Copied}
 use Rattle.risc_pages.specs.declared.place.Place.TheVariants.{Owned}
 use Rattle.risc_pages.proofs.place.copy_on_write.Goals as goal
@@ -10,4 +11,10 @@ returns-clause-ok c = record {
   owned = refl;
   content_is = ap (λ (z : Copied). z.page.words) c.in_ok-own.ensures.ok;
   base_is = ap (λ (z : Copied). z.base.now.words) c.in_ok-own.ensures.ok;
+}
+
+pub invariant_of-page : goal.invariant_of-page
+invariant_of-page c = record {
+  whole = length-set c.args.base.now.words c.args.index c.args.value ∙ c.args.base.now.whole;
+  fit = All-set (λ word. word < 2 ^ 32) c.args.base.now.words c.args.index c.args.value c.ranges.value.fits c.args.base.now.fit;
 }

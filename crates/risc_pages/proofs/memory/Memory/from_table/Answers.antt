@@ -1,7 +1,7 @@
-use Rattle.std.proofs.lemmas.Grind.{common_steps}
-use Rattle.std.proofs.Common.{◌≡◌, ℕ, ◌<◌, List, Bool, length, get_or, false, ap, ◌∙◌, arith, refl}
-use Rattle.std.proofs.lemmas.List.Elements.{All-map}
-use Rattle.risc_pages.proofs.Paging.{flat_map-same}
+use Rattle.std.proofs.Common.{◌≡◌, ℕ, ◌<◌, List, [], ◌∷◌, Bool, length, length-append, get_or, false, ap, sym, ◌∙◌, arith, refl}
+use Rattle.std.proofs.lemmas.List.{get_or_default}
+use Rattle.std.proofs.lemmas.List.Elements.{All-map, All-push}
+use Rattle.risc_pages.proofs.Paging.{flat_map-same, same_more}
 use Rattle.risc_pages.proofs.PlaceLemmas.{base_of-shared, IsContent-places, IsMemory-contents_of}
 use Rattle.risc_pages.specs.declared.place.Place.{Place}
 use Rattle.risc_pages.specs.Pages.{page_of}
@@ -45,4 +45,18 @@ pub returns-clause-memory : goal.returns-clause-memory
 returns-clause-memory c = IsMemory-contents_of c.loop-number.places.items _ (count c) refl
 
 pub loop-number-preserved : goal.loop-number-preserved
-loop-number-preserved c = grind (arith, common_steps)
+loop-number-preserved c =
+    let places = c.loop-number.places.items in
+    let count : length places ≡ c.loop-number.number-index = c.loop-number.invariant.count in
+    let numbers = c.numbers-numbers.result.now in
+    let more = length-append places (c.place.result ∷ []) in
+    let here = λ (e : ℕ).
+    c.place.ensures.words
+    ∙ ap (page_of c.args.pool.now) (get_or_default numbers c.loop-number.number-index 0 e c.loop-number-test.true)
+    ∙ ap (λ (k : ℕ). page_of c.args.pool.now (get_or numbers k e)) (sym count) in
+    rw c.push_reserved.ensures.items (record {
+      room = omega (arith, c.push_reserved.ensures.capacity);
+      count = omega (arith, more);
+      same = λ k d e h. same_more content (page_of c.args.pool.now) places numbers c.place.result c.loop-number.invariant.same here k d e (omega (arith, more));
+      shared = All-push (λ (p : Place). is_owned p ≡ false) _ _ c.loop-number.invariant.shared c.place.ensures.shared;
+    })
