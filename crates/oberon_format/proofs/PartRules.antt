@@ -37,13 +37,13 @@ pub rules_here : (pool : List (List ℕ)) (inputs : List Event) (checkpoints : L
     → offset ≡ start_in VERSION (parts_of pool inputs checkpoints) k → before ≡ count_before (fields_in VERSION (parts_of pool inputs checkpoints)) k
     → sent ≡ sent_below (fields_in VERSION (parts_of pool inputs checkpoints)) k → old ≡ table_before (map checkpoint_parts checkpoints) k
     → fields ≡ checkpoint_fields VERSION old (checkpoint_parts x) → (fields ≡ (fields_in VERSION (parts_of pool inputs checkpoints)).checkpoint k)
-    × (first_broken (checkpoint_rules (fields_in VERSION (parts_of pool inputs checkpoints)) k) ≡ encoded_fault pages offset k before sent fields old x.table)
+    × (first_broken (checkpoint_rules (fields_in VERSION (parts_of pool inputs checkpoints)) k) ≡ encoded_fault pages offset k before sent fields old x.table.numbers)
 rules_here pool inputs checkpoints k x pages offset before sent fields old lt is count at floor below table made =
     let r = parts_of pool inputs checkpoints in
     let here : checkpoint_at r k ≡ checkpoint_parts x = checkpoint_at-is checkpoints k x lt is in
     let own : fields ≡ (fields_in VERSION r).checkpoint k = made ∙ ap (λ (t : List ℕ). checkpoint_fields VERSION t (checkpoint_parts x)) table
     ∙ ap (λ (y : CheckpointParts). checkpoint_fields VERSION (table_before r.checkpoints k) y) (sym here) in
-    let new : x.table ≡ (checkpoint_at r k).table = ap (λ (y : CheckpointParts). y.table) (sym here) in
+    let new : x.table.numbers ≡ (checkpoint_at r k).table = ap (λ (y : CheckpointParts). y.table) (sym here) in
     let inside : k < length r.checkpoints = omega (arith, length-map checkpoints checkpoint_parts) in
     (own, rw (count, at, floor, below, table, new, own) (rules_encoded r k inside))
 

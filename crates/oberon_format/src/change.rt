@@ -37,7 +37,7 @@ impl Change {
     /// Reports whether the change is lawful after a table: its slot is at least `floor` and one of the table's, and its page id
     /// is at most the number of pages and differs from the one before.
     pub(crate) fn is_lawful(self, pages: u32, floor: u32, before: &Table) -> bool
-        ensures { result ≡ is_change pages floor (slice_index before.now) self }
+        ensures { result ≡ is_change pages floor (slice_index before.now.numbers) self }
     {
         floor <= self.place
             && self.place < PLACES as u32
@@ -49,7 +49,7 @@ impl Change {
 /// Returns the number of changes from one table to another.
 #[tactic(auto, using(crate::proofs::Walk::below_none, crate::proofs::Walk::below_few))]
 pub(crate) fn change_count(before: &Table, table: &Table) -> u32
-    ensures { result ≡ length (changes before.now table.now) }
+    ensures { result ≡ length (changes before.now.numbers table.now.numbers) }
 {
     let mut count = 0;
     for p in 0..PLACES as u16 {

@@ -34,8 +34,8 @@ pub(crate) fn table_before<'a>(
     zeros: &'a Table,
 ) -> &'a Table
     requires below { k ≤ length checkpoints.now }
-    requires zeros { zeros.now ≡ zero_numbers }
-    ensures { result.now ≡ table_before (map checkpoint_parts checkpoints.now) k }
+    requires zeros { zeros.now.numbers ≡ zero_numbers }
+    ensures { result.now.numbers ≡ table_before (map checkpoint_parts checkpoints.now) k }
 {
     if k == 0 {
         zeros

@@ -93,7 +93,7 @@ impl CheckpointFields {
 
     /// Returns the fields that a checkpoint has in the current version, after a table.
     pub(crate) fn of_parts(before: &Table, checkpoint: &Checkpoint) -> CheckpointFields
-        ensures { result ≡ checkpoint_fields VERSION before.now (checkpoint_parts checkpoint.now) }
+        ensures { result ≡ checkpoint_fields VERSION before.now.numbers (checkpoint_parts checkpoint.now) }
     {
         let devices = &checkpoint.devices;
         CheckpointFields {

@@ -13,7 +13,6 @@ pub(crate) fn formed_law(checkpoint: &Checkpoint)
     let _cpu = &checkpoint.cpu;
     let _timer = checkpoint.devices.timer();
     bytes_fit(&checkpoint.sent);
-    let _numbers = checkpoint.table.numbers();
 }
 
 /// States that the parts of all checkpoints are as their types guarantee.

@@ -57,7 +57,7 @@ fn counts_fault(pool: &Pool, inputs: &Inputs, checkpoints: &[Checkpoint]) -> Opt
 #[tactic(auto, using(crate::proofs::Walk::below_none, crate::proofs::Walk::below_few, crate::proofs::RuleLemmas::each_none))]
 fn changes_fault(pages: u32, offset: usize, before: &Table, table: &Table) -> Option<Fault>
     requires { offset ≤ LONGEST_TEXT }
-    ensures { result ≡ first_broken (encoded_change_rules pages offset before.now table.now) }
+    ensures { result ≡ first_broken (encoded_change_rules pages offset before.now.numbers table.now.numbers) }
 {
     let mut change_offset = offset + CHANGES_AT;
     for p in 0..PLACES as u16 {

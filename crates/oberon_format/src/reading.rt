@@ -183,8 +183,8 @@ fn advance_table(text: &[u8], k: usize, offset: usize, table: &mut Table)
     requires meets { Meets text.now }
     requires below { k < checkpoints text.now }
     requires offset { offset ≡ start text.now k }
-    requires table { HasNumbers table.old (prior_number (fields_of text.now) k) }
-    ensures { HasNumbers table.new (page_number_of text.now k) }
+    requires table { HasNumbers table.old.numbers (prior_number (fields_of text.now) k) }
+    ensures { HasNumbers table.new.numbers (page_number_of text.now k) }
 {
     if is_first_version(text) {
         read_table(text, offset, table);
@@ -196,10 +196,8 @@ fn advance_table(text: &[u8], k: usize, offset: usize, table: &mut Table)
 /// Changes a table into that of the checkpoint of version 1 at an offset.
 fn read_table(text: &[u8], offset: usize, table: &mut Table)
     requires { offset + CHECKPOINT_LEN ≤ length text.now }
-    ensures { HasNumbers table.new (λ p. word_at text.now (page_number_offset offset p)) }
+    ensures { HasNumbers table.new.numbers (λ p. word_at text.now (page_number_offset offset p)) }
 {
-    // A table has its 1,024 slots.
-    let _numbers = table.numbers();
     for p in 0..PLACES as u16 {
         table.set(p, u32_at(text, offset + TABLE_AT + 4 * p as usize));
     }
@@ -212,10 +210,8 @@ fn change_table(text: &[u8], offset: usize, table: &mut Table)
     requires version { version text.now ≡ VERSION }
     requires room { change_offset offset (change_count text.now offset) ≤ length text.now }
     requires places { (i : ℕ) → i < change_count text.now offset → (change_of text.now offset i).place < PLACES }
-    ensures { HasNumbers table.new (number_after (change_of text.now offset) (slice_index table.old) (change_count text.now offset)) }
+    ensures { HasNumbers table.new.numbers (number_after (change_of text.now offset) (slice_index table.old.numbers) (change_count text.now offset)) }
 {
-    // A table has its 1,024 slots.
-    let _numbers = table.numbers();
     let count = u32_at(text, offset + CHANGE_COUNT_AT) as usize;
     for i in 0..count {
         let change = Change::of_text(text, offset + CHANGES_AT + CHANGE_LEN * i);
@@ -235,7 +231,7 @@ fn checkpoint_of(
     requires ranges { in_ranges (checkpoint_of text.now offset) ≡ true }
     requires keys { are_keys (checkpoint_of text.now offset) ≡ true }
     requires output { from + word_at text.now (offset + SENT_AT) ≤ length text.now }
-    ensures { IfOk result (λ c. checkpoint_parts c ≡ checkpoint_from text.now offset from table.now) }
+    ensures { IfOk result (λ c. checkpoint_parts c ≡ checkpoint_from text.now offset from table.now.numbers) }
 {
     let len = u32_at(text, offset + SENT_AT) as usize;
     let sent = Vec::from_slice(alloc, &text[from..from + len])?;
@@ -262,8 +258,6 @@ fn checkpoints_of(alloc: Global, text: &[u8], output: usize) -> Result<Vec<Check
     let mut table = Table::zeros();
     for k in 0..count {
         advance_table(text, k, offset, &mut table);
-        // A table has its 1,024 slots.
-        let _numbers = table.numbers();
         list.push(checkpoint_of(alloc, text, offset, from, &table)?)?;
         from += u32_at(text, offset + SENT_AT) as usize;
         offset += checkpoint_len(text, later_word(text, offset + CHANGE_COUNT_AT));

@@ -147,11 +147,9 @@ fn changes_fault(
 ) -> Option<Fault>
     requires room { change_offset offset count ≤ length text.now }
     requires count { count ≤ PLACES }
-    ensures fault { result ≡ first_broken (each count (change_rules pages offset (slice_index table.old) (change_of text.now offset))) }
-    ensures table { IfNone result (HasNumbers table.new (number_after (change_of text.now offset) (slice_index table.old) count)) }
+    ensures fault { result ≡ first_broken (each count (change_rules pages offset (slice_index table.old.numbers) (change_of text.now offset))) }
+    ensures table { IfNone result (HasNumbers table.new.numbers (number_after (change_of text.now offset) (slice_index table.old.numbers) count)) }
 {
-    // A table has its 1,024 slots.
-    let _numbers = table.numbers();
     let mut floor = 0;
     for i in 0..count {
         let change_offset = offset + CHANGES_AT + CHANGE_LEN * i as usize;
@@ -207,8 +205,8 @@ fn changed_checkpoint(
     requires before { before ≡ count_before (fields_of text.now) k }
     requires sent { sent ≡ sent_below (fields_of text.now) k }
     requires small { sent ≤ MAX_OUTPUT }
-    requires table { HasNumbers table.old (number_before text.now k) }
-    ensures { IsChangedTested text.now k offset sent table.new result }
+    requires table { HasNumbers table.old.numbers (number_before text.now k) }
+    ensures { IsChangedTested text.now k offset sent table.new.numbers result }
 {
     let room = text.len() - offset;
     if room < CHANGES_AT {

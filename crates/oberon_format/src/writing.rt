@@ -172,7 +172,7 @@ fn push_common(out: &mut Vec<u8>, checkpoint: &Checkpoint) -> Result<(), AllocEr
 
 /// Appends the changes from one table to another.
 fn push_changes(out: &mut Vec<u8>, before: &Table, table: &Table) -> Result<(), AllocError>
-    ensures { OnOk result (out.new.items ≡ out.old.items ++ flat_map change_bytes (changes before.now table.now)) }
+    ensures { OnOk result (out.new.items ≡ out.old.items ++ flat_map change_bytes (changes before.now.numbers table.now.numbers)) }
 {
     for p in 0..PLACES as u16 {
         if before.entry(p) != table.entry(p) {
@@ -198,7 +198,7 @@ fn push_checkpoint(
     checkpoint: &Checkpoint,
 ) -> Result<(), AllocError>
     requires { length checkpoint.now.sent.items ≤ MAX_OUTPUT }
-    ensures { OnOk result (out.new.items ≡ out.old.items ++ checkpoint_bytes VERSION before.now (checkpoint_parts checkpoint.now)) }
+    ensures { OnOk result (out.new.items ≡ out.old.items ++ checkpoint_bytes VERSION before.now.numbers (checkpoint_parts checkpoint.now)) }
 {
     let devices = &checkpoint.devices;
     let count = change_count(before, &checkpoint.table);

@@ -238,7 +238,7 @@ module _ (cpu : CpuState) (devices : DeviceState) (words : List ℕ) (whole : le
 -- ---- the last checkpoint of parts
 
 pub last-named : (r : RecordingParts) → IsLawful r → (pool : List (List ℕ)) (inputs : List Event) (checkpoints : List Checkpoint)
-    → parts_of pool inputs checkpoints ≡ r → (last : Checkpoint) (k : ℕ) → k ≡ length checkpoints - 1 → last ≡ get_or checkpoints k last → IsNamed pool last.table
+    → parts_of pool inputs checkpoints ≡ r → (last : Checkpoint) (k : ℕ) → k ≡ length checkpoints - 1 → last ≡ get_or checkpoints k last → IsNamed pool last.table.numbers
 last-named r lawful pool inputs checkpoints is last k end at =
     let own : IsLawful (parts_of pool inputs checkpoints) = subst IsLawful (sym is) lawful in
     let many = length-map checkpoints checkpoint_parts in

@@ -178,12 +178,12 @@ fn next_stored(
     words: &[u32],
 ) -> Result<StoredPages, ExtendFault>
     requires whole { length words.now ≡ 262144 }
-    requires named { IsNamed pool table.now }
+    requires named { IsNamed pool table.now.numbers }
     requires room { length pool ≤ MAX_PAGES }
-    ensures stored { IfOk result (λ stored. stored_view stored ≡ stored_on (record { pool = pool; table = table.now }) words.now) }
+    ensures stored { IfOk result (λ stored. stored_view stored ≡ stored_on (record { pool = pool; table = table.now.numbers }) words.now) }
     ensures few { IfOk result (λ stored. length stored.pool ≤ MAX_PAGES) }
     ensures pages { IfOk result (λ stored. ArePages stored.pool) }
-    ensures refused { IfErr result (NeedsPages (record { pool = pool; table = table.now }) words.now) }
+    ensures refused { IfErr result (NeedsPages (record { pool = pool; table = table.now.numbers }) words.now) }
 {
     let mut stored = StoredPages {
         pool,
@@ -198,7 +198,7 @@ fn next_stored(
 
 /// Returns the checkpoint that makes a claim, with this table.
 fn checkpoint_of(alloc: Global, claim: &Claim<'_>, table: &Table) -> Result<Checkpoint, AllocError>
-    ensures checkpoint { IfOk result (λ c. checkpoint_parts c ≡ checkpoint_of claim.now table.now) }
+    ensures checkpoint { IfOk result (λ c. checkpoint_parts c ≡ checkpoint_of claim.now table.now.numbers) }
     ensures devices { IsDeviceState claim.now.devices }
     ensures bytes { All (λ byte. byte < 2 ^ 8) claim.now.sent.now }
 {

@@ -37,7 +37,7 @@ pub fn reach(
     to: u64,
     room: usize,
 ) -> Result<Reached, RecordFault>
-    requires named { IsNamed pool.now last.now.table }
+    requires named { IsNamed pool.now last.now.table.numbers }
     requires counter { last.now.cpu.pc < COUNTER_END }
     requires stop { last.now.cpu.stop ≤ 4 }
     requires rises { last.now.count ≤ to }

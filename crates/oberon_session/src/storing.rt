@@ -81,9 +81,9 @@ fn is_blank(page: &Page) -> bool
 #[tactic(auto, unfolding(crate::specs::Stored::store))]
 pub fn store_words(alloc: Global, stored: &mut StoredPages, words: &[u32]) -> Result<(), AllocError>
     requires whole { length words.now ≡ 262144 }
-    requires named { IsNamed stored.old.pool stored.old.table }
+    requires named { IsNamed stored.old.pool stored.old.table.numbers }
     requires room { length stored.old.pool ≤ MAX_PAGES }
-    ensures stored { OnOk result (stored_view stored.new ≡ store (table_words stored.old.pool stored.old.table) words.now (stored_view stored.old)) }
+    ensures stored { OnOk result (stored_view stored.new ≡ store (table_words stored.old.pool stored.old.table.numbers) words.now (stored_view stored.old)) }
     ensures grown { OnOk result (length stored.new.pool ≤ length stored.old.pool + 1024) }
 {
     let changed = changed_pages(alloc, &stored.pool, &stored.table, words)?;
@@ -98,8 +98,8 @@ fn changed_pages(
     words: &[u32],
 ) -> Result<Vec<(u16, Page)>, AllocError>
     requires whole { length words.now ≡ 262144 }
-    requires named { IsNamed pool.now table.now }
-    ensures { IfOk result (λ changed. map page_view changed.items ≡ changed_pages (table_words pool.now table.now) words.now) }
+    requires named { IsNamed pool.now table.now.numbers }
+    ensures { IfOk result (λ changed. map page_view changed.items ≡ changed_pages (table_words pool.now table.now.numbers) words.now) }
 {
     let mut memory = Memory::from_table(alloc, pool, table)?;
     write_words(&mut memory, words)?;

@@ -44,10 +44,10 @@ impl<'a> Model for Memory<'a> {
 impl<'a> Memory<'a> {
     /// Makes the memory of a table. It shares all its pages with the pool; no page is copied.
     pub fn from_table(alloc: Global, pool: &'a Pool, table: &Table) -> Result<Self, AllocError>
-        requires { IsNamed pool.now table.now }
-        ensures content { IfOk result (λ memory. IsContent memory.words pool.now table.now) }
-        ensures words { IfOk result (λ memory. memory.words ≡ table_words pool.now table.now) }
-        ensures base { IfOk result (λ memory. memory.base ≡ table_words pool.now table.now) }
+        requires { IsNamed pool.now table.now.numbers }
+        ensures content { IfOk result (λ memory. IsContent memory.words pool.now table.now.numbers) }
+        ensures words { IfOk result (λ memory. memory.words ≡ table_words pool.now table.now.numbers) }
+        ensures base { IfOk result (λ memory. memory.base ≡ table_words pool.now table.now.numbers) }
         ensures shared { IfOk result (λ memory. All (λ owned. owned ≡ false) memory.owned) }
         ensures memory { IfOk result IsMemory }
     {
@@ -155,9 +155,9 @@ impl<'a> Memory<'a> {
     ///
     /// The pool need not be the one that this memory borrows. Contents are compared, not page ids. Allocates nothing.
     pub fn first_difference(&self, pool: &Pool, table: &Table) -> Option<u16>
-        requires { IsNamed pool.now table.now }
-        ensures none { IfNone result (self.now.words ≡ table_words pool.now table.now) }
-        ensures some { IfSome result (IsFirstDifferentPage self.now.words (table_words pool.now table.now)) }
+        requires { IsNamed pool.now table.now.numbers }
+        ensures none { IfNone result (self.now.words ≡ table_words pool.now table.now.numbers) }
+        ensures some { IfSome result (IsFirstDifferentPage self.now.words (table_words pool.now table.now.numbers)) }
     {
         let place = self.least_other(pool, table);
         if place < 1024 { Some(place) } else { None }
@@ -168,9 +168,9 @@ impl<'a> Memory<'a> {
     /// The loop is in a function of its own, so that each iteration is a few machine instructions.
     #[inline(never)]
     fn least_other(&self, pool: &Pool, table: &Table) -> u16
-        requires { IsNamed pool.now table.now }
-        ensures none { 1024 ≤ result → self.now.words ≡ table_words pool.now table.now }
-        ensures some { result < 1024 → IsFirstDifferentPage self.now.words (table_words pool.now table.now) result }
+        requires { IsNamed pool.now table.now.numbers }
+        ensures none { 1024 ≤ result → self.now.words ≡ table_words pool.now table.now.numbers }
+        ensures some { result < 1024 → IsFirstDifferentPage self.now.words (table_words pool.now table.now.numbers) result }
     {
         let numbers = table.numbers();
         let mut place = 0;

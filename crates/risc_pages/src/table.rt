@@ -1,34 +1,20 @@
 //! The table of a memory: the page id of each slot. The pages are in a pool.
 
-ghost use Rattle.std.specs.Prelude.{◌≡◌, ◌<◌, ◌^◌, ℕ, slice_index, slice_set};
-ghost use Rattle.risc_pages.specs.Tables.{zero_numbers, IsTable};
-
-use std::marker::Model;
+ghost use Rattle.std.specs.Prelude.{◌≡◌, ◌<◌, ◌^◌, ℕ, All, length, slice_index, slice_set};
+ghost use Rattle.risc_pages.specs.Tables.{zero_numbers};
 
 /// The page ids of the 1,024 slots of a memory.
-///
-/// In contracts a table is the list of its page ids.
 #[derive(Drop)]
 pub struct Table {
-    numbers: [u32; 1024],
-}
-
-impl Model for Table {
-    ghost use Rattle.std.specs.Prelude.{List, ℕ};
-
-    ghost Value = { List ℕ };
-
-    ghost use Rattle.risc_pages.specs.Tables.{IsTable};
-
-    ghost view = { λ t. t.numbers };
-
-    ghost invariant = { λ t. IsTable t.numbers };
+    pub numbers: [u32; 1024],
+    pub ghost count: { length numbers ≡ 1024 },
+    pub ghost fit: { All (λ n. n < 2 ^ 32) numbers },
 }
 
 impl Table {
     /// Returns the table that names the page of zeros in each slot.
     pub fn zeros() -> Self
-        ensures { result ≡ zero_numbers }
+        ensures { result.numbers ≡ zero_numbers }
     {
         Table { numbers: [0; 1024] }
     }
@@ -46,8 +32,7 @@ impl Table {
     #[inline]
     pub fn entry(&self, place: u16) -> u32
         requires { place < 1024 }
-        ensures number { result ≡ slice_index self.now place }
-        ensures table { IsTable self.now }
+        ensures { result ≡ slice_index self.now.numbers place }
     {
         self.numbers()[place as usize]
     }
@@ -56,7 +41,7 @@ impl Table {
     #[inline]
     pub fn set(&mut self, place: u16, page_no: u32)
         requires { place < 1024 }
-        ensures { self.new ≡ slice_set self.old place page_no }
+        ensures { self.new.numbers ≡ slice_set self.old.numbers place page_no }
     {
         self.numbers[place as usize] = page_no;
     }
@@ -64,8 +49,7 @@ impl Table {
     /// Returns the page ids of all slots, in order.
     #[inline]
     pub fn numbers(&self) -> &[u32]
-        ensures numbers { result.now ≡ self.now }
-        ensures table { IsTable self.now }
+        ensures { result.now ≡ self.now.numbers }
     {
         &self.numbers
     }

@@ -19,7 +19,7 @@ use Rattle.oberon_session.specs.declared.running.Reached.{Reached}
 
 -- a pool and a table, as Rust has them
 abbrev pub stored_view : StoredPages → Stored
-stored_view l = record { pool = l.pool; table = l.table }
+stored_view l = record { pool = l.pool; table = l.table.numbers }
 
 -- a changed page and its slot
 abbrev pub page_view : ℕ × Page → ℕ × List ℕ

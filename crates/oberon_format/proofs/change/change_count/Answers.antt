@@ -6,8 +6,8 @@ use Rattle.oberon_format.proofs.change.change_count.Goals as goal
 
 pub loop-p-preserved : goal.loop-p-preserved
 loop-p-preserved c =
-    let before = c.args.before.now in let table = c.args.table.now in let p = c.loop-p.p in
-    let old = c.entry.ensures.number in let new = c.entry-in-loop-p.ensures.number in let so_far = c.loop-p.invariant in
+    let before = c.args.before.now.numbers in let table = c.args.table.now.numbers in let p = c.loop-p.p in
+    let old = c.entry.ensures in let new = c.entry-in-loop-p.ensures in let so_far = c.loop-p.invariant in
     elim c.if-entry.branch [
       | then-entry w ↦
           let differ : slice_index before p ≢ slice_index table p = λ e. w.if-entry.true (old ∙ e ∙ sym new) in

@@ -10,7 +10,7 @@ returns-in-Some c =
     let checkpoints = c.args.checkpoints.now in
     let rules = checkpoint_rules (fields_in VERSION (parts_of c.args.pool.now c.args.inputs.now checkpoints)) in
     let so_far = c.loop-k.invariant in
-    let here = rules_here c.args.pool.now c.args.inputs.now checkpoints c.loop-k.k c.index-checkpoints-k.result c.len-pages.result c.loop-k.offset c.loop-k.before c.loop-k.sent c.of_parts-fields.result c.table_before-table.result.now
+    let here = rules_here c.args.pool.now c.args.inputs.now checkpoints c.loop-k.k c.index-checkpoints-k.result c.len-pages.result c.loop-k.offset c.loop-k.before c.loop-k.sent c.of_parts-fields.result c.table_before-table.result.now.numbers
     c.loop-k-test.true c.index-checkpoints-k.is c.len-pages.ensures.count so_far.offset_is so_far.before_is so_far.sent_is c.table_before-table.ensures c.of_parts-fields.ensures in
     sym (each_broken rules c.loop-k.k (length checkpoints) c.in-Some.fault c.loop-k-test.true so_far.met
     (here.1 ∙ by_fields _ _ _ (sym c.fields_fault.ensures.fault ∙ c.in-Some.is)))
@@ -20,10 +20,10 @@ returns-in-Some-changes_fault c =
     let checkpoints = c.args.checkpoints.now in
     let rules = checkpoint_rules (fields_in VERSION (parts_of c.args.pool.now c.args.inputs.now checkpoints)) in
     let so_far = c.loop-k.invariant in
-    let here = rules_here c.args.pool.now c.args.inputs.now checkpoints c.loop-k.k c.index-checkpoints-k.result c.len-pages.result c.loop-k.offset c.loop-k.before c.loop-k.sent c.of_parts-fields.result c.table_before-table.result.now
+    let here = rules_here c.args.pool.now c.args.inputs.now checkpoints c.loop-k.k c.index-checkpoints-k.result c.len-pages.result c.loop-k.offset c.loop-k.before c.loop-k.sent c.of_parts-fields.result c.table_before-table.result.now.numbers
     c.loop-k-test.true c.index-checkpoints-k.is c.len-pages.ensures.count so_far.offset_is so_far.before_is so_far.sent_is c.table_before-table.ensures c.of_parts-fields.ensures in
     sym (each_broken rules c.loop-k.k (length checkpoints) c.in-Some-changes_fault.fault c.loop-k-test.true so_far.met
-    (here.1 ∙ by_changes _ _ c.table_before-table.result.now _ _ _ _ _ (sym c.fields_fault.ensures.fault ∙ c.in_default.is)
+    (here.1 ∙ by_changes _ _ c.table_before-table.result.now.numbers _ _ _ _ _ (sym c.fields_fault.ensures.fault ∙ c.in_default.is)
     c.changes_fault.ensures c.in-Some-changes_fault.is refl))
 
 pub loop-k-init : goal.loop-k-init
@@ -61,11 +61,11 @@ pub loop-k-preserved : goal.loop-k-preserved
 loop-k-preserved c =
     let checkpoints = c.args.checkpoints.now in let r = parts_of c.args.pool.now c.args.inputs.now checkpoints in
     let f = fields_in VERSION r in let k = c.loop-k.k in let so_far = c.loop-k.invariant in
-    let here = rules_here c.args.pool.now c.args.inputs.now checkpoints k c.index-checkpoints-k.result c.len-pages.result c.loop-k.offset c.loop-k.before c.loop-k.sent c.of_parts-fields.result c.table_before-table.result.now
+    let here = rules_here c.args.pool.now c.args.inputs.now checkpoints k c.index-checkpoints-k.result c.len-pages.result c.loop-k.offset c.loop-k.before c.loop-k.sent c.of_parts-fields.result c.table_before-table.result.now.numbers
     c.loop-k-test.true c.index-checkpoints-k.is c.len-pages.ensures.count so_far.offset_is so_far.before_is so_far.sent_is c.table_before-table.ensures c.of_parts-fields.ensures in
     let fields : c.of_parts-fields.result ≡ f.checkpoint k = here.0 in
     record {
-      met = each_more (checkpoint_rules f) k so_far.met (here.1 ∙ by_changes _ _ c.table_before-table.result.now _ _ _ _ _
+      met = each_more (checkpoint_rules f) k so_far.met (here.1 ∙ by_changes _ _ c.table_before-table.result.now.numbers _ _ _ _ _
           (sym c.fields_fault.ensures.fault ∙ c.in_default.is) c.changes_fault.ensures c.in_default-changes_fault.is refl);
       offset_is = next_offset r k c.loop-k.offset c.changed_len-offset.result c.of_parts-fields.result so_far.offset_is fields c.changed_len-offset.ensures;
       before_is = ap (λ (y : CheckpointFields). y.count) fields ∙ sym (ap (count_before f) (add-one k) ∙ before_next f k);

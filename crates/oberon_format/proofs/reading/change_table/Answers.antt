@@ -1,4 +1,4 @@
-use Rattle.oberon_format.proofs.Common.{arith, CHANGE_COUNT_AT, change_of, length-set, PLACES, slice_index, ◌+◌, ◌<◌, ◌∙◌}
+use Rattle.oberon_format.proofs.Common.{arith, CHANGE_COUNT_AT, change_of, PLACES, slice_index, ◌+◌, ◌<◌}
 use Rattle.oberon_format.proofs.Walk.{change_made}
 use Rattle.oberon_format.proofs.TextLemmas.{later_second}
 use Rattle.oberon_format.proofs.reading.change_table.Goals as goal
@@ -8,6 +8,5 @@ loop-i-preserved c =
     let text = c.args.text.now in let i = c.loop-i.i in
     let inside : (change_of text c.args.offset i).place < PLACES = c.requires.places i (omega (arith, later_second text (c.args.offset + CHANGE_COUNT_AT) c.requires.version)) in
     rw (c.set.ensures, c.of_text-change.ensures) (record {
-      len = length-set c.loop-i.table (change_of text c.args.offset i).place (change_of text c.args.offset i).number ∙ c.loop-i.invariant.len;
-      made = change_made (change_of text c.args.offset) (slice_index c.args.table.now) i c.loop-i.table c.loop-i.invariant.len inside c.loop-i.invariant.made;
+      made = change_made (change_of text c.args.offset) (slice_index c.args.table.now.numbers) i c.loop-i.table.numbers c.loop-i.table.count inside c.loop-i.invariant.made;
     })

@@ -14,4 +14,4 @@ parts_from text offset from count cpu devices sent now table a b d s t = λ i. p
 pub returns : goal.returns
 returns c =
     let sent = c.in_ok-sent.ensures.items ∙ ap (λ (n : ℕ). slice_range c.args.text.now c.args.from (c.args.from + n)) c.u32_at-len.ensures in
-    parts_from c.args.text.now c.args.offset c.args.from _ _ _ _ _ c.args.table.now c.u64_at.ensures c.cpu_of.ensures c.devices_of.ensures sent (search arith)
+    parts_from c.args.text.now c.args.offset c.args.from _ _ _ _ _ c.args.table.now.numbers c.u64_at.ensures c.cpu_of.ensures c.devices_of.ensures sent (search arith)

@@ -33,7 +33,7 @@ loop-k-preserved c =
     let at = c.loop-k.invariant.offset_is in let checkpoint = c.in_ok-checkpoint_of.field-0 in
     let own = rw at at c.u32_at.ensures in let more = output_below_more text k in let items = c.loop-k.list.items in
     let table = c.advance_table.new.table in
-    let made = table_made text table k c.numbers-numbers.ensures.table.count c.advance_table.ensures in
+    let made = table_made text table.numbers k table.count c.advance_table.ensures in
     let part : checkpoint_parts checkpoint ≡ decoded text k = c.in_ok-checkpoint_of.ensures ∙ rw (at, c.loop-k.invariant.from_is, made) in
     rw c.in_ok-push.ensures.items (record {
       len = omega (arith, length-append items (checkpoint ∷ []));

@@ -6,7 +6,7 @@ abbrev pub invariant-loop-k : goal.invariant-loop-k
 invariant-loop-k l = record {
   len : length l.list.items ≡ l.k;
   offset_is : l.offset ≡ start l.text l.k;
-  table_is : HasNumbers l.table (prior_number (fields_of l.text) l.k);
+  table_is : HasNumbers l.table.numbers (prior_number (fields_of l.text) l.k);
   from_is : l.from ≡ output_offset l.text + output_below l.text l.k;
   decoded : map checkpoint_parts l.list.items ≡ checkpoints_at l.text l.k;
 }

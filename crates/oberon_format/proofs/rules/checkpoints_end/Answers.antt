@@ -26,7 +26,7 @@ pub loop-k-preserved : goal.loop-k-preserved
 loop-k-preserved c =
     let text = c.args.text.now in let k = c.loop-k.k in let offset = c.loop-k.offset in
     let at = c.loop-k.invariant.offset_is in let fields = c.in-Ok.fields in let lt : k < checkpoints text = omega arith in
-    let tested : AreTested text k offset c.loop-k.sent fields c.if-is_first.table = elim c.if-is_first.branch [
+    let tested : AreTested text k offset c.loop-k.sent fields c.if-is_first.table.numbers = elim c.if-is_first.branch [
       | then-is_first w ↦
           let facts = rw (← w.tested-is, c.in-Ok.is) at w.whole_checkpoint-tested.ensures in
           let test : (version text == FIRST_VERSION) ≡ true = sym c.is_first_version-is_first.ensures ∙ w.if-is_first.true in
@@ -49,5 +49,5 @@ loop-k-preserved c =
       sent_is = ap (λ (n : ℕ). n + fields.output) c.loop-k.invariant.sent_is ∙ ap (λ (x : CheckpointFields). output_below text k + x.output) tested.read
           ∙ ap (λ (p : ℕ). output_below text k + word_at text (p + SENT_AT)) at ∙ sym (output_below_more text k);
       small = tested.small;
-      table = λ is. subst (λ (n : ℕ). HasNumbers c.if-is_first.table (number_before text n)) (sym (add-one k)) (tested.numbers is);
+      table = λ is. subst (λ (n : ℕ). HasNumbers c.if-is_first.table.numbers (number_before text n)) (sym (add-one k)) (tested.numbers is);
     }

@@ -10,5 +10,5 @@ invariant-loop-k l = record {
   before_is : l.before ≡ count_before (fields_of l.text) l.k;
   sent_is : l.sent ≡ output_below l.text l.k;
   small : l.sent ≤ MAX_OUTPUT;
-  table : version l.text ≡ VERSION → HasNumbers l.table (number_before l.text l.k);
+  table : version l.text ≡ VERSION → HasNumbers l.table.numbers (number_before l.text l.k);
 }

@@ -9,18 +9,18 @@ loop-p-init c = sym (append-nil _)
 
 pub loop-p-preserved : goal.loop-p-preserved
 loop-p-preserved c =
-    let before : List ℕ = c.args.before.now in let table : List ℕ = c.args.table.now in
-    let start : List ℕ = c.args.out.now.items in let p = c.loop-p.p in let here = c.entry.ensures.number in
-    let now = c.entry-in-loop-p.ensures.number in
+    let before : List ℕ = c.args.before.now.numbers in let table : List ℕ = c.args.table.now.numbers in
+    let start : List ℕ = c.args.out.now.items in let p = c.loop-p.p in let here = c.entry.ensures in
+    let now = c.entry-in-loop-p.ensures in
     elim c.if-entry.branch [
       | then-entry+in_ok-push_change w ↦
           ap (λ x. x.items) w.out-is
           ∙ changes_next before table start c.loop-p.out.items w.push_change.new.out.items p (λ same. w.if-entry.true (here ∙ same ∙ sym now)) c.loop-p.invariant
-          (w.in_ok-push_change.ensures ∙ ap (λ (n : ℕ). c.loop-p.out.items ++ change_bytes (record { place = p; number = n })) w.entry-then-entry.ensures.number)
+          (w.in_ok-push_change.ensures ∙ ap (λ (n : ℕ). c.loop-p.out.items ++ change_bytes (record { place = p; number = n })) w.entry-then-entry.ensures)
       | else-entry w ↦ ap (λ x. x.items) w.out-is ∙ changes_skipped before table start c.loop-p.out.items p (sym here ∙ w.if-entry.false ∙ now) c.loop-p.invariant
     ]
 
 pub returns : goal.returns
 returns c =
     let all : c.loop-p.p ≡ PLACES = omega arith in
-    c.loop-p.invariant ∙ ap (λ (n : ℕ). c.args.out.now.items ++ flat_map change_bytes (changes_below n c.args.before.now c.args.table.now)) all
+    c.loop-p.invariant ∙ ap (λ (n : ℕ). c.args.out.now.items ++ flat_map change_bytes (changes_below n c.args.before.now.numbers c.args.table.now.numbers)) all

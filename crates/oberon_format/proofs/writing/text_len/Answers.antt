@@ -7,6 +7,6 @@ loop-k-preserved c =
     let r = c.args.r.now in let k = c.loop-k.k in
     let before = c.table_before-before.ensures ∙ ap (λ (cs : List CheckpointParts). table_before cs k) c.checkpoints.ensures.checkpoints in
     let count : c.change_count.result ≡ length (changes (table_before r.checkpoints k) (checkpoint_at r k).table) = c.change_count.ensures
-    ∙ ap (λ (t : List ℕ). length (changes t c.checkpoint.result.now.table)) before
+    ∙ ap (λ (t : List ℕ). length (changes t c.checkpoint.result.now.table.numbers)) before
     ∙ ap (λ (x : CheckpointParts). length (changes (table_before r.checkpoints k) x.table)) c.checkpoint.ensures.checkpoint in
     omega (arith, ap (start_in VERSION r) (add-one k) ∙ start_in_next VERSION r k, c.loop-k.invariant, c.changed_len-len.ensures)

@@ -1,4 +1,5 @@
 use Rattle.std.proofs.Common.{◌<◌, ◌∙◌, ap, ap₂, map}
+use Rattle.risc_pages.specs.declared.table.Table.{Table}
 use Rattle.risc_model.specs.MachineState.{cpu_state}
 use Rattle.oberon_format.specs.CheckpointParts.{checkpoint_parts}
 use Rattle.oberon_session.proofs.Begun.{one-checkpoint, so-first, timer-phase}
@@ -22,10 +23,10 @@ pub returns-clause-recorded : goal.returns-clause-recorded
 returns-clause-recorded c =
     let s = c.args.session.now in
     let stored-so = c.in_ok-stored.ensures ∙ ap first_stored c.pages.ensures.pages in
-    let table = c.copy.ensures ∙ ap (λ (l : Stored). l.table) stored-so in
+    let table = ap (λ (t : Table). t.numbers) c.copy.ensures ∙ ap (λ (l : Stored). l.table) stored-so in
     let sent = c.new.ensures.items in
     let devices = c.first_devices.ensures ∙ ap₂ first_devices c.rate.ensures.rate c.phase.ensures.phase in
     let pushed = rw c.in_ok-checkpoints.ensures.items at c.in_ok-push.ensures.items in
     so-first s c.pages.ensures.lawful (stored_view c.in_ok-stored.stored) stored-so (map checkpoint_parts c.push.new.self.items)
     (ap (map checkpoint_parts) pushed
-    ∙ one-checkpoint s (cpu_state c.cpu.result) c.first_devices.result c.new.result.items c.copy.result c.cpu.ensures.cpu devices sent table)
+    ∙ one-checkpoint s (cpu_state c.cpu.result) c.first_devices.result c.new.result.items c.copy.result.numbers c.cpu.ensures.cpu devices sent table)

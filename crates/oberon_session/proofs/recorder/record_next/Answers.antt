@@ -1,5 +1,6 @@
 use Rattle.std.proofs.Common.{◌≢◌, Some, ◌+◌, ◌∙◌, ℕ, List, ap, arith, length, sym, get_or}
 use Rattle.std.proofs.lemmas.Result.{err_from_is_err_and}
+use Rattle.risc_pages.specs.declared.table.Table.{Table}
 use Rattle.risc_model.specs.MachineState.{cpu_state}
 use Rattle.oberon_session.proofs.StoredPages.{few-changes, low-changes}
 use Rattle.oberon_session.proofs.Reaching.{few-sent, inside-of, last-count, last-fit, next-count, recorded-more, refused-output, refused-pages}
@@ -63,5 +64,5 @@ returns-clause-recorded c =
     c.inputs.ensures.inputs (next-count c.args.session.now c.args.k c.counts.ensures.counts) c.in_ok-reached.ensures.reached stored-so c.in_ok-reached.ensures.room
     (omega arith) c.len.ensures.pages c.timer-timer.ensures.ranges bytes
     c.push.new.self.items _ c.in_ok-push.ensures.items
-    (ap (λ (table : List ℕ). record { count = count; cpu = cpu_state r.cpu; devices = r.devices; sent = r.sent.items; table = table }) c.copy.ensures)
+    (ap (λ (t : Table). record { count = count; cpu = cpu_state r.cpu; devices = r.devices; sent = r.sent.items; table = t.numbers }) c.copy.ensures)
     (c.args.recorder.now.sent + length c.deref-sent.result.now) (ap (λ (l : List ℕ). c.args.recorder.now.sent + length l) c.deref-sent.ensures.value)

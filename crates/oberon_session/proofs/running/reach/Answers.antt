@@ -11,7 +11,7 @@ returns-clause-reached c =
     let es = c.args.inputs.now in
     let from = c.args.last.now.count in
     let steps : ℕ = c.args.to - from in
-    let words : List ℕ = table_words c.args.pool.now c.args.last.now.table in
+    let words : List ℕ = table_words c.args.pool.now c.args.last.now.table.numbers in
     let cpu : CpuState = cpu_state c.args.last.now.cpu in
     let begun : c.in_ok-machine.machine.state ≡ record { cpu = cpu; devices = c.args.last.now.devices; words = words } =
     c.in_ok-machine.ensures.state ∙ ap (λ (d : DeviceState). record { cpu = cpu; devices = d; words = words }) c.copy.ensures.copy in

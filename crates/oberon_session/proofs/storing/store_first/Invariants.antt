@@ -8,5 +8,5 @@ abbrev pub invariant-loop-page : goal.invariant-loop-page
 invariant-loop-page l = record {
   pages : l.pool ≡ map (λ (page : PlacedWords). page.words) (map placed_view (take l.page-index l.pages));
   count : length l.pool ≡ l.page-index;
-  numbers : l.table ≡ numbered (map placed_view l.pages) l.page-index;
+  numbers : l.table.numbers ≡ numbered (map placed_view l.pages) l.page-index;
 }

@@ -8,19 +8,19 @@ use Rattle.risc_pages.specs.Pages.{page_of}
 use Rattle.risc_pages.specs.inner.Places.{base_of, content, is_owned}
 use Rattle.risc_pages.proofs.memory.Memory.from_table.Goals as goal
 
-numbers_count : (c : goal.After-loop-number) → length c.args.table.now ≡ 1024
-numbers_count c = c.numbers-numbers.ensures.table.count
+numbers_count : (c : goal.After-loop-number) → length c.args.table.now.numbers ≡ 1024
+numbers_count c = c.args.table.now.count
 
 count : (c : goal.After-loop-number) → length c.loop-number.places.items ≡ 1024
 count c =
-    let n : length c.numbers-numbers.result.now ≡ length c.args.table.now = ap (λ (x : List ℕ). length x) c.numbers-numbers.ensures.numbers in
-    let t : length c.args.table.now ≡ 1024 = numbers_count c in
+    let n : length c.numbers-numbers.result.now ≡ length c.args.table.now.numbers = ap (λ (x : List ℕ). length x) c.numbers-numbers.ensures in
+    let t : length c.args.table.now.numbers ≡ 1024 = numbers_count c in
     let p : length c.loop-number.places.items ≡ c.loop-number.number-index = c.loop-number.invariant.count in
     omega arith
 
 -- each slot has the page that the table names there
-same : (c : goal.After-loop-number) (k : ℕ) (d : Place) (e : ℕ) → k < length c.loop-number.places.items → content (get_or c.loop-number.places.items k d) ≡ page_of c.args.pool.now (get_or c.args.table.now k e)
-same c k d e h = c.loop-number.invariant.same k d e h ∙ ap (λ (x : List ℕ). page_of c.args.pool.now (get_or x k e)) c.numbers-numbers.ensures.numbers
+same : (c : goal.After-loop-number) (k : ℕ) (d : Place) (e : ℕ) → k < length c.loop-number.places.items → content (get_or c.loop-number.places.items k d) ≡ page_of c.args.pool.now (get_or c.args.table.now.numbers k e)
+same c k d e h = c.loop-number.invariant.same k d e h ∙ ap (λ (x : List ℕ). page_of c.args.pool.now (get_or x k e)) c.numbers-numbers.ensures
 
 pub returns-clause-content : goal.returns-clause-content
 returns-clause-content c = IsContent-places c.loop-number.places.items _ _ (count c) (same c)
@@ -29,13 +29,13 @@ pub returns-clause-words : goal.returns-clause-words
 returns-clause-words c =
     let n = numbers_count c in
     let p = count c in
-    flat_map-same content (page_of c.args.pool.now) c.loop-number.places.items c.args.table.now (omega arith) (same c)
+    flat_map-same content (page_of c.args.pool.now) c.loop-number.places.items c.args.table.now.numbers (omega arith) (same c)
 
 pub returns-clause-base : goal.returns-clause-base
 returns-clause-base c =
     let n = numbers_count c in
     let p = count c in
-    flat_map-same base_of (page_of c.args.pool.now) c.loop-number.places.items c.args.table.now (omega arith)
+    flat_map-same base_of (page_of c.args.pool.now) c.loop-number.places.items c.args.table.now.numbers (omega arith)
     (λ k d e h. base_of-shared (get_or c.loop-number.places.items k d) (c.loop-number.invariant.shared k d h) ∙ same c k d e h)
 
 pub returns-clause-shared : goal.returns-clause-shared

@@ -1,5 +1,5 @@
 use Rattle.std.proofs.Common.{arith}
 use Rattle.risc_pages.proofs.table.Table.entry.Goals as goal
 
-pub returns-clause-number : goal.returns-clause-number
-returns-clause-number c = search arith
+pub returns : goal.returns
+returns c = search arith

@@ -1,5 +1,5 @@
 use Rattle.std.proofs.Common.{arith}
 use Rattle.risc_pages.proofs.table.Table.numbers.Goals as goal
 
-pub returns-clause-numbers : goal.returns-clause-numbers
-returns-clause-numbers c = search arith
+pub returns : goal.returns
+returns c = search arith
