@@ -100,7 +100,7 @@ pub(crate) fn first_difference(
     pool: &Pool,
     checkpoint: &Checkpoint,
 ) -> Option<Part>
-    requires { IsNamed pool.now checkpoint.now.table }
+    requires { IsNamed pool.now checkpoint.now.table.numbers }
     ensures { IsDifferenceBy same (claim_of pool.now (checkpoint_parts checkpoint.now)) machine.now.state result }
 {
     if let Some(part) = cpu_difference(&checkpoint.cpu, machine.cpu()) {
