@@ -35,8 +35,7 @@ unfolding common_bytes words_from
 common_agrees text p c fits s =
     let a = long_bytes c.count in let r = words_bytes c.cpu.r in
     let f = words_bytes (field_words c) in
-    let k = key_bytes c.devices in
-    let n = words_bytes (length c.sent ∷ []) in
+    let k = key_bytes c.devices in let n = words_bytes (length c.sent ∷ []) in
     let s3 = bytes_left text p (a ++ r ++ f ++ k) n s in
     let s2 = bytes_left text p (a ++ r ++ f) k s3 in
     let s1 = bytes_left text p (a ++ r) f s2 in

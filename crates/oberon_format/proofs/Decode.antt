@@ -171,8 +171,7 @@ module _ (text : List ℕ) (bytes : AreBytes text) (meets : Meets text) where
         let len = length-words_from text o REGISTERS_AT 16 in
         let a = long_bytes c.count in let r = words_bytes c.cpu.r in
         let f = words_bytes (field_words c) in
-        let ks = key_bytes c.devices in
-        let n = words_bytes (length c.sent ∷ []) in
+        let ks = key_bytes c.devices in let n = words_bytes (length c.sent ∷ []) in
         let fields = subst (λ (ws : List ℕ). HasBytes text (o + AUXILIARY_AT) (words_bytes ws)) fields_are (words_back text o AUXILIARY_AT (o + AUXILIARY_AT) 10 refl each_byte (omega arith)) in
         let sent = subst (λ (x : ℕ). HasBytes text (o + SENT_AT) (words_bytes (x ∷ []))) (sym sent_len) (words_back text o SENT_AT (o + SENT_AT) 1 refl each_byte (omega arith)) in
         let many : length ks ≡ o + SENT_AT - (o + KEYS_AT) = omega (arith, length-key_bytes c.devices formed.devices.keys) in

@@ -24,8 +24,7 @@ rules_named : (f : Fields) → AreNamed (rules f)
 unfolding rules
 rules_named f =
     let header : AreNamed (header_rules f) = (tt, (tt, (tt, (tt, (tt, (tt, (tt, (tt, tt)))))))) in
-    let es = each f.events (event_rules f) in
-    let cs = each f.checkpoints (checkpoint_rules f) in
+    let es = each f.events (event_rules f) in let cs = each f.checkpoints (checkpoint_rules f) in
     let events = named_each f.events (event_rules f) (λ i. (tt, tt)) in
     let checkpoints = named_each f.checkpoints (checkpoint_rules f) (named_checkpoint f) in
     join (header_rules f ++ es ++ cs) (end_rules f) (join (header_rules f ++ es) cs (join (header_rules f) es header events) checkpoints) (tt, (tt, tt))

@@ -178,13 +178,10 @@ mixed_rules : (f g : Fields) → SameFields f g → Same (rules (mixed f g)) (ru
 unfolding rules
 mixed_rules f g same =
     let m = mixed f g in let size = size_rules HEADER_LEN f in let size' = size_rules HEADER_LEN g in
-    let named = size_rules (named_len m) f in
-    let named' = size_rules (named_len g) g in
+    let named = size_rules (named_len m) f in let named' = size_rules (named_len g) g in
     let numbers = number_rules g in
-    let e = each g.events (event_rules m) in
-    let e' = each g.events (event_rules g) in
-    let c = each g.checkpoints (checkpoint_rules m) in
-    let c' = each g.checkpoints (checkpoint_rules g) in
+    let e = each g.events (event_rules m) in let e' = each g.events (event_rules g) in
+    let c = each g.checkpoints (checkpoint_rules m) in let c' = each g.checkpoints (checkpoint_rules g) in
     let h' : List (Rule Fault) = header_rules g in
     let parts : first_broken h' ≡ None → SameParts f g = λ met. same.parts (few_by g (met_left numbers named' (met_right size' (numbers ++ named') met))) in
     let header : Same (header_rules m) h' = same_append size size' (numbers ++ named) (numbers ++ named') same.header

@@ -71,6 +71,11 @@ pub returns-clause-sized : goal.returns-clause-sized
 returns-clause-sized c =
     let within = c.in_default.ensures in
     record {
-      header = omega arith; known = search arith; long = omega arith;
-      pages = omega (arith, within.pages); events = omega (arith, within.events); some = omega (arith, within.some); few = omega (arith, within.few);
+      header = omega arith;
+      known = search arith;
+      long = omega arith;
+      pages = omega (arith, within.pages);
+      events = omega (arith, within.events);
+      some = omega (arith, within.some);
+      few = omega (arith, within.few);
     }
