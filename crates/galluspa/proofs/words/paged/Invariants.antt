@@ -6,6 +6,5 @@ abbrev pub invariant-loop-place : goal.invariant-loop-place
 invariant-loop-place l = record {
   pages : length l.pool ≡ l.place;
   each : (k : ℕ) (d : List ℕ) → k < length l.pool → page_at l.words k ≡ get_or l.pool k d;
-  places : length l.table ≡ 1024;
-  number : (k d : ℕ) → k < l.place → get_or l.table k d ≡ k + 1;
+  number : (k d : ℕ) → k < l.place → get_or l.table.numbers k d ≡ k + 1;
 }
