@@ -92,7 +92,7 @@ fn write(page: &mut Page, place: usize, word: u32)
 
 /// Returns the table with the pool's first page in slot 0 and zeros elsewhere.
 fn first_place() -> Table
-    ensures { All (λ n. n ≤ 1) result }
+    ensures { All (λ n. n ≤ 1) result.numbers }
 {
     let mut table = Table::zeros();
     table.set(0, 1);

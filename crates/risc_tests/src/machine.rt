@@ -74,7 +74,7 @@ fn pool_of(alloc: Global, example: Example) -> Result<Pool, AllocError>
 
 /// Returns the table with page id 1 in slot 0, and the page of zeros in the others.
 fn first_place() -> Table
-    ensures { All (λ n. n ≤ 1) result }
+    ensures { All (λ n. n ≤ 1) result.numbers }
 {
     let mut table = Table::zeros();
     table.set(0, 1);

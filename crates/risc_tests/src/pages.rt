@@ -9,7 +9,7 @@ use std::process::Abort;
 
 /// Reports whether each page id of the table names a page of the pool.
 fn is_named(pool: &Pool, table: &Table) -> bool
-    ensures { IsTrue result → IsNamed pool.now table.now }
+    ensures { IsTrue result → IsNamed pool.now table.now.numbers }
 {
     let pages = pool.len();
     for number in table.numbers() {

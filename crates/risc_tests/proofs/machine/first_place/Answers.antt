@@ -10,4 +10,4 @@ zeros-named = All-replicate (λ n. n ≤ 1) 1024 0 (omega arith)
 pub returns : goal.returns
 returns c =
     let P : List ℕ → Type 0 = λ ns. All (λ n. n ≤ 1) ns in
-    subst P (sym c.set.ensures) (All-set (λ n. n ≤ 1) c.zeros-table.result 0 1 (omega arith) (subst P (sym c.zeros-table.ensures) zeros-named))
+    subst P (sym c.set.ensures) (All-set (λ n. n ≤ 1) c.zeros-table.result.numbers 0 1 (omega arith) (subst P (sym c.zeros-table.ensures) zeros-named))
