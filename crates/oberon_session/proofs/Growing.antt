@@ -2,7 +2,7 @@
 use Rattle.std.proofs.Common.{◌≡◌, ◌≢◌, ℕ, ◌+◌, ◌-◌, ◌^◌, ◌<◌, ◌≤◌, inl, inr, List, [], ◌∷◌, ◌++◌, ap, arith, get_or, length, length-append, map, refl, subst, sym, ◌∙◌}
 use Rattle.std.proofs.lemmas.Bool.{cases_lt}
 use Rattle.std.proofs.lemmas.Grind.{common_steps}
-use Rattle.std.proofs.lemmas.List.{get_or_push, length-map, length-replicate, length_push}
+use Rattle.std.proofs.lemmas.List.{get_or_push, length-map, length-replicate, length_push, map-append}
 use Rattle.std.proofs.lemmas.List.Elements.{All-replicate}
 use Rattle.std.specs.List.{All}
 use Rattle.risc_core.specs.declared.branch.TheConstants.{COUNTER_END}
@@ -237,11 +237,42 @@ module _ (cpu : CpuState) (devices : DeviceState) (words : List ℕ) (whole : le
 
 -- ---- the last checkpoint of parts
 
-pub last-named : (r : RecordingParts) → IsLawful r → (pool : List (List ℕ)) (inputs : List Event) (checkpoints : List Checkpoint)
-    → parts_of pool inputs checkpoints ≡ r → (last : Checkpoint) (k : ℕ) → k ≡ length checkpoints - 1 → last ≡ get_or checkpoints k last → IsNamed pool last.table.numbers
-last-named r lawful pool inputs checkpoints is last k end at =
-    let own : IsLawful (parts_of pool inputs checkpoints) = subst IsLawful (sym is) lawful in
-    let many = length-map checkpoints checkpoint_parts in
-    let inside : k < length checkpoints = omega (arith, own.some, many) in
-    let there = checkpoint_at-is checkpoints k last inside at in
-    (subst (IsFit pool) there (own.fit k (omega (arith, many)))).named
+module _ (r : RecordingParts) (lawful : IsLawful r) (pool : List (List ℕ)) (inputs : List Event) (checkpoints : List Checkpoint)
+    (is : parts_of pool inputs checkpoints ≡ r) (last : Checkpoint) (k : ℕ) (end : k ≡ length checkpoints - 1) (at : last ≡ get_or checkpoints k last) where
+  own : IsLawful (parts_of pool inputs checkpoints)
+  own = subst IsLawful (sym is) lawful
+
+  many : length (map checkpoint_parts checkpoints) ≡ length checkpoints
+  many = length-map checkpoints checkpoint_parts
+
+  there : checkpoint_at (parts_of pool inputs checkpoints) k ≡ checkpoint_parts last
+  there = checkpoint_at-is checkpoints k last (omega (arith, own.some, many, end)) at
+
+  pub last-named : IsNamed pool last.table.numbers
+  last-named = (subst (IsFit pool) there (own.fit k (omega (arith, own.some, many, end)))).named
+
+  last-stored-is : record { pool = pool; table = last.table.numbers } ≡ last_stored r
+  last-stored-is =
+      let at-end : k ≡ last_of (parts_of pool inputs checkpoints) = omega (arith, many, end) in
+      ap (λ (c : CheckpointParts). record { pool = pool; table = c.table }) (sym there)
+      ∙ ap (λ (n : ℕ). record { pool = pool; table = (checkpoint_at (parts_of pool inputs checkpoints) n).table }) at-end ∙ ap last_stored is
+
+  pub last-needs : (words : List ℕ) (f : ExtendFault) → NeedsPages (record { pool = pool; table = last.table.numbers }) words f → NeedsPages (last_stored r) words f
+  last-needs words f = subst (λ (l : Stored). NeedsPages l words f) last-stored-is
+
+  -- the recording with a claim
+  pub has-grown : (claim : Claim) (stored : StoredPages) (items : List Checkpoint) (new : Checkpoint)
+      → stored_view stored ≡ stored_on (record { pool = pool; table = last.table.numbers }) claim.words.now → length stored.pool ≤ MAX_PAGES → ArePages stored.pool
+      → items ≡ checkpoints ++ new ∷ [] → checkpoint_parts new ≡ checkpoint_of claim stored.table.numbers
+      → IsDeviceState claim.devices → All (λ byte. byte < 2 ^ 8) claim.sent.now → HasGrown r claim (stored_view stored) (map checkpoint_parts items)
+  has-grown claim stored items new stored-so few pages pushed new-so devices bytes = record {
+    stored_is = stored-so ∙ ap (λ (l : Stored). stored_on l claim.words.now) last-stored-is;
+    pushed =
+        ap (map checkpoint_parts) pushed ∙ map-append checkpoint_parts checkpoints (new ∷ [])
+        ∙ ap (λ (c : CheckpointParts). map checkpoint_parts checkpoints ++ c ∷ []) new-so
+        ∙ ap (λ (x : RecordingParts). x.checkpoints ++ checkpoint_of claim stored.table.numbers ∷ []) is;
+    few = few;
+    pages = pages;
+    devices = devices;
+    bytes = bytes;
+  }

@@ -14,6 +14,7 @@ mod Reaching
 mod Begun
 mod Whole
 mod StoredLaws
+mod Following
 mod Growing
 mod FirstTables
 mod Deciding

@@ -7,10 +7,12 @@ use Rattle.risc_model.specs.InputOrder.{AreOrdered}
 use Rattle.oberon_session.proofs.Lawful.{whole-pages}
 use Rattle.oberon_session.proofs.Mapped.{mapped-fit, mapped-rises}
 use Rattle.oberon_session.specs.Digits.{PlacedWords}
-use Rattle.oberon_session.specs.Parts.{AreInOrder, AreInRange, placed_view, session_of_parts}
+use Rattle.oberon_session.specs.Parts.{AreInOrder, AreInRange, BreaksParts, placed_view, session_of_parts}
 use Rattle.oberon_session.specs.SessionParts.{IsLawful, SessionParts}
 use Rattle.oberon_session.specs.inner.Tested.{PartsFit, RisesBy}
 use Rattle.oberon_session.specs.declared.digits.PlacedPage.{PlacedPage}
+use Rattle.oberon_session.specs.declared.fault.SessionFault.{SessionFault}
+use Rattle.oberon_session.specs.declared.fault.SessionFault.TheVariants.{Json, Shape, Range, Order, Hex, Memory}
 
 module _ (cpu : Cpu) (rate phase : ℕ) (pages : List PlacedPage) (inputs : List Event) (counts : List ℕ) where
   abbrev s : SessionParts
@@ -79,3 +81,11 @@ lawful-range s lawful = record {
 
 pub lawful-order : (s : SessionParts) → IsLawful s → AreInOrder s
 lawful-order s lawful = record { places = lawful.rising; counts = lawful.rises }
+
+pub breaks-unlawful : (s : SessionParts) (fault : SessionFault) → BreaksParts s fault → IsLawful s → ⊥
+breaks-unlawful s Json broken lawful = broken
+breaks-unlawful s Shape broken lawful = broken
+breaks-unlawful s Range broken lawful = broken (lawful-range s lawful)
+breaks-unlawful s Order broken lawful = broken.1 (lawful-order s lawful)
+breaks-unlawful s Hex broken lawful = broken
+breaks-unlawful s Memory broken lawful = broken

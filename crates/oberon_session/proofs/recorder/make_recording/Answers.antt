@@ -1,9 +1,10 @@
-use Rattle.std.proofs.Common.{◌≡◌, ◌<◌, ◌∙◌, ℕ, ap, arith, length, map}
-use Rattle.std.proofs.lemmas.Result.{IfOk-weaker}
+use Rattle.std.proofs.Common.{◌≡◌, ◌<◌, ◌∙◌, ℕ, List, ap, arith, length, map, subst, sym}
+use Rattle.std.proofs.lemmas.Result.{IfErr-weaker, IfOk-weaker, err_from_is_err_and}
 use Rattle.std.specs.Prelude.{Result, Ok, Err, OnOk}
+use Rattle.risc_model.specs.declared.event.Event.{Event}
 use Rattle.oberon_format.specs.CheckpointParts.{checkpoint_parts}
 use Rattle.oberon_format.specs.Defined.{IsTrueAt}
-use Rattle.oberon_format.specs.Recording.{parts_of, RecordingParts}
+use Rattle.oberon_format.specs.Recording.{IsLawful, parts_of, RecordingParts}
 use Rattle.oberon_session.proofs.Whole.{made, recording-of, truth-of}
 use Rattle.oberon_session.specs.Recorded.{last_of, recording_of}
 use Rattle.oberon_session.specs.inner.Progress.{stored_view}
@@ -41,4 +42,28 @@ returns-clause-truth c =
     (is ∙ recording-of s (stored_view r.stored) cs r.sent c.loop-k.k all c.loop-k.invariant c.inputs.result.now c.inputs.ensures.inputs)) c.finish.ensures.recording
 
 pub loop-k-init : goal.loop-k-init
-loop-k-init c = search arith
+loop-k-init c = c.in_ok-recorder.ensures.recorded
+
+pub returns-in_err-recorder-clause-refused : goal.returns-in_err-recorder-clause-refused
+returns-in_err-recorder-clause-refused c =
+    let from = err_from_is_err_and c.from_residual.result c.from_residual.ensures.1 in
+    rw (from.1, from.2) (λ no. absurd (no c.in_err-recorder.ensures.memory))
+
+pub record_next-requires-clause-recorded : goal.record_next-requires-clause-recorded
+record_next-requires-clause-recorded c = c.loop-k.invariant
+
+pub returns-in_err-record_next-clause-refused : goal.returns-in_err-record_next-clause-refused
+returns-in_err-record_next-clause-refused c =
+    let from = err_from_is_err_and c.from_residual-in_err-record_next.result c.from_residual-in_err-record_next.ensures.1 in
+    rw (from.1, from.2) c.in_err-record_next.ensures.refused
+
+pub loop-k-preserved : goal.loop-k-preserved
+loop-k-preserved c = c.in_ok-record_next.ensures.recorded
+
+pub finish-requires : goal.finish-requires
+finish-requires c =
+    let r = c.loop-k.recorder in
+    subst (λ (es : List Event). IsLawful (parts_of r.stored.pool es r.checkpoints.items)) (sym c.inputs.ensures.inputs) c.loop-k.invariant.lawful
+
+pub returns-clause-refused : goal.returns-clause-refused
+returns-clause-refused c = IfErr-weaker c.finish.result _ _ (λ fault memory no. absurd (no memory)) c.finish.ensures.memory

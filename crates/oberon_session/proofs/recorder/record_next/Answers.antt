@@ -1,7 +1,8 @@
-use Rattle.std.proofs.Common.{◌≢◌, Some, ◌+◌, ◌∙◌, ℕ, List, ap, arith, length, sym, get_or}
+use Rattle.std.proofs.Common.{◌≢◌, ◌<◌, ◌≤◌, Some, ◌+◌, ◌∙◌, ℕ, List, ap, arith, length, subst, sym, get_or}
 use Rattle.std.proofs.lemmas.Result.{err_from_is_err_and}
 use Rattle.risc_pages.specs.declared.table.Table.{Table}
 use Rattle.risc_model.specs.MachineState.{cpu_state}
+use Rattle.recording_limits.specs.declared.limits.TheConstants.{MAX_PAGES}
 use Rattle.oberon_session.proofs.StoredPages.{few-changes, low-changes}
 use Rattle.oberon_session.proofs.Reaching.{few-sent, inside-of, last-count, last-fit, next-count, recorded-more, refused-output, refused-pages}
 use Rattle.oberon_session.proofs.Steps.{count-rises}
@@ -52,7 +53,8 @@ pub returns-then-len-gt-MAX_PAGES-clause-refused : goal.returns-then-len-gt-MAX_
 returns-then-len-gt-MAX_PAGES-clause-refused c =
     let stored-so = rw c.deref.ensures.value at c.in_ok-store_pages.ensures.stored in
     λ _. refused-pages _ c.requires.recorded c.index-last.ensures c.counts.ensures.lawful c.requires.inside
-    c.inputs.ensures.inputs (next-count c.args.session.now c.args.k c.counts.ensures.counts) c.in_ok-reached.ensures.reached stored-so c.in_ok-reached.ensures.room (omega arith)
+    c.inputs.ensures.inputs (next-count c.args.session.now c.args.k c.counts.ensures.counts) c.in_ok-reached.ensures.reached stored-so c.in_ok-reached.ensures.room
+    (subst (λ (n : ℕ). MAX_PAGES < n) c.len.ensures.count c.if-len-gt-MAX_PAGES.true)
 
 pub returns-clause-recorded : goal.returns-clause-recorded
 returns-clause-recorded c =
@@ -62,7 +64,7 @@ returns-clause-recorded c =
     let count : ℕ = get_or c.counts.result.now c.args.k 0 in
     recorded-more _ c.requires.recorded c.index-last.ensures c.counts.ensures.lawful c.requires.inside
     c.inputs.ensures.inputs (next-count c.args.session.now c.args.k c.counts.ensures.counts) c.in_ok-reached.ensures.reached stored-so c.in_ok-reached.ensures.room
-    (omega arith) c.len.ensures.pages c.timer-timer.ensures.ranges bytes
+    (subst (λ (n : ℕ). n ≤ MAX_PAGES) c.len.ensures.count c.if-len-gt-MAX_PAGES.false) c.len.ensures.pages c.timer-timer.ensures.ranges bytes
     c.push.new.self.items _ c.in_ok-push.ensures.items
     (ap (λ (t : Table). record { count = count; cpu = cpu_state r.cpu; devices = r.devices; sent = r.sent.items; table = t.numbers }) c.copy.ensures)
     (c.args.recorder.now.sent + length c.deref-sent.result.now) (ap (λ (l : List ℕ). c.args.recorder.now.sent + length l) c.deref-sent.ensures.value)
