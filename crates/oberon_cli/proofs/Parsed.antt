@@ -1,5 +1,5 @@
 -- A parse by `clap`, in terms of the definition of what the arguments ask for.
-use Rattle.std.proofs.Common.{◌≡◌, ◌==◌, ℕ, zero, suc, ◌≢◌, ◌<◌, ◌∙◌, List, [], ◌∷◌, Some, Option, Result, Ok, Err, IfOk, IfErr, IfSome, None, true, false, ◌⊎◌, arith, refl, sym, ap, length, option_and_then, inl, inr}
+use Rattle.std.proofs.Common.{◌≡◌, ◌==◌, ℕ, zero, suc, ◌≢◌, ◌<◌, ◌∙◌, List, [], ◌∷◌, Some, Option, Result, Ok, Err, IfOk, IfErr, IfSome, None, true, false, ◌⊎◌, arith, refl, sym, ap, length, map, option_and_then, inl, inr, true-eqb}
 use Rattle.std.proofs.lemmas.Bool.{ne_eqb}
 use Rattle.std.specs.Option.{ok_or}
 use Rattle.clap.specs.Words.{App, Text, is_simple, subcommand_of}
@@ -13,6 +13,7 @@ use Rattle.clap.specs.declared.error.kind.ErrorKind.TheVariants as kind
 use Rattle.clap.specs.declared.error.kind.ErrorKind.TheVariants.{DisplayHelp, OutOfMemory}
 use Rattle.oberon_cli.specs.Program.{program_app}
 use Rattle.oberon_cli.specs.declared.words.Request.{Request}
+use Rattle.oberon_cli.specs.declared.words.Request.TheVariants.{Check}
 use Rattle.oberon_cli.specs.declared.words.Refusal.{Refusal}
 use Rattle.oberon_cli.specs.declared.words.Refusal.TheVariants.{Words}
 use Rattle.oberon_cli.specs.Asked.{IsRefused, request_in, faults, found, request_of}
@@ -21,6 +22,13 @@ use Rattle.oberon_cli.specs.inner.Requests.{IsWithinLimits, RefusedBy, refusal_b
 pub some_words : (n : ℕ) → false ≡ (n == 0) → 0 < n
 some_words zero is = cc
 some_words (suc n) is = omega arith
+
+-- no arguments ask for a check
+pub asked_no_words : {X : Type 0} (words : List X) (text : X → Text) → true ≡ (length words == 0) → request_in (map text words) ≡ Some (Check 2 1)
+asked_no_words [] text is = refl
+asked_no_words (word ∷ words) text is =
+    let none : length (word ∷ words) ≡ 0 = true-eqb _ _ is in
+    absurd (omega (arith, none))
 
 pub simple : is_simple program_app ≡ true
 simple = refl

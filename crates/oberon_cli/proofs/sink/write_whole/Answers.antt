@@ -14,4 +14,4 @@ loop-turn-preserved g c = record {
 }
 
 pub returns-clause-prefix : goal.returns-clause-prefix
-returns-clause-prefix g c = search arith
+returns-clause-prefix g c = absurd (omega (arith, c.loop-turn.invariant.within, c.loop-turn.invariant.counted, c.loop-turn-test.false))

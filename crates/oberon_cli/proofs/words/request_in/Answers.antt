@@ -1,11 +1,10 @@
-use Rattle.std.proofs.lemmas.Grind.{common_steps}
 use Rattle.std.proofs.Common.{◌≡◌, ◌∙◌, ◌<◌, [], List, map, length, sym, ap, option_and_then, arith}
 use Rattle.std.proofs.lemmas.List.{length-map}
 use Rattle.clap.specs.Words.{is_simple, subcommand_rows_of, Text}
 use Rattle.clap.specs.Faults.{is_simple_and_free}
 use Rattle.clap.specs.Kinds.{HasKind}
 use Rattle.oberon_cli.specs.Asked.{request_in, faults, found, request_of}
-use Rattle.oberon_cli.proofs.Parsed.{answered, asked_found, faults_are, found_is, free, refused, simple, some_words, within_limits}
+use Rattle.oberon_cli.proofs.Parsed.{answered, asked_found, asked_no_words, faults_are, found_is, free, refused, simple, some_words, within_limits}
 use Rattle.oberon_cli.proofs.words.request_in.Goals as goal
 
 pub returns-in-Ok : goal.returns-in-Ok
@@ -36,4 +35,4 @@ pub returns-then-is_empty-clause-err : goal.returns-then-is_empty-clause-err
 returns-then-is_empty-clause-err c = search arith
 
 pub returns-then-is_empty-clause-ok : goal.returns-then-is_empty-clause-ok
-returns-then-is_empty-clause-ok c = grind (arith, common_steps)
+returns-then-is_empty-clause-ok c = asked_no_words c.args.words.now (λ word. word.now) c.if-is_empty.ensures

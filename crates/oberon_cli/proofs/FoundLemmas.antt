@@ -1,0 +1,53 @@
+-- What the subcommand that `clap` finds asks for.
+use Rattle.std.proofs.Common.{◌≡◌, ◌≢◌, ℕ, Bool, true, false, List, Option, Some, None, Decides, bytes_eq, codes, refl, box_value, option_and_then, option_map}
+use Rattle.std.proofs.lemmas.Slice.Eq.{bytes_eq-Decides}
+use Rattle.clap.specs.Words.{Text, found_of, rows_of, subcommand_rows_of}
+use Rattle.clap.specs.Walk.{Row}
+use Rattle.clap.specs.Matches.{subcommand_name_of}
+use Rattle.clap.specs.declared.parser.matches.ArgMatches.{ArgMatches}
+use Rattle.clap.specs.declared.parser.matches.ArgMatches.TheViews.{out-ArgMatches, out-SubCommand}
+use Rattle.recording_limits.specs.declared.limits.TheConstants.{LAST_CHECKPOINT}
+use Rattle.oberon_cli.specs.Asked.{number_at, request_of}
+use Rattle.oberon_cli.specs.declared.words.Request.TheVariants.{Check, Migrate, Record, Screen}
+
+joined : {B : Type 0} (f : B → Text) (g : B → List Row) (s : Option B) (name : Text) (rows : List Row) → Some name ≡ option_map f s
+    → Some rows ≡ option_map (λ (p : Text × List Row). p.1) (option_map {U = Text × List Row} (λ b. (f b, g b)) s) → option_map {U = Text × List Row} (λ b. (f b, g b)) s ≡ Some (name, rows)
+joined f g None name rows named has = cc
+joined f g (Some b) name rows named has =
+    let name_is : name ≡ f b = cc in
+    let rows_are : rows ≡ g b = cc in
+    rw (name_is, rows_are) refl
+
+-- the name and the rows are those of the subcommand
+pub found_one : (m : ArgMatches) (name : Text) (rows : List Row) → Some name ≡ subcommand_name_of m → Some rows ≡ option_map (λ p. p.1) (subcommand_rows_of m)
+    → subcommand_rows_of m ≡ Some (name, rows)
+found_one m name rows =
+    joined (λ b. (out-SubCommand (box_value b)).name.now) (λ b. rows_of (found_of (out-SubCommand (box_value b)).matches)) (out-ArgMatches m).subcommand name rows
+
+pub asked_migrate : (o : Option (Text × List Row)) (name : Text) (rows : List Row) → o ≡ Some (name, rows) → name ≡ codes "migrate"
+    → Some Migrate ≡ option_and_then (λ p. request_of p.0 p.1) o
+asked_migrate o name rows is named = rw (is, named) refl
+
+pub asked_record : (o : Option (Text × List Row)) (name : Text) (rows : List Row) → o ≡ Some (name, rows) → name ≡ codes "record"
+    → Some Record ≡ option_and_then (λ p. request_of p.0 p.1) o
+asked_record o name rows is named = rw (is, named) refl
+
+pub asked_check : (o : Option (Text × List Row)) (name : Text) (rows : List Row) (workers cut : ℕ) → o ≡ Some (name, rows) → name ≡ codes "check"
+    → Some workers ≡ number_at 1 64 (codes "workers") rows → Some cut ≡ number_at 1 LAST_CHECKPOINT (codes "cut") rows
+    → Some (Check workers cut) ≡ option_and_then (λ p. request_of p.0 p.1) o
+asked_check o name rows workers cut is named one other = rw (is, named, ← one, ← other) refl
+
+pub asked_screen : (o : Option (Text × List Row)) (name : Text) (rows : List Row) (at : ℕ) → o ≡ Some (name, rows) → name ≡ codes "screen"
+    → Some at ≡ number_at 0 LAST_CHECKPOINT (codes "at") rows → Some (Screen at) ≡ option_and_then (λ p. request_of p.0 p.1) o
+asked_screen o name rows at is named one = rw (is, named, ← one) refl
+
+different : (a b : Text) → a ≢ b → bytes_eq a b ≡ false
+different a b differ = go (bytes_eq a b) (bytes_eq-Decides a b)
+  where
+    go : (r : Bool) → Decides r (a ≡ b) → r ≡ false
+    go true is = absurd (differ (is.0 refl))
+    go false is = refl
+
+pub asked_other : (o : Option (Text × List Row)) (name : Text) (rows : List Row) → o ≡ Some (name, rows) → name ≢ codes "check" → name ≢ codes "record"
+    → name ≢ codes "screen" → name ≢ codes "migrate" → None ≡ option_and_then (λ p. request_of p.0 p.1) o
+asked_other o name rows is a b c d = rw (is, different name _ a, different name _ b, different name _ c, different name _ d) refl
