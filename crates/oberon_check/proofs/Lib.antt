@@ -1,4 +1,5 @@
 pub mod Replays
+pub mod Replayed
 pub mod Rules
 pub mod Tallying
 pub mod Collects
