@@ -208,8 +208,7 @@ module _ (v : ℕ) (text : List ℕ) (r : RecordingParts) (known : is_version v 
     unfolding number_before
     tables_agree zero p second le lt = sym (numbers_none text p lt)
     tables_agree (suc k) p second le lt =
-        let before = table_before r.checkpoints k in
-        let table = (checkpoint_at r k).table in
+        let before = table_before r.checkpoints k in let table = (checkpoint_at r k).table in
         let many : change_count text (start text k) ≡ length (changes before table) =
         (later k (omega arith)).count ∙ rw second refl in
         ap (λ (n : ℕ). number_after (change_of text (start text k)) (number_before text k) n p) many

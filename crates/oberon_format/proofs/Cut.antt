@@ -173,8 +173,7 @@ module _ (n : ℕ) (text : List ℕ) (over : LONGEST_TEXT < n) (within : n ≤ l
           room = both_long f g (start cut k + CHANGES_AT) (start text k + CHANGES_AT) (omega (arith, long)) (omega arith) (omega (arith, room)) (omega (arith, room));
           fields = fields_here;
           rest = λ few_changes.
-              let next = next_start in
-              let size = size_few (version text) (change_count text (start text k)) few_changes in
+              let next = next_start in let size = size_few (version text) (change_count text (start text k)) few_changes in
               let more = start_next text k in
               record {
                 next = next;

@@ -27,8 +27,7 @@ events_ordered text es meets len each offset lt =
     ap (λ (n : ℕ). if offset == 0 then 0 else n) (count_is_at text es (offset - 1) each (omega arith)) in
     let one = each_holds (event_rules f) (events text) offset (omega arith) meets.events_meet in
     let holds = (none_hold (event_rules f offset) one).0 in
-    let count = long_at text (event_offset text offset) in
-    let counts = and_left _ _ holds in
+    let count = long_at text (event_offset text offset) in let counts = and_left _ _ holds in
     let low = leb-true (event_floor f offset) count (and_left _ _ counts) in
     let high = leb-true count MAX_COUNT (and_right _ _ counts) in
     omega (arith, here, before)

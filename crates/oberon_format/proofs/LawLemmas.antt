@@ -15,8 +15,7 @@ record Events (text : List ℕ) (n : ℕ) : Type 0 where
 
 event_made : (text : List ℕ) (i : ℕ) → AreBytes text → Meets text → i < events text → (e : Event) × IsEventAt text i e
 event_made text i bytes meets lt =
-    let offset = event_offset text i in
-    let kind = word_at text (offset + KIND_AT) in
+    let offset = event_offset text i in let kind = word_at text (offset + KIND_AT) in
     let value = word_at text (offset + VALUE_AT) in
     let lawful = event_input text i meets lt in (
       record { count = long_at text offset; input = input_of kind value lawful; range = long_fits text offset bytes },
@@ -26,8 +25,7 @@ event_made text i bytes meets lt =
 events_of : (text : List ℕ) (n : ℕ) → AreBytes text → Meets text → n ≤ events text → Events text n
 events_of text zero bytes meets le = record { list = []; count = refl; stand = λ i d lt. absurd (omega arith) }
 events_of text (suc n) bytes meets le =
-    let so_far = events_of text n bytes meets (omega arith) in
-    let count = so_far.count in
+    let so_far = events_of text n bytes meets (omega arith) in let count = so_far.count in
     let made = event_made text n bytes meets (omega arith) in
     record {
       list = so_far.list ++ made.0 ∷ [];

@@ -119,9 +119,7 @@ unfolding total
 met_lawful v r known pages ordered formed met =
     let f = fields_in v r in let n = length r.checkpoints in let within = header_within f met.header in let some = within.some in
     let each_met = λ (k : ℕ) (lt : k < n). fields_hold f k (each_holds (checkpoint_rules f) n k lt met.checkpoints) in
-    let zero_met = each_met 0 (omega arith) in
-    let last = n - 1 in
-    let bound = (each_met last (omega arith)).within in
+    let zero_met = each_met 0 (omega arith) in let last = n - 1 in let bound = (each_met last (omega arith)).within in
     let end : suc last ≡ n = omega arith in
     let all : sent_below f (suc last) ≡ length (output_of r.checkpoints) = ap (sent_below f) end ∙ sent_all v r in
     record {
@@ -200,8 +198,7 @@ change_met : (v : ℕ) (r : RecordingParts) (k i : ℕ) → IsLawful r → k < l
     → is_change (length r.pool) (place_floor (change_in (table_before r.checkpoints k) (checkpoint_at r k).table) i)
     (prior_number (fields_in v r) k) (change_in (table_before r.checkpoints k) (checkpoint_at r k).table i) ≡ true
 change_met v r k i lawful lt less =
-    let before = table_before r.checkpoints k in
-    let table = (checkpoint_at r k).table in
+    let before = table_before r.checkpoints k in let table = (checkpoint_at r k).table in
     let c = change_in before table i in
     let inside : c.place < PLACES = (changes-lawful before table).inside i less in
     let named : c.number ≤ length r.pool = subst (λ (n : ℕ). n ≤ length r.pool) (sym (changes-new before table i less)) (numbers_met r k c.place lawful lt inside) in

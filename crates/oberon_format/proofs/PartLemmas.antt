@@ -23,8 +23,7 @@ prior_more f k p = grind (arith, nat_tests)
 -- the table before each checkpoint but the first is that of the one before
 pub table_next : (cs : List CheckpointParts) (k : ℕ) → table_before cs (suc k) ≡ (slice_index_or cs k no_checkpoint).table
 table_next cs k =
-    let later : (suc k == 0) ≡ false = ne_eqb (suc k) 0 (λ e. omega arith) in
-    let back : suc k - 1 ≡ k = omega arith in
+    let later : (suc k == 0) ≡ false = ne_eqb (suc k) 0 (λ e. omega arith) in let back : suc k - 1 ≡ k = omega arith in
     rw (later, back) refl
 
 -- the page ids before a checkpoint of parts are those of the table before it

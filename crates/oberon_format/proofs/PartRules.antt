@@ -18,8 +18,7 @@ rules_encoded : (r : RecordingParts) (k : ℕ) → k < length r.checkpoints → 
     ((fields_in VERSION r).checkpoint k) (table_before r.checkpoints k) (checkpoint_at r k).table
 rules_encoded r k lt =
     let f = fields_in VERSION r in let old = table_before r.checkpoints k in
-    let new = (checkpoint_at r k).table in
-    let n = length (changes old new) in
+    let new = (checkpoint_at r k).table in let n = length (changes old new) in
     let offset = start_in VERSION r k in let room = changed_room r k in
     let up = start_in_rises VERSION r (suc k) (length r.checkpoints) (omega arith) in
     let fields : List (Rule Fault) = field_rules offset k (count_before f k) (sent_below f k) (f.checkpoint k) in

@@ -61,8 +61,7 @@ pub rules_first : (x : Fields) → first_broken (rules x)
     ≡ in_order (first_broken (header_rules x)) (first_broken (each x.events (event_rules x))) (first_broken (each x.checkpoints (checkpoint_rules x))) (first_broken (end_rules x))
 unfolding rules
 rules_first x =
-    let h = header_rules x in
-    let e = each x.events (event_rules x) in
+    let h = header_rules x in let e = each x.events (event_rules x) in
     let c = each x.checkpoints (checkpoint_rules x) in
     first_append (h ++ e ++ c) (end_rules x)
     ∙ ap (λ (o : Option Fault). option_or o (first_broken (end_rules x))) (first_append (h ++ e) c ∙ ap (λ (o : Option Fault). option_or o (first_broken c)) (first_append h e))
@@ -142,8 +141,7 @@ pub record AreMet (f : Fields) : Type 0 where
 pub met_parts : (f : Fields) → first_broken (rules f) ≡ None → AreMet f
 unfolding rules
 met_parts f h =
-    let es = each f.events (event_rules f) in
-    let cs = each f.checkpoints (checkpoint_rules f) in
+    let es = each f.events (event_rules f) in let cs = each f.checkpoints (checkpoint_rules f) in
     let abc : first_broken (header_rules f ++ es ++ cs) ≡ None = met_left (header_rules f ++ es ++ cs) (end_rules f) h in
     let ab : first_broken (header_rules f ++ es) ≡ None = met_left (header_rules f ++ es) cs abc in
     record {

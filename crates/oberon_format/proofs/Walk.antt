@@ -114,7 +114,6 @@ pub next_rule : (pages offset p : ℕ) (before table : List ℕ) → p < PLACES 
     × (first_broken (change_rules pages offset (slice_index before) (change_in before table) (length (changes_below p before table)))
     ≡ first_broken ((nat_le (slice_index table p) pages, fault.Page (change_offset offset (length (changes_below p before table)))) ∷ []))
 next_rule pages offset p before table lt ne =
-    let m = length (changes_below p before table) in
-    let next = next_change p before table lt ne in
+    let m = length (changes_below p before table) in let next = next_change p before table lt ne in
     let test = number_tested pages m before table next.inside ∙ ap (λ (c : Change). nat_le c.number pages) next.is in
     (next.inside, ap (λ (holds : Bool). first_broken ((holds, fault.Page (change_offset offset m)) ∷ [])) test)

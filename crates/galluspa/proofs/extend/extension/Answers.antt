@@ -1,7 +1,8 @@
-use Rattle.std.proofs.Common.{arith}
+use Rattle.std.proofs.Common.{◌∙◌, arith, subst, sym}
 use Rattle.std.proofs.lemmas.Result.{err_from_is_err_and}
 use Rattle.oberon_format.proofs.One.{same_recording}
-use Rattle.galluspa.proofs.ExtendLemmas.{can-follow, is-extension, unextended}
+use Rattle.galluspa.specs.inner.Extending.{IsNoMore}
+use Rattle.galluspa.proofs.ExtendLemmas.{can-follow, is-extension, out-of-place, unextended}
 use Rattle.galluspa.proofs.extend.extension.Goals as goal
 
 pub returns-in_err-more-clause-refused : goal.returns-in_err-more-clause-refused
@@ -27,3 +28,20 @@ returns-in-Err-Memory-clause-refused c = tt
 
 pub returns-in-Err-Memory-clause-reason : goal.returns-in-Err-Memory-clause-reason
 returns-in-Err-Memory-clause-reason c = search arith
+
+pub returns-in_err-more-clause-whole : goal.returns-in_err-more-clause-whole
+returns-in_err-more-clause-whole c =
+    let from = err_from_is_err_and c.from_residual.result c.from_residual.ensures.1 in
+    rw from.1 (λ _. c.in-Some.ensures.whole)
+
+pub returns-in_err-more-clause-ordered : goal.returns-in_err-more-clause-ordered
+returns-in_err-more-clause-ordered c =
+    let from = err_from_is_err_and c.from_residual.result c.from_residual.ensures.1 in
+    rw from.1 (λ _ _. (c.in-Ok.inputs, c.in-Ok.ensures.events))
+
+pub returns-in_err-more-clause-reason : goal.returns-in_err-more-clause-reason
+returns-in_err-more-clause-reason c =
+    let from = err_from_is_err_and c.from_residual.result c.from_residual.ensures.1 in
+    let no-more = IsNoMore c.args.text.now c.in-Ok.inputs c.in-Some.claim in
+    rw from.1 (λ is. out-of-place c.args.text.now c.args.inputs.now c.in-Ok.inputs c.args.state.now c.args.words.now c.args.sent.now c.in-Some.claim
+    c.in-Ok.ensures.events c.in-Some.ensures.count c.in-Some.ensures.outcome (subst no-more (sym from.2 ∙ is) c.in_err-more.ensures.refused))

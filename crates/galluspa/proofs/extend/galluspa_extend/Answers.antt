@@ -2,7 +2,7 @@ use Rattle.std.proofs.Common.{◌∙◌, ap, arith, subst, sym}
 use Rattle.galluspa.specs.Extend.{IsExtension}
 use Rattle.galluspa.specs.declared.refusal.TheConstants.{NO_RECORDING, OUT_OF_RANGE, TOO_MANY_CHECKPOINTS, TOO_MANY_INPUTS, TOO_MANY_PAGES, TOO_MUCH_OUTPUT}
 use Rattle.galluspa.specs.inner.Extending.{code_of}
-use Rattle.galluspa.proofs.ExtendLemmas.{refusal-by, unextended-by}
+use Rattle.galluspa.proofs.ExtendLemmas.{no-other, refusal-by, unextended-by}
 use Rattle.galluspa.proofs.extend.galluspa_extend.Goals as goal
 
 pub returns-in-Ok-clause-extended : goal.returns-in-Ok-clause-extended
@@ -61,3 +61,36 @@ pub returns-in-Err-clause-pages : goal.returns-in-Err-clause-pages
 returns-in-Err-clause-pages c =
     unextended-by c.args.text.now c.args.inputs.now c.args.state.now c.args.words.now c.args.sent.now c.in-Err.refusal c.in-Err.ensures.refused
     c.code.result c.code.ensures.code TOO_MANY_PAGES
+
+pub returns-in-Ok-clause-range : goal.returns-in-Ok-clause-range
+returns-in-Ok-clause-range c = no-other c.put.result c.put.ensures.codes OUT_OF_RANGE (omega arith) (omega arith)
+
+pub returns-in-Ok-clause-reason : goal.returns-in-Ok-clause-reason
+returns-in-Ok-clause-reason c = no-other c.put.result c.put.ensures.codes OUT_OF_RANGE (omega arith) (omega arith)
+
+pub returns-in-Ok-clause-no_recording : goal.returns-in-Ok-clause-no_recording
+returns-in-Ok-clause-no_recording c = no-other c.put.result c.put.ensures.codes NO_RECORDING (omega arith) (omega arith)
+
+pub returns-in-Ok-clause-inputs : goal.returns-in-Ok-clause-inputs
+returns-in-Ok-clause-inputs c = no-other c.put.result c.put.ensures.codes TOO_MANY_INPUTS (omega arith) (omega arith)
+
+pub returns-in-Ok-clause-checkpoints : goal.returns-in-Ok-clause-checkpoints
+returns-in-Ok-clause-checkpoints c = no-other c.put.result c.put.ensures.codes TOO_MANY_CHECKPOINTS (omega arith) (omega arith)
+
+pub returns-in-Ok-clause-output : goal.returns-in-Ok-clause-output
+returns-in-Ok-clause-output c = no-other c.put.result c.put.ensures.codes TOO_MUCH_OUTPUT (omega arith) (omega arith)
+
+pub returns-in-Ok-clause-pages : goal.returns-in-Ok-clause-pages
+returns-in-Ok-clause-pages c = no-other c.put.result c.put.ensures.codes TOO_MANY_PAGES (omega arith) (omega arith)
+
+pub returns-in-Ok-clause-whole : goal.returns-in-Ok-clause-whole
+returns-in-Ok-clause-whole c = λ _. c.in-Ok.ensures.follows.is_whole
+
+pub returns-in-Ok-clause-room : goal.returns-in-Ok-clause-room
+returns-in-Ok-clause-room c = λ done. (c.put.ensures.done done).0
+
+pub returns-in-Ok-clause-rest : goal.returns-in-Ok-clause-rest
+returns-in-Ok-clause-rest c = c.put.ensures.rest
+
+pub returns-in-Ok-clause-unchanged : goal.returns-in-Ok-clause-unchanged
+returns-in-Ok-clause-unchanged c = c.put.ensures.unchanged

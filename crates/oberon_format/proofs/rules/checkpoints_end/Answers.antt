@@ -30,9 +30,7 @@ loop-k-preserved c =
       | then-is_first w ↦
           let facts = rw (← w.tested-is, c.in-Ok.is) at w.whole_checkpoint-tested.ensures in
           let test : (version text == FIRST_VERSION) ≡ true = sym c.is_first_version-is_first.ensures ∙ w.if-is_first.true in
-          let is = eqb-true _ _ test in
-          let room = whole_room text k c.requires lt is in
-          let next = start_next text k in
+          let is = eqb-true _ _ test in let room = whole_room text k c.requires lt is in let next = start_next text k in
           let size = size_first (version text) (change_count text (start text k)) is in
           record { read = facts.0; small = facts.1; there = omega arith; numbers = λ later. absurd (omega arith); met = facts.2 }
       | else-is_first w ↦
