@@ -22,7 +22,7 @@ module _ (r : RecordingParts) (inputs : List Event) (count last : ℕ) (same : l
   not-bounded high next = omega (arith, high, next.bounded)
 
   pub not-between : (b : Bool) → IsTrue b ↔ AreBetween last count inputs → b ≡ false → IsNext r inputs count → ⊥
-  not-between b tells untrue next = iff_false tells untrue (subst (λ (n : ℕ). AreBetween n count inputs) (sym same) next.between)
+  not-between b reports untrue next = iff_false reports untrue (subst (λ (n : ℕ). AreBetween n count inputs) (sym same) next.between)
 
   pub is-next : last < count → count ≤ MAX_COUNT → AreBetween last count inputs → (all : List Event) → all ≡ r.inputs ++ inputs → AreOrdered all → IsNext r inputs count
   is-next later bounded between all joined ordered = record {
