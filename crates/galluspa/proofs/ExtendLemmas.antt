@@ -1,20 +1,17 @@
 -- A recording's next checkpoint, in the words of a caller.
-use Rattle.std.proofs.Common.{◌≡◌, ◌≢◌, ◌==◌, ◌∙◌, ◌⊎◌, if◌then◌else◌, ℕ, List, [], ◌∷◌, Err, Ok, ap, arith, inl, inr, map, refl, subst, sym}
+use Rattle.std.proofs.Common.{◌≡◌, ◌≢◌, ◌==◌, ◌∙◌, ◌⊎◌, if◌then◌else◌, ℕ, List, [], ◌∷◌, ap, arith, inl, inr, map, refl, subst, sym}
 use Rattle.risc_devices.proofs.InputLemmas.{same_input}
 use Rattle.risc_model.specs.declared.event.Event.{Event}
 use Rattle.oberon_format.proofs.One.{same_event}
 use Rattle.oberon_format.specs.Defined.{Outcome}
 use Rattle.oberon_format.specs.Recording.{RecordingParts}
 use Rattle.oberon_format.specs.Text.{Text, TextIn}
-use Rattle.oberon_format.specs.TextFields.{AnswersText}
 use Rattle.oberon_format.specs.Laws.{HasOneRecording}
-use Rattle.oberon_format.specs.declared.fault.Fault.{Fault}
 use Rattle.oberon_format.specs.declared.layout.TheConstants.{VERSION}
 use Rattle.oberon_session.specs.Extended.{IsExtendFault, IsExtended, IsNext, outcome_of}
 use Rattle.oberon_session.specs.declared.claim.Claim.{Claim}
 use Rattle.oberon_session.specs.declared.extend_fault.ExtendFault.{ExtendFault}
 use Rattle.oberon_session.specs.declared.extend_fault.ExtendFault.TheVariants as fault
-use Rattle.galluspa.specs.Claim.{IsNoRecording}
 use Rattle.galluspa.specs.Extend.{CanFollow, DoesNotFollow, HasTooMuch, IsExtension, claim_of}
 use Rattle.galluspa.specs.Raw.{AreEvents, IsWhole, raw_input}
 use Rattle.galluspa.specs.declared.extend.Unrecorded.{Unrecorded}
@@ -143,10 +140,6 @@ pub no-other : {A : Type 0} (code : ℕ) → (code ≡ DONE) ⊎ (code ≡ NO_RO
 no-other code (inl done) n not_done _ is = absurd (not_done (sym is ∙ done))
 no-other code (inr full) n _ not_full is = absurd (not_full (sym is ∙ full))
 
--- what is read is the recording of the bytes
-pub read-text : (text : List ℕ) (recording : RecordingParts) → AnswersText text (Text text) (Ok recording) → Text text recording
-read-text text recording answer = search arith
-
 -- if a recording is not extended for a fault, what is refused is that
 pub unextended-full : (text : List ℕ) (events : List Event) (claim : Claim) (recording : RecordingParts) → Text text recording → (why : ExtendFault)
     → IsExtendFault recording events claim.count (outcome_of claim) why → IsNoMore text events claim (refusal_for why)
@@ -157,6 +150,6 @@ unextended-full text events claim recording is fault.Output wrong = record { rec
 unextended-full text events claim recording is fault.Pages wrong = record { recording = recording; is_text = is; too_much = wrong }
 unextended-full text events claim recording is fault.Memory wrong = tt
 
--- bytes with a fault are no recording
-pub no-text : (text : List ℕ) (why : Fault) → AnswersText text (Text text) (Err why) → why ≢ Fault.Memory → IsNoRecording text
-no-text text why answer other = search arith
+-- an extension that memory ran out for was not refused for a range
+pub memory-not-range : Unrecorded.Memory ≢ Unrecorded.Range
+memory-not-range = search arith

@@ -1,7 +1,8 @@
 -- Which inputs of a caller are events in order.
-use Rattle.std.proofs.Common.{◌≡◌, ◌∙◌, ◌<◌, ◌≤◌, ◌-◌, ℕ, List, [], ◌∷◌, zero, suc, ap, sym, subst, refl, arith, get_or, length, map}
+use Rattle.std.proofs.Common.{◌≡◌, ◌∙◌, ◌<◌, ◌≤◌, ◌+◌, ◌-◌, ◌++◌, ℕ, List, [], ◌∷◌, zero, suc, ap, sym, subst, refl, arith, get_or, length, map, take}
 use Rattle.std.specs.Prelude.{◌==◌, if◌then◌else◌, slice_index}
-use Rattle.std.proofs.lemmas.List.{length-map}
+use Rattle.std.proofs.Math.Seq.{take-suc}
+use Rattle.std.proofs.lemmas.List.{length-map, map_push}
 use Rattle.risc_devices.specs.InputKind.{IsInput}
 use Rattle.risc_model.specs.declared.event.Event.{Event}
 use Rattle.risc_model.specs.declared.inputs.TheConstants.{MAX_COUNT}
@@ -23,6 +24,17 @@ unlawful inputs i d lt bad events are =
     let same : map raw_input events ≡ inputs = are.written in
     let P : List RawInput → Type 0 = λ (xs : List RawInput). IsInput (get_or xs i d).kind (get_or xs i d).value in
     bad (subst P same (lawful_at events i d (rw same lt)))
+
+-- one event more for one input more
+pub one-more : (inputs : List RawInput) (events : List Event) (e : Event) (i : ℕ) (d : RawInput) → i < length inputs → map raw_input events ≡ take i inputs
+    → raw_input e ≡ get_or inputs i d → map raw_input (events ++ e ∷ []) ≡ take (i + 1) inputs
+one-more inputs events e i d lt before is =
+    let next : suc i ≡ i + 1 = omega arith in
+    map_push raw_input events e
+    ∙ ap (λ (xs : List RawInput). xs ++ raw_input e ∷ []) before
+    ∙ ap (λ (r : RawInput). take i inputs ++ r ∷ []) is
+    ∙ sym (take-suc inputs i d lt)
+    ∙ ap (λ (n : ℕ). take n inputs) next
 
 counts_of : (events : List Event) → map (λ (r : RawInput). r.count) (map raw_input events) ≡ map (λ (e : Event). e.count) events
 counts_of [] = refl

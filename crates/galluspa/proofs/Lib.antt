@@ -1,5 +1,6 @@
 -- The lemmas of this crate.
 mod WordLemmas
+mod TextLemmas
 mod FirstLemmas
 mod LineLemmas
 mod FrameLemmas

@@ -4,12 +4,13 @@ ghost use Rattle.risc_devices.specs.InputKind.{IsInput};
 ghost use Rattle.risc_model.specs.MachineState.{cpu_state};
 ghost use Rattle.risc_model.specs.Replay.{run_of, sent_of};
 ghost use Rattle.galluspa.specs.Advance.{HasRun, IsInRange, SendsMore};
-ghost use Rattle.galluspa.specs.Raw.{AreEvents, AreNoEvents, IsWhole, IsWritten, cpu_of, devices_of, raw_input, state_of};
+ghost use Rattle.galluspa.specs.Raw.{AreEvents, IsWhole, IsWritten, cpu_of, devices_of, raw_input, state_of};
+ghost use Rattle.galluspa.specs.inner.Running.{AreNoInputs, IsNoRun, IsRun, IsUnrun};
 
 use crate::front::copy_to_front;
 use crate::raw::{RawInput, RawState, parts_of, state_of};
 use crate::refusal::{DONE, NO_ROOM, OUT_OF_MEMORY, OUT_OF_RANGE, Refusal};
-use crate::words::{copy_words, paged};
+use crate::words::{WORDS, copy_words, paged};
 use risc_devices::{Devices, Input};
 use risc_machine::Machine;
 use risc_model::{Cpu, Event, Inputs};
@@ -32,8 +33,7 @@ fn event_at(count: u64, kind: u32, value: u32) -> Option<Event>
 /// Returns the events of inputs whose kinds and values are in their ranges.
 fn events_of(alloc: Global, inputs: &[RawInput]) -> Result<Vec<Event>, Refusal>
     ensures events { IfOk result (λ events. map raw_input events.items ≡ inputs.now) }
-    ensures refusal { IfErr result (λ refusal. refusal ≢ Refusal.Room) }
-    ensures range { IfErr result (λ refusal. refusal ≡ Refusal.Range → AreNoEvents inputs.now) }
+    ensures refused { IfErr result (AreNoInputs inputs.now) }
 {
     let mut events = Vec::new(alloc);
     for input in inputs {
@@ -48,8 +48,7 @@ fn events_of(alloc: Global, inputs: &[RawInput]) -> Result<Vec<Event>, Refusal>
 /// Returns the inputs of a caller, if each is in its range and their counts are in order.
 pub fn inputs_of(alloc: Global, inputs: &[RawInput]) -> Result<Inputs, Refusal>
     ensures events { IfOk result (λ events. AreEvents inputs.now events) }
-    ensures refusal { IfErr result (λ refusal. refusal ≢ Refusal.Room) }
-    ensures range { IfErr result (λ refusal. refusal ≡ Refusal.Range → AreNoEvents inputs.now) }
+    ensures refused { IfErr result (AreNoInputs inputs.now) }
 {
     match Inputs::new(events_of(alloc, inputs)?) {
         Ok(inputs) => Ok(inputs),
@@ -57,8 +56,59 @@ pub fn inputs_of(alloc: Global, inputs: &[RawInput]) -> Result<Inputs, Refusal>
     }
 }
 
-/// Runs the machine of a state with its words, whose processor and devices are `parts`, up to a count. Writes the state and the words
-/// after it, and returns the bytes that it sends, of which there are at most `room`. Otherwise nothing is written.
+/// Runs a machine from one count up to another, and returns the bytes that it sends, of which there are at most `room`.
+fn sent_by(
+    alloc: Global,
+    machine: &mut Machine<'_>,
+    inputs: &Inputs,
+    from: u64,
+    to: u64,
+    room: usize,
+) -> Result<Vec<u8>, Refusal>
+    requires forward { from ≤ to }
+    ensures state { OnOk result (machine.new.state ≡ run_of inputs.now from (to - from) machine.old.state) }
+    ensures sent { IfOk result (λ sent. sent.items ≡ sent_of inputs.now from (to - from) machine.old.state) }
+    ensures room { IfOk result (λ sent. length sent.items ≤ room) }
+    ensures no_room { IfErr result (λ refusal.
+        refusal ≡ Refusal.Room → room < length (sent_of inputs.now from (to - from) machine.old.state)) }
+    ensures refusal { IfErr result (λ refusal. refusal ≢ Refusal.Range) }
+{
+    let mut sent = Vec::new(alloc);
+    let Ok(()) = machine.run(inputs, from, to, &mut sent) else {
+        return Err(Refusal::Memory);
+    };
+    if sent.len() > room {
+        return Err(Refusal::Room);
+    }
+    Ok(sent)
+}
+
+/// Runs the machine of a state with its words up to a count. Writes the state and the words after it, and returns the bytes that it
+/// sends, of which there are at most `room`. Otherwise nothing is written.
+fn run_machine(
+    alloc: Global,
+    machine: &mut Machine<'_>,
+    state: &mut RawState,
+    words: &mut [u32],
+    inputs: &Inputs,
+    to: u64,
+    room: usize,
+) -> Result<Vec<u8>, Refusal>
+    requires state { machine.old.state ≡ state_of state.old words.old }
+    requires words { length words.old ≡ WORDS }
+    requires forward { state.old.count ≤ to }
+    ensures run { IfOk result (λ sent. IsRun inputs.now to state.old words.old state.new words.new sent.items) }
+    ensures room { IfOk result (λ sent. length sent.items ≤ room) }
+    ensures unchanged { OnErr result ((state.new ≡ state.old) × (words.new ≡ words.old)) }
+    ensures refused { IfErr result (IsNoRun inputs.now to state.old words.old room) }
+{
+    let sent = sent_by(alloc, machine, inputs, state.count, to, room)?;
+    *state = state_of(to, machine.cpu(), machine.devices());
+    copy_words(machine.memory(), words);
+    Ok(sent)
+}
+
+/// Runs the machine of a state with its words, whose processor and devices are `parts`, as `run_machine` does.
 fn run_parts(
     alloc: Global,
     parts: (Cpu, Devices),
@@ -72,29 +122,15 @@ fn run_parts(
     requires devices { parts.1 ≡ devices_of state.old }
     requires whole { IsWhole state.old words.old }
     requires forward { state.old.count ≤ to }
-    ensures count { OnOk result (state.new.count ≡ to) }
-    ensures state { OnOk result (state_of state.new words.new ≡ run_of inputs.now state.old.count (to - state.old.count) (state_of state.old words.old)) }
-    ensures sent { IfOk result (λ sent. sent.items ≡ sent_of inputs.now state.old.count (to - state.old.count) (state_of state.old words.old)) }
+    ensures run { IfOk result (λ sent. IsRun inputs.now to state.old words.old state.new words.new sent.items) }
     ensures room { IfOk result (λ sent. length sent.items ≤ room) }
-    ensures written { OnOk result (IsWritten state.new words.new) }
     ensures unchanged { OnErr result ((state.new ≡ state.old) × (words.new ≡ words.old)) }
-    ensures no_room { IfErr result (λ refusal.
-        refusal ≡ Refusal.Room → room < length (sent_of inputs.now state.old.count (to - state.old.count) (state_of state.old words.old))) }
-    ensures refusal { IfErr result (λ refusal. refusal ≢ Refusal.Range) }
+    ensures refused { IfErr result (IsNoRun inputs.now to state.old words.old room) }
 {
-    let (cpu, devices) = parts;
     let (pool, table) = paged(alloc, words)?;
+    let (cpu, devices) = parts;
     let mut machine = Machine::start(alloc, &pool, &table, cpu, devices)?;
-    let mut sent = Vec::new(alloc);
-    let Ok(()) = machine.run(inputs, state.count, to, &mut sent) else {
-        return Err(Refusal::Memory);
-    };
-    if sent.len() > room {
-        return Err(Refusal::Room);
-    }
-    *state = state_of(to, machine.cpu(), machine.devices());
-    copy_words(machine.memory(), words);
-    Ok(sent)
+    run_machine(alloc, &mut machine, state, words, inputs, to, room)
 }
 
 /// Runs a machine up to a count, and returns the bytes that it sends, of which there are at most `room`.
@@ -110,15 +146,8 @@ fn run(
     ensures room { IfOk result (λ sent. length sent.items ≤ room) }
     ensures written { IfOk result (λ sent. IsWritten state.new words.new) }
     ensures unchanged { OnErr result ((state.new ≡ state.old) × (words.new ≡ words.old)) }
-    ensures no_room { IfErr result (λ refusal.
-        refusal ≡ Refusal.Room → SendsMore inputs.now to state.old words.old room) }
     ensures in_range { OnOk result (IsInRange inputs.now to state.old words.old) }
-    ensures room_in_range { IfErr result (λ refusal.
-        refusal ≡ Refusal.Room → IsInRange inputs.now to state.old words.old) }
-    ensures forward { IfErr result (λ refusal. refusal ≢ Refusal.Range → state.old.count ≤ to) }
-    ensures whole { IfErr result (λ refusal. refusal ≢ Refusal.Range → IsWhole state.old words.old) }
-    ensures range { IfErr result (λ refusal.
-        refusal ≡ Refusal.Range → ¬ (IsInRange inputs.now to state.old words.old)) }
+    ensures refused { IfErr result (IsUnrun inputs.now to state.old words.old room) }
 {
     if to < state.count {
         return Err(Refusal::Range);

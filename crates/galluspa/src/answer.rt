@@ -1,7 +1,11 @@
 //! An answer of bytes with its status, and how it is written to the memory of a caller.
-ghost use Rattle.std.specs.Prelude.{◌≡◌, ◌<◌, ◌≤◌, drop, length, take, vec_len};
+ghost use Rattle.std.specs.Prelude.{◌≡◌, ◌<◌, ◌≤◌, IfOk, drop, length, take, vec_len};
+ghost use Rattle.galluspa.specs.inner.Answering.{IsFaultAnswer};
 
 use crate::front::copy_to_front;
+use crate::lengths::refusal_fits;
+use oberon_format::{Fault, refusal};
+use std::alloc::{AllocError, Global};
 
 /// Bytes with their status.
 #[derive(Drop)]
@@ -10,6 +14,18 @@ pub struct Answer {
     pub bytes: Vec<u8>,
     /// 0 done or accepted, 1 false, 2 refused.
     pub status: u8,
+}
+
+/// Returns the line of the first rule that bytes break. It fails only if memory runs out, as it did if that is the fault.
+pub fn refused(alloc: Global, fault: &Fault) -> Result<Answer, AllocError>
+    ensures { IfOk result (λ answer. IsFaultAnswer fault.now answer.bytes.items answer.status) }
+{
+    if let Fault::Memory = fault {
+        return Err(AllocError);
+    }
+    refusal_fits(fault);
+    let bytes = refusal(alloc, fault)?;
+    Ok(Answer { bytes, status: 2 })
 }
 
 /// Writes an answer to the front of `out` with its status, if there is room, and returns its length. An empty

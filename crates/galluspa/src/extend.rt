@@ -1,6 +1,8 @@
 //! Recordings that a caller makes while a machine runs: the beginning, and the next checkpoint.
 ghost use Rattle.std.specs.Prelude.{◌≡◌, ◌≢◌, ◌<◌, ◌≤◌, ◌⊎◌, IfErr, IfNone, IfOk, IfSome, drop, length, take};
 ghost use Rattle.risc_core.specs.declared.branch.TheConstants.{COUNTER_END};
+ghost use Rattle.oberon_format.specs.Text.{TextIn};
+ghost use Rattle.oberon_format.specs.declared.layout.TheConstants.{VERSION};
 ghost use Rattle.oberon_session.specs.Extended.{outcome_of};
 ghost use Rattle.oberon_session.specs.declared.extend_fault.ExtendFault.{ExtendFault};
 ghost use Rattle.galluspa.specs.Claim.{IsNoRecording};
@@ -82,6 +84,17 @@ fn claim_of<'a>(state: &RawState, words: &'a [u32], sent: &'a [u8]) -> Option<Cl
     })
 }
 
+/// Returns the bytes of a recording.
+fn written(alloc: Global, recording: Recording) -> Result<Vec<u8>, Unrecorded>
+    ensures text { IfOk result (λ bytes. TextIn VERSION bytes.items recording) }
+    ensures memory { IfErr result (λ refusal. refusal ≡ Unrecorded.Memory) }
+{
+    match write(alloc, &recording) {
+        Ok(bytes) => Ok(bytes),
+        Err(_) => Err(Unrecorded::Memory),
+    }
+}
+
 /// Returns the bytes of the recording that begins with a state.
 fn beginning(alloc: Global, state: &RawState, words: &[u32]) -> Result<Vec<u8>, Unrecorded>
     ensures beginning { IfOk result (λ bytes. IsBeginning state.now words.now bytes.items) }
@@ -96,11 +109,8 @@ fn beginning(alloc: Global, state: &RawState, words: &[u32]) -> Result<Vec<u8>, 
     let Some(claim) = claim_of(state, words, &[]) else {
         return Err(Unrecorded::Range);
     };
-    let Ok(recording) = begin_recording(alloc, claim.cpu, claim.devices, words) else {
-        return Err(Unrecorded::Memory);
-    };
-    match write(alloc, &recording) {
-        Ok(bytes) => Ok(bytes),
+    match begin_recording(alloc, claim.cpu, claim.devices, words) {
+        Ok(recording) => written(alloc, recording),
         Err(_) => Err(Unrecorded::Memory),
     }
 }
@@ -170,10 +180,7 @@ fn extension(
         Err(_) => return Err(Unrecorded::Range),
     };
     let more = extended(alloc, text, &inputs, &claim)?;
-    match write(alloc, &more) {
-        Ok(bytes) => Ok(bytes),
-        Err(_) => Err(Unrecorded::Memory),
-    }
+    written(alloc, more)
 }
 
 /// Writes bytes to the front of `out`, and their number; or only their number, if there is no room.

@@ -3,8 +3,8 @@ ghost use Rattle.std.specs.Prelude.{◌≡◌, ◌<◌, ◌≤◌, IfOk, drop, l
 ghost use Rattle.galluspa.specs.Migrate.{IsMigration};
 ghost use Rattle.galluspa.specs.Room.{IsAnswer, NeedsRoom};
 
-use crate::answer::{Answer, put};
-use oberon_format::{Fault, migrate, refusal};
+use crate::answer::{Answer, put, refused};
+use oberon_format::migrate;
 use std::alloc::{AllocError, Global};
 
 /// Returns the bytes of the same recording in the current version, or the line of the first rule that the bytes break.
@@ -13,11 +13,7 @@ fn answer_to(alloc: Global, text: &[u8]) -> Result<Answer, AllocError>
 {
     match migrate(alloc, text) {
         Ok(bytes) => Ok(Answer { bytes, status: 0 }),
-        Err(Fault::Memory) => Err(AllocError),
-        Err(fault) => {
-            let bytes = refusal(alloc, &fault)?;
-            Ok(Answer { bytes, status: 2 })
-        }
+        Err(fault) => refused(alloc, &fault),
     }
 }
 

@@ -1,5 +1,13 @@
-use Rattle.galluspa.proofs.InputLemmas.{unlawful}
+use Rattle.std.proofs.Common.{◌∙◌, ap, map}
+use Rattle.galluspa.specs.Raw.{raw_input}
+use Rattle.galluspa.proofs.InputLemmas.{one-more, unlawful}
 use Rattle.galluspa.proofs.advance.events_of.Goals as goal
 
-pub returns-in_default-clause-range : goal.returns-in_default-clause-range
-returns-in_default-clause-range c = λ _. unlawful c.args.inputs.now c.loop-input.input-index (record { count = 0; kind = 0; value = 0 }) c.loop-input-test.true c.in_default.ensures.range
+pub returns-in_default-clause-refused : goal.returns-in_default-clause-refused
+returns-in_default-clause-refused c = unlawful c.args.inputs.now c.loop-input.input-index (record { count = 0; kind = 0; value = 0 }) c.loop-input-test.true c.in_default.ensures.range
+
+pub loop-input-preserved : goal.loop-input-preserved
+loop-input-preserved c =
+    ap (map raw_input) c.in_ok-push.ensures.items
+    ∙ one-more c.args.inputs.now c.loop-input.events.items c.in-Some.event c.loop-input.input-index (record { count = 0; kind = 0; value = 0 })
+    c.loop-input-test.true c.loop-input.invariant c.in-Some.ensures.event

@@ -1,6 +1,6 @@
 use Rattle.std.proofs.Common.{◌≡◌, ◌∙◌, ℕ, ap, arith, length, refl, subst, sym, take}
 use Rattle.galluspa.specs.Advance.{HasRun}
-use Rattle.galluspa.proofs.WordLemmas.{front-rest, memory-not-range}
+use Rattle.galluspa.proofs.WordLemmas.{front-rest}
 use Rattle.galluspa.proofs.advance.galluspa_advance.Goals as goal
 
 pub returns-in-Ok-clause-run : goal.returns-in-Ok-clause-run
@@ -11,12 +11,6 @@ returns-in-Ok-clause-run c = λ _.
 
 pub returns-in-Err-Room-clause-range : goal.returns-in-Err-Room-clause-range
 returns-in-Err-Room-clause-range c = search arith
-
-pub returns-in-Err-Range-clause-range : goal.returns-in-Err-Range-clause-range
-returns-in-Err-Range-clause-range c = λ _. c.in-Err-Range.ensures.range c.in-Err-Range.field-0-is
-
-pub returns-in-Err-Room-clause-no_room : goal.returns-in-Err-Room-clause-no_room
-returns-in-Err-Room-clause-no_room c = λ _. c.in-Err-Room.ensures.no_room c.in-Err-Room.field-0-is
 
 pub returns-in-Ok-clause-written : goal.returns-in-Ok-clause-written
 returns-in-Ok-clause-written c = λ _. c.in-Ok.ensures.written
@@ -48,9 +42,6 @@ returns-in-Err-Range-clause-forward c = λ other. absurd (other refl)
 pub returns-in-Err-Range-clause-whole : goal.returns-in-Err-Range-clause-whole
 returns-in-Err-Range-clause-whole c = λ other. absurd (other refl)
 
-pub returns-in-Err-Room-clause-in_range : goal.returns-in-Err-Room-clause-in_range
-returns-in-Err-Room-clause-in_range c = λ _ _. c.in-Err-Room.ensures.room_in_range c.in-Err-Room.field-0-is
-
 pub returns-in-Err-Memory-clause-in_range : goal.returns-in-Err-Memory-clause-in_range
 returns-in-Err-Memory-clause-in_range c = λ _ other. absurd (other refl)
 
@@ -59,12 +50,6 @@ returns-in-Ok-clause-forward c = λ _. c.in-Ok.ensures.in_range.forward
 
 pub returns-in-Ok-clause-whole : goal.returns-in-Ok-clause-whole
 returns-in-Ok-clause-whole c = λ _. c.in-Ok.ensures.in_range.is_whole
-
-pub returns-in-Err-Room-clause-forward : goal.returns-in-Err-Room-clause-forward
-returns-in-Err-Room-clause-forward c = λ _. (c.in-Err-Room.ensures.room_in_range c.in-Err-Room.field-0-is).forward
-
-pub returns-in-Err-Room-clause-whole : goal.returns-in-Err-Room-clause-whole
-returns-in-Err-Room-clause-whole c = λ _. (c.in-Err-Room.ensures.room_in_range c.in-Err-Room.field-0-is).is_whole
 
 pub copy_to_front-requires : goal.copy_to_front-requires
 copy_to_front-requires c = rw c.deref.ensures.value c.in-Ok.ensures.room
@@ -77,8 +62,32 @@ returns-in-Ok-clause-rest c =
     rw c.copy_to_front.ensures.all
     (front-rest c.deref.result.now c.args.sent.now c.len.result (c.len.ensures ∙ sym c.deref.ensures.len))
 
+pub returns-in-Err-Range-clause-range : goal.returns-in-Err-Range-clause-range
+returns-in-Err-Range-clause-range c = λ _. rw c.in-Err-Range.field-0-is at c.in-Err-Range.ensures.refused
+
+pub returns-in-Err-Room-clause-no_room : goal.returns-in-Err-Room-clause-no_room
+returns-in-Err-Room-clause-no_room c = λ _. let refused = rw c.in-Err-Room.field-0-is at c.in-Err-Room.ensures.refused in refused.1
+
+pub returns-in-Err-Room-clause-in_range : goal.returns-in-Err-Room-clause-in_range
+returns-in-Err-Room-clause-in_range c = λ _ _. let refused = rw c.in-Err-Room.field-0-is at c.in-Err-Room.ensures.refused in refused.0
+
+pub returns-in-Err-Room-clause-forward : goal.returns-in-Err-Room-clause-forward
+returns-in-Err-Room-clause-forward c = λ _. let refused = rw c.in-Err-Room.field-0-is at c.in-Err-Room.ensures.refused in refused.0.forward
+
+pub returns-in-Err-Room-clause-whole : goal.returns-in-Err-Room-clause-whole
+returns-in-Err-Room-clause-whole c = λ _. let refused = rw c.in-Err-Room.field-0-is at c.in-Err-Room.ensures.refused in refused.0.is_whole
+
 pub returns-in-Err-Memory-clause-forward : goal.returns-in-Err-Memory-clause-forward
-returns-in-Err-Memory-clause-forward c = λ _. c.in-Err-Memory.ensures.forward (rw c.in-Err-Memory.field-0-is memory-not-range)
+returns-in-Err-Memory-clause-forward c = λ _. let refused = rw c.in-Err-Memory.field-0-is at c.in-Err-Memory.ensures.refused in refused.0
 
 pub returns-in-Err-Memory-clause-whole : goal.returns-in-Err-Memory-clause-whole
-returns-in-Err-Memory-clause-whole c = λ _. c.in-Err-Memory.ensures.whole (rw c.in-Err-Memory.field-0-is memory-not-range)
+returns-in-Err-Memory-clause-whole c = λ _. let refused = rw c.in-Err-Memory.field-0-is at c.in-Err-Memory.ensures.refused in refused.1
+
+pub returns-in-Ok-clause-range : goal.returns-in-Ok-clause-range
+returns-in-Ok-clause-range c = λ is. absurd (omega arith)
+
+pub returns-in-Ok-clause-no_room : goal.returns-in-Ok-clause-no_room
+returns-in-Ok-clause-no_room c = λ is. absurd (omega arith)
+
+pub returns-in-Ok-clause-codes : goal.returns-in-Ok-clause-codes
+returns-in-Ok-clause-codes c = omega arith

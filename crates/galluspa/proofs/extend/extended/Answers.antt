@@ -1,6 +1,7 @@
 use Rattle.std.proofs.Common.{◌≢◌, arith}
 use Rattle.oberon_format.specs.declared.fault.Fault.{Fault}
-use Rattle.galluspa.proofs.ExtendLemmas.{no-text, read-text, unextended-full}
+use Rattle.galluspa.proofs.ExtendLemmas.{unextended-full}
+use Rattle.galluspa.proofs.TextLemmas.{no-text, read-text}
 use Rattle.galluspa.proofs.extend.extended.Goals as goal
 
 pub returns-in-Err-Memory-clause-refused : goal.returns-in-Err-Memory-clause-refused

@@ -1,8 +1,8 @@
 use Rattle.std.proofs.Common.{◌∙◌, arith, subst, sym}
-use Rattle.std.proofs.lemmas.Result.{err_from_is_err_and}
+use Rattle.std.proofs.lemmas.Result.{IfErr-weaker, IfOk-weaker, err_from_is_err_and}
 use Rattle.oberon_format.proofs.One.{same_recording}
-use Rattle.galluspa.specs.inner.Extending.{IsNoMore}
-use Rattle.galluspa.proofs.ExtendLemmas.{can-follow, is-extension, out-of-place, unextended}
+use Rattle.galluspa.specs.inner.Extending.{IsNoMore, IsUnextended}
+use Rattle.galluspa.proofs.ExtendLemmas.{can-follow, is-extension, memory-not-range, out-of-place, unextended}
 use Rattle.galluspa.proofs.extend.extension.Goals as goal
 
 pub returns-in_err-more-clause-refused : goal.returns-in_err-more-clause-refused
@@ -12,16 +12,19 @@ returns-in_err-more-clause-refused c =
     (unextended c.args.text.now c.args.inputs.now c.in-Ok.inputs c.args.state.now c.args.words.now c.args.sent.now c.in-Some.claim
     c.in-Ok.ensures.events c.in-Some.ensures.count c.in-Some.ensures.outcome same_recording _ c.in_err-more.ensures.refused)
 
-pub returns-in-Ok-write-clause-extension : goal.returns-in-Ok-write-clause-extension
-returns-in-Ok-write-clause-extension c =
+pub returns-clause-extension : goal.returns-clause-extension
+returns-clause-extension c =
+    IfOk-weaker c.written.result _ _ (λ bytes text.
     is-extension c.args.text.now c.args.inputs.now c.in-Ok.inputs c.args.state.now c.args.words.now c.args.sent.now c.in-Some.claim
-    c.in-Ok.ensures.events c.in-Some.ensures.count c.in-Some.ensures.outcome c.in_ok-more.more c.in-Ok-write.bytes.items
-    c.in_ok-more.ensures.more c.in-Ok-write.ensures
+    c.in-Ok.ensures.events c.in-Some.ensures.count c.in-Some.ensures.outcome c.in_ok-more.more bytes.items c.in_ok-more.ensures.more text)
+    c.written.ensures.text
 
-pub returns-in-Ok-write-clause-follows : goal.returns-in-Ok-write-clause-follows
-returns-in-Ok-write-clause-follows c =
+pub returns-clause-follows : goal.returns-clause-follows
+returns-clause-follows c =
+    IfOk-weaker c.written.result _ _ (λ _ _.
     can-follow c.args.text.now c.args.inputs.now c.in-Ok.inputs c.args.state.now c.args.words.now c.args.sent.now c.in-Some.claim
-    c.in-Ok.ensures.events c.in-Some.ensures.count c.in-Some.ensures.outcome c.in_ok-more.more c.in_ok-more.ensures.more c.in-Some.ensures.whole
+    c.in-Ok.ensures.events c.in-Some.ensures.count c.in-Some.ensures.outcome c.in_ok-more.more c.in_ok-more.ensures.more c.in-Some.ensures.whole)
+    c.written.ensures.text
 
 pub returns-in-Err-Memory-clause-refused : goal.returns-in-Err-Memory-clause-refused
 returns-in-Err-Memory-clause-refused c = tt
@@ -45,3 +48,19 @@ returns-in_err-more-clause-reason c =
     let no-more = IsNoMore c.args.text.now c.in-Ok.inputs c.in-Some.claim in
     rw from.1 (λ is. out-of-place c.args.text.now c.args.inputs.now c.in-Ok.inputs c.args.state.now c.args.words.now c.args.sent.now c.in-Some.claim
     c.in-Ok.ensures.events c.in-Some.ensures.count c.in-Some.ensures.outcome (subst no-more (sym from.2 ∙ is) c.in_err-more.ensures.refused))
+
+pub returns-clause-refused : goal.returns-clause-refused
+returns-clause-refused c =
+    IfErr-weaker c.written.result _ (IsUnextended c.args.text.now c.args.inputs.now c.args.state.now c.args.words.now c.args.sent.now)
+    (λ refusal is. rw is tt) c.written.ensures.memory
+
+pub returns-clause-whole : goal.returns-clause-whole
+returns-clause-whole c = IfErr-weaker c.written.result _ _ (λ _ _ _. c.in-Some.ensures.whole) c.written.ensures.memory
+
+pub returns-clause-ordered : goal.returns-clause-ordered
+returns-clause-ordered c =
+    IfErr-weaker c.written.result _ _ (λ _ _ _ _. (c.in-Ok.inputs, c.in-Ok.ensures.events)) c.written.ensures.memory
+
+pub returns-clause-reason : goal.returns-clause-reason
+returns-clause-reason c =
+    IfErr-weaker c.written.result _ _ (λ refusal is range. absurd (memory-not-range (sym is ∙ range))) c.written.ensures.memory
