@@ -10,7 +10,7 @@ ghost use Rattle.oberon_check.specs.Work.{IsAfterShown};
 ghost use Rattle.oberon_check.specs.inner.Progress.{AddsJob, AddsRun, IsLooked};
 
 use crate::gate::Gate;
-use crate::segment::{SegmentVerdict, replay_segment};
+use crate::segment::{SegmentVerdict, machine_at, replay_on};
 use oberon_claims::{Claims, Pass};
 use oberon_format::Recording;
 use std::alloc::{AllocError, Global};
@@ -69,7 +69,7 @@ impl Done {
 }
 
 /// Replays the segments from `from` to `to - 1` in order, and appends their verdicts. It ends at the first segment that
-/// fails, and reports it.
+/// fails, and reports it. One machine replays them all: after a segment that held, its state is what the next checkpoint claims.
 fn replay_run(
     alloc: Global,
     r: &Recording,
@@ -83,8 +83,9 @@ fn replay_run(
     requires range { (from < to) × (to ≤ last_of r.now) }
     ensures { OnOk result (AddsRun r.now from to pass.old pass.new verdicts.old.items verdicts.new.items) }
 {
+    let mut machine = machine_at(alloc, r, from)?;
     for segment in from..to {
-        let verdict = replay_segment(alloc, r, segment)?;
+        let verdict = replay_on(&mut machine, r, segment)?;
         let failed = verdict.part().is_some();
         verdicts.push(verdict)?;
         if failed {

@@ -1,19 +1,20 @@
 use Rattle.std.proofs.Common.{◌≡◌, ℕ, refl, ap, sym, ◌∙◌, subst, arith}
 use Rattle.std.specs.Prelude.{is_some}
-use Rattle.oberon_check.proofs.Runs.{HeldPiece, held_first, held_more, run_failed, run_whole}
+use Rattle.oberon_check.proofs.Runs.{HeldPiece, if_held, held_first, held_more, run_failed, run_whole}
 use Rattle.oberon_claims.specs.Pass.{PassRecord, pass_with_reported}
 use Rattle.oberon_check.proofs.worker.replay_run.Goals as goal
 
 pub loop-segment-init : goal.loop-segment-init
-loop-segment-init c = record { pass = refl; held = held_first c.args.r.now c.args.from c.args.verdicts.now.items }
+loop-segment-init c = record { pass = refl; held = held_first c.args.r.now c.args.from c.args.verdicts.now.items; state = c.in_ok-machine.ensures }
 
 pub loop-segment-preserved : goal.loop-segment-preserved
 loop-segment-preserved c =
     let i = c.loop-segment.invariant in
-    let v = c.in_ok-verdict.ensures in record {
+    let v = c.in_ok-verdict.ensures in
+    let held = ap is_some (sym c.part.ensures.part) ∙ sym c.is_some-failed.ensures ∙ c.if-failed.false in record {
       pass = i.pass;
-      held = held_more c.args.r.now c.args.from c.loop-segment.segment _ _ _ c.in_ok-verdict.verdict i.held c.in_ok-push.ensures.items v.recording v.segment
-          (ap is_some (sym c.part.ensures.part) ∙ sym c.is_some-failed.ensures ∙ c.if-failed.false);
+      held = held_more c.args.r.now c.args.from c.loop-segment.segment _ _ _ c.in_ok-verdict.verdict i.held c.in_ok-push.ensures.items v.recording v.segment held;
+      state = if_held _ _ held v.state;
     }
 
 pub returns-then-failed : goal.returns-then-failed
