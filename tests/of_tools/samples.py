@@ -1,5 +1,6 @@
 """Recordings, sessions and commands for the tests of the tools."""
 
+import contextlib
 import json
 import os
 import pty
@@ -45,13 +46,17 @@ def tool(name: str, *words: object) -> Ran:
 def on_terminal(name: str, *words: object) -> bytes:
     """What a tool prints on standard error where that is a terminal."""
     reader, terminal = pty.openpty()
+    told = b""
     try:
-        subprocess.run([TOOLS / name, *map(str, words)], stdout=subprocess.DEVNULL, stderr=terminal, check=False)
-        os.set_blocking(reader, False)
-        return os.read(reader, 1 << 16)
+        with open(terminal, "wb") as errors:
+            subprocess.run([TOOLS / name, *map(str, words)], stdout=subprocess.DEVNULL, stderr=errors, check=False)
+        # A read fails once all is read, since nobody has the terminal any more.
+        with contextlib.suppress(OSError):
+            while part := os.read(reader, 1 << 16):
+                told += part
     finally:
-        os.close(terminal)
         os.close(reader)
+    return told
 
 
 def record(session: dict | bytes) -> bytes:
