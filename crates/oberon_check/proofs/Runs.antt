@@ -33,11 +33,6 @@ none_or_some : (o : Option Part) → is_some o ≡ false → o ≡ None
 none_or_some None e = refl
 none_or_some (Some x) e = absurd (true≢false e)
 
--- what holds of a segment that held
-pub if_held : (o : Option Part) (P : Type 0) → is_some o ≡ false → IfNone o P → P
-if_held None P e h = h
-if_held (Some x) P e h = absurd (true≢false e)
-
 failed_run : (first k end : ℕ) (vs : List Finding) (v : Finding) → IsHeld first k vs → k < end → v.segment ≡ k → IsSome v.part → IsRun first end (vs ++ v ∷ [])
 failed_run first k end [] v h below s p = (omega arith, s ∙ sym h, at v.part p)
   where

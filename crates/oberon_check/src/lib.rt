@@ -12,6 +12,7 @@ mod gate;
 mod gathering;
 mod laws;
 mod part;
+mod replayer;
 mod report;
 mod segment;
 mod verdict;

@@ -10,7 +10,8 @@ ghost use Rattle.oberon_check.specs.Work.{IsAfterShown};
 ghost use Rattle.oberon_check.specs.inner.Progress.{AddsJob, AddsRun, IsLooked};
 
 use crate::gate::Gate;
-use crate::segment::{SegmentVerdict, machine_at, replay_on};
+use crate::replayer::Replayer;
+use crate::segment::SegmentVerdict;
 use oberon_claims::{Claims, Pass};
 use oberon_format::Recording;
 use std::alloc::{AllocError, Global};
@@ -69,10 +70,10 @@ impl Done {
 }
 
 /// Replays the segments from `from` to `to - 1` in order, and appends their verdicts. It ends at the first segment that
-/// fails, and reports it. One machine replays them all: after a segment that held, its state is what the next checkpoint claims.
+/// fails, and reports it.
 fn replay_run(
     alloc: Global,
-    r: &Recording,
+    replayer: &mut Replayer<'_>,
     claims: &Claims,
     pass: &mut Pass,
     verdicts: &mut Vec<SegmentVerdict>,
@@ -80,12 +81,12 @@ fn replay_run(
     to: u32,
 ) -> Result<(), AllocError>
     requires book { pass.old.book ≡ claims.now }
-    requires range { (from < to) × (to ≤ last_of r.now) }
-    ensures { OnOk result (AddsRun r.now from to pass.old pass.new verdicts.old.items verdicts.new.items) }
+    requires range { (from < to) × (to ≤ last_of replayer.old) }
+    ensures run { OnOk result (AddsRun replayer.old from to pass.old pass.new verdicts.old.items verdicts.new.items) }
+    ensures kept { replayer.new ≡ replayer.old }
 {
-    let mut machine = machine_at(alloc, r, from)?;
     for segment in from..to {
-        let verdict = replay_on(&mut machine, r, segment)?;
+        let verdict = replayer.replay(alloc, segment)?;
         let failed = verdict.part().is_some();
         verdicts.push(verdict)?;
         if failed {
@@ -111,7 +112,7 @@ fn is_skipped(claims: &Claims, pass: &mut Pass, first: u32) -> bool
 /// Does a job, or skips it if it begins after a segment that was reported as failed.
 fn do_job(
     alloc: Global,
-    r: &Recording,
+    replayer: &mut Replayer<'_>,
     claims: &Claims,
     pass: &mut Pass,
     verdicts: &mut Vec<SegmentVerdict>,
@@ -120,10 +121,11 @@ fn do_job(
 ) -> Result<(), AllocError>
     requires book { pass.old.book ≡ claims.now }
     requires cut { 1 ≤ cut }
-    requires job { job * cut < last_of r.now }
-    ensures { OnOk result (AddsJob r.now cut job pass.old pass.new verdicts.old.items verdicts.new.items) }
+    requires job { job * cut < last_of replayer.old }
+    ensures job { OnOk result (AddsJob replayer.old cut job pass.old pass.new verdicts.old.items verdicts.new.items) }
+    ensures kept { replayer.new ≡ replayer.old }
 {
-    let last = r.count() - 1;
+    let last = replayer.recording().count() - 1;
     let first = job * cut;
     if is_skipped(claims, pass, first) {
         return Ok(());
@@ -133,7 +135,7 @@ fn do_job(
     } else {
         last
     };
-    replay_run(alloc, r, claims, pass, verdicts, first, end)?;
+    replay_run(alloc, replayer, claims, pass, verdicts, first, end)?;
     Ok(())
 }
 
@@ -156,10 +158,19 @@ pub fn work<G: Gate>(
     ensures cut { IfOk result (λ d. d.cut ≡ cut) }
     ensures book { IfOk result (λ d. d.pass.book ≡ claims.now) }
 {
+    let mut replayer = Replayer::new(r);
     let mut verdicts = Vec::new(alloc);
     while let Some(job) = claims.claim(&mut pass) {
         gate.before(job);
-        do_job(alloc, r, claims, &mut pass, &mut verdicts, cut, job)?;
+        do_job(
+            alloc,
+            &mut replayer,
+            claims,
+            &mut pass,
+            &mut verdicts,
+            cut,
+            job,
+        )?;
     }
     Ok(Done {
         recording: Snapshot::of(r),

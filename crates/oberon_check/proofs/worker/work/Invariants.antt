@@ -8,6 +8,7 @@ use Rattle.oberon_check.proofs.worker.work.Given as goal
 
 abbrev pub invariant-loop-job : goal.invariant-loop-job
 invariant-loop-job g l = record {
+  replayer : l.replayer ≡ l.r;
   book : l.pass.book ≡ l.claims;
   top : top l.pass.taken ≤ l.claims.jobs;
   recordings : All (λ (v : Finding). v.recording ≡ l.r) l.verdicts.items;
