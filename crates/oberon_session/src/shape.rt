@@ -7,7 +7,7 @@ ghost use Rattle.oberon_session.specs.Draft.{draft_of, input_of, inputs_of, kind
 
 use crate::SessionFault;
 use crate::draft::{Draft, InputDraft, Members, PageDraft, StartDraft};
-use crate::json::{exactly, items, member, number, numbers, text};
+use crate::json::{exactly, items, member, number, number_member, numbers, text, text_member};
 use serde_json::Value;
 use std::alloc::Global;
 
@@ -32,7 +32,7 @@ fn members(value: &Value) -> Result<Members<'_>, SessionFault>
     ensures { Gives members_view (members_of (view value.now)) result }
 {
     let session = exactly(value, 6)?;
-    if text(member(session, "format")?)? != "oberon-session" {
+    if text_member(session, "format")? != "oberon-session" {
         return Err(SessionFault::Shape);
     }
     Ok(Members {
@@ -61,9 +61,9 @@ fn start(alloc: Global, value: &Value, version: u64) -> Result<StartDraft, Sessi
     ensures { Gives start_view (start_of version (view value.now)) result }
 {
     let start = exactly(value, start_members(version))?;
-    let h = number(member(start, "H")?)?;
-    let pc = number(member(start, "PC")?)?;
-    let flags = number(member(start, "flags")?)?;
+    let h = number_member(start, "H")?;
+    let pc = number_member(start, "PC")?;
+    let flags = number_member(start, "flags")?;
     let rate = since_2(version, "rate", start)?;
     let phase = since_2(version, "phase", start)?;
     let registers = numbers(alloc, member(start, "R")?)?;
@@ -94,7 +94,7 @@ fn since_2(version: u64, name: &str, value: &Value) -> Result<u64, SessionFault>
     if version == 1 {
         return Ok(0);
     }
-    number(member(value, name)?)
+    number_member(value, name)
 }
 
 /// Returns the drafts of pages.
@@ -114,8 +114,8 @@ fn page(value: &Value) -> Result<PageDraft<'_>, SessionFault>
 {
     let page = exactly(value, 2)?;
     Ok(PageDraft {
-        at: number(member(page, "at")?)?,
-        hex: text(member(page, "hex")?)?,
+        at: number_member(page, "at")?,
+        hex: text_member(page, "hex")?,
     })
 }
 

@@ -1,5 +1,5 @@
 -- What the readers of JSON return, and how contracts see their drafts.
-use Rattle.std.specs.Prelude.{◌≡◌, ◌≢◌, Option, Some, None, Result, MatchResult, map}
+use Rattle.std.specs.Prelude.{◌≡◌, ◌≢◌, ℕ, List, Option, Some, None, Result, MatchResult, map}
 use Rattle.oberon_session.specs.declared.fault.SessionFault.{SessionFault}
 use Rattle.oberon_session.specs.declared.fault.SessionFault.TheVariants.{Memory, Shape}
 use Rattle.oberon_session.specs.declared.draft.InputDraft.{InputDraft}
@@ -8,6 +8,9 @@ use Rattle.oberon_session.specs.declared.draft.StartDraft.{StartDraft}
 use Rattle.oberon_session.specs.declared.draft.Draft.{Draft as DraftValue}
 use Rattle.oberon_session.specs.declared.draft.Members.{Members as MembersValue}
 use Rattle.oberon_session.specs.Draft.{Start, PageText, InputNumbers, Members, Draft}
+use Rattle.oberon_session.specs.Shape.{◌>>=◌, number_of, text_of}
+use Rattle.serde_json.specs.Data.{Data}
+use Rattle.serde_json.specs.Find.{get}
 use Rattle.serde_json.specs.View.{view}
 
 -- the result is the value of the definition, and this fault is returned only if that has no value
@@ -18,6 +21,14 @@ GivesOr why view found result =
 
 abbrev pub Gives : {T X : Type 0} → (T → X) → Option X → Result T SessionFault → Type 0
 Gives = GivesOr Shape
+
+-- the member of a name, if it is a number
+abbrev pub number_by : List ℕ → Data → Option ℕ
+number_by name json = get name json >>= number_of
+
+-- .. or a string
+abbrev pub text_by : List ℕ → Data → Option (List ℕ)
+text_by name json = get name json >>= text_of
 
 abbrev pub start_view : StartDraft → Start
 start_view s = record { registers = s.registers.items; h = s.h; pc = s.pc; flags = s.flags; rate = s.rate; phase = s.phase }
