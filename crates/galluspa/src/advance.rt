@@ -5,7 +5,7 @@ ghost use Rattle.risc_model.specs.MachineState.{cpu_state};
 ghost use Rattle.risc_model.specs.Replay.{run_of, sent_of};
 ghost use Rattle.galluspa.specs.Advance.{HasRun, IsInRange, SendsMore};
 ghost use Rattle.galluspa.specs.Raw.{AreEvents, IsWhole, IsWritten, cpu_of, devices_of, raw_input, state_of};
-ghost use Rattle.galluspa.specs.inner.Running.{AreNoInputs, IsNoRun, IsRun, IsUnrun};
+ghost use Rattle.galluspa.specs.inner.Running.{IsAdvanceRefusal, IsInputsRefusal, IsRun, IsRunRefusal};
 
 use crate::front::copy_to_front;
 use crate::raw::{RawInput, RawState, parts_of, state_of};
@@ -33,7 +33,7 @@ fn event_at(count: u64, kind: u32, value: u32) -> Option<Event>
 /// Returns the events of inputs whose kinds and values are in their ranges.
 fn events_of(alloc: Global, inputs: &[RawInput]) -> Result<Vec<Event>, Refusal>
     ensures events { IfOk result (λ events. map raw_input events.items ≡ inputs.now) }
-    ensures refused { IfErr result (AreNoInputs inputs.now) }
+    ensures refused { IfErr result (IsInputsRefusal inputs.now) }
 {
     let mut events = Vec::new(alloc);
     for input in inputs {
@@ -48,7 +48,7 @@ fn events_of(alloc: Global, inputs: &[RawInput]) -> Result<Vec<Event>, Refusal>
 /// Returns the inputs of a caller, if each is in its range and their counts are in order.
 pub fn inputs_of(alloc: Global, inputs: &[RawInput]) -> Result<Inputs, Refusal>
     ensures events { IfOk result (λ events. AreEvents inputs.now events) }
-    ensures refused { IfErr result (AreNoInputs inputs.now) }
+    ensures refused { IfErr result (IsInputsRefusal inputs.now) }
 {
     match Inputs::new(events_of(alloc, inputs)?) {
         Ok(inputs) => Ok(inputs),
@@ -100,7 +100,7 @@ fn run_machine(
     ensures run { IfOk result (λ sent. IsRun inputs.now to state.old words.old state.new words.new sent.items) }
     ensures room { IfOk result (λ sent. length sent.items ≤ room) }
     ensures unchanged { OnErr result ((state.new ≡ state.old) × (words.new ≡ words.old)) }
-    ensures refused { IfErr result (IsNoRun inputs.now to state.old words.old room) }
+    ensures refused { IfErr result (IsRunRefusal inputs.now to state.old words.old room) }
 {
     let sent = sent_by(alloc, machine, inputs, state.count, to, room)?;
     *state = state_of(to, machine.cpu(), machine.devices());
@@ -125,7 +125,7 @@ fn run_parts(
     ensures run { IfOk result (λ sent. IsRun inputs.now to state.old words.old state.new words.new sent.items) }
     ensures room { IfOk result (λ sent. length sent.items ≤ room) }
     ensures unchanged { OnErr result ((state.new ≡ state.old) × (words.new ≡ words.old)) }
-    ensures refused { IfErr result (IsNoRun inputs.now to state.old words.old room) }
+    ensures refused { IfErr result (IsRunRefusal inputs.now to state.old words.old room) }
 {
     let (pool, table) = paged(alloc, words)?;
     let (cpu, devices) = parts;
@@ -147,7 +147,7 @@ fn run(
     ensures written { IfOk result (λ sent. IsWritten state.new words.new) }
     ensures unchanged { OnErr result ((state.new ≡ state.old) × (words.new ≡ words.old)) }
     ensures in_range { OnOk result (IsInRange inputs.now to state.old words.old) }
-    ensures refused { IfErr result (IsUnrun inputs.now to state.old words.old room) }
+    ensures refused { IfErr result (IsAdvanceRefusal inputs.now to state.old words.old room) }
 {
     if to < state.count {
         return Err(Refusal::Range);

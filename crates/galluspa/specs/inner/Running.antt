@@ -18,19 +18,19 @@ pub record IsRun (events : List Event) (to : ℕ) (old : RawState) (old_words : 
   pub written : IsWritten new new_words
 
 -- why there is no such run
-abbrev pub IsNoRun : List Event → ℕ → RawState → List ℕ → ℕ → Refusal → Type 0
-IsNoRun events to old words room refusal.Range = ⊥
-IsNoRun events to old words room refusal.Room = room < length (sent_of events old.count (to - old.count) (state_of old words))
-IsNoRun events to old words room refusal.Memory = ⊤
+abbrev pub IsRunRefusal : List Event → ℕ → RawState → List ℕ → ℕ → Refusal → Type 0
+IsRunRefusal events to old words room refusal.Range = ⊥
+IsRunRefusal events to old words room refusal.Room = room < length (sent_of events old.count (to - old.count) (state_of old words))
+IsRunRefusal events to old words room refusal.Memory = ⊤
 
 -- why a caller's inputs are not taken
-abbrev pub AreNoInputs : List RawInput → Refusal → Type 0
-AreNoInputs inputs refusal.Range = AreNoEvents inputs
-AreNoInputs inputs refusal.Room = ⊥
-AreNoInputs inputs refusal.Memory = ⊤
+abbrev pub IsInputsRefusal : List RawInput → Refusal → Type 0
+IsInputsRefusal inputs refusal.Range = AreNoEvents inputs
+IsInputsRefusal inputs refusal.Room = ⊥
+IsInputsRefusal inputs refusal.Memory = ⊤
 
 -- why a caller's machine is not run
-abbrev pub IsUnrun : List RawInput → ℕ → RawState → List ℕ → ℕ → Refusal → Type 0
-IsUnrun inputs to old words room refusal.Range = ¬ (IsInRange inputs to old words)
-IsUnrun inputs to old words room refusal.Room = IsInRange inputs to old words × SendsMore inputs to old words room
-IsUnrun inputs to old words room refusal.Memory = (old.count ≤ to) × IsWhole old words
+abbrev pub IsAdvanceRefusal : List RawInput → ℕ → RawState → List ℕ → ℕ → Refusal → Type 0
+IsAdvanceRefusal inputs to old words room refusal.Range = ¬ (IsInRange inputs to old words)
+IsAdvanceRefusal inputs to old words room refusal.Room = IsInRange inputs to old words × SendsMore inputs to old words room
+IsAdvanceRefusal inputs to old words room refusal.Memory = (old.count ≤ to) × IsWhole old words
