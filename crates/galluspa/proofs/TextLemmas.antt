@@ -8,9 +8,13 @@ use Rattle.oberon_check.specs.Headline.{IsLineOf, IsLineOfFault}
 use Rattle.galluspa.specs.Claim.{IsNoRecording}
 use Rattle.galluspa.specs.inner.Answering.{IsFaultAnswer, IsVerdictAnswer}
 
+-- what is answered to bytes without a fault is good
+pub good-text : {A : Type 0} (text : List ℕ) (IsGood : A → Type 0) (answer : A) → AnswersText text IsGood (Ok answer) → IsGood answer
+good-text text IsGood answer is = search arith
+
 -- what is read is the recording of the bytes
 pub read-text : (text : List ℕ) (recording : RecordingParts) → AnswersText text (Text text) (Ok recording) → Text text recording
-read-text text recording answer = search arith
+read-text text recording = good-text text (Text text) recording
 
 -- a fault other than that memory ran out is the first of the bytes
 first-fault : {A : Type 0} (text : List ℕ) (IsGood : A → Type 0) (why : Fault) → AnswersText text IsGood (Err why) → why ≢ Fault.Memory

@@ -1,3 +1,4 @@
+use Rattle.std.proofs.Common.{arith}
 use Rattle.galluspa.proofs.TextLemmas.{read-text}
 use Rattle.galluspa.proofs.claim.galluspa_claim.Goals as goal
 
@@ -34,3 +35,6 @@ returns-in-Ok-clause-no_checkpoint c = λ is. record {
 
 pub returns-in-Ok-clause-codes : goal.returns-in-Ok-clause-codes
 returns-in-Ok-clause-codes c = (c.write_claim.ensures.codes.1, c.write_claim.ensures.codes.3)
+
+pub returns-in-Err-Memory-clause-no_recording : goal.returns-in-Err-Memory-clause-no_recording
+returns-in-Err-Memory-clause-no_recording c = λ is. absurd (omega arith)

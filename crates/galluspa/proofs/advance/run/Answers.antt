@@ -1,0 +1,20 @@
+use Rattle.std.proofs.Common.{arith}
+use Rattle.std.proofs.lemmas.Result.{IfOk-weaker}
+use Rattle.galluspa.proofs.advance.run.Goals as goal
+
+pub returns-then-to-state-clause-refused : goal.returns-then-to-state-clause-refused
+returns-then-to-state-clause-refused c = λ given. let forward = given.forward in omega (arith, c.if-to-state.true)
+
+pub returns-clause-run : goal.returns-clause-run
+returns-clause-run c =
+    IfOk-weaker c.run_parts.result _ _ (λ sent run. record {
+      events = c.in_ok-inputs.inputs;
+      are_events = c.in_ok-inputs.ensures.events;
+      forward = omega (arith, c.if-to-state.false);
+      count_is = run.count_is;
+      state_is = run.state_is;
+      sent_is = run.sent_is;
+    }) c.run_parts.ensures.run
+
+pub returns-clause-in_range : goal.returns-clause-in_range
+returns-clause-in_range c = search arith

@@ -1,0 +1,19 @@
+use Rattle.std.proofs.Common.{arith}
+use Rattle.std.proofs.lemmas.Result.{IfOk-weaker}
+use Rattle.galluspa.proofs.extend.beginning.Goals as goal
+
+pub returns-in-Ok-clause-beginning : goal.returns-in-Ok-clause-beginning
+returns-in-Ok-clause-beginning c =
+    IfOk-weaker c.written.result _ _ (λ bytes text. record {
+      begins = c.if-state-ne0.false;
+      recording = c.in-Ok.recording;
+      begun = search arith;
+      text_is = text;
+    }) c.written.ensures.text
+
+pub returns-in-Ok-clause-whole : goal.returns-in-Ok-clause-whole
+returns-in-Ok-clause-whole c =
+    IfOk-weaker c.written.result _ _ (λ _ _. record { is_whole = c.in-Some.ensures.whole; begins = c.if-state-ne0.false }) c.written.ensures.text
+
+pub returns-in-Err-clause-in_range : goal.returns-in-Err-clause-in_range
+returns-in-Err-clause-in_range c = λ _. record { is_whole = c.in-Some.ensures.whole; begins = c.if-state-ne0.false }
