@@ -5,7 +5,7 @@ use Rattle.galluspa.proofs.extend.beginning.Goals as goal
 pub returns-in-Ok-clause-beginning : goal.returns-in-Ok-clause-beginning
 returns-in-Ok-clause-beginning c =
     IfOk-weaker c.written.result _ _ (λ bytes text. record {
-      begins = c.if-state-ne0.false;
+      begins = search arith;
       recording = c.in-Ok.recording;
       begun = search arith;
       text_is = text;
@@ -13,7 +13,7 @@ returns-in-Ok-clause-beginning c =
 
 pub returns-in-Ok-clause-whole : goal.returns-in-Ok-clause-whole
 returns-in-Ok-clause-whole c =
-    IfOk-weaker c.written.result _ _ (λ _ _. record { is_whole = c.in-Some.ensures.whole; begins = c.if-state-ne0.false }) c.written.ensures.text
+    IfOk-weaker c.written.result _ _ (λ _ _. record { is_whole = c.in-Some.ensures.whole; begins = search arith }) c.written.ensures.text
 
 pub returns-in-Err-clause-in_range : goal.returns-in-Err-clause-in_range
-returns-in-Err-clause-in_range c = λ _. record { is_whole = c.in-Some.ensures.whole; begins = c.if-state-ne0.false }
+returns-in-Err-clause-in_range c = λ _. record { is_whole = c.in-Some.ensures.whole; begins = search arith }
