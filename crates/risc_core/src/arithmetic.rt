@@ -202,10 +202,10 @@ const fn full_product(u: bool, b: u32, c: u32) -> u64
     }
 }
 
-/// Computes MUL.
+/// Computes MUL, operation 10.
 #[inline]
 #[tactic(auto, using(crate::proofs::WordLemmas::product_is))]
-const fn multiply(u: bool, b: u32, c: u32, flags: Flags) -> AluOut
+pub const fn multiply(u: bool, b: u32, c: u32, flags: Flags) -> AluOut
     ensures { result ≡ product_of u b c flags }
 {
     let product = full_product(u, b, c);
