@@ -75,6 +75,14 @@ function on(name, event, task) {
 
 // Opening
 
+/** Opens the file that was chosen, if any. The choice is cleared at once: the browser reports no choice of the file that is chosen already, and
+ * a user may choose a file again while it is still being checked. */
+async function openChosen(chooser) {
+  const [file] = chooser.files;
+  chooser.value = "";
+  if (file) await openFile(file);
+}
+
 async function openFile(file) {
   const isRecording = /\.orsr$/i.test(file.name);
   const most = isRecording ? LONGEST_READ : 67108865;
@@ -638,7 +646,7 @@ function makeDevices() {
 // The beginning
 
 function listen() {
-  on("file", "change", ({ target }) => target.files[0] && openFile(target.files[0]).finally(() => (target.value = "")));
+  on("file", "change", ({ target }) => openChosen(target));
   on("draw", "click", () => openExample("draw"));
   on("face", "click", () => openExample("face"));
   on("image", "submit", openImage);
