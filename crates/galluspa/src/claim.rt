@@ -1,5 +1,5 @@
 //! What a checkpoint of a recording claims, written to the memory of a caller.
-ghost use Rattle.std.specs.Prelude.{◌≡◌, ◌≢◌, ◌<◌, ◌≤◌, length};
+ghost use Rattle.std.specs.Prelude.{◌≡◌, ◌≢◌, ◌<◌, ◌≤◌, OnErr, OnOk, length};
 ghost use Rattle.oberon_format.specs.Defined.{claimed};
 ghost use Rattle.oberon_format.specs.Recording.{count_at};
 ghost use Rattle.galluspa.specs.Claim.{HasNoCheckpoint, IsClaim, IsNoRecording};
@@ -10,35 +10,28 @@ use crate::refusal::{DONE, NO_CHECKPOINT, NO_RECORDING, NO_ROOM, OUT_OF_MEMORY, 
 use crate::words::{WORDS, copy_words};
 use oberon_format::{Fault, Recording, read};
 use risc_pages::Memory;
-use std::alloc::Global;
+use std::alloc::{AllocError, Global};
 
-/// Writes what checkpoint `at` of a recording claims, its state and its words, and returns 0 (`DONE`), as `galluspa_claim` does.
+/// Writes what checkpoint `at` of a recording claims: its state and its words. If memory runs out, nothing is written.
 fn write_claim(
     alloc: Global,
     recording: &Recording,
     at: u32,
     state: &mut RawState,
     words: &mut [u32],
-) -> u8
+) -> Result<(), AllocError>
+    requires there { at < length recording.now.checkpoints }
     requires words { length words.old ≡ WORDS }
-    ensures there { result ≡ DONE → at < length recording.now.checkpoints }
-    ensures count { result ≡ DONE → state.new.count ≡ count_at recording.now at }
-    ensures claim { result ≡ DONE → state_of state.new words.new ≡ (claimed recording.now at).state }
-    ensures written { result ≡ DONE → IsWritten state.new words.new }
-    ensures unchanged { result ≢ DONE → (state.new ≡ state.old) × (words.new ≡ words.old) }
-    ensures missing { result ≡ NO_CHECKPOINT → length recording.now.checkpoints ≤ at }
-    ensures codes { (result ≢ OUT_OF_RANGE) × (result ≢ NO_ROOM) × (result ≢ NO_RECORDING) × (result ≤ NO_CHECKPOINT) }
+    ensures count { OnOk result (state.new.count ≡ count_at recording.now at) }
+    ensures claim { OnOk result (state_of state.new words.new ≡ (claimed recording.now at).state) }
+    ensures written { OnOk result (IsWritten state.new words.new) }
+    ensures unchanged { OnErr result ((state.new ≡ state.old) × (words.new ≡ words.old)) }
 {
-    if at >= recording.count() {
-        return NO_CHECKPOINT;
-    }
     let checkpoint = recording.checkpoint(at);
-    let Ok(memory) = Memory::from_table(alloc, recording.pool(), &checkpoint.table) else {
-        return OUT_OF_MEMORY;
-    };
+    let memory = Memory::from_table(alloc, recording.pool(), &checkpoint.table)?;
     *state = state_of(checkpoint.count, &checkpoint.cpu, &checkpoint.devices);
     copy_words(&memory, words);
-    DONE
+    Ok(())
 }
 
 /// Reads what checkpoint `at` of a recording claims, its state and its words, and returns 0 (`DONE`). Whether the claim is true is
@@ -67,9 +60,16 @@ pub extern "C" fn galluspa_claim(
     if words.len() != WORDS {
         return OUT_OF_RANGE;
     }
-    match read(alloc, text) {
-        Ok(recording) => write_claim(alloc, &recording, at, state, words),
-        Err(Fault::Memory) => OUT_OF_MEMORY,
-        Err(_) => NO_RECORDING,
+    let recording = match read(alloc, text) {
+        Ok(recording) => recording,
+        Err(Fault::Memory) => return OUT_OF_MEMORY,
+        Err(_) => return NO_RECORDING,
+    };
+    if at >= recording.count() {
+        return NO_CHECKPOINT;
+    }
+    match write_claim(alloc, &recording, at, state, words) {
+        Ok(()) => DONE,
+        Err(_) => OUT_OF_MEMORY,
     }
 }
