@@ -3,7 +3,7 @@ ghost use Rattle.std.specs.Prelude.{◌≡◌, List, ℕ, length, map};
 ghost use Rattle.serde_json.specs.Data.{Data};
 ghost use Rattle.serde_json.specs.Find.{get};
 ghost use Rattle.serde_json.specs.View.{view};
-ghost use Rattle.oberon_session.specs.inner.Drafts.{Gives, number_by, text_by};
+ghost use Rattle.oberon_session.specs.inner.Drafts.{Gives, number_of_member, text_of_member};
 ghost use Rattle.oberon_session.specs.Shape.{exactly, items_of, number_of, numbers_of, text_of};
 
 use crate::SessionFault;
@@ -47,14 +47,14 @@ pub fn text(value: &Value) -> Result<&str, SessionFault>
 
 /// Returns the member of a name, a whole number below 2^64.
 pub fn number_member(value: &Value, name: &str) -> Result<u64, SessionFault>
-    ensures { Gives (λ n. n) (number_by name.now (view value.now)) result }
+    ensures { Gives (λ n. n) (number_of_member name.now (view value.now)) result }
 {
     number(member(value, name)?)
 }
 
 /// Returns the member of a name, a string.
 pub fn text_member<'a>(value: &'a Value, name: &str) -> Result<&'a str, SessionFault>
-    ensures { Gives (λ found. found.now) (text_by name.now (view value.now)) result }
+    ensures { Gives (λ found. found.now) (text_of_member name.now (view value.now)) result }
 {
     text(member(value, name)?)
 }

@@ -23,12 +23,12 @@ abbrev pub Gives : {T X : Type 0} → (T → X) → Option X → Result T Sessio
 Gives = GivesOr Shape
 
 -- the member of a name, if it is a number
-abbrev pub number_by : List ℕ → Data → Option ℕ
-number_by name json = get name json >>= number_of
+abbrev pub number_of_member : List ℕ → Data → Option ℕ
+number_of_member name json = get name json >>= number_of
 
 -- .. or a string
-abbrev pub text_by : List ℕ → Data → Option (List ℕ)
-text_by name json = get name json >>= text_of
+abbrev pub text_of_member : List ℕ → Data → Option (List ℕ)
+text_of_member name json = get name json >>= text_of
 
 abbrev pub start_view : StartDraft → Start
 start_view s = record { registers = s.registers.items; h = s.h; pc = s.pc; flags = s.flags; rate = s.rate; phase = s.phase }
