@@ -11,3 +11,4 @@ pub mod SilentLemmas
 pub mod EntryLemmas
 pub mod PlacedLemmas
 pub mod DecodedLemmas
+pub mod WrittenLemmas
