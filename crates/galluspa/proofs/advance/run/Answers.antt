@@ -18,3 +18,9 @@ returns-clause-run c =
 
 pub returns-clause-in_range : goal.returns-clause-in_range
 returns-clause-in_range c = search arith
+
+pub returns-in_err-inputs-clause-refused : goal.returns-in_err-inputs-clause-refused
+returns-in_err-inputs-clause-refused c = search arith
+
+pub returns-clause-refused : goal.returns-clause-refused
+returns-clause-refused c = search arith
