@@ -5,6 +5,7 @@ mod FirstLemmas
 mod LineLemmas
 mod FrameLemmas
 mod InputLemmas
+mod AdvanceLemmas
 mod ExtendLemmas
 mod RecordLemmas
 mod JoinLemmas

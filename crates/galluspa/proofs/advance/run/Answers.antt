@@ -1,5 +1,6 @@
 use Rattle.std.proofs.Common.{arith}
-use Rattle.std.proofs.lemmas.Result.{IfOk-weaker}
+use Rattle.std.proofs.lemmas.Result.{IfOk-weaker, err_from_is_err_and, IfErr-weaker}
+use Rattle.galluspa.proofs.AdvanceLemmas.{no-inputs, no-run}
 use Rattle.galluspa.proofs.advance.run.Goals as goal
 
 pub returns-then-to-state-clause-refused : goal.returns-then-to-state-clause-refused
@@ -17,10 +18,22 @@ returns-clause-run c =
     }) c.run_parts.ensures.run
 
 pub returns-clause-in_range : goal.returns-clause-in_range
-returns-clause-in_range c = search arith
+returns-clause-in_range c =
+    IfOk-weaker c.run_parts.result _ _ (λ _ _. record {
+      is_whole = c.in-Some.ensures.whole;
+      forward = omega (arith, c.if-to-state.false);
+      in_order = (c.in_ok-inputs.inputs, c.in_ok-inputs.ensures.events);
+    }) c.run_parts.ensures.run
 
 pub returns-in_err-inputs-clause-refused : goal.returns-in_err-inputs-clause-refused
-returns-in_err-inputs-clause-refused c = search arith
+returns-in_err-inputs-clause-refused c =
+    let from = err_from_is_err_and c.from_residual.result c.from_residual.ensures.1 in
+    rw (from.1, from.2)
+    (no-inputs c.args.inputs.now c.args.to c.args.state.now c.args.words.now c.args.room _ (omega (arith, c.if-to-state.false)) c.in-Some.ensures.whole
+    c.in_err-inputs.ensures.refused)
 
 pub returns-clause-refused : goal.returns-clause-refused
-returns-clause-refused c = search arith
+returns-clause-refused c =
+    IfErr-weaker c.run_parts.result _ _ (λ refusal refused.
+    no-run c.args.inputs.now c.in_ok-inputs.inputs c.args.to c.args.state.now c.args.words.now c.args.room refusal (omega (arith, c.if-to-state.false))
+    c.in-Some.ensures.whole c.in_ok-inputs.ensures.events refused) c.run_parts.ensures.refused

@@ -1,4 +1,4 @@
-use Rattle.std.proofs.Common.{arith}
+use Rattle.std.proofs.Common.{arith, refl}
 use Rattle.galluspa.proofs.TextLemmas.{read-text}
 use Rattle.galluspa.proofs.claim.galluspa_claim.Goals as goal
 
@@ -11,3 +11,33 @@ returns-then-at-count-clause-no_checkpoint c = λ _. record {
 
 pub returns-in-Err-Memory-clause-no_recording : goal.returns-in-Err-Memory-clause-no_recording
 returns-in-Err-Memory-clause-no_recording c = λ is. absurd (omega arith)
+
+pub returns-in-Ok-write_claim-clause-claim : goal.returns-in-Ok-write_claim-clause-claim
+returns-in-Ok-write_claim-clause-claim c = λ _. record {
+  recording = c.in-Ok.recording;
+  is_text = read-text c.args.text.now c.in-Ok.recording c.in-Ok.ensures;
+  there = omega (arith, c.count.ensures.count, c.if-at-count.false);
+  count_is = c.in-Ok-write_claim.ensures.count;
+  state_is = c.in-Ok-write_claim.ensures.claim;
+}
+
+pub returns-in-Ok-write_claim-clause-written : goal.returns-in-Ok-write_claim-clause-written
+returns-in-Ok-write_claim-clause-written c = λ _. c.in-Ok-write_claim.ensures.written
+
+pub returns-in-Ok-write_claim-clause-unchanged : goal.returns-in-Ok-write_claim-clause-unchanged
+returns-in-Ok-write_claim-clause-unchanged c = λ other. absurd (other refl)
+
+pub returns-in-Ok-write_claim-clause-in_range : goal.returns-in-Ok-write_claim-clause-in_range
+returns-in-Ok-write_claim-clause-in_range c = λ _. omega arith
+
+pub returns-in-Ok-write_claim-clause-range : goal.returns-in-Ok-write_claim-clause-range
+returns-in-Ok-write_claim-clause-range c = λ is. absurd (omega arith)
+
+pub returns-in-Ok-write_claim-clause-no_recording : goal.returns-in-Ok-write_claim-clause-no_recording
+returns-in-Ok-write_claim-clause-no_recording c = λ is. absurd (omega arith)
+
+pub returns-in-Ok-write_claim-clause-no_checkpoint : goal.returns-in-Ok-write_claim-clause-no_checkpoint
+returns-in-Ok-write_claim-clause-no_checkpoint c = λ is. absurd (omega arith)
+
+pub write_claim-requires-clause-there : goal.write_claim-requires-clause-there
+write_claim-requires-clause-there c = omega (arith, c.count.ensures.count, c.if-at-count.false)

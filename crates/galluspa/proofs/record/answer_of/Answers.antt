@@ -1,9 +1,12 @@
-use Rattle.std.proofs.Common.{ℕ, ◌<◌, length, inl, refl, subst, arith}
+use Rattle.std.proofs.Common.{◌<◌, ◌∙◌, ℕ, ap, inl, inr, length, refl, subst, sym}
+use Rattle.std.proofs.lemmas.Option.{none-some}
+use Rattle.std.proofs.lemmas.Result.{IfOk-weaker}
 use Rattle.oberon_format.specs.Defined.{IsTrueAt}
 use Rattle.oberon_format.specs.Recording.{RecordingParts}
 use Rattle.oberon_format.specs.Text.{TextIn}
 use Rattle.oberon_format.specs.declared.layout.TheConstants.{VERSION}
 use Rattle.oberon_check.proofs.Accepting.{accepted}
+use Rattle.oberon_session.specs.FaultNames.{record_fault_number}
 use Rattle.oberon_session.specs.Recorded.{recording_of}
 use Rattle.galluspa.proofs.record.answer_of.Goals as goal
 
@@ -19,4 +22,11 @@ returns-in_ok-bytes-in-Ok c =
     inl (record { no_fault = made.made; text_is = file; accepted = accepted (recording_of session) text file truth; status_is = refl })
 
 pub returns-in-Err : goal.returns-in-Err
-returns-in-Err c = search arith
+returns-in-Err c =
+    IfOk-weaker c.refused.result _ _ (λ answer refusal.
+    inr (record {
+      fault = c.in-Err.fault;
+      is_fault = c.in-Err.ensures.refused (λ memory.
+          none-some refusal.known (sym (c.number.ensures ∙ ap record_fault_number memory) ∙ refusal.number_is));
+      refusal = rw (sym c.number.ensures, sym c.name.ensures) refusal;
+    })) c.refused.ensures
