@@ -191,7 +191,6 @@ fn push_change(out: &mut Vec<u8>, place: u32, number: u32) -> Result<(), AllocEr
 }
 
 /// Appends a checkpoint after a table, without its output.
-#[tactic(auto, unfolding(crate::specs::Encoding::checkpoint_bytes, crate::specs::Encoding::tail_bytes))]
 fn push_checkpoint(
     out: &mut Vec<u8>,
     before: &Table,
