@@ -146,7 +146,6 @@ fn sixteen(codes: &[u8]) -> [u8; 16]
 }
 
 /// Returns the state of a processor and devices at a count.
-#[tactic(auto, using(risc_core::proofs::FlagsLemmas::flags_back))]
 pub fn state_of(count: u64, cpu: &Cpu, devices: &Devices) -> RawState
     requires counter { cpu.now.pc < COUNTER_END }
     requires stop { cpu.now.stop ≤ 4 }

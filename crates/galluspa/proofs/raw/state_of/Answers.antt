@@ -1,6 +1,7 @@
-use Rattle.std.proofs.Common.{◌≡◌, ◌∙◌, ap, arith, length, take}
+use Rattle.std.proofs.Common.{◌≡◌, ◌∙◌, ap, arith, length, refl, take}
 use Rattle.std.proofs.Math.Seq.{take-append_seam}
 use Rattle.std.proofs.lemmas.Grind.{common_steps}
+use Rattle.risc_core.proofs.FlagsLemmas.{flags_back}
 use Rattle.risc_devices.proofs.DeviceLemmas.{parts_fit}
 use Rattle.galluspa.proofs.raw.state_of.Goals as goal
 
@@ -17,3 +18,9 @@ returns-clause-devices_range c =
       rw (front, c.rate.ensures.value, c.phase.ensures.value, c.switches.ensures.value, c.mouse.ensures.value, c.serial.ensures.value, c.keys-codes.ensures.value)
           (parts_fit c.args.devices.now ranges),
     )
+
+pub returns-clause-cpu : goal.returns-clause-cpu
+returns-clause-cpu c = rw (c.number.ensures.value, flags_back c.args.cpu.now.flags) refl
+
+pub returns-clause-cpu_range : goal.returns-clause-cpu_range
+returns-clause-cpu_range c = (c.requires.counter, c.number.ensures.range, c.requires.stop)
