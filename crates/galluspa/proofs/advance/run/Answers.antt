@@ -29,11 +29,9 @@ pub returns-in_err-inputs-clause-refused : goal.returns-in_err-inputs-clause-ref
 returns-in_err-inputs-clause-refused c =
     let from = err_from_is_err_and c.from_residual.result c.from_residual.ensures.1 in
     rw (from.1, from.2)
-    (no-inputs c.args.inputs.now c.args.to c.args.state.now c.args.words.now c.args.room _ (omega (arith, c.if-to-state.false)) c.in-Some.ensures.whole
-    c.in_err-inputs.ensures.refused)
+    (no-inputs _ _ _ _ _ _ (omega (arith, c.if-to-state.false)) c.in-Some.ensures.whole c.in_err-inputs.ensures.refused)
 
 pub returns-clause-refused : goal.returns-clause-refused
 returns-clause-refused c =
     IfErr-weaker c.run_parts.result _ _ (λ refusal refused.
-    no-run c.args.inputs.now c.in_ok-inputs.inputs c.args.to c.args.state.now c.args.words.now c.args.room refusal (omega (arith, c.if-to-state.false))
-    c.in-Some.ensures.whole c.in_ok-inputs.ensures.events refused) c.run_parts.ensures.refused
+    no-run _ _ _ _ _ _ refusal (omega (arith, c.if-to-state.false)) c.in-Some.ensures.whole c.in_ok-inputs.ensures.events refused) c.run_parts.ensures.refused
