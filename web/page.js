@@ -60,6 +60,11 @@ function notice(text) {
   el("notice").textContent = text ?? "";
 }
 
+/** Sets a text, unless it is there already: the browser would lay the page out anew for the same text, too. */
+function write(name, text) {
+  if (el(name).textContent !== text) el(name).textContent = text;
+}
+
 /** Shows a verdict line and how it was computed, or clears both. */
 function verdictLine(line, status, how = "") {
   app.verdict = line === undefined ? null : { line, status };
@@ -235,7 +240,8 @@ function stopByHand() {
 
 // Showing the machine
 
-let pausedBefore = null;
+const STATUS_MS = 100;
+let pausedBefore = null, lampsShown = null, statusDue = 0;
 
 const LINE_BYTES = 128, LINES = 768;
 const screens = { dots: null, isDue: false, images: new WeakMap() };
@@ -285,9 +291,8 @@ function showFrame(frame) {
   if (frame.sent) appendSent(frame.sent);
   showLamps(field(frame.state, AT.LEDs));
   showMode(frame);
-  el("say").textContent = sayOf(frame);
-  const when = frame.on ? "Registers, at the last pause" : "Registers";
-  if (el("when").textContent !== when) el("when").textContent = when;
+  showStatus(frame);
+  write("when", frame.on ? "Registers, at the last pause" : "Registers");
   if (frame.listing) showPaused(frame);
   if (wasOn && !frame.on) keep();
 }
@@ -298,19 +303,29 @@ function appendSent(text) {
 }
 
 function showLamps(value) {
+  if (value === lampsShown) return;
+  lampsShown = value;
   [...el("leds").children].forEach((lamp, at) => lamp.classList.toggle("lit", (value >> (7 - at) & 1) === 1));
   const lit = [7, 6, 5, 4, 3, 2, 1, 0].filter((at) => value >> at & 1);
   el("leds").setAttribute("aria-label", `LEDs: ${lit.length ? `lit are ${lit.join(", ")}` : "none is lit"}`);
 }
 
 function showMode({ on, isReplay, isTrue, ahead }) {
-  el("run").textContent = on ? "Pause" : "Run";
+  write("run", on ? "Pause" : "Run");
   el("run").setAttribute("aria-pressed", on);
   el("take").hidden = !isReplay;
   const left = ahead ? `${grouped(ahead)} inputs of the file are still to come` : "checkpoints of the file are still to come";
   const mode = isReplay ? `Replay: ${left}. Your own keys and mouse count once you take over.` : "Live: what you type, click and send is recorded.";
   const claim = isTrue ? "" : " A claim that was passed is false: what comes after it is what the machine does.";
-  if (el("mode").textContent !== mode + claim) el("mode").textContent = mode + claim;
+  write("mode", mode + claim);
+}
+
+/** Writes the status line: while the machine runs, no more often than can be read. */
+function showStatus(frame) {
+  const now = performance.now();
+  if (frame.on && now < statusDue) return;
+  statusDue = now + STATUS_MS;
+  write("say", sayOf(frame));
 }
 
 function sayOf({ state, inputs, marks, speed, typed }) {
