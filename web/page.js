@@ -312,7 +312,6 @@ function showLamps(value) {
 
 function showMode({ on, isReplay, isTrue, ahead }) {
   write("run", on ? "Pause" : "Run");
-  el("run").setAttribute("aria-pressed", on);
   el("take").hidden = !isReplay;
   const left = ahead ? `${grouped(ahead)} inputs of the file are still to come` : "checkpoints of the file are still to come";
   const mode = isReplay ? `Replay: ${left}. Your own keys and mouse count once you take over.` : "Live: what you type, click and send is recorded.";
