@@ -1,5 +1,5 @@
 //! The laws of this crate's definitions. Each is the contract of a function that does nothing.
-ghost use Rattle.risc_core.specs.Laws.{DivisionLaw, BitsLaw, WidthLaw, FlagsLaw, InstructionLaw};
+ghost use Rattle.risc_core.specs.Laws.{DivisionLaw, BitsLaw, WidthLaw, FlagsLaw, NumbersLaw, InstructionLaw};
 
 /// States that the quotient and the remainder are the only pair of their definition.
 pub const fn division_law()
@@ -19,6 +19,11 @@ pub const fn width_law()
 /// States that values of the flags and numbers below 16 correspond one to one.
 pub const fn flags_law()
     ensures { FlagsLaw }
+{}
+
+/// States the number of each operation and of each condition.
+pub const fn numbers_law()
+    ensures { NumbersLaw }
 {}
 
 /// States that each word is the sum of the fields of one instruction, and of no other.

@@ -26,7 +26,7 @@ pub use branch::{COUNTER_END, link, reg_target, taken, target};
 pub use decoding::decode;
 pub use flags::{Flags, written};
 pub use instruction::Instr;
-pub use laws::{bits_law, division_law, flags_law, instruction_law, width_law};
+pub use laws::{bits_law, division_law, flags_law, instruction_law, numbers_law, width_law};
 pub use locate::place;
 pub use stop::Stop;
 pub use sums::{Sum, add, subtract};
