@@ -1,6 +1,7 @@
 //! The operations of formats F0 and F1 ("The RISC Architecture", N. Wirth): moves, shifts, logic, products and quotients. Sums
 //! and differences are in `sums`. Which registers an operation reads and writes is defined with the machine.
-ghost use Rattle.std.specs.Prelude.{◌≡◌, ◌<◌, ◌≤◌, Ok, ◌-◌, ◌^◌, pos, ◌<ℤ◌, ◌↔◌, ◌≢◌};
+ghost use Rattle.std.specs.Prelude.{◌≡◌, false, ◌<◌, ◌≤◌, Ok, ◌-◌, ◌^◌, pos, ◌<ℤ◌, ◌↔◌, ◌≢◌};
+ghost use Rattle.risc_core.specs.declared.flags.Flags.{Flags};
 ghost use Rattle.risc_core.specs.Word.{signed, floor_div, floor_mod};
 ghost use Rattle.risc_core.specs.Arithmetic.{outcome_of, output_of, sum_output, moved_value, shifted_right, rotated, product, product_of, dividend, quotient_of, flags_word};
 
@@ -229,6 +230,17 @@ const fn divide_down(u: bool, b: u32, c: u32) -> (u32, u32)
         dividend.div_euclid(divisor).cast_unsigned(),
         dividend.rem_euclid(divisor).cast_unsigned(),
     )
+}
+
+/// Returns the quotient and the remainder of DIV of signed values, by a positive divisor.
+#[inline(always)]
+#[tactic(auto, unfolding(crate::specs::Arithmetic::quotient_of))]
+pub const fn quotient(b: u32, c: u32) -> (u32, u32)
+    requires positive { 0 < c }
+    requires signed { c < 2 ^ 31 }
+    ensures { (flags : Flags) → quotient_of false b c flags ≡ Ok (output_of result.0 result.1 flags) }
+{
+    divide_down(false, b, c)
 }
 
 /// Computes DIV, which is rare and slow, so it is kept out of the code of the others.

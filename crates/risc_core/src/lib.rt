@@ -21,7 +21,7 @@ mod sums;
 mod word;
 
 pub use address::Place;
-pub use arithmetic::{AluOut, alu, alu_beside_sums, multiply, simple_value};
+pub use arithmetic::{AluOut, alu, alu_beside_sums, multiply, quotient, simple_value};
 pub use branch::{COUNTER_END, link, reg_target, taken, target};
 pub use decoding::decode;
 pub use flags::{Flags, written};

@@ -8,6 +8,11 @@ pub mod RangeLemmas
 pub mod KeepLemmas
 pub mod OutcomeLemmas
 pub mod SilentLemmas
+pub mod StoreLogLemmas
+pub mod BurstLemmas
+pub mod SettledLemmas
+pub mod SearchLemmas
+pub mod StoredLemmas
 pub mod EntryLemmas
 pub mod PlacedLemmas
 pub mod DecodedLemmas

@@ -7,4 +7,5 @@ pub mod Entries
 pub mod Frames
 pub mod Operands
 pub mod RunExits
+pub mod StoreLogs
 pub mod Destinations

@@ -14,23 +14,29 @@ mod destination;
 mod dispatch;
 mod due;
 mod frame;
+mod idle_loop;
 mod interpreter;
 mod lane;
 mod lines;
 mod machine;
+mod old_word;
 mod operand;
+mod operation;
 mod predecode;
 mod processor;
 mod ram;
 mod registers;
 mod row_index;
 mod run_exit;
+mod schedule;
 mod sink;
 mod slow_step;
 mod status;
+mod store_log;
 
 pub use machine::Machine;
 pub use risc_model::{
-    Cpu, Event, Flags, Inputs, MAX_COUNT, Unordered, lane_law, run_law, stop_law, stopped_law,
+    Cpu, Event, Flags, Inputs, MAX_COUNT, Unordered, idle_loop_law, lane_law, run_law, stop_law,
+    stopped_law,
 };
 pub use run_exit::RunFault;

@@ -3,4 +3,5 @@ pub mod StoredLemmas
 pub mod RunLemmas
 pub mod CountLemmas
 pub mod LawLemmas
+pub mod IdleLoopLemmas
 pub mod Examples

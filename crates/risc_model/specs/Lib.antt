@@ -5,4 +5,5 @@ pub mod Exec
 pub mod InputOrder
 pub mod Replay
 pub mod OneRun
+pub mod IdleLoops
 pub mod Laws

@@ -1,5 +1,5 @@
 //! The laws of this crate's definitions. Each is the contract of a function that does nothing.
-ghost use Rattle.risc_model.specs.Laws.{RunLaw, StoppedLaw, StopLaw, LaneLaw};
+ghost use Rattle.risc_model.specs.Laws.{RunLaw, StoppedLaw, StopLaw, IdleLoopLaw, LaneLaw};
 
 /// States that a run continues a run, and so do the bytes that it sends.
 pub const fn run_law()
@@ -14,6 +14,11 @@ pub const fn stopped_law()
 /// States that an instruction that stops the machine sets the stop and changes nothing else.
 pub const fn stop_law()
     ensures { StopLaw }
+{}
+
+/// States that the iterations of an idle loop follow one another, as long as no millisecond of the timer ends in them.
+pub const fn idle_loop_law()
+    ensures { IdleLoopLaw }
 {}
 
 /// States that a byte stored in a lane of a word is the byte of that lane, and that the other lanes keep theirs.
