@@ -7,10 +7,16 @@
  *             primes in bytes
  *   calls     computes Fibonacci numbers by two calls for each, one of them through a procedure variable, with parameters and
  *             results in frames
- *   poll      asks for keys, serial bytes, switches and the time, over and over; a key comes each ten thousand counts
+ *   poll      asks for keys, serial bytes, switches and the time, over and over, and counts its turns; a key comes each ten
+ *             thousand counts
  *   display   fills the screen word by word, and then inverts it word by word
  *   inputs    jumps to itself while a switch moves at each count: at most 1,000,000 steps
  *   sends     sends a byte with nearly each instruction: at most 1,000,000 steps
+ *   small, medium, large   call 30, 200 and 2,500 procedures as a compiler makes them: 1,300, 8,400 and 105,000 words of code
+ *   division  the same with 200, and each fourth statement divides and reads the remainder
+ *   modules   calls a procedure in each of 200 modules, which change variables that lie beside their code
+ *   mouse     waits for the mouse, and counts its changes; it moves each 8,000,000 counts
+ *   oberon    the main loop of Oberon: waits for the mouse and the keyboard, and does the tasks that are due; the mouse moves as often
  */
 #include "recording.h"
 
@@ -25,7 +31,7 @@ static uint32_t load(uint32_t a, uint32_t b, int32_t off) { return 0x80000000u |
 static uint32_t store(uint32_t a, uint32_t b, int32_t off) { return 0x20000000u | load(a, b, off); }
 static uint32_t jump_by_register(uint32_t link, uint32_t c) { return 0xC7000000u | link << 28 | c; }
 enum { BYTE = 1 << 28, MOV = 0, LSL, ASR, ROR, AND, ANN, IOR, XOR, ADD, SUB, MUL, DIV };
-enum { EQ = 1, LT = 5, LE = 6, ALWAYS = 7, NE = 9, GE = 13 };
+enum { EQ = 1, LT = 5, LE = 6, ALWAYS = 7, NE = 9, GE = 13, GT = 14 };
 enum { STACK = 14, LINK = 15 };
 enum { DEVICES = -64, SWITCHES = 4, SERIAL = 8, STATUS = 12, MOUSE = 24, KEYBOARD = 28 };
 enum { SCREEN = 0xE7F00, SCREEN_WORDS = 24576 };
@@ -121,13 +127,15 @@ static void calls(uint32_t *memory) {
     jump(&c, ALWAYS, loop);
 }
 
-/* R13 points to the variables: keys so far, serial bytes so far, the switches, the time, and a ring of the last 256 keys. */
+/* R13 points to the variables: keys so far, serial bytes so far, the switches, the time, the turns, and a ring of the last 256 keys. It
+ * counts its turns, so that it never comes back to a state. */
 static void poll(uint32_t *memory) {
-    enum { KEYS_SEEN = 0, BYTES_SEEN = 4, SWITCHES_SEEN = 8, TIME_SEEN = 12, RING = 1024 };
+    enum { KEYS_SEEN = 0, BYTES_SEEN = 4, SWITCHES_SEEN = 8, TIME_SEEN = 12, TURNS = 16, RING = 1024 };
     Code c = {memory, 0};
     uint32_t loop, no_key, no_byte, no_time;
     emit(&c, high(13, 1)); emit(&c, imm(MOV, 12, 0, DEVICES)); emit(&c, high(11, 0x1000));
     loop = c.at;
+    emit(&c, load(3, 13, TURNS)); emit(&c, imm(ADD, 3, 3, 1)); emit(&c, store(3, 13, TURNS));
     emit(&c, load(0, 12, MOUSE)); emit(&c, reg(AND, 1, 0, 11));
     no_key = later(&c);
     emit(&c, load(2, 12, KEYBOARD));
@@ -162,6 +170,193 @@ static void display(uint32_t *memory) {
     jump(&c, ALWAYS, outer);
 }
 
+/* ---- programs of a system's size: many procedures as a compiler makes them, called one after the other ---- */
+
+/* A sequence of numbers that looks random, and is the same each time. */
+typedef struct { uint32_t state; } Choice;
+static uint32_t below(Choice *choice, uint32_t limit) {
+    choice->state = choice->state * 1664525u + 1013904223u;
+    return (choice->state >> 8) % limit;
+}
+
+/* A statement over the variables of the frame at R14 and a table at R13. Each `division`th one is DIV, whose remainder is read from H. */
+static void statement(Code *c, Choice *choice, uint32_t division) {
+    static const int32_t divisors[] = {3, 7, 10, 100};
+    uint32_t skip, kind = division && !below(choice, division) ? 7 : below(choice, 7);
+    switch (kind) {
+    case 0: emit(c, load(0, STACK, 8)); emit(c, load(1, STACK, 12)); emit(c, reg(ADD, 0, 0, 1)); emit(c, store(0, STACK, 16)); break;
+    case 1: emit(c, load(0, STACK, 8)); emit(c, imm(LSL, 0, 0, 2)); emit(c, reg(ADD, 0, 13, 0)); emit(c, load(1, 0, 0));
+        emit(c, imm(ADD, 1, 1, 1)); emit(c, store(1, 0, 0)); break;
+    case 2: emit(c, load(0, STACK, 4)); emit(c, imm(SUB, 2, 0, 5)); skip = later(c);
+        emit(c, imm(ADD, 0, 0, 3)); emit(c, store(0, STACK, 4)); land(c, skip, GT); break;
+    case 3: emit(c, load(0, STACK, 8)); emit(c, reg(ADD, 1, 13, 0)); emit(c, load(2, 1, 0) | BYTE);
+        emit(c, store(2, STACK, 20) | BYTE); break;
+    case 4: emit(c, load(0, STACK, 16)); emit(c, imm(AND, 0, 0, 255)); emit(c, imm(XOR, 0, 0, 85)); emit(c, store(0, STACK, 16)); break;
+    case 5: emit(c, load(0, STACK, 12)); emit(c, imm(MUL, 0, 0, 10)); emit(c, load(1, STACK, 8)); emit(c, reg(SUB, 0, 0, 1));
+        emit(c, store(0, STACK, 12)); break;
+    case 6: emit(c, load(0, STACK, 20)); emit(c, imm(SUB, 3, 0, 0)); skip = later(c);
+        emit(c, imm(MOV, 0, 0, 1)); emit(c, store(0, STACK, 20)); land(c, skip, NE); break;
+    default: emit(c, load(0, STACK, 8)); emit(c, imm(ADD, 0, 0, 12345)); emit(c, imm(DIV, 0, 0, divisors[below(choice, 4)]));
+        emit(c, 1u << 29 | reg(MOV, 0, 0, 0)); emit(c, store(0, STACK, 12));
+    }
+}
+
+/* A procedure with a frame of 32 bytes, whose loop goes over its statements three times. */
+static void procedure(Code *c, Choice *choice, uint32_t division) {
+    uint32_t loop, many = 4 + below(choice, 5);
+    emit(c, imm(SUB, STACK, STACK, 32)); emit(c, store(LINK, STACK, 0)); emit(c, store(0, STACK, 4));
+    emit(c, imm(MOV, 1, 0, 0)); emit(c, store(1, STACK, 8));
+    loop = c->at;
+    while (many--) statement(c, choice, division);
+    emit(c, load(1, STACK, 8)); emit(c, imm(ADD, 1, 1, 1)); emit(c, store(1, STACK, 8)); emit(c, imm(SUB, 2, 1, 3)); jump(c, LT, loop);
+    emit(c, load(LINK, STACK, 0)); emit(c, imm(ADD, STACK, STACK, 32)); emit(c, jump_by_register(0, LINK));
+}
+
+/* A procedure of a module whose 12 variables and 24 words of strings lie right before it. It is too short to have a loop. */
+static void module(Code *c, Choice *choice) {
+    uint32_t many = 6 + below(choice, 9), data = 4 * c->at, skip;
+    c->at += 36;
+    emit(c, imm(SUB, STACK, STACK, 16)); emit(c, store(LINK, STACK, 0)); emit(c, high(1, data >> 16));
+    emit(c, imm(IOR, 1, 1, (int32_t)(data & 0xffff)));
+    while (many--) {
+        int32_t one = 4 * (int32_t)below(choice, 12), other = 4 * (int32_t)below(choice, 12);
+        emit(c, load(0, 1, one));
+        switch (below(choice, 3)) {
+        case 0: emit(c, imm(ADD, 0, 0, 1)); break;
+        case 1: emit(c, load(2, 1, other)); emit(c, reg(ADD, 0, 0, 2)); break;
+        default: emit(c, imm(SUB, 2, 0, 7)); skip = later(c); emit(c, imm(ADD, 0, 0, 3)); land(c, skip, GT);
+        }
+        emit(c, store(0, 1, one));
+    }
+    emit(c, load(LINK, STACK, 0)); emit(c, imm(ADD, STACK, STACK, 16)); emit(c, jump_by_register(0, LINK));
+}
+
+/* Calls so many procedures, over and over. The stack is at 80000 hexadecimal and the table at 90000. */
+static void system_of(uint32_t *memory, uint32_t many, uint32_t division, int of_modules) {
+    Code c = {memory, 0}, body = {memory, 1024};
+    Choice choice = {7};
+    uint32_t top;
+    emit(&c, high(STACK, 8)); emit(&c, high(13, 9));
+    top = c.at;
+    if (many > 900) body.at = 4096;
+    while (many--) {
+        if (of_modules) {
+            uint32_t to = body.at + 36;
+            module(&body, &choice);
+            call(&c, to);
+            body.at += below(&choice, 40);
+        } else {
+            call(&c, body.at);
+            procedure(&body, &choice, division);
+        }
+    }
+    jump(&c, ALWAYS, top);
+}
+
+static void small(uint32_t *memory) { system_of(memory, 30, 0, 0); }
+static void medium(uint32_t *memory) { system_of(memory, 200, 0, 0); }
+static void large(uint32_t *memory) { system_of(memory, 2500, 0, 0); }
+static void division(uint32_t *memory) { system_of(memory, 200, 4, 0); }
+static void modules(uint32_t *memory) { system_of(memory, 200, 0, 1); }
+
+/* ---- programs that wait ---- */
+
+/* R11 has the mouse word that was seen last, and R13 points to the number of changes. */
+static void mouse(uint32_t *memory) {
+    Code c = {memory, 0};
+    uint32_t loop;
+    emit(&c, high(13, 1)); emit(&c, imm(MOV, 12, 0, DEVICES));
+    loop = c.at;
+    emit(&c, load(0, 12, MOUSE)); emit(&c, reg(SUB, 1, 0, 11)); jump(&c, EQ, loop);
+    emit(&c, reg(MOV, 11, 0, 0)); emit(&c, load(2, 13, 0)); emit(&c, imm(ADD, 2, 2, 1)); emit(&c, store(2, 13, 0));
+    jump(&c, ALWAYS, loop);
+}
+
+static void enter(Code *c, int32_t frame) { emit(c, imm(SUB, STACK, STACK, frame)); emit(c, store(LINK, STACK, 0)); }
+static void leave(Code *c, int32_t frame) {
+    emit(c, load(LINK, STACK, 0)); emit(c, imm(ADD, STACK, STACK, frame)); emit(c, jump_by_register(0, LINK));
+}
+
+/* The variables of `oberon`, from R13 on: what the mouse says, what it said before, the present task, and the turns that tasks did. A task
+ * is four words in a ring: the next task, the time when it is due, its period, and how many turns it does. */
+enum { KEYS_DOWN = 0, X = 4, Y = 8, X_BEFORE = 12, Y_BEFORE = 16, TASK = 20, TYPED = 24, TURNS_DONE = 28, TASKS = 256 };
+enum { NEXT = 0, DUE = 4, PERIOD = 8, LENGTH = 12 };
+
+/* Stores fields of the mouse word at the addresses in R0, R1 and R2. */
+static uint32_t ask_mouse(Code *c) {
+    enum { FRAME = 20, WORD = 16 };
+    uint32_t from = c->at;
+    enter(c, FRAME); emit(c, store(0, STACK, 4)); emit(c, store(1, STACK, 8)); emit(c, store(2, STACK, 12));
+    emit(c, imm(MOV, 0, 0, DEVICES + MOUSE)); emit(c, load(0, 0, 0)); emit(c, store(0, STACK, WORD));
+    for (int32_t field = 0; field < 3; field++) {
+        static const int32_t low[] = {24, 0, 12}, mask[] = {7, 0x3ff, 0x3ff};
+        emit(c, load(0, STACK, WORD)); emit(c, imm(ASR, 0, 0, low[field])); emit(c, imm(AND, 0, 0, mask[field]));
+        emit(c, load(1, STACK, 4 + 4 * field)); emit(c, store(0, 1, 0));
+    }
+    leave(c, FRAME);
+    return from;
+}
+
+/* Returns a field of a device word in R0. */
+static uint32_t ask_device(Code *c, int32_t word, int32_t low, int32_t mask) {
+    uint32_t from = c->at;
+    enter(c, 8); emit(c, imm(MOV, 0, 0, DEVICES + word)); emit(c, load(0, 0, 0)); emit(c, imm(ROR, 0, 0, low));
+    if (mask) emit(c, imm(AND, 0, 0, mask));
+    emit(c, store(0, STACK, 4)); emit(c, load(0, STACK, 4));
+    leave(c, 8);
+    return from;
+}
+
+/* Does as many turns as R0 says, of a few instructions over a variable. */
+static uint32_t work(Code *c) {
+    uint32_t loop, from = c->at;
+    enter(c, 8); emit(c, imm(MOV, 2, 0, 0));
+    loop = c->at;
+    emit(c, load(3, 13, TURNS_DONE)); emit(c, reg(ADD, 3, 3, 2)); emit(c, imm(XOR, 3, 3, 85)); emit(c, store(3, 13, TURNS_DONE));
+    emit(c, imm(ADD, 2, 2, 1)); emit(c, reg(SUB, 4, 2, 0)); jump(c, LT, loop);
+    leave(c, 8);
+    return from;
+}
+
+static void ring_of_tasks(Code *c) {
+    static const int32_t periods[] = {1000, 250, 100}, lengths[] = {2000, 20, 20};
+    for (int32_t i = 0; i < 3; i++) {
+        int32_t task = TASKS + 16 * i;
+        emit(c, imm(ADD, 0, 13, TASKS + 16 * ((i + 1) % 3))); emit(c, store(0, 13, task + NEXT));
+        emit(c, imm(MOV, 0, 0, periods[i])); emit(c, store(0, 13, task + DUE)); emit(c, store(0, 13, task + PERIOD));
+        emit(c, imm(MOV, 0, 0, lengths[i])); emit(c, store(0, 13, task + LENGTH));
+    }
+    emit(c, imm(ADD, 0, 13, TASKS)); emit(c, store(0, 13, TASK));
+}
+
+static void oberon(uint32_t *memory) {
+    Code c = {memory, 0};
+    uint32_t start = later(&c), of_mouse = ask_mouse(&c), available = ask_device(&c, MOUSE, 28, 1), time = ask_device(&c, 0, 0, 0);
+    uint32_t working = work(&c), again, no_key, moved, still;
+    land(&c, start, ALWAYS);
+    emit(&c, high(STACK, 8)); emit(&c, high(13, 1)); ring_of_tasks(&c);
+    again = c.at;
+    emit(&c, imm(ADD, 0, 13, KEYS_DOWN)); emit(&c, imm(ADD, 1, 13, X)); emit(&c, imm(ADD, 2, 13, Y)); call(&c, of_mouse);
+    call(&c, available); emit(&c, imm(SUB, 0, 0, 0));
+    no_key = later(&c);
+    emit(&c, imm(MOV, 0, 0, DEVICES + KEYBOARD)); emit(&c, load(0, 0, 0)); emit(&c, store(0, 13, TYPED));
+    land(&c, no_key, EQ);
+    emit(&c, load(0, 13, X)); emit(&c, load(1, 13, X_BEFORE)); emit(&c, reg(SUB, 0, 0, 1));
+    moved = later(&c);
+    emit(&c, load(0, 13, Y)); emit(&c, load(1, 13, Y_BEFORE)); emit(&c, reg(SUB, 0, 0, 1));
+    still = later(&c);
+    land(&c, moved, NE);
+    emit(&c, load(0, 13, X)); emit(&c, store(0, 13, X_BEFORE)); emit(&c, load(0, 13, Y)); emit(&c, store(0, 13, Y_BEFORE));
+    emit(&c, imm(MOV, 0, 0, 200)); call(&c, working);
+    land(&c, still, EQ);
+    emit(&c, load(0, 13, TASK)); emit(&c, load(0, 0, NEXT)); emit(&c, store(0, 13, TASK)); call(&c, time);
+    emit(&c, load(1, 13, TASK)); emit(&c, load(2, 1, DUE)); emit(&c, reg(SUB, 2, 0, 2)); jump(&c, LT, again);
+    emit(&c, load(2, 1, PERIOD)); emit(&c, reg(ADD, 0, 0, 2)); emit(&c, store(0, 1, DUE)); emit(&c, load(0, 1, LENGTH)); call(&c, working);
+    jump(&c, ALWAYS, again);
+}
+
+/* ---- programs that leave the loop at each step ---- */
+
 static void inputs(uint32_t *memory) { memory[0] = 0xE7FFFFFFu; }
 
 static void sends(uint32_t *memory) {
@@ -180,7 +375,8 @@ typedef struct {
 
 static const Program programs[] = {
     {"sort", sort, 0, 0}, {"calls", calls, 0, 0}, {"poll", poll, 4, 10000}, {"display", display, 0, 0},
-    {"inputs", inputs, 2, 1}, {"sends", sends, 0, 0},
+    {"inputs", inputs, 2, 1}, {"sends", sends, 0, 0}, {"small", small, 0, 0}, {"medium", medium, 0, 0}, {"large", large, 0, 0},
+    {"division", division, 0, 0}, {"modules", modules, 0, 0}, {"mouse", mouse, 3, 8000000}, {"oberon", oberon, 3, 8000000},
 };
 
 /* ---- their recordings ---- */
@@ -248,5 +444,5 @@ int main(int argc, char **argv) {
         if (!strcmp(argv[1], programs[i].name))
             return make(&programs[i], strtoull(argv[2], NULL, 10), (uint32_t)strtoul(argv[3], NULL, 10),
                 argc == 5 ? (uint32_t)strtoul(argv[4], NULL, 10) : 0);
-    die("usage: record sort|calls|poll|display|inputs|sends STEPS CHECKPOINTS [RATE]");
+    die("usage: record PROGRAM STEPS CHECKPOINTS [RATE]");
 }
