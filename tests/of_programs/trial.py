@@ -1,14 +1,15 @@
-"""Records a program with a checkpoint at each count and with few, and compares all that is said of it.
+"""Records a program with many checkpoints and with few, and compares all that is said of it.
 
 With a checkpoint at every count the machine starts again at each instruction, so nothing that it decoded or deferred
-is left from the one before. With few checkpoints it runs on. Both have to reach the same states, and the check and the
-C replayers, which are independent emulators, have to accept all of them.
+is left from the one before; and with checkpoints that are close together it skips no idle loop. With few checkpoints it
+runs on. All have to reach the same states, and the check and the C replayers, which are independent emulators and do one
+instruction after another, have to accept all of them.
 """
 
 import re
 import subprocess
 from collections.abc import Iterator, Mapping, Sequence
-from dataclasses import dataclass, replace
+from dataclasses import dataclass, field, replace
 from pathlib import Path
 from tempfile import TemporaryDirectory
 
@@ -18,19 +19,27 @@ from galluspa.program import ACCEPTED
 from galluspa.recording import PAGE_BYTES, Checkpoint, Recording, read, write
 from galluspa.sessions import Session
 
-DENSE, FEW, ONE = "a checkpoint at each count", "a few checkpoints", "one checkpoint at the end"
+DENSE, FEW, ONE = "many checkpoints", "a few checkpoints", "one checkpoint at the end"
+MOST_CHECKPOINTS = 4096
 WORKERS = (1, 4)
 FALSE_LINE = re.compile(r"false checkpoint \d+ at (\d+) part (.*)")
 
 
 @dataclass(frozen=True)
 class Case:
-    """A program: its name, its session without checkpoints, for how many counts it runs, and a few of these counts."""
+    """A program: its name, its session without checkpoints, for how many counts it runs, a few of these counts, and many, with the few
+    among them; or all, if it names none."""
 
     name: str
     session: Session
     counts: int
     few: list[int]
+    many: list[int] = field(default_factory=list)
+
+    @property
+    def dense(self) -> Sequence[int]:
+        """The counts of the recording with many checkpoints."""
+        return self.many or range(1, self.counts + 1)
 
     @property
     def file_name(self) -> str:
@@ -67,7 +76,7 @@ class Witnesses:
 
     def recordings(self, case: Case) -> dict[str, bytes]:
         """The three recordings of a program, by what checkpoints they have."""
-        counts = {DENSE: range(1, case.counts + 1), FEW: case.few, ONE: [case.counts]}
+        counts = {DENSE: case.dense, FEW: case.few, ONE: [case.counts]}
         return {name: self.record(case, checkpoints) for name, checkpoints in counts.items()}
 
 
@@ -116,17 +125,17 @@ def _of_line(case: Case, line: str, shown_by: str) -> Iterator[Finding]:
 
 def _states_apart(dense: Recording, others: Mapping[str, Recording]) -> Iterator[Finding]:
     """The first checkpoint of each recording that differs from the one at the same count of the dense recording."""
-    lengths = [0]
-    for checkpoint in dense.checkpoints[1:]:
-        lengths.append(lengths[-1] + len(checkpoint.output))
-    all_sent = b"".join(checkpoint.output for checkpoint in dense.checkpoints)
+    reached, all_sent = {}, b""
+    for checkpoint in dense.checkpoints:
+        all_sent += checkpoint.output
+        reached[checkpoint.count] = checkpoint, len(all_sent)
     for name, other in others.items():
         sent = b""
         for checkpoint in other.checkpoints:
             sent += checkpoint.output
-            wanted = dense.checkpoints[checkpoint.count]
+            wanted, length = reached[checkpoint.count]
             part = _first_difference(dense, wanted, other, checkpoint)
-            if not part and sent != all_sent[: lengths[checkpoint.count]]:
+            if not part and sent != all_sent[:length]:
                 part = "out"
             if part:
                 yield Finding(checkpoint.count, part, f"the recording with {name} differs from that with {DENSE}")
@@ -144,7 +153,10 @@ def _first_difference(dense: Recording, wanted: Checkpoint, other: Recording, cl
 
 
 def smallest_apart(witnesses: Witnesses, case: Case, found: Finding) -> Finding:
-    """A finding, or one of a smaller count: the first at which a run without checkpoints on the way is another."""
+    """A finding, or one of a smaller count: the first at which a run without checkpoints on the way is another. Of a run that is too long
+    to have a checkpoint at each count, the finding itself."""
+    if found.count > MOST_CHECKPOINTS:
+        return found
     dense = read(witnesses.record(case, range(1, found.count + 1)))
     for count in range(1, found.count):
         alone = read(witnesses.record(case, [count]))
