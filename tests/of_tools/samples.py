@@ -97,6 +97,11 @@ def rejoining(claimed: int) -> bytes:
     return encoded(1, [page_of(0x45000001, 0xE7FFFFFE)], [claim(0), first, second])
 
 
+def status_of(text: bytes) -> int:
+    """The exit status of the program for a recording's text: 0, 1 or 2."""
+    return run([PROGRAM], text).status
+
+
 def in_register(at: int, value: int) -> tuple[int, ...]:
     """Registers of which one has a value, and all others are 0."""
     return tuple(value if other == at else 0 for other in range(16))

@@ -1,10 +1,12 @@
-"""tools/explain: what differs if a claim is false, and the fields of refused files; and both in the report."""
+"""tools/explain: what differs if a claim is false, and the fields of refused files; both in the report; and sessions."""
 
 import base64
 import io
+import json
 import os
 import re
 import struct
+import tracemalloc
 
 from PIL import Image
 
@@ -12,7 +14,8 @@ from galluspa import recording
 from galluspa.faults import explain_fault
 from galluspa.pictures import LIGHT_RED, RED
 from galluspa.program import Program
-from samples import EXAMPLES, JUMP, PROGRAM, STORED, TOP, ToolTest, record, rejoining, run, session, tool
+from galluspa.sessionfaults import explain_session, explained
+from samples import EXAMPLES, JUMP, PROGRAM, STORED, TOP, ToolTest, record, rejoining, run, session, status_of, tool
 
 CHANGE = re.compile(r"^\| ((?:byte \d+ is [0-9a-f]{2}(?:, )?)+)[^|]*\| `(refused [^`]+)` \|$", re.MULTILINE)
 SIDE = re.compile(rb'src="data:image/png;base64,([^"]+)" [^>]*data-side=')
@@ -24,9 +27,9 @@ WORDS = (0x40000005, *[0xEF000000] * 40, 0x40000006, 0x5100FFC8, 0xA0100000, 0xA
 
 class ExplainTest(ToolTest):
     def explained(self, text: bytes, *words: object) -> list[str]:
-        """The lines that explain a text."""
+        """The lines that explain a text; the tool ends as the program does."""
         ran = tool("explain", self.file("it.orsr", text), *words)
-        self.assertEqual((ran.errors, ran.status), ("", 0))
+        self.assertEqual((ran.errors, ran.status), ("", status_of(text)))
         return ran.output.decode().splitlines()
 
     def claiming(self, text: bytes, at: int, *claims: str) -> bytes:
@@ -97,7 +100,7 @@ class ExplainTest(ToolTest):
                             for line in lines))
         self.assertTrue(any("  4838732      41  A6D00000  STR R6, R13, 0" in line for line in lines))
         ran = tool("report", self.file("false.orsr", bytes(made)))
-        self.assertEqual((ran.errors, ran.status), ("", 0))
+        self.assertEqual((ran.errors, ran.status), ("", 1))
         self.assertIn(b"2 dots differ, at x 576 to 577 and y 219", ran.output)
         pictures = [Image.open(io.BytesIO(base64.b64decode(it))) for it in SIDE.findall(ran.output)]
         for picture, color, other in zip(pictures, (RED, LIGHT_RED), (LIGHT_RED, RED), strict=True):
@@ -108,7 +111,7 @@ class ExplainTest(ToolTest):
     def test_the_report_does_without_a_library(self) -> None:
         command = [TOP / "tools/report", self.file("false.orsr", rejoining(9))]
         ran = run(command, env={**os.environ, "GALLUSPA_LIBRARY": str(self.folder / "none")})
-        self.assertEqual((ran.errors, ran.status), ("", 0))
+        self.assertEqual((ran.errors, ran.status), ("", 1))
         self.assertNotIn(b"What is false about checkpoint", ran.output)
         self.assertIn(b"<code>examples/c/install</code>", ran.output)
         self.assertIn(b"What is false about checkpoint 1", run(command).output)
@@ -177,8 +180,71 @@ class ExplainTest(ToolTest):
         self.assertGreater(refused, 60)
 
     def test_refuses_bad_input(self) -> None:
-        self.assert_refused(tool("explain"), "RECORDING")
+        self.assert_refused(tool("explain"), "FILE")
         self.assert_refused(tool("explain", self.folder / "none"), "No such file")
         stored = self.file("false.orsr", rejoining(9))
         self.assert_refused(tool("explain", stored, "--library", self.folder / "none"), "no library at")
         self.assert_refused(tool("explain", stored, "--steps", 0), "'0' is no whole number")
+
+
+class SessionTest(ToolTest):
+    """Sessions that are refused: what is told of each, after the program said which rule it breaks."""
+
+    WHOLE = session([JUMP], [5, 9], [(1, "key", 65), (3, "mouse", 7)])
+
+    def changed(self, *path: str | int, to: object) -> bytes:
+        """A session with one of its values changed."""
+        made = json.loads(json.dumps(self.WHOLE))
+        inner = made
+        for step in path[:-1]:
+            inner = inner[step]
+        inner[path[-1]] = to
+        return json.dumps(made).encode()
+
+    def test_the_member_its_index_and_its_rule_are_told(self) -> None:
+        text = json.dumps(self.WHOLE)
+        for refused, fault, told in (
+            (b"{", 1, "line 1, column 2 is wrong"), (b'{"a": "\xff"}', 1, "byte 7 is ff, which is no UTF-8"),
+            (b'{"a": NaN}', 1, "a number or a constant that is wrong"), (b'{"a":' + b"[" * 200, 1, "line 1, column 132 nests more than 127 deep"),
+            (text[:-1].encode() + b",}", 1, "is wrong"), (b'{"format": 1}', 2, "the session lacks version"),
+            (self.changed("more\x1b[2J", to=1), 2, r'has "more\u001b[2J"'), (self.changed("version", to=3), 2, "version is 3"),
+            (self.changed("format", to="x" * 500), 2, 'format is "xxxx'), (self.changed("start", to=[]), 2, "start is []"),
+            (self.changed("start", "rate", to=0), 2, 'start has "rate"'), (self.changed("start", "R", to=[0] * 15), 2, "start.R has 15 numbers"),
+            (self.changed("start", "R", 3, to=1.0), 2, "start.R[3] is 1.0"), (self.changed("start", "H", to=-1), 2, "start.H is -1"),
+            (self.changed("pages", 0, "hex", to=5), 2, "pages[0].hex is 5"), (self.changed("pages", 0, to={"at": 0}), 2, "pages[0] lacks hex"),
+            (self.changed("inputs", 1, 1, to="pen"), 2, 'inputs[1][1] is "pen"'), (self.changed("inputs", 0, to=[1, "key"]), 2, "inputs[0] is [1,"),
+            (self.changed("checkpoints", 1, to=1 << 64), 2, "checkpoints[1] is 1.8446"),
+            (self.changed("start", "R", 15, to=1 << 32), 3, "start.R[15] is 4294967296"), (self.changed("start", "PC", to=1 << 22), 3, "start.PC"),
+            (self.changed("pages", 0, "at", to=1024), 3, "pages[0].at is 1024"), (self.changed("pages", 0, "hex", to="0" * 2050), 3, "pages[0].hex"),
+            (self.changed("inputs", 0, 2, to=256), 3, "inputs[0][2] is 256"), (self.changed("inputs", 1, 2, to=1 << 11), 3, "inputs[1][2]"),
+            (self.changed("inputs", 1, 0, to=(1 << 40) + 1), 3, "inputs[1][0]"), (self.changed("checkpoints", 0, to=0), 3, "checkpoints[0] is 0"),
+            (self.changed("checkpoints", to=[*range(1, 4098)]), 3, "checkpoints has 4,097 items"),
+            (self.changed("inputs", 1, 0, to=0), 4, "inputs[1][0] is 0, after 1"), (self.changed("checkpoints", 1, to=5), 4, "checkpoints[1] is 5"),
+            (self.changed("pages", to=[{"at": 1, "hex": ""}] * 2), 4, "pages[1].at is 1, after 1"),
+            (self.changed("pages", 0, "hex", to="0x"), 5, 'pages[0].hex has "x" at 1'), (self.changed("pages", 0, "hex", to="000"), 5, "has 3 digits"),
+        ):
+            answer = Program.find(None).record(refused)
+            self.assertEqual(answer.session_fault, fault, refused[:200])
+            lines = list(explain_session(refused, answer))
+            self.assertEqual(lines[:2], [answer.line, ""])
+            self.assertIn(told, lines[2])
+            self.assertTrue(lines[3].startswith("rule   "), lines)
+
+    def test_the_tool_ends_as_the_program_does(self) -> None:
+        ran = tool("explain", self.file("it.json", self.changed("version", to=3)))
+        self.assertEqual((ran.output.decode(), ran.errors, ran.status),
+                         ("session refused 2 shape\n\nversion is 3\nrule   version is 1 or 2\n", "", 2))
+        ran = tool("explain", EXAMPLES / "keys.json")
+        self.assertRegex(ran.output.decode(), r"^the session breaks no rule: its recording has [\d,]+ bytes\n$")
+        self.assertEqual((ran.errors, ran.status), ("", 0))
+        sends = json.dumps(session([0x5100FFC8, 0xA0100000, 0xE7FFFFFE], [1 << 30])).encode()
+        ran = tool("explain", self.file("it.json", sends))
+        self.assertEqual((ran.output.decode().splitlines()[0], ran.status), ("record refused 1 output", 2))
+        self.assertIn("at most 1,048,576 bytes sent", ran.output.decode())
+
+    def test_a_session_of_many_parts_is_not_taken_apart(self) -> None:
+        text = b'{"inputs":[' + b'{"":0},' * 400_000 + b"0]}"
+        tracemalloc.start()
+        self.addCleanup(tracemalloc.stop)
+        self.assertEqual(explained(text, 2).found, "has 400,001 objects")
+        self.assertLess(tracemalloc.get_traced_memory()[1], 1_000_000)

@@ -10,7 +10,9 @@ from PIL import Image
 
 import browser
 from galluspa.recording import Event, page_of
-from samples import EXAMPLES, JUMP, PROGRAM, STORED, ToolTest, claim, encoded, record, rejoining, run, session, tool
+from samples import (
+    EXAMPLES, JUMP, PROGRAM, STORED, ToolTest, claim, encoded, record, rejoining, run, session, status_of, tool,
+)
 
 # The dots of a page's pictures, row by row from the top: a bit for each that is dark, as a base64 text.
 DOTS = """
@@ -36,7 +38,7 @@ class ReportTest(ToolTest):
     def report(self, text: bytes, name: str = "it.orsr", *words: str) -> Path:
         """The page of a text."""
         ran = tool("report", self.file(name, text), *words)
-        self.assertEqual((ran.status, ran.errors), (0, ""))
+        self.assertEqual((ran.status, ran.errors), (status_of(text), ""))
         return self.file("page.html", ran.output)
 
     def assert_sound(self, page: browser.Page, line: str, color: str) -> None:

@@ -74,8 +74,6 @@ class SuiteTest(SuitesTest):
         self.assert_refused(tool("suite", self.folder, "-j", 0), "'0' is no whole number from 1")
         self.file("a.orsr", STORED)
         self.assert_refused(tool("suite", self.folder, "--program", self.folder / "none"), "no program at")
-        self.file("a.expect", "# nothing\n")
-        self.assert_refused(tool("suite", self.folder), "a.expect: no line says what to expect")
 
     def test_a_program_that_fails_is_not_ok(self) -> None:
         self.file("a.orsr", STORED)
@@ -87,7 +85,7 @@ class SuiteTest(SuitesTest):
     def test_names_that_are_no_text(self) -> None:
         (self.folder / os.fsdecode(b"\xff #1.orsr")).write_bytes(STORED)
         ran = tool("suite", self.folder, "--junit", self.folder / "it.xml", "--keep", self.folder / "it.json")
-        self.assertIn(b"ok 1 - \\xff \\#1.orsr: accepted", ran.output)
+        self.assertIn(rb"ok 1 - \\xff \#1.orsr: accepted", ran.output)
         self.assertEqual((ran.status, ran.errors), (0, ""))
 
 

@@ -1,36 +1,78 @@
-"""What the tools' commands share: parsing arguments, reading files, and exit statuses."""
+"""What the tools' commands share: parsing arguments, reading and writing files, and how a tool ends."""
 
 import argparse
+import contextlib
+import errno
 import importlib
 import os
+import re
+import signal
 import sys
-from collections.abc import Callable, Sequence
+import tempfile
+from collections.abc import Callable, Iterator, Sequence
 from pathlib import Path
-from types import ModuleType
+from types import FrameType, ModuleType
 from typing import NoReturn
+
+from galluspa import children
+from galluspa.escapes import printable
+from galluspa.limits import TimeIsUp
+
+# The folder of a package's own files ends so. There the tools have other names than in the repository.
+INSTALLED = ("share", "galluspa", "tools", "galluspa")
+IS_INSTALLED = Path(__file__).resolve().parent.parts[-len(INSTALLED) :] == INSTALLED
+PREFIX = "galluspa-"
+# The script that is the command `galluspa` itself.
+MAIN = "main"
+SECONDS = 600
+# A byte more than the longest recording has, and so than any file that is of use.
+MOST = 118_310_057
+OK, WRONG, REFUSED, FAILED = range(4)
+STATUSES = {
+    OK: "all is well", WRONG: "something that was examined is not", REFUSED: "the input is bad",
+    FAILED: "a write fails, memory runs out, or the time is over",
+}
 
 
 class Refused(Exception):
     """Bad input, or a program that cannot answer; its text is one clear line for the user."""
 
 
-class Parser(argparse.ArgumentParser):
-    """The words of a tool: its help ends with an example, and wrong words are refused in one line."""
+class Failed(Exception):
+    """What is asked for is not done, through no fault of the input; its text is one clear line for the user."""
 
-    def __init__(self, description: str, example: str) -> None:
+
+class Ended(BaseException):
+    """A signal ends the tool."""
+
+    def __init__(self, number: int) -> None:
+        super().__init__(number)
+        self.status = 128 + number
+
+
+class Parser(argparse.ArgumentParser):
+    """The words of a tool: its help ends with an example, and wrong words are refused in one line. `statuses` says of
+    its exit statuses what is not said of each tool."""
+
+    def __init__(self, description: str, example: str, statuses: dict[int, str] | None = None) -> None:
         super().__init__(
+            prog=installed_name(Path(sys.argv[0]).name) if IS_INSTALLED else None,
             description=description,
             epilog=f"example:\n  {example}",
             formatter_class=argparse.RawDescriptionHelpFormatter,
         )
+        self.statuses = STATUSES | (statuses or {})
 
     def error(self, message: str) -> NoReturn:
         raise Refused(f"{message} (see --help)")
 
+    def format_help(self) -> str:
+        return as_installed(super().format_help()) if IS_INSTALLED else super().format_help()
+
     def add_program_option(self) -> None:
         """Adds the option that names the program to ask."""
-        self.add_argument(
-            "--program", metavar="PATH", help="the program to call (default: the one that this repository built)")
+        default = "installed with these tools" if IS_INSTALLED else "that this repository built"
+        self.add_argument("--program", metavar="PATH", help=f"the program to call (default: the one {default})")
 
     def add_library_option(self) -> None:
         """Adds the option that names the shared library to call."""
@@ -41,6 +83,21 @@ class Parser(argparse.ArgumentParser):
                  "crates/galluspa/out/ or out/lib/ of this repository, where it was installed with these tools, and "
                  "where the system looks for libraries",
         )
+
+    def add_limit_option(self, what: str) -> None:
+        """Adds the option that bounds the time; `what` says of what, and what is answered when it is over."""
+        self.add_argument("--limit", metavar="SECONDS", type=whole_number(1, 1 << 30), default=SECONDS,
+                          help=f"{what} (default {SECONDS})")
+
+
+def installed_name(script: str) -> str:
+    """The name by which a package installs a tool."""
+    return PREFIX.rstrip("-") if script == MAIN else PREFIX + script
+
+
+def as_installed(text: str) -> str:
+    """A text with the installed names of the tools that it names."""
+    return re.sub(r"\btools/([a-z][a-z-]*)", lambda found: installed_name(found[1]), text)
 
 
 def whole_number(least: int, most: int) -> Callable[[str], int]:
@@ -68,26 +125,90 @@ def number(text: str) -> int | None:
         return None
 
 
-def read_file(path: str | Path) -> bytes:
-    """All bytes of a file."""
+def read_file(path: str | Path, most: int = MOST) -> bytes:
+    """The bytes of a file, but no more than so many."""
     try:
-        return Path(path).read_bytes()
-    except OSError as error:
-        raise Refused(f"{path}: {error.strerror}") from error
+        with open(path, "rb") as file:
+            return file.read(most)
+    except (OSError, ValueError) as error:
+        raise Refused(f"{path}: {_why(error)}") from error
+
+
+def _why(error: OSError | ValueError) -> str:
+    return (error.strerror if isinstance(error, OSError) else None) or str(error)
 
 
 def progress(message: str, is_last: bool = False) -> None:
     """Renews the line of progress on standard error, where there is a terminal to see it; no text takes it away."""
     if sys.stderr.isatty():
-        print(f"\033[K{message}", end="\n" if is_last else "\r", file=sys.stderr, flush=True)
+        print(f"\033[K{printable(message)}", end="\n" if is_last else "\r", file=sys.stderr, flush=True)
+
+
+def complain(message: str) -> None:
+    """Prints a line on standard error, after the name of the tool."""
+    progress("")
+    name = Path(sys.argv[0]).name
+    # Where standard error can't be written either, nobody can be told: the exit status still says that it failed.
+    with contextlib.suppress(OSError):
+        print(f"{installed_name(name) if IS_INSTALLED else printable(name)}: {printable(message)}", file=sys.stderr,
+              flush=True)
 
 
 def write_file(path: str | Path, content: bytes) -> None:
-    """Writes a file, or writes it anew."""
+    """Writes a file, or writes it anew. A file that is written anew stays as it was until the new one is whole."""
     try:
-        Path(path).write_bytes(content)
+        target = Path(os.path.realpath(path))
+        is_special = str(path).startswith(("/dev/", "/proc/")) or target.exists() and not target.is_file()
+        if is_special or not os.access(target.parent, os.W_OK):
+            _write_into(path, content)
+        else:
+            _replace(path, target, content)
+    except (OSError, ValueError) as error:
+        raise Refused(f"{path}: {_why(error)}") from error
+
+
+def _write_into(path: str | Path, content: bytes) -> None:
+    """Writes into what is there: a pipe or a terminal, or a file in a folder in which none can be made."""
+    with open(path, "wb", buffering=0) as file, _failing(path):
+        left = memoryview(content)
+        while left:
+            left = left[file.write(left) :]
+
+
+def _replace(path: str | Path, target: Path, content: bytes) -> None:
+    mode = target.stat().st_mode & 0o777 if target.exists() else 0o666 & ~_mask()
+    with tempfile.NamedTemporaryFile(dir=target.parent, prefix=".galluspa-", delete=False) as file:
+        try:
+            with _failing(path):
+                file.write(content)
+                file.flush()
+            os.chmod(file.name, mode)
+            os.replace(file.name, target)
+        except BaseException:
+            os.unlink(file.name)
+            raise
+
+
+def _mask() -> int:
+    mask = os.umask(0o022)
+    os.umask(mask)
+    return mask
+
+
+@contextlib.contextmanager
+def _failing(path: str | Path) -> Iterator[None]:
+    """Says of a write that fails where it did."""
+    try:
+        yield
     except OSError as error:
-        raise Refused(f"{path}: {error.strerror}") from error
+        raise Failed(f"{path}: {_why(error)}") from error
+
+
+def write_bytes(content: bytes) -> None:
+    """Prints bytes that are no text: into a file or a pipe, and on no terminal, which they might control."""
+    if sys.stdout.isatty():
+        raise Refused("what is printed is no text: send it into a file, with > FILE")
+    sys.stdout.buffer.write(content)
 
 
 def with_libraries(name: str) -> ModuleType:
@@ -99,18 +220,63 @@ def with_libraries(name: str) -> ModuleType:
 
 
 def run(main: Callable[[Sequence[str]], int]) -> NoReturn:
-    """Runs a tool over the words behind its name, and ends with its status: 2, after one line, where something is
-    refused."""
+    """Runs a tool over the words behind its name, and ends with its status: after one line with 2, where something is
+    refused, and with 3, where something fails; with 130 or 143, where a signal ends it."""
+    for number in (signal.SIGINT, signal.SIGTERM):
+        signal.signal(number, _end)
     try:
+        _open_streams()
         status = main(sys.argv[1:])
-        sys.stdout.flush()
-    except Refused as refusal:
+    except Ended as ended:
         progress("")
-        print(f"{Path(sys.argv[0]).name}: {refusal}", file=sys.stderr)
-        status = 2
-    except BrokenPipeError:
-        os.dup2(os.open(os.devnull, os.O_WRONLY), sys.stdout.fileno())
-        status = 3
-    except KeyboardInterrupt:
-        status = 130
-    sys.exit(status)
+        status = ended.status
+    except SystemExit as asked_for_help:
+        status = asked_for_help.code or OK
+    except Refused as refusal:
+        complain(str(refusal))
+        status = REFUSED
+    except (Failed, TimeIsUp) as failure:
+        complain(str(failure))
+        status = FAILED
+    except MemoryError:
+        complain("no memory")
+        status = FAILED
+    except OSError as error:
+        complain(f"{error.filename or 'standard output'}: {_why(error)}")
+        status = FAILED
+    sys.exit(_flushed(status))
+
+
+def _end(number: int, frame: FrameType | None) -> NoReturn:
+    """Ends the tool, and the programs that it runs."""
+    signal.signal(number, signal.SIG_IGN)
+    children.stop()
+    raise Ended(number)
+
+
+def _open_streams() -> None:
+    """Sees that no file that is opened takes the place of a standard stream that is closed, and that what can't be
+    written in the encoding of a stream is escaped."""
+    is_closed = sys.stdout is None
+    while (place := os.open(os.devnull, os.O_RDWR)) <= 2:
+        pass
+    os.close(place)
+    sys.stderr = sys.stderr or open(2, "w", closefd=False)
+    sys.stdout = sys.stdout or open(1, "w", closefd=False)
+    for stream in (sys.stdout, sys.stderr):
+        stream.reconfigure(errors="backslashreplace")
+    if is_closed:
+        raise Failed(f"standard output: {os.strerror(errno.EBADF)}")
+
+
+def _flushed(status: int) -> int:
+    """The status, once all that was printed is written; that of a failure where it is not."""
+    try:
+        sys.stdout.flush()
+        return status
+    except OSError as error:
+        # What is left is not tried again when Python ends.
+        os.dup2(os.open(os.devnull, os.O_WRONLY), 1)
+        if status not in (FAILED, 128 + signal.SIGINT, 128 + signal.SIGTERM):
+            complain(f"standard output: {_why(error)}")
+        return max(status, FAILED)

@@ -4,7 +4,7 @@ from collections.abc import Iterator, Sequence
 from dataclasses import dataclass
 
 from galluspa.coverage import CELLS, TABLES, Coverage, Table
-from galluspa.suitepage import templates
+from galluspa.pages import templates
 
 
 @dataclass(frozen=True)

@@ -4,18 +4,20 @@ import hashlib
 import json
 import re
 import shlex
-import subprocess
 from collections.abc import Callable, Sequence
 from dataclasses import dataclass
 from pathlib import Path
 
-from galluspa import states
-from galluspa.command import Refused
-from galluspa.library import Machine
+from galluspa import children, states
+from galluspa.command import Refused, read_file
+from galluspa.library import SENT_KEPT, Machine, Sent
+from galluspa.limits import Limit, TimeIsUp
 from galluspa.recording import PAGE_BYTES, PLACES
 
 MEMORY_BYTES = PLACES * PAGE_BYTES
 PLACE = "{count}"
+# More than an object with all parts of a state has, whatever was sent.
+LONGEST = 4 * SENT_KEPT
 
 
 @dataclass(frozen=True)
@@ -28,11 +30,14 @@ class Shown:
     digest: str | None
     sent: bytes | None
 
-    def differing(self, machine: Machine, sent: bytes) -> list[str]:
+    def differing(self, machine: Machine, sent: Sent) -> list[str]:
         """The names of the parts in which it and a machine differ, in the order of parts."""
+        if self.sent is not None and sent.length > SENT_KEPT:
+            raise Refused(f"{sent.length:,} bytes were sent up to {machine.count:,}, and at most {SENT_KEPT:,} are "
+                          "compared: leave out `out`")
         own = states.values(machine.seen())
         names = [name for name, value in own.items() if name in self.parts and self.parts[name] != value]
-        names += ["out"] if self.sent is not None and self.sent != sent else []
+        names += ["out"] if self.sent is not None and self.sent != sent.first else []
         content = machine.memory() if self.memory is not None or self.digest is not None else b""
         is_other = self.memory not in (None, content) or self.digest not in (None, hashlib.sha256(content).hexdigest())
         return names + ["memory"] * is_other
@@ -50,16 +55,17 @@ class Emulator:
         words = [word.replace(PLACE, str(count)) for word in self.words]
         command = shlex.join(words)
         try:
-            ran = subprocess.run(
-                words, stdin=subprocess.DEVNULL, stdout=subprocess.PIPE, timeout=self.seconds, check=False)
+            ended = children.output_of(words, limit=Limit(self.seconds), most=LONGEST)
         except OSError as error:
             raise Refused(f"{words[0]}: {error.strerror}") from error
-        except subprocess.TimeoutExpired as error:
-            raise Refused(f"{command}: no answer in {self.seconds:g} s") from error
-        if ran.returncode:
-            raise Refused(f"{command}: it ended with status {ran.returncode}")
+        except TimeIsUp as over:
+            raise Refused(f"{command}: {over}") from over
+        except children.TooLong as error:
+            raise Refused(f"{command}: it prints more than {LONGEST:,} bytes") from error
+        if ended.status:
+            raise Refused(f"{command}: it ended with status {ended.status}")
         try:
-            shown = json.loads(ran.stdout)
+            shown = json.loads(ended.output)
         except (ValueError, RecursionError) as error:
             raise Refused(f"{command}: what it prints is no JSON") from error
         return _shown(command, shown)
@@ -117,9 +123,9 @@ def _file(value: object) -> bytes:
     if not isinstance(value, str):
         raise ValueError("no name of a file")
     try:
-        content = Path(value).read_bytes()
-    except (OSError, ValueError) as error:
-        raise ValueError(f"a file that is not read: {value}: {error}") from error
+        content = read_file(Path(value), MEMORY_BYTES + 1)
+    except Refused as refusal:
+        raise ValueError(f"a file that is not read: {refusal}") from refusal
     if len(content) > MEMORY_BYTES:
-        raise ValueError(f"a file of {len(content):,} bytes, more than the memory has: {value}")
+        raise ValueError(f"a file of more bytes than the memory has, {MEMORY_BYTES:,}: {value}")
     return content.ljust(MEMORY_BYTES, b"\0")

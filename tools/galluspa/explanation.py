@@ -5,16 +5,17 @@ The library says what the machine has, and the program draws the screens.
 """
 
 from collections.abc import Iterable, Iterator
-from dataclasses import dataclass, field
+from dataclasses import dataclass, field, replace
 
 from galluspa import states
-from galluspa.library import Machine
+from galluspa.library import Machine, Sent
+from galluspa.limits import TimeIsUp
 from galluspa.program import Program
 from galluspa.recording import DISPLAY_END, DISPLAY_START, PAGE_BYTES, Checkpoint, Recording, of_display
 from galluspa.tracing import Run, Step, WordChange, differing, lines, with_progress
 
 Part = str | int
-Value = int | list[int] | bytes
+Value = int | list[int] | Sent
 WRITERS = 5
 WORDS_SHOWN = 64
 BYTES_SHOWN = 48
@@ -36,7 +37,7 @@ class Difference:
 class Around:
     """The instructions around the false checkpoint that were looked at one by one, from a count up to another: the last
     of those before it that wrote a part, and the counts at which the part had the claimed value; also the earlier
-    checkpoints that claim it, and an instruction that set the part before them all."""
+    checkpoints that claim it, an instruction that set the part before them all, and why not all was looked at."""
 
     first: int
     last: int
@@ -44,6 +45,7 @@ class Around:
     matching: list[int]
     earlier: list[int]
     setting: Step | None
+    unread: str = ""
 
 
 @dataclass(frozen=True)
@@ -108,7 +110,7 @@ class FalseClaim:
     part: str
     parts: list[Difference]
     words: list[WordChange]
-    sent: tuple[bytes, bytes]
+    sent: tuple[Sent, Sent]
     screens: Screens | None
     focus: str
     around: Around
@@ -122,11 +124,11 @@ class FalseClaim:
         claimed, defined = self.sent
         if claimed == defined:
             return None
-        pairs = zip(claimed, defined)
-        at = next((at for at, (one, other) in enumerate(pairs) if one != other), min(len(claimed), len(defined)))
-        summary = (f"claimed are {len(claimed):,} bytes, the machine sent {len(defined):,}; "
+        pairs = enumerate(zip(claimed.first, defined.first))
+        at = next((at for at, (one, other) in pairs if one != other), min(claimed.length, defined.length))
+        summary = (f"claimed are {claimed.length:,} bytes, the machine sent {defined.length:,}; "
                    f"they differ from byte {at:,} on")
-        return summary, *([*states.hexdump(sent[at : at + BYTES_SHOWN], at)] or ["no byte"] for sent in self.sent)
+        return summary, *([*states.hexdump(sent.first[at : at + BYTES_SHOWN], at)] or ["no byte"] for sent in self.sent)
 
 
 def explain_false(run: Run, program: Program, read: Recording, claim: tuple[int, str], steps: int) -> FalseClaim:
@@ -135,17 +137,21 @@ def explain_false(run: Run, program: Program, read: Recording, claim: tuple[int,
     checkpoint, before = read.checkpoints[number], read.checkpoints[number - 1]
     claimed, machine = run.library.claim(run.text, number), run.machine(before.count)
     start = machine.copy()
-    sent = run.advance(machine, checkpoint.count)
+    try:
+        sent = run.advance(machine, checkpoint.count)
+    except TimeIsUp as over:
+        raise TimeIsUp(f"{over}: the machine came to count {machine.count}") from over
     words = list(differing(claimed.memory(), machine.memory()))
     focus = _focus(part, words)
-    wanted = value_at(focus, claimed, checkpoint.output)
+    out = Sent(checkpoint.output, len(checkpoint.output))
+    wanted = value_at(focus, claimed, out)
     return FalseClaim(
         number=number,
         count=checkpoint.count,
         part=part,
         parts=list(_differences(claimed.seen(), machine.seen())),
         words=words,
-        sent=(checkpoint.output, sent),
+        sent=(out, sent),
         screens=_screens(program, claimed, machine),
         focus=f"Mem[{focus:06X}]" if isinstance(focus, int) else focus,
         around=_around(run, read, number, start, focus, wanted, steps),
@@ -160,8 +166,8 @@ def _focus(part: str, words: list[WordChange]) -> Part:
     return next(word.address for word in words if word.address // PAGE_BYTES == place)
 
 
-def value_at(part: Part, machine: Machine, sent: bytes) -> Value:
-    """The value of a part in a machine that has sent some bytes since the checkpoint before."""
+def value_at(part: Part, machine: Machine, sent: Sent) -> Value:
+    """The value of a part in a machine, and what it has sent since the checkpoint before."""
     if isinstance(part, int):
         return machine.words[part // 4]
     return sent if part == "out" else states.values(machine.seen())[part]
@@ -174,7 +180,7 @@ def along(part: Part, value: Value, steps: Iterable[Step]) -> Iterator[tuple[Ste
             value = next((word.new for word in step.changed if word.address == part), value)
             yield step, value, step.stored_at == part
         elif part == "out":
-            value += step.after.output
+            value += Sent(step.after.output, len(step.after.output))
             yield step, value, bool(step.after.output)
         else:
             old, value = value, states.values(step.after)[part]
@@ -194,30 +200,29 @@ def _screens(program: Program, claimed: Machine, defined: Machine) -> Screens | 
     if sides[0][1][DISPLAY_START:DISPLAY_END] == sides[1][1][DISPLAY_START:DISPLAY_END]:
         return None
     first = DISPLAY_START // PAGE_BYTES * PAGE_BYTES
+    program = replace(program, limit=None)
     return Screens(*(program.screen(of_display(state, memory[first:]), 0).output for state, memory in sides))
 
 
 def _around(run: Run, read: Recording, number: int, start: Machine, focus: Part, wanted: Value, steps: int) -> Around:
     """Looks at the instructions around the false checkpoint, of which the machine at the one before it is given."""
-    count, first = read.checkpoints[number].count, start.count
-    machine = start.copy()
-    sent = run.advance(machine, max(first, count - steps))
-    looked_from, value = machine.count, value_at(focus, machine, sent)
-    matching, writers = [looked_from] * (value == wanted), []
-    last = count + steps // 10
-    for step, now, is_written in along(focus, value, with_progress(run.steps(machine, last), last)):
-        matching += [step.after.count] * (now == wanted)
-        if is_written and step.before.count < count:
-            writers = [*writers[1 - WRITERS :], step]
-    is_set_before = not writers and value_at(focus, start, b"") != value
-    return Around(
-        first=looked_from,
-        last=last,
-        writers=writers,
-        matching=matching,
-        earlier=[at for at in range(number) if _claims(read, at, focus, wanted)],
-        setting=_setting(run, start, looked_from, focus, value) if is_set_before else None,
-    )
+    count, last = read.checkpoints[number].count, read.checkpoints[number].count + steps // 10
+    earlier = [at for at in range(number) if _claims(read, at, focus, wanted)]
+    machine, looked_from = start.copy(), max(start.count, count - steps)
+    matching, writers, setting = [], [], None
+    try:
+        value = value_at(focus, machine, run.advance(machine, looked_from))
+        matching += [looked_from] * (value == wanted)
+        for step, now, is_written in along(focus, value, with_progress(run.steps(machine, last), last)):
+            matching += [step.after.count] * (now == wanted)
+            if is_written and step.before.count < count:
+                writers = [*writers[1 - WRITERS :], step]
+        if not writers and value_at(focus, start, Sent()) != value:
+            setting = _setting(run, start, looked_from, focus, value)
+    except TimeIsUp as over:
+        came_to, unread = max(looked_from, machine.count), f"{over}: not all was looked at (--limit)"
+        return Around(looked_from, came_to, writers, matching, earlier, None, unread)
+    return Around(looked_from, last, writers, matching, earlier, setting)
 
 
 def _claims(read: Recording, at: int, part: Part, value: Value) -> bool:
@@ -230,7 +235,7 @@ def _claims(read: Recording, at: int, part: Part, value: Value) -> bool:
 def _setting(run: Run, machine: Machine, to: int, part: Part, value: Value) -> Step:
     """An instruction after which a part has a value that it has at a later count, and before which it has another
     one."""
-    sent = b""
+    sent = Sent()
     while to - machine.count > 1:
         later = machine.copy()
         more = run.advance(later, (machine.count + to) // 2)
@@ -244,10 +249,12 @@ def _setting(run: Run, machine: Machine, to: int, part: Part, value: Value) -> S
 def writers_summary(it: FalseClaim) -> str:
     """What is shown below it: the last instructions before the checkpoint that wrote the part, or the one that set
     it."""
-    looked = it.count - it.around.first
+    end = min(it.count, it.around.last)
     if it.around.writers:
-        return f"The last instructions before count {it.count} that wrote {it.focus}:"
-    none = f"None of the {looked:,} instructions before count {it.count} wrote {it.focus}."
+        return f"The last instructions before count {end} that wrote {it.focus}:"
+    none = f"None of the {end - it.around.first:,} instructions before count {end} wrote {it.focus}."
+    if it.around.unread:
+        return none
     if it.around.setting:
         return f"{none} This one before them, found by bisection, set it to what it is there:"
     return f"{none} At their start it was what it was at checkpoint {it.number - 1}."
@@ -266,7 +273,7 @@ def counts_summary(it: FalseClaim) -> str:
     if earlier := it.around.earlier:
         noun = "checkpoints" if len(earlier) > 1 else "checkpoint"
         summary += f"; and at the earlier {noun} {states.ranges(earlier)}"
-    return f"{summary}."
+    return f"{summary}." + (f" There was {it.around.unread}." if it.around.unread else "")
 
 
 def instructions_of(it: FalseClaim) -> Iterator[str]:

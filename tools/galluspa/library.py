@@ -3,6 +3,7 @@ count."""
 
 import ctypes
 import os
+import time
 from array import array
 from bisect import bisect_left
 from collections.abc import Sequence
@@ -10,6 +11,7 @@ from dataclasses import dataclass
 from pathlib import Path
 
 from galluspa.command import Refused
+from galluspa.limits import Limit
 from galluspa.program import TOP
 from galluspa.recording import PLACES, STATE_WORDS, WORDS_IN_PAGE, Checkpoint, Event
 
@@ -18,7 +20,13 @@ VARIABLE = "GALLUSPA_LIBRARY"
 BUILT = [TOP / folder / NAME for folder in ("lib", "crates/galluspa/out", "out/lib")]
 INSTALLED = TOP.parent.parent / "lib"
 WORDS = PLACES * WORDS_IN_PAGE
+# A run goes in slices of about so many seconds, so that a signal and the limit of time are heeded between them.
+SLICE_SECONDS = 0.1
+FIRST_STEPS = 1 << 20
+WHOLE_RUN = 1 << 40
 SENT_AT_ONCE = 1 << 20
+# How many of the bytes that a run sends are kept: more than a recording may claim.
+SENT_KEPT = 1 << 24
 NO_ROOM = 2
 REFUSALS = {
     1: "a number is out of its range",
@@ -48,6 +56,19 @@ class RawInput(ctypes.Structure):
     """An input and its count, as include/galluspa.h lays them out."""
 
     _fields_ = [("count", ctypes.c_uint64), ("kind", ctypes.c_uint32), ("value", ctypes.c_uint32)]
+
+
+@dataclass(frozen=True)
+class Sent:
+    """What a run sent: its first bytes, and the number of all of them."""
+
+    first: bytes = b""
+    length: int = 0
+
+    def __add__(self, more: "Sent") -> "Sent":
+        is_whole = len(self.first) == self.length
+        kept = (self.first + more.first)[:SENT_KEPT] if is_whole and more.first else self.first
+        return Sent(kept, self.length + more.length)
 
 
 class Machine:
@@ -110,22 +131,23 @@ def _why(code: int) -> str:
 
 @dataclass(frozen=True)
 class Library:
-    """The shared library, loaded from a path."""
+    """The shared library, loaded from a path, and the time in which its runs have to end, if any."""
 
     path: str
     calls: ctypes.CDLL
+    limit: Limit | None = None
 
     @staticmethod
-    def find(given: str | None) -> "Library":
+    def find(given: str | None, limit: Limit | None = None) -> "Library":
         """The library that was given, or else the first that is found where add_library_option says."""
         if named := given or os.environ.get(VARIABLE):
             if not Path(named).is_file():
                 raise Refused(f"no library at {named}")
-            return Library._load(str(Path(named).resolve()))
+            return Library._load(str(Path(named).resolve()), limit)
         near = (*BUILT, INSTALLED / NAME, *INSTALLED.glob(f"*/{NAME}"))
         path = next((str(path) for path in near if path.is_file()), NAME)
         try:
-            return Library._load(path)
+            return Library._load(path, limit)
         except Refused:
             if path != NAME:
                 raise
@@ -133,13 +155,13 @@ class Library:
                           f"FOLDER/lib/{NAME} with --library") from None
 
     @staticmethod
-    def _load(path: str) -> "Library":
+    def _load(path: str, limit: Limit | None) -> "Library":
         try:
             calls = ctypes.CDLL(path)
             calls.galluspa_claim.restype = calls.galluspa_advance.restype = ctypes.c_uint8
         except (OSError, AttributeError) as error:
             raise Refused(f"{path}: no library of Galluspa: {error}") from error
-        return Library(path, calls)
+        return Library(path, calls, limit)
 
     def claim(self, text: bytes, at: int) -> Machine:
         """The machine that a checkpoint of a recording claims; whether the claim is true is not tested."""
@@ -152,21 +174,42 @@ class Library:
             raise Refused(f"checkpoint {at} is not read: {_why(code)}")
         return machine
 
-    def advance(self, machine: Machine, inputs: Inputs, to: int) -> bytes:
-        """Runs a machine up to a count, with those of the inputs that are due, and gives the bytes that it sends."""
-        sent = ctypes.create_string_buffer(max(min(to - machine.count, SENT_AT_ONCE), 1))
-        code, length = self._advance(machine, inputs, to, sent)
-        if code == NO_ROOM and to - machine.count > len(sent):
-            between = (machine.count + to) // 2
-            return self.advance(machine, inputs, between) + self.advance(machine, inputs, to)
-        if code:
-            raise Refused(f"the machine is not advanced from {machine.count} to {to}: {_why(code)}")
-        return sent.raw[:length]
+    def advance(self, machine: Machine, inputs: Inputs, to: int) -> Sent:
+        """Runs a machine up to a count, with those of the inputs that are due, and gives what it sends. A run that the
+        limit of time ends leaves the machine at a count before."""
+        sent, steps, most = Sent(), FIRST_STEPS, WHOLE_RUN
+        while machine.count < to:
+            if self.limit:
+                self.limit.left()
+            end, start = min(to, machine.count + steps), time.monotonic()
+            more = self._slice(machine, inputs, end)
+            if more is None:
+                steps = most = (end - machine.count) // 2
+                continue
+            sent += more
+            steps = min(most, _steps_after(machine, steps, time.monotonic() - start))
+        return sent
 
-    def _advance(self, machine: Machine, inputs: Inputs, to: int, sent: ctypes.Array) -> tuple[int, int]:
+    def _slice(self, machine: Machine, inputs: Inputs, to: int) -> Sent | None:
+        """Runs a machine up to a count; None where it sends more than there is room for, and then it stays as it is."""
+        room = ctypes.create_string_buffer(max(min(to - machine.count, SENT_AT_ONCE), 1))
         due, length = inputs.raw(machine.count, to), ctypes.c_size_t()
         code = self.calls.galluspa_advance(
             ctypes.byref(machine.state), machine.words, ctypes.c_size_t(WORDS), due, ctypes.c_size_t(len(due)),
-            ctypes.c_uint64(to), sent, ctypes.c_size_t(len(sent)), ctypes.byref(length),
+            ctypes.c_uint64(to), room, ctypes.c_size_t(len(room)), ctypes.byref(length),
         )
-        return code, length.value
+        if code == NO_ROOM and to - machine.count > len(room):
+            return None
+        if code:
+            raise Refused(f"the machine is not advanced from {machine.count} to {to}: {_why(code)}")
+        return Sent(ctypes.string_at(room, length.value), length.value)
+
+
+def _steps_after(machine: Machine, steps: int, seconds: float) -> int:
+    """How many steps the next slice has, after one of so many that took so long. Once a machine has stopped it does
+    nothing, however many they are."""
+    if machine.state.stop:
+        return WHOLE_RUN
+    if seconds > 2 * SLICE_SECONDS:
+        return max(steps // 2, 1)
+    return 2 * steps if seconds < SLICE_SECONDS / 2 else steps

@@ -3,6 +3,7 @@
 import base64
 import gzip
 import hashlib
+import io
 import json
 import re
 from dataclasses import dataclass
@@ -13,6 +14,7 @@ from galluspa.command import Refused
 from galluspa.program import TOP
 
 PAGE = TOP / "web/galluspa.html"
+AT_ONCE = 1 << 20
 POLICY = (
     "default-src 'none'; script-src {scripts} 'wasm-unsafe-eval'; worker-src blob:; style-src 'unsafe-inline'; "
     "img-src data: blob:; base-uri 'none'; form-action 'none'"
@@ -44,9 +46,18 @@ class Live:
             policy=POLICY.format(scripts=scripts),
             style=Markup(_part(page, r'<style id="g-style">(.*?)</style>')),
             machine=Markup(machine),
-            recording=base64.b64encode(gzip.compress(text, mtime=0)).decode(),
+            recording=base64.b64encode(_compressed(text)).decode(),
             script=Markup(begin),
         )
+
+
+def _compressed(text: bytes) -> bytes:
+    """Bytes in the format of gzip, made piece by piece, so that a signal is heeded between them."""
+    out = io.BytesIO()
+    with gzip.GzipFile(fileobj=out, mode="wb", mtime=0) as packed:
+        for at in range(0, len(text), AT_ONCE):
+            packed.write(text[at : at + AT_ONCE])
+    return out.getvalue()
 
 
 def _part(page: str, pattern: str) -> str:

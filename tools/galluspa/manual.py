@@ -10,12 +10,9 @@ from importlib.util import module_from_spec, spec_from_loader
 from pathlib import Path
 from types import ModuleType
 
-from galluspa.command import Parser
+from galluspa.command import MAIN, Parser, as_installed, installed_name
 
-PREFIX = "galluspa-"
-STATUS = (
-    "0 if all is well, 1 if something that was examined is not, and 2, after one line on standard error, for bad input."
-)
+SIGNALS = {130: "it was interrupted", 143: "it was terminated"}
 
 
 @dataclass(frozen=True)
@@ -29,7 +26,7 @@ class Tool:
     @property
     def command(self) -> str:
         """Its name where it is installed."""
-        return PREFIX + self.name
+        return installed_name(self.name)
 
     @property
     def options(self) -> list[argparse.Action]:
@@ -70,20 +67,35 @@ def page(tool: Tool, date: str) -> str:
         f".Nd {_escaped(about[0].lower() + about[1:])}",
         ".Sh SYNOPSIS", ".Nm", *(f".Op {_flags(it)}" for it in tool.options),
         *(f".Ar {_metavar(it)}{' ..' * bool(it.nargs)}" for it in tool.operands),
-        ".Sh DESCRIPTION", *_prose(" ".join(tool.parser.description.split())), ".Bl -tag -width Ds",
+        ".Sh DESCRIPTION", *_description(tool.parser.description), ".Bl -tag -width Ds",
     ]
     for it in [*tool.operands, *tool.options]:
         if it.help:
             lines += [f".It {_flags(it) if it.option_strings else 'Ar ' + _metavar(it)}", *_prose(_sentence(it.help))]
-    example = tool.parser.epilog.split("\n", 1)[1].strip().replace(f"tools/{tool.name}", tool.command)
+    example = as_installed(tool.parser.epilog.split("\n", 1)[1].strip())
+    statuses = ((f".It {number}", _sentence(it)) for number, it in {**tool.parser.statuses, **SIGNALS}.items())
     return "\n".join([
-        *lines, ".El", ".Sh EXIT STATUS", *_prose(STATUS),
+        *lines, ".El", ".Sh EXIT STATUS", ".Bl -tag -width Ds",
+        *(line for item, about in statuses for line in (item, *_prose(about))), ".El",
+        "With a status of 2 or 3 there is a line on standard error that says why.",
         ".Sh EXAMPLES", f".Dl {_escaped(example)}", ".Sh SEE ALSO", ".Xr oberon_replay 1", "",
     ])
 
 
+def _description(text: str) -> Iterator[str]:
+    """A description as prose; rows of it that are set in, with a name before two spaces, as a list."""
+    rows = re.split(r"\n  (?=\S)", text)
+    yield from _prose(as_installed(" ".join(rows[0].split())))
+    if len(rows) > 1:
+        yield ".Bl -tag -width Ds"
+        for name, about in (re.split(r" {2,}|\n", row, maxsplit=1) for row in rows[1:]):
+            yield f".It {_escaped(name)}"
+            yield from _prose(_sentence(about))
+        yield ".El"
+
+
 def _sentence(text: str) -> str:
-    text = " ".join(text.split())
+    text = as_installed(" ".join(text.split()))
     return text[0].upper() + text[1:] + ("" if text.endswith(".") else ".")
 
 
@@ -107,12 +119,14 @@ def _prose(text: str) -> Iterator[str]:
             yield "\\&" + line if line[0] in ".'" else line
 
 
-COMPLETION = """# Completes the words of oberon_replay and of the tools.
+COMPLETION = """# Completes the words of oberon_replay, of galluspa and of the tools.
 _galluspa() {
     local name=${COMP_WORDS[0]##*/} word=${COMP_WORDS[COMP_CWORD]}
-    if [[ $name == oberon_replay ]]; then
+    if [[ $name == oberon_replay || $name == galluspa ]]; then
         if ((COMP_CWORD == 1)); then
-            COMPREPLY=($(compgen -W '@COMMANDS@' -- "$word"))
+            local words='@COMMANDS@'
+            [[ $name == galluspa ]] && words='@WORDS@'
+            COMPREPLY=($(compgen -W "$words" -- "$word"))
             return
         fi
         name=${COMP_WORDS[1]}
@@ -130,11 +144,13 @@ def completion(tools: list[Tool], commands: dict[str, list[str]]) -> str:
     """The completion for bash: of the program's commands with their options, and of the tools' options."""
     options = dict(commands)
     for it in tools:
-        options[it.command] = [option for action in it.options for option in action.option_strings]
+        options[f"{it.command}|{it.name}"] = [option for action in it.options for option in action.option_strings]
     given = {name: " ".join(words) for name, words in options.items() if words}
     cases = [f"        {name}) COMPREPLY=($(compgen -W '{words}' -- \"$word\")) ;;" for name, words in given.items()]
     names = " ".join(["oberon_replay", *(it.command for it in tools)])
-    replaced = {"@COMMANDS@": " ".join([*commands, "help", "--help"]), "@CASES@": "\n".join(cases), "@NAMES@": names}
+    words = [*commands, *(it.name for it in tools if it.name != MAIN), "live", "--version", "--help"]
+    replaced = {"@COMMANDS@": " ".join([*commands, "help", "--help"]), "@WORDS@": " ".join(words),
+                "@CASES@": "\n".join(cases), "@NAMES@": names}
     text = COMPLETION
     for mark, value in replaced.items():
         text = text.replace(mark, value)

@@ -2,22 +2,25 @@
 
 import base64
 import hashlib
+import os
+import shlex
 from collections.abc import Iterator
-from dataclasses import dataclass, field
+from dataclasses import dataclass, field, replace
 from functools import cached_property
 from itertools import islice
-from pathlib import Path
 
-from jinja2 import Environment, FileSystemLoader, StrictUndefined
 from markupsafe import Markup
 
 from galluspa import explanation, recording, states
-from galluspa.command import Refused
+from galluspa.command import FAILED, Refused
+from galluspa.escapes import printable
 from galluspa.explanation import FalseClaim, explain_false
 from galluspa.faults import explain_fault
 from galluspa.instructions import instruction
 from galluspa.library import Library
+from galluspa.limits import TimeIsUp
 from galluspa.live import Live
+from galluspa.pages import templates
 from galluspa.pictures import Screens, screens, with_differences_in_red
 from galluspa.program import ACCEPTED, REFUSED, Answer, Program
 from galluspa.recording import PAGE_BYTES, PLACES, WORDS_IN_PAGE, Checkpoint, Recording
@@ -32,7 +35,7 @@ BYTES_AROUND = 128
 @dataclass(frozen=True)
 class Shown:
     """A checkpoint as the page shows it; the picture is base64, and empty where the screen is that of an earlier
-    one."""
+    one, or where a page has no room for it."""
 
     number: int
     count: int
@@ -45,6 +48,7 @@ class Shown:
     output: str
     alike: int
     picture: str
+    is_small: bool
 
 
 @dataclass(frozen=True)
@@ -80,32 +84,48 @@ class Report:
 
     @staticmethod
     def of(program: Program, name: str, text: bytes, library: str | None = None) -> "Report":
-        """The report on a text, after the program has judged it; the library, where it is found, says what is false."""
-        answer = program.check(text)
-        return Report(name, text, program, answer, None if answer.status == REFUSED else recording.read(text), library)
+        """The report on a text, after the program has judged it, or had no time to; the library, where it is found,
+        says what is false."""
+        try:
+            answer = program.check(text, min(os.cpu_count() or 1, 64))
+            read = None if answer.status == REFUSED else recording.read(text)
+        except TimeIsUp as over:
+            answer, read = Answer(str(over).encode(), FAILED), _lawful(program, text)
+        return Report(printable(name), text, program, answer, read, library)
+
+    @property
+    def false(self) -> FalseClaim | None:
+        """What is false about a false recording; None of any other, and where there is no library or no time."""
+        return self._explained[0]
+
+    @property
+    def over(self) -> str:
+        """Where there was no time to say what is false, a sentence that says so."""
+        return self._explained[1]
 
     @cached_property
-    def false(self) -> FalseClaim | None:
-        """What is false about a false recording; None of any other, and where there is no library."""
+    def _explained(self) -> tuple[FalseClaim | None, str]:
         if not self.answer.false_claim:
-            return None
+            return None, ""
         try:
-            library = Library.find(self.library)
+            library = Library.find(self.library, self.program.limit)
         except Refused:
             if self.library:
                 raise
-            return None
+            return None, ""
         run = Run.of_answer(library, self.text, self.recording, self.answer)
-        return explain_false(run, self.program, self.recording, self.answer.false_claim, STEPS)
+        try:
+            return explain_false(run, self.program, self.recording, self.answer.false_claim, STEPS), ""
+        except TimeIsUp as over:
+            return None, f"What the machine has was not found: {over}."
 
     def html(self, is_live: bool = False) -> Iterator[str]:
         """The page, piece by piece; one that is live can check its recording again, and run on from its checkpoints."""
-        folder = Path(__file__).resolve().parent
-        templates = Environment(loader=FileSystemLoader(folder), autoescape=True, trim_blocks=True, lstrip_blocks=True,
-                                undefined=StrictUndefined)
-        templates.globals["marks"] = self._marks
+        found = templates()
+        found.globals["marks"] = self._marks
         false_at, false_part = self.answer.false_claim or (None, None)
-        return templates.get_template("report.html.j2").generate(
+        drawn = screens(self.program, self.recording) if self.recording else None
+        return found.get_template("report.html.j2").generate(
             live=Live.of(self.name, self.text) if is_live else None,
             name=self.name,
             size=len(self.text),
@@ -118,9 +138,12 @@ class Report:
             false_part=false_part,
             claimed=self._claimed(),
             differing=self.false,
+            over=self.over,
+            drawn=drawn,
+            file=shlex.quote(self.name),
             explanation=explanation,
             pictures=self._pictures(),
-            shown=self._shown() if self.recording else (),
+            shown=self._shown(drawn) if drawn else (),
             inputs=self._inputs() if self.recording else (),
         )
 
@@ -133,6 +156,8 @@ class Report:
         if self.false:
             yield from explanation.plain(self.false)
             yield ""
+        if self.over:
+            yield self.over
         if not self.recording:
             return
         before = None
@@ -155,8 +180,7 @@ class Report:
     def _parts(self, checkpoint: Checkpoint, before: Checkpoint | None) -> list[Part]:
         return [*states.registers(checkpoint, before), *states.others(checkpoint, before, self.recording.version)]
 
-    def _shown(self) -> Iterator[Shown]:
-        drawn = screens(self.program, self.recording)
+    def _shown(self, drawn: Screens) -> Iterator[Shown]:
         before = None
         for number, checkpoint in enumerate(self.recording.checkpoints):
             yield self._shown_of(number, checkpoint, before, drawn)
@@ -174,7 +198,8 @@ class Report:
             sent=len(checkpoint.output),
             output=states.text(checkpoint.output),
             alike=drawn.first[number],
-            picture=base64.b64encode(drawn.pictures.get(number, b"")).decode(),
+            picture=base64.b64encode(drawn.full.get(number) or drawn.small.get(number, b"")).decode(),
+            is_small=number in drawn.small,
         )
 
     def _places(self, checkpoint: Checkpoint, before: Checkpoint | None) -> str:
@@ -231,6 +256,14 @@ class Report:
         if at == start + len(content) and at % 16 == 0:
             lines.append(_marked(f"{at:08X}  ", 0))
         return Fault(at, at >= len(self.text), explanation, lines)
+
+
+def _lawful(program: Program, text: bytes) -> Recording | None:
+    """The recording of a text, which takes little time even if its check does not; None where it is refused."""
+    try:
+        return recording.lawful(replace(program, limit=None), "", text)
+    except Refused:
+        return None
 
 
 def _marked(line: str, column: int) -> Line:

@@ -1,5 +1,6 @@
 """The screens of checkpoints as pictures, drawn by the program and each stored once."""
 
+import contextlib
 import hashlib
 import io
 from concurrent.futures import ThreadPoolExecutor
@@ -7,32 +8,58 @@ from dataclasses import dataclass
 
 from PIL import Image, ImageChops
 
+from galluspa.limits import TimeIsUp
 from galluspa.program import Program
 from galluspa.recording import DISPLAY_END, DISPLAY_START, PAGE_BYTES, Checkpoint, Recording, of_display
 
 AT_A_TIME = 4
+# Pictures are drawn so many at once, and then it is looked whether there is room for more.
+AT_ONCE = 16
+# How many bytes the pictures of a page have, in full and small; those after them are not drawn.
+FULL_BYTES, SMALL_BYTES = 12_000_000, 6_000_000
+SMALL = (256, 192)
+GREYS = 16
 RED, LIGHT_RED = (179, 38, 30), (255, 190, 185)
 
 
 @dataclass(frozen=True)
 class Screens:
     """The screens of a recording: for each checkpoint the first one with the same dots, and the pictures of those as
-    PNG."""
+    PNG, in full or small. Of those that are in neither there is no picture."""
 
     first: list[int]
-    pictures: dict[int, bytes]
+    full: dict[int, bytes]
+    small: dict[int, bytes]
+
+    @property
+    def missing(self) -> int:
+        """How many screens have no picture."""
+        return len(set(self.first)) - len(self.full) - len(self.small)
 
 
 def screens(program: Program, read: Recording) -> Screens:
-    """The screens of a recording's checkpoints; the program is asked once for each that differs from all before it."""
-    first = _first_alike(read)
+    """The screens of a recording's checkpoints, as long as there are room and time; the program is asked once for each
+    that differs from all before it."""
+    made = Screens(_first_alike(read), {}, {})
+    numbers = sorted(set(made.first))
 
-    def picture(number: int) -> bytes:
-        return png(program.screen(display_alone(read, read.checkpoints[number]), 0).output)
+    def drawn(number: int) -> bytes:
+        return program.screen(display_alone(read, read.checkpoints[number]), 0).output
 
-    numbers = sorted(set(first))
-    with ThreadPoolExecutor(AT_A_TIME) as pool:
-        return Screens(first, dict(zip(numbers, pool.map(picture, numbers), strict=True)))
+    with ThreadPoolExecutor(AT_A_TIME) as pool, contextlib.suppress(TimeIsUp):
+        for at in range(0, len(numbers), AT_ONCE):
+            is_full = _size(made.full) < FULL_BYTES
+            if not is_full and _size(made.small) >= SMALL_BYTES:
+                break
+            encoded, pictures = (png, made.full) if is_full else (small_png, made.small)
+            some = numbers[at : at + AT_ONCE]
+            for number, content in zip(some, pool.map(lambda it: encoded(drawn(it)), some), strict=True):
+                pictures[number] = content
+    return made
+
+
+def _size(pictures: dict[int, bytes]) -> int:
+    return sum(map(len, pictures.values()))
 
 
 def display_alone(read: Recording, checkpoint: Checkpoint) -> bytes:
@@ -45,6 +72,15 @@ def png(pbm: bytes) -> bytes:
     """A picture that the program printed, as PNG."""
     out = io.BytesIO()
     Image.open(io.BytesIO(pbm)).save(out, "PNG", optimize=True)
+    return out.getvalue()
+
+
+def small_png(pbm: bytes) -> bytes:
+    """A picture that the program printed, small, as PNG: in few greys, so that it has few bytes."""
+    out = io.BytesIO()
+    small = Image.open(io.BytesIO(pbm)).convert("L").resize(SMALL, Image.Resampling.BOX)
+    step = 255 // (GREYS - 1)
+    small.point([(grey + step // 2) // step * step for grey in range(256)]).save(out, "PNG", optimize=True)
     return out.getvalue()
 
 

@@ -2,12 +2,15 @@
 
 import os
 import re
-import subprocess
+from collections.abc import Sequence
 from dataclasses import dataclass
 from functools import cached_property
 from pathlib import Path
+from typing import BinaryIO
 
-from galluspa.command import Refused
+from galluspa import children
+from galluspa.command import MOST, Refused
+from galluspa.limits import Limit
 
 TOP = Path(__file__).resolve().parents[2]
 BUILT = TOP / "crates/oberon_replay/out/oberon_replay"
@@ -16,14 +19,16 @@ INSTALLED = TOP.parent.parent / "bin/oberon_replay"
 ACCEPTED = 0
 FALSE = 1
 REFUSED = 2
+WORDS_REFUSED = 4
 
 _FALSE_LINE = re.compile(r"false checkpoint (\d+) at \d+ part (.+)")
 _REFUSED_LINE = re.compile(r"refused (\d+) \w+ at byte (\d+)")
+_SESSION_LINE = re.compile(r"session refused (\d+) \w+")
 
 
 @dataclass(frozen=True)
 class Answer:
-    """What the program printed, and its exit status: 0, 1 or 2."""
+    """What the program printed, and its exit status."""
 
     output: bytes
     status: int
@@ -45,50 +50,69 @@ class Answer:
         match = _REFUSED_LINE.fullmatch(self.line) if self.status == REFUSED else None
         return (int(match[1]), int(match[2])) if match else None
 
+    @cached_property
+    def session_fault(self) -> int | None:
+        """The number of a session's first fault, where the line names it."""
+        match = _SESSION_LINE.fullmatch(self.line) if self.status == REFUSED else None
+        return int(match[1]) if match else None
+
 
 @dataclass(frozen=True)
 class Program:
-    """The program at a path."""
+    """The program at a path, and the time in which it has to answer, if any."""
 
     path: Path
+    limit: Limit | None = None
 
     @staticmethod
-    def find(given: str | None) -> "Program":
+    def find(given: str | None, limit: Limit | None = None) -> "Program":
         """The program that was given, or else the one that was built in this repository, or installed with these
         tools."""
         path = Path(given) if given else INSTALLED if INSTALLED.is_file() and not BUILT.is_file() else BUILT
         if not path.is_file() or not os.access(path, os.X_OK):
             advice = "" if given else "; build it (rt run in crates/oberon_replay), or name one with --program"
             raise Refused(f"no program at {path}{advice}")
-        return Program(path.resolve())
+        return Program(path.resolve(), limit)
 
-    def check(self, text: bytes) -> Answer:
-        """The line of a recording, and whether it was accepted, false or refused."""
-        return self._ask("check", input=text)
+    def check(self, text: bytes, workers: int | None = None) -> Answer:
+        """The line of a recording, and whether it was accepted, false or refused; by so many workers, if that is
+        said."""
+        return self._ask(*_checking(workers), given=text)
 
     def check_file(self, path: Path, workers: int) -> Answer:
         """The line of the recording in a file, by so many workers."""
         try:
             with path.open("rb") as file:
-                return self._ask("check", "--workers", str(workers), stdin=file)
+                return self._ask(*_checking(workers), given=file)
         except OSError as error:
             raise Refused(f"{path}: {error.strerror}") from error
 
     def screen(self, text: bytes, checkpoint: int) -> Answer:
         """The picture of what a checkpoint claims, or the line that refuses the text."""
-        return self._ask("screen", "--at", str(checkpoint), input=text)
+        return self._ask("screen", "--at", str(checkpoint), given=text)
 
     def record(self, session: bytes) -> Answer:
         """The recording of a session, or the line that refuses it."""
-        return self._ask("record", input=session)
+        return self._ask("record", given=session)
 
-    def _ask(self, *words: str, **source: object) -> Answer:
+    def answer(self, words: Sequence[str], given: bytes | BinaryIO) -> Answer:
+        """What the program answers to any arguments and any input."""
         try:
-            ran = subprocess.run([self.path, *words], stdout=subprocess.PIPE, check=False, **source)
+            ended = children.output_of([self.path, *words], given, limit=self.limit, most=MOST)
         except OSError as error:
             raise Refused(f"{self.path}: {error.strerror}") from error
-        answer = Answer(ran.stdout, ran.returncode)
+        except children.TooLong as error:
+            raise Refused(f"{self.path} {words[0]} prints more than any recording has") from error
+        return Answer(ended.output, ended.status)
+
+    def _ask(self, *words: str, given: bytes | BinaryIO) -> Answer:
+        """The same, refused if it is no answer about the input."""
+        answer = self.answer(words, given)
         if answer.status not in (ACCEPTED, FALSE, REFUSED):
             said = answer.line if len(answer.output) < 100 else "a part of its answer"
             raise Refused(f"{self.path} {words[0]} ended with status {answer.status} and {said!r}")
         return answer
+
+
+def _checking(workers: int | None) -> list[str]:
+    return ["check", *(["--workers", str(workers)] if workers else [])]

@@ -2,15 +2,19 @@
 
 import hashlib
 import json
+import math
 import re
 from collections.abc import Sequence
 from dataclasses import asdict, dataclass
 from xml.etree import ElementTree
 
 from galluspa.command import Refused, read_file
-from galluspa.suites import Outcome
+from galluspa.escapes import printable
+from galluspa.suites import Case, Outcome
 
 FORMAT = "galluspa-suite-run"
+# The longest text that a run keeps of a recording, and more seconds than a run takes.
+LONGEST, MOST_SECONDS = 4096, 1e12
 SLOWER_BY_PART = 1.5
 SLOWER_BY_SECONDS = 0.1
 NOT_IN_XML = re.compile("[^\t\n\r\u0020-\ud7ff\ue000-\ufffd\U00010000-\U0010ffff]")
@@ -18,8 +22,8 @@ NOT_IN_XML = re.compile("[^\t\n\r\u0020-\ud7ff\ue000-\ufffd\U00010000-\U0010ffff
 
 @dataclass(frozen=True)
 class Kept:
-    """What is kept of a recording's outcome: the digest of its bytes, what was expected and answered, and the
-    seconds."""
+    """What is kept of a recording's outcome: the digest of its bytes, empty if they can't be read; what was expected
+    and answered, and the seconds."""
 
     sha256: str
     expected: str
@@ -42,11 +46,17 @@ class Change:
 def run_of(outcomes: Sequence[Outcome]) -> Run:
     """What is kept of a run, by the names of the recordings."""
 
-    def kept(outcome: Outcome) -> Kept:
-        digest = hashlib.sha256(read_file(outcome.case.path)).hexdigest()
-        return Kept(digest, outcome.case.expected, outcome.answered, round(outcome.seconds, 3))
+    def kept(it: Outcome) -> Kept:
+        return Kept(_digest(it.case), it.case.expected, it.answered, round(it.seconds, 3))
 
-    return {outcome.case.name: kept(outcome) for outcome in outcomes}
+    return {it.case.name: kept(it) for it in outcomes}
+
+
+def _digest(case: Case) -> str:
+    try:
+        return hashlib.sha256(case.content()).hexdigest()
+    except Refused:
+        return ""
 
 
 def text_of(kept: Run) -> str:
@@ -61,12 +71,19 @@ def read_run(path: str) -> Run:
         kept = json.loads(read_file(path))
         if kept["format"] != FORMAT or kept["version"] != 1:
             raise ValueError
-        run = {name: Kept(**it) for name, it in kept["recordings"].items()}
+        run = {printable(name): _kept(**it) for name, it in kept["recordings"].items()}
     except (ValueError, KeyError, TypeError, AttributeError, RecursionError) as error:
         raise Refused(f"{path}: not a run of a suite, as --keep writes it") from error
-    if not all(isinstance(it.answered, str) and isinstance(it.seconds, int | float) for it in run.values()):
-        raise Refused(f"{path}: not a run of a suite, as --keep writes it")
     return run
+
+
+def _kept(sha256: object, expected: object, answered: object, seconds: object) -> Kept:
+    texts = (sha256, expected, answered)
+    if not all(isinstance(it, str) and len(it) <= LONGEST for it in texts) or type(seconds) not in (int, float):
+        raise TypeError
+    if not 0 <= seconds <= MOST_SECONDS or math.isnan(seconds):
+        raise ValueError
+    return Kept(*map(printable, texts), float(seconds))
 
 
 def changes(before: Run, after: Run) -> list[Change]:
@@ -99,9 +116,11 @@ def _is_slower(old: Kept, new: Kept) -> bool:
 def junit(suite: str, outcomes: Sequence[Outcome]) -> bytes:
     """A run as the XML that JUnit writes and CI systems read."""
     seconds = f"{sum(it.seconds for it in outcomes):.3f}"
-    wrong = sum(not it.is_ok for it in outcomes)
+    errors = sum(it.is_error for it in outcomes)
+    wrong = sum(not it.is_ok for it in outcomes) - errors
     counted = {
-        "name": _in_xml(suite), "tests": str(len(outcomes)), "failures": str(wrong), "errors": "0", "time": seconds,
+        "name": _in_xml(suite), "tests": str(len(outcomes)), "failures": str(wrong), "errors": str(errors),
+        "time": seconds,
     }
     top = ElementTree.Element("testsuites")
     tests = ElementTree.SubElement(top, "testsuite", counted)
@@ -111,12 +130,13 @@ def junit(suite: str, outcomes: Sequence[Outcome]) -> bytes:
         if it.is_ok:
             ElementTree.SubElement(test, "system-out").text = _in_xml(it.answered)
         else:
-            message = _in_xml(f"expected {it.case.expected}, answered {it.answered}")
-            ElementTree.SubElement(test, "failure", {"message": message}).text = message
+            message = _in_xml(it.answered if it.is_error else f"expected {it.case.expected}, answered {it.answered}")
+            kind = "error" if it.is_error else "failure"
+            ElementTree.SubElement(test, kind, {"message": message}).text = message
     ElementTree.indent(top)
     return ElementTree.tostring(top, "utf-8", xml_declaration=True) + b"\n"
 
 
 def _in_xml(text: str) -> str:
-    """A text without the signs that XML can't hold."""
-    return NOT_IN_XML.sub("\ufffd", text)
+    """A text in one line, without the signs that XML can't hold."""
+    return NOT_IN_XML.sub("\ufffd", printable(text))

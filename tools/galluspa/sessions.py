@@ -1,11 +1,12 @@
 """Writes sessions, from a memory image with registers and inputs, and from the initial state of a recording."""
 
 import csv
+import io
 import json
 from dataclasses import dataclass, field
 from pathlib import Path
 
-from galluspa.command import Refused, number
+from galluspa.command import Refused, number, read_file
 from galluspa.recording import FLAGS, KINDS, PAGE_BYTES, PLACES, Event, Recording
 from galluspa.states import REGISTERS
 
@@ -97,6 +98,20 @@ def image_at(name: str, image: bytes, address: int) -> bytes:
     return bytes(address) + image
 
 
+def odd_counter(session: Session, address: int) -> str:
+    """What is odd about where a session's program counter points, if an image from a byte address on is all of its
+    memory; or nothing."""
+    at, first, end = 4 * session.pc, address, len(session.memory)
+    if at >= MEMORY_BYTES:
+        return f"PC is {session.pc:,}, beyond the memory of {MEMORY_BYTES // 4:,} words: the machine stops at once"
+    if not first <= at < end:
+        return (f"PC is {session.pc:,} (it counts words), which is byte {at:X}, outside the image of the bytes "
+                f"{first:X} to {end - 1:X} (hexadecimal)")
+    if not any(session.memory[at : at + 4]):
+        return f"PC is {session.pc:,} (it counts words), which is byte {at:X} (hexadecimal), and the word there is 0"
+    return ""
+
+
 def set_register(session: Session, assignment: str) -> None:
     """Sets what NAME=VALUE says: R0 to R15, H, PC (in words), flags (letters of NZCV, or a number), rate or phase."""
     name, is_set, written = assignment.partition("=")
@@ -122,17 +137,14 @@ def check_phase(session: Session) -> None:
 
 def inputs_of(path: Path) -> list[Event]:
     """The inputs of a CSV file with the columns count, kind, value; a first row of these names is passed over."""
+    content, inputs = read_file(path), list[Event]()
     try:
-        with path.open(newline="", encoding="utf-8-sig") as file:
-            rows = csv.reader(file)
-            inputs: list[Event] = []
-            for cells in rows:
-                cells = [cell.strip() for cell in cells]
-                if not any(cells) or cells[0].startswith("#") or not inputs and cells == ["count", "kind", "value"]:
-                    continue
-                inputs.append(_input(f"{path} line {rows.line_num}", cells, inputs[-1].count if inputs else 0))
-    except OSError as error:
-        raise Refused(f"{path}: {error.strerror}") from error
+        rows = csv.reader(io.StringIO(content.decode("utf-8-sig"), newline=""))
+        for cells in rows:
+            cells = [cell.strip() for cell in cells]
+            if not any(cells) or cells[0].startswith("#") or not inputs and cells == ["count", "kind", "value"]:
+                continue
+            inputs.append(_input(f"{path} line {rows.line_num}", cells, inputs[-1].count if inputs else 0))
     except (UnicodeDecodeError, csv.Error) as error:
         raise Refused(f"{path}: not a CSV file in UTF-8: {error}") from error
     if len(inputs) > INPUTS:

@@ -3,7 +3,7 @@
 from collections.abc import Iterator
 from dataclasses import dataclass
 
-from galluspa.recording import FLAGS, KINDS, STOPS, Checkpoint, Event
+from galluspa.recording import FLAGS, KINDS, PLACES, STOPS, Checkpoint, Event
 
 REGISTERS = [f"R{at}" for at in range(16)]
 # The parts of a state that are one word, in the order of parts: how the program names them, and their attributes here.
@@ -11,6 +11,10 @@ WORDS = {
     "H": "h", "PC": "pc", "flags": "flags", "stop": "stop", "timer": "timer", "rate": "rate", "phase": "phase",
     "switches": "switches", "LEDs": "leds", "mouse": "mouse", "serial": "serial",
 }
+
+# What a verdict line may name as the part that differs.
+PARTS = frozenset((*REGISTERS, *WORDS, "keys", "out", *(f"page {place}" for place in range(PLACES))))
+
 
 @dataclass(frozen=True)
 class Part:

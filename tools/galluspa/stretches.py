@@ -10,9 +10,12 @@ from operator import attrgetter
 
 from galluspa.command import Refused
 from galluspa.recording import Checkpoint, Event, Recording
+from galluspa.states import PARTS
 
-_ACCEPTED = re.compile(r"accepted (\d+) checkpoints (\d+) steps")
-_FALSE = re.compile(r"false checkpoint (\d+) at (\d+) part (.+)")
+# More bytes than a verdict line has.
+LINE_BYTES = 256
+_ACCEPTED = re.compile(r"accepted (\d{1,4}) checkpoints (\d{1,13}) steps", re.ASCII)
+_FALSE = re.compile(r"false checkpoint (\d{1,4}) at (\d{1,13}) part (.+)", re.ASCII)
 
 
 def stretch(read: Recording, first: int, last: int) -> Recording:
@@ -54,6 +57,8 @@ def found(read: Recording, first: int, last: int, line: str) -> Found | None:
     match = _FALSE.fullmatch(line)
     false = first + int(match[1]) if match else 0
     if not first < false <= last or read.checkpoints[false].count - begin != int(match[2]):
+        return None
+    if match[3] not in PARTS:
         return None
     return Found(first, last, false, match[3])
 

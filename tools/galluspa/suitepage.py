@@ -1,24 +1,18 @@
 """Makes the page of a suite: each recording with its last screen, its verdict line and its time."""
 
 import base64
-import io
 from collections import defaultdict
 from collections.abc import Iterator, Sequence
 from concurrent.futures import ThreadPoolExecutor
 from dataclasses import dataclass
-from pathlib import Path
-
-from jinja2 import Environment, FileSystemLoader, StrictUndefined
-from PIL import Image
 
 from galluspa import recording
-from galluspa.command import Refused, read_file
-from galluspa.pictures import display_alone
+from galluspa.command import Refused
+from galluspa.pages import templates
+from galluspa.pictures import display_alone, small_png
 from galluspa.program import ACCEPTED, Program
 from galluspa.runs import Change
-from galluspa.suites import Outcome
-
-THUMBNAIL = (256, 192)
+from galluspa.suites import Case, Outcome
 
 
 @dataclass(frozen=True)
@@ -32,13 +26,6 @@ class Shown:
     is_ok: bool
     picture: str
     changes: list[str]
-
-
-def templates() -> Environment:
-    """The templates of pages, which refuse what they are not given."""
-    folder = Path(__file__).resolve().parent
-    return Environment(loader=FileSystemLoader(folder), autoescape=True, trim_blocks=True, lstrip_blocks=True,
-                       undefined=StrictUndefined)
 
 
 def page(
@@ -64,23 +51,18 @@ def _shown(program: Program, outcomes: Sequence[Outcome], jobs: int, changes: li
         kinds[change.name].append(change.kind)
 
     def shown(it: Outcome) -> Shown:
-        picture = base64.b64encode(thumbnail(program, it.case.path)).decode()
+        picture = base64.b64encode(thumbnail(program, it.case)).decode()
         return Shown(it.case.name, it.case.expected, it.answered, it.seconds, it.is_ok, picture, kinds[it.case.name])
 
     with ThreadPoolExecutor(jobs) as pool:
         yield from pool.map(shown, outcomes)
 
 
-def thumbnail(program: Program, path: Path) -> bytes:
+def thumbnail(program: Program, case: Case) -> bytes:
     """The last screen of a recording, small, as PNG; empty where the program shows none."""
     try:
-        read = recording.lawful(program, str(path), read_file(path))
+        read = recording.lawful(program, case.name, case.content())
         drawn = program.screen(display_alone(read, read.checkpoints[-1]), 0)
-    except Refused:
+    except (Refused, MemoryError):
         return b""
-    if drawn.status != ACCEPTED:
-        return b""
-    out = io.BytesIO()
-    small = Image.open(io.BytesIO(drawn.output)).convert("L").resize(THUMBNAIL, Image.Resampling.BOX)
-    small.save(out, "PNG", optimize=True)
-    return out.getvalue()
+    return small_png(drawn.output) if drawn.status == ACCEPTED else b""

@@ -5,74 +5,104 @@ import json
 import time
 from collections.abc import Iterator, Sequence
 from concurrent.futures import ThreadPoolExecutor
-from dataclasses import dataclass
+from dataclasses import dataclass, replace
 from pathlib import Path
 
 from galluspa.command import Refused, read_file
+from galluspa.escapes import for_tap, printable
+from galluspa.limits import Limit, TimeIsUp
 from galluspa.program import Program
+
+# More bytes than a file of what to expect has.
+EXPECTATION_BYTES = 1 << 16
 
 
 @dataclass(frozen=True)
 class Case:
-    """A recording, by its name in the suite and its path, and the words that its answer has to begin with."""
+    """A recording, by its name in the suite and its path, and the words that its answer has to begin with; or why it
+    is not checked."""
 
     name: str
     path: Path
     expected: str
+    fault: str = ""
+
+    @property
+    def file(self) -> Path:
+        """The path, where a file is there and no pipe, which nobody might write to."""
+        if self.path.exists() and not self.path.is_file():
+            raise Refused(f"{self.name}: not a file")
+        return self.path
+
+    def content(self) -> bytes:
+        """The bytes of the recording."""
+        return read_file(self.file)
 
 
 @dataclass(frozen=True)
 class Outcome:
-    """What the program answered to a recording, and in how many seconds."""
+    """What the program answered to a recording, and in how many seconds. If `is_error`, there is no answer that could
+    be as expected, and `answered` says why."""
 
     case: Case
     answered: str
     seconds: float
+    is_error: bool = False
 
     @property
     def is_ok(self) -> bool:
         """Whether the answer is the one that was expected."""
         expected = self.case.expected.split()
-        return self.answered.split()[: len(expected)] == expected
+        return not self.is_error and self.answered.split()[: len(expected)] == expected
 
 
 def cases_of(folder: Path) -> list[Case]:
     """The recordings under a folder, by their names."""
     if not folder.is_dir():
         raise Refused(f"{folder}: not a folder")
-    paths = [path for path in sorted(folder.rglob("*.orsr")) if path.is_file()]
+    paths = [path for path in sorted(folder.rglob("*.orsr")) if not path.is_dir()]
     if not paths:
         raise Refused(f"{folder}: no recording (*.orsr) in it")
-    return [Case(_printable(str(path.relative_to(folder))), path, expectation_of(path)) for path in paths]
+    top = folder.resolve()
+    return [_case(printable(str(path.relative_to(folder))), path, top) for path in paths]
 
 
-def _printable(name: str) -> str:
-    """The name of a file, with a backslash and digits for each byte that is no text."""
-    return name.encode("utf-8", "surrogateescape").decode("utf-8", "backslashreplace")
+def _case(name: str, path: Path, top: Path) -> Case:
+    try:
+        return Case(name, path, expectation_of(path, top))
+    except Refused as refusal:
+        return Case(name, path, "what its .expect says", printable(str(refusal)))
 
 
-def expectation_of(recording: Path) -> str:
-    """What a recording's answer has to begin with."""
+def expectation_of(recording: Path, top: Path) -> str:
+    """What a recording's answer has to begin with, by the file beside it, which has to be inside a folder."""
     beside = recording.with_suffix(".expect")
-    if not beside.exists():
+    if not beside.exists() and not beside.is_symlink():
         return "accepted"
-    lines = (line.strip() for line in read_file(beside).decode("utf-8", "replace").splitlines())
+    if not beside.resolve().is_relative_to(top):
+        raise Refused(f"{beside.name}: a link that leads out of the suite")
+    if not beside.is_file():
+        raise Refused(f"{beside.name}: not a file")
+    lines = (line.strip() for line in read_file(beside, EXPECTATION_BYTES).decode("utf-8", "replace").splitlines())
     expected = next((line for line in lines if line and not line.startswith("#")), None)
     if expected is None:
-        raise Refused(f"{beside}: no line says what to expect")
+        raise Refused(f"{beside.name}: no line says what to expect")
     return expected
 
 
-def outcomes_of(program: Program, cases: Sequence[Case], jobs: int, workers: int) -> Iterator[Outcome]:
-    """The outcomes of cases, in their order, so many of them checked at a time."""
+def outcomes_of(program: Program, cases: Sequence[Case], jobs: int, workers: int, seconds: float) -> Iterator[Outcome]:
+    """The outcomes of cases, in their order, so many of them checked at a time, and each for so many seconds at
+    most."""
 
     def outcome(case: Case) -> Outcome:
         start = time.monotonic()
+        answered, is_error = case.fault, bool(case.fault)
         try:
-            answered = program.check_file(case.path, workers).line
-        except Refused as refusal:
-            answered = str(refusal)
-        return Outcome(case, answered, time.monotonic() - start)
+            if not is_error:
+                answered = replace(program, limit=Limit(seconds)).check_file(case.file, workers).line
+        except (Refused, TimeIsUp) as why:
+            answered, is_error = printable(str(why)), True
+        return Outcome(case, answered, time.monotonic() - start, is_error)
 
     with ThreadPoolExecutor(jobs) as pool:
         yield from pool.map(outcome, cases)
@@ -80,9 +110,9 @@ def outcomes_of(program: Program, cases: Sequence[Case], jobs: int, workers: int
 
 def tap(number: int, outcome: Outcome) -> str:
     """The lines of TAP that tell an outcome."""
-    name = outcome.case.name.replace("#", r"\#")
+    name = for_tap(outcome.case.name)
     if outcome.is_ok:
-        return f"ok {number} - {name}: {outcome.answered}"
+        return f"ok {number} - {name}: {for_tap(outcome.answered)}"
     details = {"expected": outcome.case.expected, "answered": outcome.answered}
-    lines = [f"  {key}: {json.dumps(value)}" for key, value in details.items()]
+    lines = [f"  {key}: {json.dumps(printable(value))}" for key, value in details.items()]
     return "\n".join([f"not ok {number} - {name}", "  ---", *lines, "  ..."])

@@ -10,7 +10,7 @@ from dataclasses import dataclass
 from galluspa import states
 from galluspa.command import Refused, progress
 from galluspa.instructions import address, instruction, is_branch, is_store, written
-from galluspa.library import WORDS, Inputs, Library, Machine
+from galluspa.library import WORDS, Inputs, Library, Machine, Sent
 from galluspa.program import Answer
 from galluspa.recording import Checkpoint, Event, Recording
 
@@ -101,8 +101,8 @@ class Run:
         self.advance(machine, count)
         return machine
 
-    def advance(self, machine: Machine, to: int) -> bytes:
-        """Runs a machine up to a count, and gives the bytes that it sends."""
+    def advance(self, machine: Machine, to: int) -> Sent:
+        """Runs a machine up to a count, and gives what it sends."""
         return self.library.advance(machine, self.inputs, to)
 
     def steps(self, machine: Machine, to: int) -> Iterator[Step]:
@@ -110,29 +110,28 @@ class Run:
         before, memory = machine.seen(), machine.memory()
         while before.count < to and not before.stop:
             word = machine.words[before.pc] if before.pc < WORDS else None
-            sent = self.advance(machine, before.count + 1)
+            sent = self.advance(machine, before.count + 1).first
             after, old, memory = machine.seen(sent), memory, machine.memory()
             changed = [] if memory == old else list(differing(old, memory))
             yield Step(before, after, self.inputs.of(before.count, after.count), word, changed)
             before = after
 
-    def last_before(self, machine: Machine, to: int, has_come: Callable[[Machine, bytes], bool]) -> int | None:
+    def last_before(self, machine: Machine, to: int, has_come: Callable[[Machine, Sent], bool]) -> int | None:
         """The count before whose instruction something has not come and after which it has; None where it has not come
-        at a count. It has to be something that stays once it has come, given the machine and what it sent meanwhile."""
-        last = None
-        while last is None and machine.count < to:
+        at a count. It has to be something that stays once it has come, given the machine and what it sent meanwhile. A
+        machine that has stopped brings about nothing more. The machine that is given goes on as far as is looked."""
+        last, before = None, machine
+        while last is None and machine.count < to and not machine.state.stop:
             progress(f"at {machine.count:,} of {to:,}")
-            later = machine.copy()
-            if has_come(later, self.advance(later, min(machine.count + AT_ONCE, to))):
-                last = later.count
-            else:
-                machine = later
+            before = machine.copy()
+            if has_come(machine, self.advance(machine, min(machine.count + AT_ONCE, to))):
+                last = machine.count
         progress("")
-        while last is not None and last - machine.count > 1:
-            later = machine.copy()
-            sent = self.advance(later, (machine.count + last) // 2)
-            machine, last = (machine, later.count) if has_come(later, sent) else (later, last)
-        return None if last is None else machine.count
+        while last is not None and last - before.count > 1:
+            later = before.copy()
+            sent = self.advance(later, (before.count + last) // 2)
+            before, last = (before, later.count) if has_come(later, sent) else (later, last)
+        return None if last is None else before.count
 
 
 def with_progress(steps: Iterable[Step], to: int) -> Iterator[Step]:
