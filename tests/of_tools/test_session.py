@@ -73,6 +73,19 @@ class SessionTest(ToolTest):
         text = encoded(1, [], [claim(0, {}, keys=b"\x00")])
         self.assert_refused(tool("session", "--of", self.file("it.orsr", text)), "keys")
 
+    def test_warns_of_an_odd_program_counter(self) -> None:
+        image = self.file("memory.bin", struct.pack("<2I", JUMP, 0))
+        for words, told in (
+            ((), ""), (("--set", "PC=1"), "PC is 1 (it counts words), which is byte 4 (hexadecimal), and the word there is 0"),
+            (("--set", "PC=2"), "PC is 2 (it counts words), which is byte 8, outside the image of the bytes 0 to 7"),
+            (("--at", "0x1000", "--set", "PC=0x1000"), "which is byte 4000, outside the image of the bytes 1000 to 1007"),
+            (("--at", "0x1000", "--set", "PC=0x400"), ""), (("--set", "PC=262144"), "PC is 262,144, beyond the memory"),
+        ):
+            ran = tool("session", "--memory", image, "--checkpoints", 9, *words)
+            self.assertEqual((ran.status, len(ran.errors.splitlines())), (0, bool(told)))
+            self.assertIn(told, ran.errors)
+            self.assertEqual(json.loads(ran.output)["checkpoints"], [9])
+
     def test_refuses_bad_input(self) -> None:
         image = self.image()
         every = ("--every", 1, "--until", 1)

@@ -10,7 +10,10 @@ import time
 from pathlib import Path
 from xml.etree import ElementTree
 
-from samples import EXAMPLES, JUMP, PROGRAM, STORED, TOOLS, Ran, ToolTest, on_terminal, record, rejoining, run, session, tool
+from galluspa.recording import page_of
+from samples import (
+    EXAMPLES, JUMP, PROGRAM, STORED, TOOLS, Ran, ToolTest, claim, encoded, on_terminal, record, rejoining, run, session, tool,
+)
 
 FACE = EXAMPLES / "face.orsr"
 # A name that is no UTF-8, has a line feed that begins a line of TAP, a directive, and a sequence that clears a terminal.
@@ -107,8 +110,6 @@ class NamesTest(ToolTest):
         self.assertTrue(lines[3].endswith(SHOWN))
         self.assertEqual(ElementTree.parse(junit).getroot()[0][0].get("name"), SHOWN)
         self.assertIn(f"<h3>{SHOWN}</h3>", page.read_text())
-        self.assertIn(b"nothing changed", tool("suite", self.folder, "--changed-since", kept).output.replace(b"slower", b"") +
-                      b"nothing changed")
 
     def test_runs_that_no_tool_kept_are_refused_or_escaped(self) -> None:
         self.file("a.orsr", STORED)
@@ -226,6 +227,15 @@ class TimeTest(ToolTest):
                 (self.folder / "pids").write_text("")
                 self.ended_by(number, status, words, lambda: (self.folder / "pids").read_text())
                 self.assert_none_is_left()
+
+    def test_signals_end_runs_of_the_library_at_once(self) -> None:
+        """The runs take minutes; none of them calls another program while it is ended."""
+        sends = encoded(2, [page_of(0x5100FFC8, 0xA0100000, 0xE7FFFFFE)], [claim(0), claim(1, output=b"x"), claim(1 << 40)])
+        path = self.file("it.orsr", sends)
+        for words in (["trace", path, "--at", 0, "--from", 1 << 39], ["trace", path, "--at", 0, "--until", "stop"]):
+            for number, status in ((signal.SIGINT, 130), (signal.SIGTERM, 143)):
+                start = time.monotonic()
+                self.ended_by(number, status, words, lambda: time.monotonic() - start > 0.7)
 
     def ended_by(self, number: int, status: int, words: list[object], has_begun: object) -> None:
         """Ends a tool by a signal once it has begun; it ends at once, without a word, and leaves no temporary file."""

@@ -2,9 +2,10 @@
 
 import json
 import random
+import time
 
 from galluspa import recording
-from galluspa.library import Library
+from galluspa.library import SENT_KEPT, Library, Sent
 from galluspa.tracing import Run, Step
 from samples import EXAMPLES, JUMP, STORED, ToolTest, on_terminal, record, rejoining, session, tool
 
@@ -147,6 +148,48 @@ class TraceTest(ToolTest):
         self.assert_refused(tool("trace", stored, "--library", self.folder / "none"), "no library at")
         self.assert_refused(tool("trace", stored, "--library", stored), "stored.orsr: no library of Galluspa")
         self.assert_refused(tool("trace", stored, "--library", "/lib/x86_64-linux-gnu/libc.so.6"), "no library of Galluspa")
+
+
+class LongRunTest(ToolTest):
+    """Runs of a machine that sends at each second instruction, and of one that has stopped."""
+
+    def sending(self) -> Run:
+        """A run that sends without end."""
+        return run_of(record(session((0x5100FFC8, 0xA0100000, 0xE7FFFFFE), [1])))
+
+    def test_what_is_kept_of_what_is_sent_is_bounded(self) -> None:
+        run = self.sending()
+        machine = run.machine(0)
+        sent = run.advance(machine, 3 * SENT_KEPT)
+        self.assertEqual((machine.count, sent.length, len(sent.first)), (3 * SENT_KEPT, 3 * SENT_KEPT // 2, SENT_KEPT))
+
+    def test_a_run_in_slices_is_that_run(self) -> None:
+        run = self.sending()
+        whole, other = run.machine(0), run.machine(0)
+        sent = run.advance(whole, 2_500_001)
+        pieces = Sent()
+        for count in (1, 2, 70_000, 1_048_577, 2_500_001):
+            pieces += run.advance(other, count)
+        self.assertEqual((pieces, bytes(other.state), other.memory()), (sent, bytes(whole.state), whole.memory()))
+
+    def test_a_search_on_a_machine_that_has_stopped_ends_at_once(self) -> None:
+        stopped = self.file("it.orsr", record(session([0x600B0000], [1 << 40])))
+        for condition in (["sent"], ["R5=7"], ["write", "400"]):
+            start = time.monotonic()
+            ran = tool("trace", stopped, "--until", *condition)
+            self.assertLess(time.monotonic() - start, 5)
+            self.assertEqual((ran.status, ran.output), (1, b""))
+            self.assertIn(f"does not come about from 0 to {1 << 40}: the machine has stopped", ran.errors)
+        self.assertIn(b"stopped (divisor)", tool("trace", stopped, "--until", "stop").output)
+
+    def test_what_there_is_no_time_for_is_told(self) -> None:
+        idle = self.file("it.orsr", record(session([JUMP], [9])))
+        ran = tool("trace", idle, "--until", "stop", "--to", 1 << 40, "--limit", 1)
+        self.assertRegex(ran.errors, r"^trace: no answer in 1 s: stop does not come about from 0 to \d+\n$")
+        self.assertEqual((ran.status, ran.output), (3, b""))
+        ran = tool("trace", idle, "--to", 1 << 40, "--limit", 1)
+        self.assertRegex(ran.errors, r"^trace: no answer in 1 s: the trace ends at \d+\n$")
+        self.assertEqual((ran.status, ran.output.splitlines()[0].split()[:2]), (3, [b"0", b"0"]))
 
 
 class _Watched:

@@ -138,13 +138,15 @@ def explain_false(run: Run, program: Program, read: Recording, claim: tuple[int,
     claimed, machine = run.library.claim(run.text, number), run.machine(before.count)
     start = machine.copy()
     try:
-        sent = run.advance(machine, checkpoint.count)
+        sent_before = run.advance(machine, max(start.count, checkpoint.count - steps))
+        near = machine.copy()
+        sent = sent_before + run.advance(machine, checkpoint.count)
     except TimeIsUp as over:
         raise TimeIsUp(f"{over}: the machine came to count {machine.count}") from over
     words = list(differing(claimed.memory(), machine.memory()))
     focus = _focus(part, words)
     out = Sent(checkpoint.output, len(checkpoint.output))
-    wanted = value_at(focus, claimed, out)
+    sought = _Sought(focus, value_at(focus, near, sent_before), value_at(focus, claimed, out))
     return FalseClaim(
         number=number,
         count=checkpoint.count,
@@ -154,7 +156,7 @@ def explain_false(run: Run, program: Program, read: Recording, claim: tuple[int,
         sent=(out, sent),
         screens=_screens(program, claimed, machine),
         focus=f"Mem[{focus:06X}]" if isinstance(focus, int) else focus,
-        around=_around(run, read, number, start, focus, wanted, steps),
+        around=_around(run, read, number, start, near, sought, checkpoint.count + steps // 10),
     )
 
 
@@ -204,25 +206,35 @@ def _screens(program: Program, claimed: Machine, defined: Machine) -> Screens | 
     return Screens(*(program.screen(of_display(state, memory[first:]), 0).output for state, memory in sides))
 
 
-def _around(run: Run, read: Recording, number: int, start: Machine, focus: Part, wanted: Value, steps: int) -> Around:
-    """Looks at the instructions around the false checkpoint, of which the machine at the one before it is given."""
-    count, last = read.checkpoints[number].count, read.checkpoints[number].count + steps // 10
-    earlier = [at for at in range(number) if _claims(read, at, focus, wanted)]
-    machine, looked_from = start.copy(), max(start.count, count - steps)
-    matching, writers, setting = [], [], None
+@dataclass(frozen=True)
+class _Sought:
+    """A part whose instructions are sought: its value where the search begins, and the claimed value."""
+
+    part: Part
+    value: Value
+    claimed: Value
+
+
+def _around(
+    run: Run, read: Recording, number: int, before: Machine, near: Machine, sought: _Sought, last: int
+) -> Around:
+    """Looks at the instructions around the false checkpoint one by one, from a machine near it on up to a count; the
+    machine at the checkpoint before it is given, too."""
+    part, value, claimed = sought.part, sought.value, sought.claimed
+    first, count = near.count, read.checkpoints[number].count
+    earlier = [at for at in range(number) if _claims(read, at, part, claimed)]
+    matching, writers, setting = [first] * (value == claimed), [], None
     try:
-        value = value_at(focus, machine, run.advance(machine, looked_from))
-        matching += [looked_from] * (value == wanted)
-        for step, now, is_written in along(focus, value, with_progress(run.steps(machine, last), last)):
-            matching += [step.after.count] * (now == wanted)
+        for step, now, is_written in along(part, value, with_progress(run.steps(near, last), last)):
+            matching += [step.after.count] * (now == claimed)
             if is_written and step.before.count < count:
                 writers = [*writers[1 - WRITERS :], step]
-        if not writers and value_at(focus, start, Sent()) != value:
-            setting = _setting(run, start, looked_from, focus, value)
+        if not writers and value_at(part, before, Sent()) != value:
+            setting = _setting(run, before, first, part, value)
     except TimeIsUp as over:
-        came_to, unread = max(looked_from, machine.count), f"{over}: not all was looked at (--limit)"
-        return Around(looked_from, came_to, writers, matching, earlier, None, unread)
-    return Around(looked_from, last, writers, matching, earlier, setting)
+        unread = f"{over}: not all was looked at (--limit)"
+        return Around(first, near.count, writers, matching, earlier, None, unread)
+    return Around(first, last, writers, matching, earlier, setting)
 
 
 def _claims(read: Recording, at: int, part: Part, value: Value) -> bool:

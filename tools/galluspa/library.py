@@ -26,7 +26,7 @@ FIRST_STEPS = 1 << 20
 WHOLE_RUN = 1 << 40
 SENT_AT_ONCE = 1 << 20
 # How many of the bytes that a run sends are kept: more than a recording may claim.
-SENT_KEPT = 1 << 24
+SENT_KEPT = 1 << 22
 NO_ROOM = 2
 REFUSALS = {
     1: "a number is out of its range",
