@@ -41,7 +41,10 @@ class RecipesTest(ToolTest):
     def setUp(self) -> None:
         super().setUp()
         self.folder.chmod(0o755)
-        self.file("bin/oberon_replay", PROGRAM.read_bytes()).chmod(0o755)
+        # The program; each of its checks is killed while there is a file `kill`.
+        self.file("bin/program", PROGRAM.read_bytes()).chmod(0o755)
+        self.file("bin/oberon_replay", f'#!/bin/sh\n[ -e {self.folder}/kill ] && kill -9 $$\n'
+                  f'exec {self.folder}/bin/program "$@"\n').chmod(0o755)
         for part in ("tools", "crates"):
             (self.folder / part).symlink_to(TOP / part)
         for name in ("keys", "hello", "flags", "clock"):
@@ -82,6 +85,13 @@ class RecipesTest(ToolTest):
             self.assertLess(time.monotonic(), end, f"{words[0]} does not come to succeed")
             time.sleep(0.1)
 
+    def killing(self, is_on: bool) -> None:
+        """Has all checks killed from now on, or none."""
+        if is_on:
+            self.file("kill", "")
+        else:
+            (self.folder / "kill").unlink()
+
     def run_recipe(self, name: str) -> Ran:
         """Runs a recipe in the test's folder."""
         return run(["bash", "-uc", recipe(name)], cwd=self.folder, env=self.environment(), timeout=SECONDS)
@@ -102,8 +112,19 @@ class ParallelTest(RecipesTest):
         self.assertEqual([list(Path(f"/home/{name}").rglob("*.orsr")) for name in ACCOUNTS.values()], [[], []])
         for name in ("keys", "hello", "flags", "clock"):
             (self.folder / f"suite/{name}.orsr").unlink()
+        self.file("suite/with a space.orsr", STORED)
         self.file("suite/false.orsr", rejoining(9))
-        self.assertEqual(self.run_recipe("parallel").status, 1)
+        for killed, status in ((False, 1), (False, 1), (True, 3)):
+            if killed:
+                self.killing(True)
+            self.assertEqual(self.run_recipe("parallel").status, status)
+            accepted = [line for line in (self.folder / "lines.txt").read_text().splitlines() if "\taccepted " in line]
+            self.assertEqual(len(accepted), 0 if killed else 2)
+
+    def test_the_status_stops_at_101(self) -> None:
+        for jobs, status in ((3, 3), (103, 101)):
+            command = f"parallel -j 16 'exit 1' ::: $(seq {jobs})"
+            self.assertEqual(run(["bash", "-c", command], env=self.environment()).status, status)
 
     def accounts(self) -> None:
         """Two accounts, without passwords."""
@@ -144,9 +165,23 @@ class SlurmTest(RecipesTest):
             alone = run([PROGRAM], (self.folder / name).read_bytes()).output
             self.assertEqual((self.folder / f"lines/{at}.txt").read_bytes(), alone)
         self.assertEqual(len(names), 5)
+        for name in ("keys", "hello", "flags", "clock"):
+            (self.folder / f"suite/{name}.orsr").unlink()
+        self.file("suite/with a space.orsr", STORED)
+        for _ in range(2):
+            self.assertEqual(self.run_recipe("slurm").status, 0)
+            self.assertEqual(self.lines(), ["accepted 1 checkpoints 100 steps\n"] * 2)
         self.file("suite/false.orsr", rejoining(9))
         self.assertEqual(self.run_recipe("slurm").status, 1)
+        self.killing(True)
+        self.assertGreater(self.run_recipe("slurm").status, 2)
+        self.assertFalse([line for line in self.lines() if "accepted" in line])
+        self.killing(False)
         self.long_recording()
+
+    def lines(self) -> list[str]:
+        """What the tasks of the array printed."""
+        return [path.read_text() for path in sorted((self.folder / "lines").iterdir())]
 
     def long_recording(self) -> None:
         """The stretches of one recording, as tasks of an array."""
@@ -155,6 +190,12 @@ class SlurmTest(RecipesTest):
         ran = self.run_recipe("stretches")
         self.assertEqual(ran.output.decode().splitlines()[-1], "false checkpoint 3 at 12000000 part R5", ran.errors)
         self.assertEqual(ran.status, 1)
+        self.killing(True)
+        ran = self.run_recipe("stretches")
+        self.assertEqual(ran.status, 2)
+        self.assertIn("0-1.line: not a line of 0-1.orsr", ran.errors)
+        self.killing(False)
+        self.assertEqual(self.run_recipe("stretches").status, 1)
 
     def cluster(self) -> None:
         """A cluster of this machine alone."""
@@ -180,14 +221,50 @@ class SlurmTest(RecipesTest):
 
 
 class MakeTest(RecipesTest):
+    def make(self) -> Ran:
+        """Runs the recipe."""
+        return run(["make", "-j", "4"], cwd=self.folder, env=self.environment(), timeout=SECONDS)
+
+    def assert_made(self, ran: Ran, status: int, checks: int, *told: bytes) -> None:
+        """The recipe ended with a status, did so many checks, and printed these lines of recordings."""
+        self.assertEqual((ran.status, ran.output.count(b"oberon_replay check")), (status, checks), ran.errors)
+        lines = sorted(line for line in ran.output.splitlines() if line.startswith(b"suite/"))
+        self.assertEqual(lines, sorted(told))
+
     def test_checks_what_is_new(self) -> None:
         self.want("make")
         self.file("Makefile", recipe("make"))
-        make = ["make", "-j", "4"]
-        ran = run(make, cwd=self.folder, env=self.environment(), timeout=SECONDS)
-        self.assertEqual((ran.status, ran.output.count(b"oberon_replay check")), (0, 5), ran.errors)
+        self.assert_made(self.make(), 0, 5)
         self.assertEqual((self.folder / "suite/stored.line").read_text(), "accepted 1 checkpoints 100 steps\n")
+        self.assert_made(self.make(), 0, 0)
         self.file("suite/false.orsr", rejoining(9))
-        ran = run(make, cwd=self.folder, env=self.environment(), timeout=SECONDS)
-        self.assertEqual((ran.status, ran.output.count(b"oberon_replay check")), (2, 1))
-        self.assertIn(b"suite/false.line:false checkpoint 1 at 2 part R5", ran.output)
+        told = b"suite/false.line: false checkpoint 1 at 2 part R5"
+        self.assert_made(self.make(), 2, 1, told)
+        self.assert_made(self.make(), 2, 0, told)
+
+    def test_a_check_that_is_killed_passes_at_no_run(self) -> None:
+        self.want("make")
+        self.file("Makefile", recipe("make"))
+        self.assert_made(self.make(), 0, 5)
+        self.file("suite/new.orsr", rejoining(9))
+        self.killing(True)
+        for _ in range(2):
+            self.assert_made(self.make(), 2, 1)
+            self.assertFalse((self.folder / "suite/new.line").exists())
+        self.killing(False)
+        self.assert_made(self.make(), 2, 1, b"suite/new.line: false checkpoint 1 at 2 part R5")
+        self.file("suite/new.line", "")
+        self.assert_made(self.make(), 2, 0, b"suite/new.line: ")
+
+    def test_names_that_make_cannot_read_are_refused(self) -> None:
+        self.want("make")
+        self.file("Makefile", recipe("make"))
+        for name, shown in (("with a space", "suite/with a space.orsr"), (";touch owned;\x1b[2J", "suite/?touch owned???2J.orsr"),
+                            ("$(shell touch owned)", "suite/??shell touch owned?.orsr")):
+            path = self.file(f"suite/{name}.orsr", STORED)
+            ran = self.make()
+            self.assertEqual((ran.status, ran.output), (2, b""))
+            self.assertIn(f"want names of letters, digits and . _ - alone: {shown}.", ran.errors)
+            self.assertFalse((self.folder / "owned").exists())
+            path.unlink()
+        self.assert_made(self.make(), 0, 5)
