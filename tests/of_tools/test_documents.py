@@ -83,6 +83,17 @@ class DocumentsTest(ToolTest):
             ran = run(["bash", "-c", line], cwd=self.folder, env={**os.environ, "PYTHONDONTWRITEBYTECODE": "1"})
             self.assertEqual((ran.status, ran.errors), (0, ""), line)
 
+    def test_a_report_is_checked_as_the_document_shows(self) -> None:
+        for part in PARTS:
+            (self.folder / part).symlink_to(TOP / part)
+        (self.folder / "web").symlink_to(TOP / "web")
+        section = (TOP / "docs/live.md").read_text().partition("## A report that checks itself")[2].partition("\n## ")[0]
+        script = "".join(re.findall(r"^```sh\n(.*?)^```$", section, re.DOTALL | re.MULTILINE))
+        self.assertIn("tools/recording-of", script)
+        path = {"PATH": f"{PROGRAM.parent}:{os.environ['PATH']}", "PYTHONDONTWRITEBYTECODE": "1"}
+        ran = run(["bash", "-ec", script], cwd=self.folder, env={**os.environ, **path})
+        self.assertEqual((ran.output, ran.errors), (b"accepted 4 checkpoints 20000000 steps\n", ""))
+
     def test_tables_are_those_of_the_listing(self) -> None:
         tables = 0
         for document in SHOWING:

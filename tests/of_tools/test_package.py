@@ -13,6 +13,10 @@ from galluspa.packages import library_folder
 from samples import EXAMPLES, STORED, TOOLS, Ran, ToolTest, run, tool
 
 
+LINK = re.compile(r"\]\(([^)#:]+)(?:#[^)]*)?\)")
+IMAGE = re.compile(r'(?:src|srcset)="([^":]+)"')
+
+
 def is_built() -> bool:
     """Whether the library is there."""
     try:
@@ -81,6 +85,9 @@ class PackageTest(ToolTest):
     def test_the_tarball_works_where_it_is_unpacked(self) -> None:
         subprocess.run(["tar", "-xzf", self.tarball, "-C", self.folder], check=True)
         self.assert_works(self.folder / "galluspa-1.2.3")
+        self.assert_linked(self.folder / "galluspa-1.2.3")
+        for name in ("README.md", "share/doc/galluspa/README.md"):
+            self.assertIn("galluspa live", (self.folder / "galluspa-1.2.3" / name).read_text())
 
     def test_the_checksums_are_theirs_and_the_same_again(self) -> None:
         self.assertEqual(run(["sha256sum", "--check", "--strict", self.sums], cwd=self.sums.parent).status, 0)
@@ -111,7 +118,45 @@ class PackageTest(ToolTest):
         self.assertEqual(self.completed(prefix, "oberon_replay", "check", "--w"), ["--workers"])
         self.assertEqual(self.completed(prefix, "galluspa-suite", "--ju"), ["--junit"])
         self.assertEqual(self.completed(prefix, "galluspa-suite", "ex"), [])
+        self.assertEqual(self.completed(prefix, "galluspa", "rec"), ["record", "recording-of"])
+        self.assertEqual(self.completed(prefix, "galluspa", "suite", "--ju"), ["--junit"])
+        self.assert_named(prefix)
+        self.assert_opens(prefix)
         self.assertFalse(list(prefix.rglob("__pycache__")))
+
+    def assert_named(self, prefix: Path) -> None:
+        """Each tool names itself, and others, as it is installed."""
+        names = sorted(path.name for path in (prefix / "bin").iterdir() if path.name != "oberon_replay")
+        self.assertEqual(names, ["galluspa", *(f"galluspa-{it.name}" for it in tools_of(TOOLS) if it.name not in
+                                               ("main", "build-library", "package"))])
+        for name in names:
+            ran = run([prefix / "bin" / name, "--help"])
+            self.assertTrue(ran.output.startswith(f"usage: {name} ".encode()), ran.output)
+            self.assertNotIn(b"tools/", ran.output)
+            self.assertTrue(run([prefix / "bin" / name, "--bad"]).errors.startswith(f"{name}: "))
+
+    def assert_opens(self, prefix: Path) -> None:
+        """The command `galluspa` opens files, the tools and the live page."""
+        command = prefix / "bin/galluspa"
+        self.assertEqual(run([command, "--version"]).output, b"galluspa 1.2.3\n")
+        self.assertEqual(run([command, EXAMPLES / "face.orsr"]).output, b"accepted 4 checkpoints 20000000 steps\n")
+        ran = run([command, "report", "--text", EXAMPLES / "face.orsr"])
+        self.assertTrue(ran.output.startswith(b"accepted 4 checkpoints 20000000 steps\ncheckpoint 0 at 0\n"), ran.errors)
+        ran = run([command, EXAMPLES / "face.json"])
+        self.assertIn(f"a session: galluspa record {EXAMPLES}/face.json > NAME.orsr makes its recording", ran.errors)
+        page = prefix / "share/galluspa/web/galluspa.html"
+        ran = run([command, "live"], env={**os.environ, "BROWSER": "echo opened %s"})
+        self.assertEqual(ran.output.decode().splitlines(), [str(page.resolve()), f"opened {page.resolve().as_uri()}"])
+        self.assertIn("Exec=galluspa live\n", (prefix / "share/applications/galluspa.desktop").read_text())
+
+    def assert_linked(self, prefix: Path) -> None:
+        """Each link of a document leads to a file that is installed, too."""
+        documents = [*(prefix / "share/galluspa").rglob("*.md")]
+        self.assertGreater(len(documents), 15)
+        for document in documents:
+            text = document.read_text()
+            for link in LINK.findall(text) + IMAGE.findall(text):
+                self.assertTrue((document.parent / link).exists(), f"{document}: {link}")
 
     def completed(self, prefix: Path, *words: str) -> list[str]:
         """What bash offers after these words, of which the last is not yet whole."""

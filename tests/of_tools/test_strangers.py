@@ -7,6 +7,7 @@ import signal
 import subprocess
 import tempfile
 import time
+from collections.abc import Callable
 from pathlib import Path
 from xml.etree import ElementTree
 
@@ -225,7 +226,7 @@ class TimeTest(ToolTest):
         for words in (["suite", self.folder / "suite", "-j", 3, *slow], ["report", false, *slow], ["explain", false, *slow]):
             for number, status in ((signal.SIGINT, 130), (signal.SIGTERM, 143)):
                 (self.folder / "pids").write_text("")
-                self.ended_by(number, status, words, lambda: (self.folder / "pids").read_text())
+                self.ended_by(number, status, words, lambda room: (self.folder / "pids").read_text())
                 self.assert_none_is_left()
 
     def test_signals_end_runs_of_the_library_at_once(self) -> None:
@@ -235,15 +236,20 @@ class TimeTest(ToolTest):
         for words in (["trace", path, "--at", 0, "--from", 1 << 39], ["trace", path, "--at", 0, "--until", "stop"]):
             for number, status in ((signal.SIGINT, 130), (signal.SIGTERM, 143)):
                 start = time.monotonic()
-                self.ended_by(number, status, words, lambda: time.monotonic() - start > 0.7)
+                self.ended_by(number, status, words, lambda room: time.monotonic() - start > 0.7)
 
-    def ended_by(self, number: int, status: int, words: list[object], has_begun: object) -> None:
+    def test_a_package_that_is_ended_leaves_no_folder(self) -> None:
+        for number, status in ((signal.SIGINT, 130), (signal.SIGTERM, 143)):
+            self.ended_by(number, status, ["package", "--into", self.folder / "packages"], lambda room: os.listdir(room))
+        self.assertFalse((self.folder / "packages").exists())
+
+    def ended_by(self, number: int, status: int, words: list[object], has_begun: Callable[[str], object]) -> None:
         """Ends a tool by a signal once it has begun; it ends at once, without a word, and leaves no temporary file."""
         with tempfile.TemporaryDirectory() as room:
             command = [TOOLS / words[0], *map(str, words[1:])]
             begun = subprocess.Popen(command, stdout=subprocess.DEVNULL, stderr=subprocess.PIPE, env={**os.environ, "TMPDIR": room})
             end = time.monotonic() + 20
-            while not has_begun():
+            while not has_begun(room):
                 self.assertLess(time.monotonic(), end, words[0])
                 time.sleep(0.02)
             begun.send_signal(number)

@@ -20,8 +20,38 @@ exec /usr/bin/python3 -B "$(dirname "$(readlink -f "$0")")/../share/galluspa/too
 """
 LIBRARIES = ("libgalluspa.a", "libgalluspa.so")
 BUILT = ("crates/galluspa/out", "out/lib")
-FOLDERS = ("tools", "examples", "bench", "docs")
-TEXTS = ("README.md", "CHANGELOG.md", "LICENSE")
+FOLDERS = ("tools", "examples", "bench", "docs", "include")
+TEXTS = ("README.md", "CHANGELOG.md", "LICENSE", "web/galluspa.html")
+# What the README of a package says, wherever the package is.
+ABOUT = """# Galluspa
+
+An emulator of the workstation of Project Oberon (2013), with a recorder of sessions and a proved checker of recordings.
+
+    galluspa share/galluspa/examples/face.orsr      the verdict line of a recording
+    galluspa report FILE > page.html                a page of it; `galluspa --help` names the other tools
+    galluspa live                                   the live machine, in a browser
+    man galluspa                                    the manual pages: man galluspa-report and so on
+
+| what | where, below {prefix} |
+|---|---|
+| the commands | `bin/` |
+| the documents, which README.md lists | `share/galluspa/README.md`, `share/galluspa/docs/` |
+| examples, and a suite of recordings for emulators | `share/galluspa/examples/` |
+| the live page | `share/galluspa/web/galluspa.html` |
+| the library for C, and its header | `lib/`, `include/galluspa.h` |
+
+If `bin/` is not in your path, as it is not after a tarball is unpacked, type `bin/galluspa`. Where the documents say
+`tools/report`, type `galluspa report`. They also describe how to prove and build the program from its sources, which
+are not in this package.
+"""
+MENU = """[Desktop Entry]
+Type=Application
+Name=Galluspa
+Comment=The workstation of Project Oberon, live in a browser
+Exec=galluspa live
+Terminal=false
+Categories=System;Emulator;
+"""
 ONLY_HERE = {"__pycache__", "out", "build-library", "package", "packages.py", "manual.py"}
 
 
@@ -62,14 +92,14 @@ class Contents:
         yield from (File(f"bin/{it.command}", LAUNCHER.format(name=it.name).encode(), True) for it in tools)
         yield from (File(f"lib/{_multiarch()}/{name}", read_file(self.library / name)) for name in LIBRARIES)
         yield File("include/galluspa.h", read_file(TOP / "include/galluspa.h"))
+        yield File("share/galluspa/VERSION", f"{self.version}\n".encode())
+        yield File("share/applications/galluspa.desktop", MENU.encode())
+        yield File("share/doc/galluspa/README.md", ABOUT.format(prefix="the prefix, such as /usr").encode())
         yield from self._words_of(tools)
         for folder in FOLDERS:
             yield from _tree(TOP / folder, f"share/galluspa/{folder}")
         yield from (File(f"share/galluspa/{name}", read_file(TOP / name)) for name in TEXTS)
         yield File("share/doc/galluspa/copyright", read_file(TOP / "LICENSE"))
-        live = TOP / "web/galluspa.html"
-        if live.is_file():
-            yield File("share/galluspa/web/galluspa.html", read_file(live))
 
     def _words_of(self, tools: list[Tool]) -> Iterator[File]:
         """The manual pages, and the completion of each command."""
@@ -78,6 +108,11 @@ class Contents:
         yield from (File(f"share/man/man1/{name}.1.gz", gzip.compress(text, mtime=0)) for name, text in pages.items())
         completed = completion(tools, commands_of(self.program)).encode()
         yield from (File(f"share/bash-completion/completions/{name}", completed) for name in pages)
+
+
+def about() -> File:
+    """The README at the top of a tarball."""
+    return File("README.md", ABOUT.format(prefix="this folder").encode())
 
 
 def _tree(folder: Path, to: str) -> Iterator[File]:
