@@ -78,6 +78,7 @@ class PackageTest(ToolTest):
         self.assertEqual(ran.status, 0, ran.errors)
         self.assertIn("usr/bin/galluspa-suite", self.files())
         self.assert_works(self.folder / "root/usr")
+        self.assert_opens(self.folder / "root/usr")
         ran = self.dpkg("-P", "galluspa")
         self.assertEqual(ran.status, 0, ran.errors)
         self.assertEqual(self.files(), before)
@@ -86,6 +87,7 @@ class PackageTest(ToolTest):
         subprocess.run(["tar", "-xzf", self.tarball, "-C", self.folder], check=True)
         self.assert_works(self.folder / "galluspa-1.2.3")
         self.assert_linked(self.folder / "galluspa-1.2.3")
+        self.assert_named(self.folder / "galluspa-1.2.3")
         for name in ("README.md", "share/doc/galluspa/README.md"):
             self.assertIn("galluspa live", (self.folder / "galluspa-1.2.3" / name).read_text())
 
@@ -120,8 +122,6 @@ class PackageTest(ToolTest):
         self.assertEqual(self.completed(prefix, "galluspa-suite", "ex"), [])
         self.assertEqual(self.completed(prefix, "galluspa", "rec"), ["record", "recording-of"])
         self.assertEqual(self.completed(prefix, "galluspa", "suite", "--ju"), ["--junit"])
-        self.assert_named(prefix)
-        self.assert_opens(prefix)
         self.assertFalse(list(prefix.rglob("__pycache__")))
 
     def assert_named(self, prefix: Path) -> None:
@@ -133,6 +133,7 @@ class PackageTest(ToolTest):
             ran = run([prefix / "bin" / name, "--help"])
             self.assertTrue(ran.output.startswith(f"usage: {name} ".encode()), ran.output)
             self.assertNotIn(b"tools/", ran.output)
+        for name in ("galluspa", "galluspa-suite"):
             self.assertTrue(run([prefix / "bin" / name, "--bad"]).errors.startswith(f"{name}: "))
 
     def assert_opens(self, prefix: Path) -> None:

@@ -134,11 +134,11 @@ class ReportWordsTest(ReportTest):
 class SizeTest(ReportTest):
     def test_pictures_are_full_then_small_then_commands(self) -> None:
         chance = random.Random(1)
-        pool = [chance.randbytes(1024) for _ in range(60)]
-        claims = [claim(0, {}), *(claim(at, {940 + row: 1 + (at + row) % 60 for row in range(60)}) for at in range(1, 60))]
+        pool = [chance.randbytes(1024) for _ in range(40)]
+        claims = [claim(0, {}), *(claim(at, {940 + row: 1 + (at + row) % 40 for row in range(40)}) for at in range(1, 40))]
         text = encoded(2, pool, claims)
         program = Program.find(None)
-        with mock.patch.multiple(pictures, FULL_BYTES=1_000_000, SMALL_BYTES=150_000):
+        with mock.patch.multiple(pictures, FULL_BYTES=400_000, SMALL_BYTES=60_000):
             page = "".join(Report.of(program, "it's.orsr", text).html())
         told = re.search(r'id="few">(.*?)</p>', page, re.DOTALL)[1]
         full, every, small, none = map(int, re.findall(r"\d+", told))
@@ -146,9 +146,9 @@ class SizeTest(ReportTest):
         self.assertGreater(min(full, small, none), 0)
         self.assertEqual(page.count('width="256" height="192"'), small)
         commands = re.findall(r"oberon_replay screen --at (\d+) &lt; (\S+) &gt; screen.pbm", page)
-        self.assertEqual([int(at) for at, _ in commands], list(range(full, 60)))
+        self.assertEqual([int(at) for at, _ in commands], list(range(full, 40)))
         self.assertEqual(html.unescape(commands[0][1]), shlex.quote("it's.orsr"))
-        self.assertEqual(run([PROGRAM, "screen", "--at", 59], text).status, 0)
+        self.assertEqual(run([PROGRAM, "screen", "--at", 39], text).status, 0)
 
     def test_a_report_without_a_limit_of_its_size_has_no_such_line(self) -> None:
         self.assertNotIn('id="few"', self.report((EXAMPLES / "face.orsr").read_bytes()).read_text())

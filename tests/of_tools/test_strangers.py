@@ -82,7 +82,7 @@ class OutputTest(ToolTest):
 
 class NamesTest(ToolTest):
     def test_no_tool_shows_a_name_raw(self) -> None:
-        for text in (STORED, STORED[:-1], rejoining(9), b"{"):
+        for text in (rejoining(9), b"{"):
             path = self.file(HOSTILE, text)
             for words in (
                 ["claim", path, "--at", 9, "--set", "R5=9"], ["explain", path], ["join", path, path], ["listing", path],
@@ -97,8 +97,7 @@ class NamesTest(ToolTest):
                 printed = b"" if words[0] == "slice" else ran.output
                 self.assertEqual(raw(printed + ran.errors.encode()), b"", words[0])
                 self.assertLessEqual(len(ran.errors.splitlines()), 6, words[0])
-            for name in ("suite", "coverage"):
-                self.assertEqual(raw(on_terminal(name, self.folder)).strip(b"\r\x1b"), b"")
+        self.assertEqual(raw(on_terminal("suite", self.folder)).strip(b"\r\x1b"), b"")
 
     def test_no_line_of_tap_is_forged(self) -> None:
         self.file(HOSTILE, STORED[:-1])
@@ -233,10 +232,10 @@ class TimeTest(ToolTest):
         """The runs take minutes; none of them calls another program while it is ended."""
         sends = encoded(2, [page_of(0x5100FFC8, 0xA0100000, 0xE7FFFFFE)], [claim(0), claim(1, output=b"x"), claim(1 << 40)])
         path = self.file("it.orsr", sends)
-        for words in (["trace", path, "--at", 0, "--from", 1 << 39], ["trace", path, "--at", 0, "--until", "stop"]):
-            for number, status in ((signal.SIGINT, 130), (signal.SIGTERM, 143)):
-                start = time.monotonic()
-                self.ended_by(number, status, words, lambda room: time.monotonic() - start > 0.7)
+        trace = ["trace", path, "--at", 0]
+        for number, status, words in ((signal.SIGINT, 130, ["--from", 1 << 39]), (signal.SIGTERM, 143, ["--until", "stop"])):
+            start = time.monotonic()
+            self.ended_by(number, status, trace + words, lambda room: time.monotonic() - start > 0.7)
 
     def test_a_package_that_is_ended_leaves_no_folder(self) -> None:
         for number, status in ((signal.SIGINT, 130), (signal.SIGTERM, 143)):

@@ -5,6 +5,7 @@ import os
 import selectors
 import signal
 import subprocess
+import threading
 from collections.abc import Sequence
 from dataclasses import dataclass
 from pathlib import Path
@@ -14,16 +15,22 @@ from galluspa.limits import Limit, TimeIsUp
 
 AT_ONCE = 1 << 20
 
-_running: set[subprocess.Popen] = set()
-_is_over = False
-
 
 class TooLong(Exception):
     """A program prints more than it may."""
 
 
-class Stopped(Exception):
-    """The tool ends, so no program begins any more."""
+class Signalled(BaseException):
+    """A signal ends the tool, so no program begins any more, and none that has begun is waited for."""
+
+    def __init__(self, number: int) -> None:
+        super().__init__(number)
+        self.status = 128 + number
+
+
+_running: set[subprocess.Popen] = set()
+_signalled: Signalled | None = None
+_is_beginning = False
 
 
 @dataclass(frozen=True)
@@ -34,32 +41,46 @@ class Ended:
     status: int
 
 
-def stop() -> None:
-    """Kills what runs, and lets nothing begin any more. A handler of signals may call it: it waits for nothing."""
-    global _is_over
-    _is_over = True
+def stop(number: int) -> None:
+    """Kills what runs, lets nothing begin any more, and raises `Signalled`. For the handler of a signal: it waits for
+    nothing. If the main thread is about to begin a program, that is raised, and the program killed, once it began."""
+    global _signalled
+    _signalled = Signalled(number)
     for child in list(_running):
         _kill(child)
+    if not _is_beginning:
+        raise _signalled
 
 
 def output_of(command: Sequence[str | Path], given: bytes | BinaryIO = b"", *, limit: Limit | None, most: int) -> Ended:
     """Runs a program over these bytes, or over a file, as its standard input. Refuses, and kills it, where the time is
     over first, or where it prints more bytes than so many. Raises OSError where it can't be begun."""
-    source = subprocess.PIPE if isinstance(given, bytes) else given
     if limit:
         limit.left()
-    # A group of its own, so that what it has begun ends with it, too.
-    with subprocess.Popen(command, stdin=source, stdout=subprocess.PIPE, process_group=0) as child:
-        _running.add(child)
+    with _begun(command, subprocess.PIPE if isinstance(given, bytes) else given) as child:
         try:
-            if _is_over:
-                raise Stopped
+            if _signalled:
+                raise _signalled
             output = _exchanged(child, given if isinstance(given, bytes) else b"", limit, most)
             return Ended(output, _status(child, limit))
         finally:
             if child.returncode is None:
                 _kill(child)
             _running.discard(child)
+
+
+def _begun(command: Sequence[str | Path], source: int | BinaryIO) -> subprocess.Popen:
+    """Begins a program, and notes that it runs."""
+    global _is_beginning
+    is_main = threading.current_thread() is threading.main_thread()
+    _is_beginning |= is_main
+    try:
+        # A group of its own, so that what it has begun ends with it, too.
+        child = subprocess.Popen(command, stdin=source, stdout=subprocess.PIPE, process_group=0)
+        _running.add(child)
+        return child
+    finally:
+        _is_beginning &= not is_main
 
 
 def _kill(child: subprocess.Popen) -> None:

@@ -27,6 +27,7 @@ MAIN = "main"
 SECONDS = 600
 # A byte more than the longest recording has, and so than any file that is of use.
 MOST = 118_310_057
+SIGNALS = (signal.SIGINT, signal.SIGTERM)
 OK, WRONG, REFUSED, FAILED = range(4)
 STATUSES = {
     OK: "all is well", WRONG: "something that was examined is not", REFUSED: "the input is bad",
@@ -40,14 +41,6 @@ class Refused(Exception):
 
 class Failed(Exception):
     """What is asked for is not done, through no fault of the input; its text is one clear line for the user."""
-
-
-class Ended(BaseException):
-    """A signal ends the tool."""
-
-    def __init__(self, number: int) -> None:
-        super().__init__(number)
-        self.status = 128 + number
 
 
 class Parser(argparse.ArgumentParser):
@@ -222,14 +215,14 @@ def with_libraries(name: str) -> ModuleType:
 def run(main: Callable[[Sequence[str]], int]) -> NoReturn:
     """Runs a tool over the words behind its name, and ends with its status: after one line with 2, where something is
     refused, and with 3, where something fails; with 130 or 143, where a signal ends it."""
-    for number in (signal.SIGINT, signal.SIGTERM):
+    for number in SIGNALS:
         signal.signal(number, _end)
     try:
         _open_streams()
         status = main(sys.argv[1:])
-    except Ended as ended:
+    except children.Signalled as signalled:
         progress("")
-        status = ended.status
+        status = signalled.status
     except SystemExit as asked_for_help:
         status = asked_for_help.code or OK
     except Refused as refusal:
@@ -247,11 +240,11 @@ def run(main: Callable[[Sequence[str]], int]) -> NoReturn:
     sys.exit(_flushed(status))
 
 
-def _end(number: int, frame: FrameType | None) -> NoReturn:
+def _end(number: int, frame: FrameType | None) -> None:
     """Ends the tool, and the programs that it runs."""
-    signal.signal(number, signal.SIG_IGN)
-    children.stop()
-    raise Ended(number)
+    for it in SIGNALS:
+        signal.signal(it, signal.SIG_IGN)
+    children.stop(number)
 
 
 def _open_streams() -> None:
@@ -277,6 +270,6 @@ def _flushed(status: int) -> int:
     except OSError as error:
         # What is left is not tried again when Python ends.
         os.dup2(os.open(os.devnull, os.O_WRONLY), 1)
-        if status not in (FAILED, 128 + signal.SIGINT, 128 + signal.SIGTERM):
+        if status not in (FAILED, *(128 + it for it in SIGNALS)):
             complain(f"standard output: {_why(error)}")
         return max(status, FAILED)
