@@ -228,6 +228,19 @@ class TimeTest(ToolTest):
                 self.ended_by(number, status, words, lambda room: (self.folder / "pids").read_text())
                 self.assert_none_is_left()
 
+    def test_nothing_is_waited_for_once_the_output_fails(self) -> None:
+        self.file("suite/a.orsr", STORED)
+        for at in range(9):
+            self.file(f"suite/{at}.orsr", rejoining(at))
+        program = self.file("program", f"#!/bin/sh\ncat > {self.folder}/it; cmp -s {self.folder}/it {self.folder}/suite/a.orsr && sleep 60\n"
+                            "echo false\nexit 1\n")
+        program.chmod(0o755)
+        start = time.monotonic()
+        with open("/dev/full", "wb") as full:
+            ran = subprocess.run([TOOLS / "suite", self.folder / "suite", "--program", program], stdout=full, stderr=subprocess.PIPE)
+        self.assertEqual((ran.returncode, ran.stderr), (3, b"suite: standard output: No space left on device\n"))
+        self.assertLess(time.monotonic() - start, 20)
+
     def test_signals_end_runs_of_the_library_at_once(self) -> None:
         """The runs take minutes; none of them calls another program while it is ended."""
         sends = encoded(2, [page_of(0x5100FFC8, 0xA0100000, 0xE7FFFFFE)], [claim(0), claim(1, output=b"x"), claim(1 << 40)])

@@ -6,14 +6,18 @@ import selectors
 import signal
 import subprocess
 import threading
-from collections.abc import Sequence
+from collections.abc import Callable, Iterable, Iterator, Sequence
+from concurrent.futures import ThreadPoolExecutor, wait
 from dataclasses import dataclass
 from pathlib import Path
-from typing import BinaryIO
+from typing import BinaryIO, TypeVar
 
-from galluspa.limits import Limit, TimeIsUp
+from galluspa.limits import Limit
 
 AT_ONCE = 1 << 20
+# No wait is longer: a signal that comes just before a wait begins does not end it, and is heeded after it.
+WAIT_SECONDS = 0.2
+T, U = TypeVar("T"), TypeVar("U")
 
 
 class TooLong(Exception):
@@ -30,7 +34,7 @@ class Signalled(BaseException):
 
 _running: set[subprocess.Popen] = set()
 _signalled: Signalled | None = None
-_is_beginning = False
+_is_shielded = False
 
 
 @dataclass(frozen=True)
@@ -42,13 +46,30 @@ class Ended:
 
 
 def stop(number: int) -> None:
-    """Kills what runs, lets nothing begin any more, and raises `Signalled`. For the handler of a signal: it waits for
-    nothing. If the main thread is about to begin a program, that is raised, and the program killed, once it began."""
+    """Kills what runs, lets nothing begin any more, and raises `Signalled`, once the main thread has done what an
+    exception must not break. For the handler of a signal: it waits for nothing."""
     global _signalled
     _signalled = Signalled(number)
     for child in list(_running):
         _kill(child)
-    if not _is_beginning:
+    if not _is_shielded:
+        raise _signalled
+
+
+@contextlib.contextmanager
+def _shielded() -> Iterator[None]:
+    """What an exception must not break in the main thread: to begin a program, and to wait for threads."""
+    global _is_shielded
+    is_main = threading.current_thread() is threading.main_thread()
+    was_shielded = _is_shielded
+    if is_main:
+        _is_shielded = True
+    try:
+        yield
+    finally:
+        if is_main:
+            _is_shielded = was_shielded
+    if _signalled:
         raise _signalled
 
 
@@ -59,8 +80,6 @@ def output_of(command: Sequence[str | Path], given: bytes | BinaryIO = b"", *, l
         limit.left()
     with _begun(command, subprocess.PIPE if isinstance(given, bytes) else given) as child:
         try:
-            if _signalled:
-                raise _signalled
             output = _exchanged(child, given if isinstance(given, bytes) else b"", limit, most)
             return Ended(output, _status(child, limit))
         finally:
@@ -69,18 +88,38 @@ def output_of(command: Sequence[str | Path], given: bytes | BinaryIO = b"", *, l
             _running.discard(child)
 
 
+def in_parallel(jobs: int, function: Callable[[T], U], items: Iterable[T]) -> Iterator[U]:
+    """What a function gives of items, in their order, so many of them at a time. Programs whose answers nobody takes
+    any more are killed."""
+    pool = ThreadPoolExecutor(jobs)
+    try:
+        with _shielded():
+            futures = [pool.submit(function, it) for it in items]
+        for future in futures:
+            is_done = False
+            while not is_done:
+                with _shielded():
+                    is_done = bool(wait([future], WAIT_SECONDS).done)
+            with _shielded():
+                result = future.result()
+            yield result
+    finally:
+        for child in list(_running):
+            _kill(child)
+        with _shielded():
+            pool.shutdown(cancel_futures=True)
+
+
 def _begun(command: Sequence[str | Path], source: int | BinaryIO) -> subprocess.Popen:
     """Begins a program, and notes that it runs."""
-    global _is_beginning
-    is_main = threading.current_thread() is threading.main_thread()
-    _is_beginning |= is_main
-    try:
+    with _shielded():
         # A group of its own, so that what it has begun ends with it, too.
         child = subprocess.Popen(command, stdin=source, stdout=subprocess.PIPE, process_group=0)
         _running.add(child)
-        return child
-    finally:
-        _is_beginning &= not is_main
+        if _signalled:
+            _kill(child)
+            child.wait()
+    return child
 
 
 def _kill(child: subprocess.Popen) -> None:
@@ -91,10 +130,9 @@ def _kill(child: subprocess.Popen) -> None:
 
 def _status(child: subprocess.Popen, limit: Limit | None) -> int:
     """The status of a program that prints nothing more, once it has ended."""
-    try:
-        return child.wait(limit.left() if limit else None)
-    except subprocess.TimeoutExpired as error:
-        raise TimeIsUp(limit.answer) from error
+    while True:
+        with contextlib.suppress(subprocess.TimeoutExpired):
+            return child.wait(min(WAIT_SECONDS, limit.left()) if limit else WAIT_SECONDS)
 
 
 def _exchanged(child: subprocess.Popen, given: bytes, limit: Limit | None, most: int) -> bytes:
@@ -106,7 +144,7 @@ def _exchanged(child: subprocess.Popen, given: bytes, limit: Limit | None, most:
             os.set_blocking(child.stdin.fileno(), False)
             ready.register(child.stdin, selectors.EVENT_WRITE)
         while ready.get_map():
-            for key, _ in ready.select(limit.left() if limit else None):
+            for key, _ in ready.select(min(WAIT_SECONDS, limit.left()) if limit else WAIT_SECONDS):
                 if key.fileobj is child.stdin:
                     left = left[_written(child.stdin, left) :]
                     if not left:

@@ -3,11 +3,11 @@
 import contextlib
 import hashlib
 import io
-from concurrent.futures import ThreadPoolExecutor
 from dataclasses import dataclass
 
 from PIL import Image, ImageChops
 
+from galluspa.children import in_parallel
 from galluspa.limits import TimeIsUp
 from galluspa.program import Program
 from galluspa.recording import DISPLAY_END, DISPLAY_START, PAGE_BYTES, Checkpoint, Recording, of_display
@@ -46,15 +46,15 @@ def screens(program: Program, read: Recording) -> Screens:
     def drawn(number: int) -> bytes:
         return program.screen(display_alone(read, read.checkpoints[number]), 0).output
 
-    with ThreadPoolExecutor(AT_A_TIME) as pool, contextlib.suppress(TimeIsUp):
+    with contextlib.suppress(TimeIsUp):
         for at in range(0, len(numbers), AT_ONCE):
             is_full = _size(made.full) < FULL_BYTES
             if not is_full and _size(made.small) >= SMALL_BYTES:
                 break
             encoded, pictures = (png, made.full) if is_full else (small_png, made.small)
             some = numbers[at : at + AT_ONCE]
-            for number, content in zip(some, pool.map(lambda it: encoded(drawn(it)), some), strict=True):
-                pictures[number] = content
+            for number, pbm in zip(some, in_parallel(AT_A_TIME, drawn, some), strict=True):
+                pictures[number] = encoded(pbm)
     return made
 
 

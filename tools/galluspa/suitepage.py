@@ -3,10 +3,10 @@
 import base64
 from collections import defaultdict
 from collections.abc import Iterator, Sequence
-from concurrent.futures import ThreadPoolExecutor
 from dataclasses import dataclass
 
 from galluspa import recording
+from galluspa.children import in_parallel
 from galluspa.command import Refused
 from galluspa.pages import templates
 from galluspa.pictures import display_alone, small_png
@@ -54,8 +54,7 @@ def _shown(program: Program, outcomes: Sequence[Outcome], jobs: int, changes: li
         picture = base64.b64encode(thumbnail(program, it.case)).decode()
         return Shown(it.case.name, it.case.expected, it.answered, it.seconds, it.is_ok, picture, kinds[it.case.name])
 
-    with ThreadPoolExecutor(jobs) as pool:
-        yield from pool.map(shown, outcomes)
+    return in_parallel(jobs, shown, outcomes)
 
 
 def thumbnail(program: Program, case: Case) -> bytes:

@@ -4,10 +4,10 @@
 import json
 import time
 from collections.abc import Iterator, Sequence
-from concurrent.futures import ThreadPoolExecutor
 from dataclasses import dataclass, replace
 from pathlib import Path
 
+from galluspa.children import in_parallel
 from galluspa.command import Refused, read_file
 from galluspa.escapes import for_tap, printable
 from galluspa.limits import Limit, TimeIsUp
@@ -104,8 +104,7 @@ def outcomes_of(program: Program, cases: Sequence[Case], jobs: int, workers: int
             answered, is_error = printable(str(why)), True
         return Outcome(case, answered, time.monotonic() - start, is_error)
 
-    with ThreadPoolExecutor(jobs) as pool:
-        yield from pool.map(outcome, cases)
+    return in_parallel(jobs, outcome, cases)
 
 
 def tap(number: int, outcome: Outcome) -> str:
