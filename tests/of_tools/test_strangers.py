@@ -173,6 +173,24 @@ class SuiteTest(ToolTest):
         self.assertIn("d.orsr: not a file", tool("coverage", self.folder / "suite").output.decode())
 
 
+class SizeTest(ToolTest):
+    def test_no_more_is_read_than_a_recording_may_have(self) -> None:
+        """Of a file of a terabyte, which has no bytes on the disk."""
+        huge = self.file("huge.orsr", b"")
+        os.truncate(huge, 1 << 40)
+        for words, told in (
+            (["explain", huge], "refused 2 magic"), (["listing", huge], "session refused 3 range"),
+            (["session", "--memory", huge, "--every", 1, "--until", 1], "go beyond the memory"),
+            (["session", "--memory", EXAMPLES / "face.orsr", "--inputs", huge, "--every", 1, "--until", 1], "not a CSV file"),
+            (["recording-of", huge], "it holds no recording"), (["suite", self.folder, "--keep", self.folder / "it"], "refused 2 magic"),
+            (["suite", self.folder, "--changed-since", huge], "not a run of a suite"), (["main", huge], "refused 2 magic"),
+        ):
+            start = time.monotonic()
+            ran = tool(*words)
+            self.assertIn(told, ran.output.decode() + ran.errors)
+            self.assertLess(time.monotonic() - start, 20)
+
+
 class TimeTest(ToolTest):
     def slow(self, seconds: float = 60) -> Path:
         """A program that answers late where it checks; the process by which it waits has a number in a file."""
