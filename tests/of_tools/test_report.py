@@ -1,9 +1,9 @@
 """tools/report, its page in a real browser."""
 
 import base64
-import gzip
 import html
 import io
+import os
 import random
 import re
 import shlex
@@ -135,20 +135,21 @@ class SizeTest(ReportTest):
     def test_pictures_are_full_then_small_then_commands(self) -> None:
         chance = random.Random(1)
         pool = [chance.randbytes(1024) for _ in range(40)]
-        claims = [claim(0, {}), *(claim(at, {940 + row: 1 + (at + row) % 40 for row in range(40)}) for at in range(1, 40))]
+        claims = [claim(0, {}), *(claim(at, {940 + row: 1 + (at + row) % 40 for row in range(40)}) for at in range(1, 16))]
         text = encoded(2, pool, claims)
         program = Program.find(None)
-        with mock.patch.multiple(pictures, FULL_BYTES=400_000, SMALL_BYTES=60_000):
+        sizes = mock.patch.multiple(pictures, AT_ONCE=4, FULL_BYTES=140_000, SMALL_BYTES=20_000)
+        with sizes, mock.patch.dict(os.environ, GALLUSPA_LIBRARY="/none"):
             page = "".join(Report.of(program, "it's.orsr", text).html())
         told = re.search(r'id="few">(.*?)</p>', page, re.DOTALL)[1]
         full, every, small, none = map(int, re.findall(r"\d+", told))
-        self.assertEqual((full + small + none, full % 16, small % 16, page.count("data-checkpoint=")), (every, 0, 0, full + small))
+        self.assertEqual((full + small + none, full % 4, small % 4, page.count("data-checkpoint=")), (every, 0, 0, full + small))
         self.assertGreater(min(full, small, none), 0)
         self.assertEqual(page.count('width="256" height="192"'), small)
         commands = re.findall(r"oberon_replay screen --at (\d+) &lt; (\S+) &gt; screen.pbm", page)
-        self.assertEqual([int(at) for at, _ in commands], list(range(full, 40)))
+        self.assertEqual([int(at) for at, _ in commands], list(range(full, 16)))
         self.assertEqual(html.unescape(commands[0][1]), shlex.quote("it's.orsr"))
-        self.assertEqual(run([PROGRAM, "screen", "--at", 39], text).status, 0)
+        self.assertEqual(run([PROGRAM, "screen", "--at", 15], text).status, 0)
 
     def test_a_report_without_a_limit_of_its_size_has_no_such_line(self) -> None:
         self.assertNotIn('id="few"', self.report((EXAMPLES / "face.orsr").read_bytes()).read_text())
@@ -261,31 +262,6 @@ class ReportInBrowserTest(ReportTest):
             self.assert_dots(page, text, [0, 1])
             told = "[...document.querySelectorAll('.notes a')].map(it => it.hash).join()"
             self.assertEqual(page.answer(told), "#checkpoint-1,#checkpoint-0,#checkpoint-1,#checkpoint-1")
-
-
-class RecordingOfTest(ReportTest):
-    def test_helps(self) -> None:
-        self.assert_helps("recording-of")
-
-    def page(self, *packed: bytes) -> Path:
-        """A page that holds these as recordings."""
-        held = (b'<script type="text/plain" id="g-recording">' + base64.b64encode(it) + b"</script>" for it in packed)
-        return self.file("page.html", b"<h1>accepted 9 checkpoints 9 steps</h1>" + b"".join(held))
-
-    def test_the_recording_comes_out_as_it_went_in(self) -> None:
-        for text in ((EXAMPLES / "face.orsr").read_bytes(), rejoining(9), STORED[:-1], b""):
-            ran = tool("recording-of", self.report(text, "it.orsr", "--live"))
-            self.assertEqual((ran.output, ran.errors, ran.status), (text, "", 0))
-
-    def test_refuses_bad_input(self) -> None:
-        self.assert_refused(tool("recording-of"), "PAGE")
-        self.assert_refused(tool("recording-of", self.folder / "none"), "No such file")
-        self.assert_refused(tool("recording-of", self.report(STORED)), "it holds no recording")
-        whole = gzip.compress(STORED)
-        self.assert_refused(tool("recording-of", self.page(whole, whole)), "it holds 2 recordings")
-        for packed, told in ((b"ORSR", "can't be unpacked"), (whole[:-20], "is cut off"), (gzip.compress(bytes(120_000_000), 1), "longer")):
-            self.assert_refused(tool("recording-of", self.page(packed)), told)
-        self.assert_refused(tool("recording-of", self.file("page.html", b'<script type="text/plain" id="g-recording">\xff</script>')), "unpacked")
 
 
 if __name__ == "__main__":

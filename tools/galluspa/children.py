@@ -7,7 +7,6 @@ import signal
 import subprocess
 import threading
 from collections.abc import Callable, Iterable, Iterator, Sequence
-from concurrent.futures import ThreadPoolExecutor, wait
 from dataclasses import dataclass
 from pathlib import Path
 from typing import BinaryIO, TypeVar
@@ -91,6 +90,9 @@ def output_of(command: Sequence[str | Path], given: bytes | BinaryIO = b"", *, l
 def in_parallel(jobs: int, function: Callable[[T], U], items: Iterable[T]) -> Iterator[U]:
     """What a function gives of items, in their order, so many of them at a time. Programs whose answers nobody takes
     any more are killed."""
+    # Imported here, since most tools do without, and begin sooner.
+    from concurrent.futures import ThreadPoolExecutor, wait
+
     pool = ThreadPoolExecutor(jobs)
     try:
         with _shielded():

@@ -8,7 +8,6 @@ import os
 import re
 import signal
 import sys
-import tempfile
 from collections.abc import Callable, Iterator, Sequence
 from pathlib import Path
 from types import FrameType, ModuleType
@@ -169,23 +168,18 @@ def _write_into(path: str | Path, content: bytes) -> None:
 
 
 def _replace(path: str | Path, target: Path, content: bytes) -> None:
-    mode = target.stat().st_mode & 0o777 if target.exists() else 0o666 & ~_mask()
-    with tempfile.NamedTemporaryFile(dir=target.parent, prefix=".galluspa-", delete=False) as file:
+    new = target.with_name(f".galluspa-{os.getpid()}")
+    with open(new, "xb") as file:
         try:
             with _failing(path):
                 file.write(content)
                 file.flush()
-            os.chmod(file.name, mode)
-            os.replace(file.name, target)
+            if target.exists():
+                os.chmod(new, target.stat().st_mode & 0o777)
+            os.replace(new, target)
         except BaseException:
-            os.unlink(file.name)
+            new.unlink(missing_ok=True)
             raise
-
-
-def _mask() -> int:
-    mask = os.umask(0o022)
-    os.umask(mask)
-    return mask
 
 
 @contextlib.contextmanager

@@ -1,0 +1,36 @@
+"""tools/recording-of: the recording in a live report comes out as it went in, and no page makes the tool grow or hang."""
+
+import base64
+import gzip
+from pathlib import Path
+
+from samples import EXAMPLES, STORED, ToolTest, rejoining, tool
+
+
+class RecordingOfTest(ToolTest):
+    def test_helps(self) -> None:
+        self.assert_helps("recording-of")
+
+    def report(self, text: bytes, *words: str) -> Path:
+        """The page of a text."""
+        return self.file("report.html", tool("report", self.file("it.orsr", text), *words).output)
+
+    def page(self, *packed: bytes) -> Path:
+        """A page that holds these as recordings."""
+        held = (b'<script type="text/plain" id="g-recording">' + base64.b64encode(it) + b"</script>" for it in packed)
+        return self.file("page.html", b"<h1>accepted 9 checkpoints 9 steps</h1>" + b"".join(held))
+
+    def test_the_recording_comes_out_as_it_went_in(self) -> None:
+        for text in ((EXAMPLES / "face.orsr").read_bytes(), rejoining(9), STORED[:-1], b""):
+            ran = tool("recording-of", self.report(text, "--live"))
+            self.assertEqual((ran.output, ran.errors, ran.status), (text, "", 0))
+
+    def test_refuses_bad_input(self) -> None:
+        self.assert_refused(tool("recording-of"), "PAGE")
+        self.assert_refused(tool("recording-of", self.folder / "none"), "No such file")
+        self.assert_refused(tool("recording-of", self.report(STORED)), "it holds no recording")
+        whole = gzip.compress(STORED)
+        self.assert_refused(tool("recording-of", self.page(whole, whole)), "it holds 2 recordings")
+        for packed, told in ((b"ORSR", "can't be unpacked"), (whole[:-20], "is cut off"), (gzip.compress(bytes(120_000_000), 1), "longer")):
+            self.assert_refused(tool("recording-of", self.page(packed)), told)
+        self.assert_refused(tool("recording-of", self.file("page.html", b'<script type="text/plain" id="g-recording">\xff</script>')), "unpacked")
