@@ -93,7 +93,9 @@ class ReportWordsTest(ReportTest):
     def test_says_what_a_program_answered_that_fails(self) -> None:
         failing = self.file("failing", "#!/bin/sh\necho no memory\nexit 3\n")
         failing.chmod(0o755)
-        self.assert_refused(tool("report", self.file("stored.orsr", STORED), "--program", failing), "no memory")
+        ran = tool("report", self.file("stored.orsr", STORED), "--program", failing)
+        self.assertEqual((ran.status, ran.output, len(ran.errors.splitlines())), (3, b"", 1))
+        self.assertIn("no memory", ran.errors)
 
     def test_text_tells_what_changes(self) -> None:
         ran = tool("report", "--text", self.file("keys.orsr", record((EXAMPLES / "keys.json").read_bytes())))

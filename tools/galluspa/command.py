@@ -38,8 +38,8 @@ class Refused(Exception):
     """Bad input, or a program that cannot answer; its text is one clear line for the user."""
 
 
-class Failed(Exception):
-    """What is asked for is not done, through no fault of the input; its text is one clear line for the user."""
+class Failed(Refused):
+    """What is asked for is not done, through no fault of the input: a write fails, or there is no memory."""
 
 
 class Parser(argparse.ArgumentParser):
@@ -219,12 +219,12 @@ def run(main: Callable[[Sequence[str]], int]) -> NoReturn:
         status = signalled.status
     except SystemExit as asked_for_help:
         status = asked_for_help.code or OK
-    except Refused as refusal:
-        complain(str(refusal))
-        status = REFUSED
     except (Failed, TimeIsUp) as failure:
         complain(str(failure))
         status = FAILED
+    except Refused as refusal:
+        complain(str(refusal))
+        status = REFUSED
     except MemoryError:
         complain("no memory")
         status = FAILED

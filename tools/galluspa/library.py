@@ -10,7 +10,7 @@ from collections.abc import Sequence
 from dataclasses import dataclass
 from pathlib import Path
 
-from galluspa.command import Refused
+from galluspa.command import Failed, Refused
 from galluspa.limits import Limit
 from galluspa.program import TOP
 from galluspa.recording import PLACES, STATE_WORDS, WORDS_IN_PAGE, Checkpoint, Event
@@ -27,11 +27,11 @@ WHOLE_RUN = 1 << 40
 SENT_AT_ONCE = 1 << 20
 # How many of the bytes that a run sends are kept: more than a recording may claim.
 SENT_KEPT = 1 << 22
-NO_ROOM = 2
+NO_ROOM, NO_MEMORY = 2, 3
 REFUSALS = {
     1: "a number is out of its range",
     NO_ROOM: "more is sent than there is room for",
-    3: "no memory",
+    NO_MEMORY: "no memory",
     4: "the bytes are no recording",
     5: "the recording has no such checkpoint",
 }
@@ -125,8 +125,9 @@ class Inputs:
         return (RawInput * number).from_buffer(self._raw, start * ctypes.sizeof(RawInput))
 
 
-def _why(code: int) -> str:
-    return REFUSALS.get(code, f"it answers {code}")
+def _refusal(what: str, code: int) -> Refused:
+    """Why something is not done, by what the library returns."""
+    return (Failed if code == NO_MEMORY else Refused)(f"{what}: {REFUSALS.get(code, f'it answers {code}')}")
 
 
 @dataclass(frozen=True)
@@ -171,7 +172,7 @@ class Library:
             ctypes.byref(machine.state), machine.words, ctypes.c_size_t(WORDS),
         )
         if code:
-            raise Refused(f"checkpoint {at} is not read: {_why(code)}")
+            raise _refusal(f"checkpoint {at} is not read", code)
         return machine
 
     def advance(self, machine: Machine, inputs: Inputs, to: int) -> Sent:
@@ -201,7 +202,7 @@ class Library:
         if code == NO_ROOM and to - machine.count > len(room):
             return None
         if code:
-            raise Refused(f"the machine is not advanced from {machine.count} to {to}: {_why(code)}")
+            raise _refusal(f"the machine is not advanced from {machine.count} to {to}", code)
         return Sent(ctypes.string_at(room, length.value), length.value)
 
 

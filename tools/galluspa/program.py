@@ -9,7 +9,7 @@ from pathlib import Path
 from typing import BinaryIO
 
 from galluspa import children
-from galluspa.command import MOST, Refused
+from galluspa.command import FAILED, MOST, Failed, Refused
 from galluspa.limits import Limit
 
 TOP = Path(__file__).resolve().parents[2]
@@ -110,7 +110,8 @@ class Program:
         answer = self.answer(words, given)
         if answer.status not in (ACCEPTED, FALSE, REFUSED):
             said = answer.line if len(answer.output) < 100 else "a part of its answer"
-            raise Refused(f"{self.path} {words[0]} ended with status {answer.status} and {said!r}")
+            kind = Failed if answer.status == FAILED else Refused
+            raise kind(f"{self.path} {words[0]} ended with status {answer.status} and {said!r}")
         return answer
 
 
