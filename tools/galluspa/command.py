@@ -63,8 +63,11 @@ class Parser(argparse.ArgumentParser):
 
     def add_program_option(self) -> None:
         """Adds the option that names the program to ask."""
-        default = "installed with these tools" if IS_INSTALLED else "that this repository built"
-        self.add_argument("--program", metavar="PATH", help=f"the program to call (default: the one {default})")
+        self.add_argument(
+            "--program", metavar="PATH",
+            help="the program to call (default: the one that this repository built, or that was installed with these "
+                 "tools)",
+        )
 
     def add_library_option(self) -> None:
         """Adds the option that names the shared library to call."""

@@ -77,7 +77,7 @@ def page(tool: Tool, date: str) -> str:
     return "\n".join([
         *lines, ".El", ".Sh EXIT STATUS", ".Bl -tag -width Ds",
         *(line for item, about in statuses for line in (item, *_prose(about))), ".El",
-        "With a status of 2 or 3 there is a line on standard error that says why.",
+        ".Pp", *_prose("If an argument is refused, or something fails, a line on standard error says why."),
         ".Sh EXAMPLES", f".Dl {_escaped(example)}", ".Sh SEE ALSO", ".Xr oberon_replay 1", "",
     ])
 
