@@ -1,6 +1,6 @@
 /* The proved library as a WebAssembly module: its exports, over the module's own memory. include/galluspa.h says what each does.
  * Pointers, lengths and counts have 64 bits, so they are passed as BigInt. The worker script is states.js, this file, formats.js,
- * stretches.js, recorder.js, machine.js and worker.js, in this order. */
+ * stretches.js, recorder.js, machine.js, arrivals.js and worker.js, in this order. */
 "use strict";
 
 const LONGEST_RECORDING = 118310056, MOST_COUNT = 2 ** 40;

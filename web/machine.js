@@ -1,11 +1,10 @@
-/* The live machine: a state and 262,144 words that the library advances, the recording in progress, and the recording that is played back,
- * if there is one. Each input is stamped with the count of the instruction before which it comes. */
+/* The live machine: a state and 262,144 words that the library advances, the recording in progress, and the recording that is
+ * played back, if there is one. Each input is stamped with the count of the instruction before which it comes. */
 "use strict";
 
 // The clock of the workstation: 25 MHz, one instruction per cycle.
 const PER_SECOND = 25000000;
-const INPUTS_AT_ONCE = 4096, SENT_ROOM = 1 << 20, QUEUE = 16;
-const KEY = 4, SERIAL = 5, RECEIVED = 256;
+const INPUTS_AT_ONCE = 4096, SENT_ROOM = 1 << 20, QUEUE = 16, RECEIVED = 256;
 const DISPLAY_AT = 4 * 237504, DISPLAY_BYTES = 98304;
 
 class Machine {
@@ -19,6 +18,9 @@ class Machine {
     this.sentCount = library.take(8);
     this.text = 0;
     this.recorder = new Recorder(library);
+    this.arrivals = new Arrivals();
+    this.inputs = new Inputs();
+    this.given = this.next = 0;
   }
 
   get state() {
@@ -41,53 +43,82 @@ class Machine {
     return field(this.state, AT[name]);
   }
 
-  /** Begins a session. `planned` are the counts of its checkpoints, at which the claims of a recording are compared. */
+  /** Begins a session. `checkpoints` are the counts of its checkpoints, at which the claims of a recording are compared. */
   begin({ state, words, inputs, checkpoints }) {
-    this.state.set(state);
-    this.words.set(words);
-    this.recorder.begin(this.place);
-    this.inputs = inputs;
-    this.given = inputs.length;
-    this.next = 0;
-    this.planned = checkpoints;
-    this.isTrue = true;
-    this.sentSince = [];
-    this.waiting = { keys: [], serial: [] };
+    this.put(this.other, { state, words });
+    this.recorder.begin(this.other);
     this.forgetRecording();
+    this.start({ state, words, inputs, given: inputs.length, next: 0, planned: checkpoints });
   }
 
-  /** Begins with what a checkpoint of a recording claims. The recording in progress begins with the inputs and the claims up to there. */
+  /** Puts a state and its words at an address. */
+  put(place, { state, words }) {
+    this.library.bytes(place, STATE_BYTES).set(state);
+    this.library.bytes(place + STATE_BYTES, MEMORY_BYTES).set(words);
+  }
+
+  /** Starts at a state. Of the inputs the first so many are of a file, and the first so many are taken already. */
+  start({ state, words, inputs, given, next, planned, waiting }) {
+    this.put(this.place, { state, words });
+    Object.assign(this, { inputs, given, next, planned, isTrue: true, sentSince: [], arrivals: new Arrivals(waiting) });
+    this.arrivals.forgetMouse(this.part("mouse"));
+  }
+
+  /** Begins with what a checkpoint of a recording claims. The recording in progress begins with the inputs and the claims up to
+   * there. If that is refused, the machine stays as it was. */
   beginRecording(recording, checkpoint) {
-    this.forgetRecording();
     const text = this.library.hold(recording.text);
-    const counts = recording.claims.map((claim) => claim.count);
-    if (!this.library.claim(text, recording.text.length, 0, this.place, this.place + STATE_BYTES)) throw new Refused("no checkpoint 0");
-    this.begin({ state: this.state, words: this.words, inputs: recording.inputs, checkpoints: counts.slice(1) });
-    this.text = text;
-    this.recording = recording;
-    if (!checkpoint) return;
-    this.library.claim(text, recording.text.length, checkpoint, this.place, this.place + STATE_BYTES);
-    this.next = this.inputs.from(this.count);
-    this.recorder.resume(stretch(recording, firstTable(recording), 0, checkpoint), new Uint8Array());
+    try {
+      const claimed = this.claimedAt(text, recording, checkpoint);
+      if (checkpoint) this.recorder.resume(stretch(recording, firstTable(recording), 0, checkpoint), new Uint8Array());
+      else this.recorder.begin(this.other);
+      const { inputs, claims } = recording, planned = claims.slice(1).map((claim) => claim.count);
+      this.forgetRecording();
+      this.start({ ...claimed, inputs, given: inputs.length, next: checkpoint ? inputs.from(countOf(claimed.state)) : 0, planned });
+      Object.assign(this, { text, recording });
+    } catch (error) {
+      this.library.leave(text);
+      throw error;
+    }
   }
 
-  /** Resumes a kept recording, at the state that the machine had; or a kept session, whose inputs are played back from its initial state. */
-  resume({ recording, sentSince, live, inputs, first, marks, count }) {
-    if (first) return this.begin({ ...first, inputs: new Inputs(inputs), checkpoints: [...new Set([...marks, count])] });
-    this.begin({ ...this.firstOf(recording), inputs: new Inputs(inputs), checkpoints: [] });
+  /** Returns the state and the words that a checkpoint of a recording claims, whose bytes are at an address. */
+  claimedAt(text, recording, checkpoint) {
+    if (!this.library.claim(text, recording.text.length, checkpoint, this.other, this.other + STATE_BYTES))
+      throw new Refused(`no checkpoint ${checkpoint}`);
+    return copied(this.at(this.other));
+  }
+
+  /** Resumes a kept recording, at the state that the machine had; or a kept session, whose inputs are played back from its initial
+   * state. It is refused if the parts of what was kept do not fit together, and the machine stays as it was. */
+  resume({ recording, sentSince, live, inputs: bytes, first, marks, count, waiting }) {
+    const inputs = lawfulInputs(bytes);
+    if (first) {
+      this.tryState(first, 0);
+      const checkpoints = [...new Set([...marks, count])].filter(Boolean).sort((one, other) => one - other);
+      return this.begin({ ...first, inputs, checkpoints });
+    }
+    const recorded = lawful(recording), last = recorded.claims.at(-1).count;
+    this.tryState(live, count);
+    if (last > count || !isBeginning(recorded.inputs, inputs)) throw new Refused("what was kept does not fit together");
     this.recorder.resume(recording, sentSince);
-    this.state.set(live.state);
-    this.words.set(live.words);
-    this.next = this.inputs.length;
-    this.given = 0;
+    this.forgetRecording();
+    this.start({ ...live, inputs, given: 0, next: inputs.from(count), planned: [], waiting });
+  }
+
+  /** Refuses a state that is none, or that has another count. */
+  tryState(kept, count) {
+    if (countOf(kept.state) !== count) throw new Refused("what was kept does not fit together");
+    this.put(this.other, kept);
+    this.library.view.setBigUint64(this.other, 0n, true);
+    this.library.begin(this.other);
   }
 
   /** Returns the initial state of a recording, with its words. */
   firstOf(recording) {
     const text = this.library.hold(recording);
     try {
-      this.library.claim(text, recording.length, 0, this.other, this.other + STATE_BYTES);
-      return copied(this.at(this.other));
+      return this.claimedAt(text, { text: recording }, 0);
     } finally {
       this.library.leave(text);
     }
@@ -99,9 +130,20 @@ class Machine {
     this.recording = null;
   }
 
+  /** The count at which the inputs and the checkpoints of the file are over. */
+  get end() {
+    const last = this.given ? this.inputs.count(this.given - 1) + 1 : 0;
+    return Math.max(last, this.planned.at(-1) ?? 0);
+  }
+
   /** Whether inputs or checkpoints of the file are still to come. */
   get isReplay() {
-    return this.next < this.given || this.planned.some((count) => count > this.count);
+    return this.next < this.given || this.planned.at(-1) > this.count;
+  }
+
+  /** How many inputs are the user's own. */
+  get own() {
+    return this.isReplay ? 0 : this.inputs.length - this.given;
   }
 
   /** Ends the replay: from here on the inputs are the user's, and the later inputs and claims of the file are dropped. */
@@ -109,22 +151,45 @@ class Machine {
     this.inputs = new Inputs(this.takenInputs);
     this.given = this.next;
     this.planned = this.planned.filter((count) => count <= this.count);
+    this.arrivals.forgetMouse(this.part("mouse"));
   }
 
-  /** Adds an input before the next instruction. It has no effect while the inputs of a file are played back. */
-  input(kind, value) {
-    if (this.isReplay || this.inputs.length >= INPUT_LIMIT) return;
-    this.inputs.push(this.count, kind, value);
+  /** Why the machine takes no inputs of the user, or null. */
+  get deaf() {
+    if (this.isReplay) return "REPLAY: the inputs are the file's until you take over";
+    if (this.part("stop")) return "STOPPED: a stopped machine takes no inputs";
+    return this.inputs.length >= INPUT_LIMIT ? "FULL: the machine takes no more inputs" : null;
   }
 
-  /** Passes on what was typed and sent, as fast as the machine takes it: it queues sixteen key codes, and holds one serial byte. */
+  /** Adds an input before an instruction that is not before the next one, nor before the last input. */
+  input(kind, value, count = this.count) {
+    if (this.deaf) return;
+    const last = this.inputs.length ? this.inputs.count(this.inputs.length - 1) : 0;
+    this.inputs.push(Math.max(count, last, this.count), kind, value);
+  }
+
+  /** Changes the mouse or the switches of a machine that is paused. */
+  change(kind, value) {
+    if (kind === MOUSE) this.arrivals.follow(value, this.count);
+    this.input(kind, value);
+  }
+
+  /** Adds the changes that arrived with their counts, as far as these are before an end. */
+  stamp(countAt, end = Infinity) {
+    this.arrivals.stamp(countAt, this.count, end, ({ kind, value }, count) => this.input(kind, value, count));
+  }
+
+  /** Passes on what was typed and sent, as fast as the machine takes it: it queues sixteen key codes, and holds one serial byte.
+   * Returns whether more waits. */
   feed() {
-    const { keys, serial } = this.waiting;
+    const { keys, serial, typed } = this.arrivals;
+    if (!typed || this.deaf) return false;
     for (let free = QUEUE - this.part("keys") - this.due(KEY); free > 0 && keys.length; free--) this.input(KEY, keys.shift());
     if (serial.length && !(this.part("serial") & RECEIVED) && !this.due(SERIAL)) this.input(SERIAL, serial.shift());
+    return this.arrivals.typed > 0;
   }
 
-  /** Returns how many inputs of a kind come before the next instruction. */
+  /** Returns how many inputs of a kind come before the next instruction, of those that the user made. */
   due(kind) {
     let number = 0;
     for (let at = this.next; at < this.inputs.length; at++) number += this.inputs.kind(at) === kind;
@@ -154,11 +219,48 @@ class Machine {
     return code;
   }
 
-  /** Returns the next count at which to stop: that of a checkpoint that is planned, or due by time. */
+  /** Returns the next count at which to stop: that of a checkpoint that is planned, the end of a replay, or a checkpoint that is
+   * due by time. */
   nextStop(seconds) {
-    const planned = this.planned.find((count) => count > this.count) ?? Infinity;
+    if (this.isReplay) return this.planned.find((count) => count > this.count) ?? this.end;
     const step = seconds * PER_SECOND;
-    return Math.min(planned, step && !this.isReplay ? (Math.floor(this.count / step) + 1) * step : Infinity);
+    return step ? (Math.floor(this.count / step) + 1) * step : Infinity;
+  }
+
+  /** Whether the recording in progress is the machine's own: a replay of a recording keeps within the limits that its file
+   * keeps. */
+  get isOwnRecording() {
+    return !this.recording || !this.isReplay;
+  }
+
+  /** Returns the count up to which what the machine may send has room in the recording: it sends at most a byte with each
+   * instruction. */
+  get roomEnd() {
+    const isBounded = this.isOwnRecording && !this.recorder.full && !this.part("stop");
+    return isBounded ? this.count + this.recorder.room : Infinity;
+  }
+
+  /** Ends the recording with a checkpoint here if one of its limits is near. If there can be no more inputs, it has a checkpoint
+   * after the last of them. Returns whether the recording has just become full. */
+  endIfFull() {
+    if (this.full || !this.isOwnRecording) return false;
+    if (this.recorder.nearLimit) {
+      this.mark();
+      this.recorder.end(`the recording has reached its limit of ${this.recorder.nearLimit}`);
+    } else if (this.hasAllInputs) this.mark();
+    return this.full !== null;
+  }
+
+  /** Whether the machine has taken as many inputs as a recording has at most. */
+  get hasAllInputs() {
+    return this.next === INPUT_LIMIT;
+  }
+
+  /** Why the recording is full, at which count, and whether it ends there, or null. */
+  get full() {
+    if (this.recorder.full) return this.recorder.full;
+    const isMarked = this.hasAllInputs && this.marks.at(-1) > this.inputs.count(INPUT_LIMIT - 1);
+    return isMarked ? { why: "the recording has reached its limit of inputs", isEnd: false, count: this.marks.at(-1) } : null;
   }
 
   get marks() {
@@ -175,7 +277,8 @@ class Machine {
     return this.marks.length < most && this.recorder.extend(this.place, this.count, this.takenInputs);
   }
 
-  /** Compares the recording's claim at this count with the machine. Returns its number, and the name of the first part that differs, or null. */
+  /** Compares the recording's claim at this count with the machine. Returns its number, and the name of the first part that
+   * differs, or null. */
   judge() {
     if (!this.recording) return null;
     const number = this.recording.claims.findIndex((claim) => claim.count === this.count);
@@ -196,8 +299,7 @@ class Machine {
   claimed(number) {
     const { text, claims } = this.recording, claim = claims[number];
     if (!claim) throw new Refused(`no checkpoint ${number}`);
-    this.library.claim(this.text, text.length, number, this.other, this.other + STATE_BYTES);
-    const now = copied(this.at(this.other));
+    const now = this.claimedAt(this.text, this.recording, number);
     const { count, sent } = claim, dots = now.words.slice(DISPLAY_AT, DISPLAY_AT + DISPLAY_BYTES);
     const shown = { number, count, state: now.state, dots, sent: sentText(sent), sentLength: sent.length, pages: [], before: null };
     if (!number) return shown;
@@ -206,10 +308,11 @@ class Machine {
     return { ...shown, before: before.state.slice(), steps: count - claims[number - 1].count, pages: differingPages(now.words, before.words) };
   }
 
-  /** Returns the recording up to here, with a last checkpoint at this count; or, if there is no room for one, up to its last checkpoint. */
+  /** Returns the recording up to here, with a last checkpoint at this count; or, if there is no room for one, up to its last
+   * checkpoint. */
   recorded() {
     this.mark();
-    return { text: this.recorder.text, count: this.marks.at(-1) ?? 0, full: this.recorder.full };
+    return { text: this.recorder.text, count: this.marks.at(-1) ?? 0, full: this.full?.why };
   }
 
   /** Returns the session up to here, with the checkpoints of the recording and a last one at this count. */
@@ -219,9 +322,13 @@ class Machine {
     return { ...this.firstOf(text), inputs: new Inputs(this.takenInputs), checkpoints };
   }
 
-  /** Returns what the browser keeps, so that the recording in progress survives a reload. */
+  /** Returns what the browser keeps, so that the recording in progress survives a reload; or null if there are no inputs of the
+   * user. */
   kept() {
-    return { ...this.recorder.kept, live: copied(this.at(this.place)), inputs: this.takenInputs.slice() };
+    const { keys, serial } = this.arrivals;
+    if (!this.own && !this.arrivals.typed) return null;
+    const inputs = this.inputs.bytes.slice();
+    return { ...this.recorder.kept, live: copied(this.at(this.place)), count: this.count, inputs, waiting: { keys, serial } };
   }
 
   /** Returns the words around PC, each with its address. */
@@ -234,4 +341,20 @@ class Machine {
 
 function copied({ state, words }) {
   return { state: state.slice(), words: words.slice() };
+}
+
+/** Returns inputs whose bytes were kept. They are refused if one is out of its range, or before the one before it. */
+function lawfulInputs(bytes) {
+  const inputs = new Inputs(bytes);
+  for (let at = 0; at < inputs.length; at++) {
+    const [count, kind, value] = inputs.item(at);
+    const isInOrder = count <= MOST_COUNT && (!at || inputs.count(at - 1) <= count);
+    if (!kind || !isInput(inputs.kind(at), BigInt(value)) || !isInOrder) throw new Refused("what was kept has inputs that are none");
+  }
+  return inputs;
+}
+
+/** Whether inputs are the first of others. */
+function isBeginning(some, others) {
+  return some.length <= others.length && equalWords(wordsOf(some.bytes), wordsOf(others.bytes));
 }

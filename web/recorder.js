@@ -1,8 +1,10 @@
-/* The recording in progress. The library begins it with the machine's initial state, and extends it at each checkpoint by the machine's state,
- * and by the inputs and the bytes sent since the checkpoint before. So nothing is run a second time. */
+/* The recording in progress. The library begins it with the machine's initial state, and extends it at each checkpoint by the
+ * machine's state, and by the inputs and the bytes sent since the checkpoint before. So nothing is run a second time. */
 "use strict";
 
-const MOST_SENT = 1 << 20;
+// The recording ends with a checkpoint before one of its limits is reached: while this many bytes can still be sent, and while the
+// pool has room for all the pages that a checkpoint may change.
+const MOST_SENT = 1 << 20, SENT_RESERVE = 1 << 16, MOST_POOL = 65536;
 
 class Recorder {
   constructor(library) {
@@ -11,20 +13,17 @@ class Recorder {
 
   /** Begins with the state and the words at an address. The state's count is 0. */
   begin(place) {
-    this.text = this.library.begin(place);
-    this.marks = [];
-    this.taken = 0;
-    this.full = null;
-    this.forgetSent();
+    this.resume(this.library.begin(place), new Uint8Array());
   }
 
-  /** Resumes a recording that was kept, with the bytes sent since its last checkpoint. */
+  /** Resumes a recording that was made so far, with the bytes sent since its last checkpoint. */
   resume(text, sent) {
     const { claims, inputs } = readRecording(text);
     this.text = text;
     this.marks = claims.slice(1).map((claim) => claim.count);
     this.taken = inputs.length;
     this.full = null;
+    this.sentBefore = claims.reduce((length, claim) => length + claim.sent.length, 0);
     this.forgetSent();
     this.note(sent);
   }
@@ -41,19 +40,38 @@ class Recorder {
     this.sentLength += sent.length;
   }
 
-  /** Extends the recording by a checkpoint at the count of the state at an address, if that is above the last one's. `inputs` are all inputs
-   * that the machine has taken. A recording that cannot be extended is full, and stays as it is. Returns whether there is a new checkpoint. */
+  /** How many more bytes the recording has room for. */
+  get room() {
+    return Math.max(0, MOST_SENT - this.sentBefore - this.sentLength);
+  }
+
+  /** The limit of a recording that is so near that no more may fit than a checkpoint at this count, or null. */
+  get nearLimit() {
+    if (this.room < SENT_RESERVE) return "sent bytes";
+    if (new DataView(this.text.buffer, this.text.byteOffset).getUint32(8, true) > MOST_POOL - PAGES) return "pages";
+    return this.marks.length >= CHECKPOINT_LIMIT ? "checkpoints" : null;
+  }
+
+  /** Ends the recording for a reason. It is full, at the count of its last checkpoint. */
+  end(why) {
+    this.full = { why, isEnd: true, count: this.marks.at(-1) ?? 0 };
+  }
+
+  /** Extends the recording by a checkpoint at the count of the state at an address, if that is above the last one's. `inputs` are
+   * all inputs that the machine has taken. A recording that cannot be extended is full, and stays as it is. Returns whether there
+   * is a new checkpoint. */
   extend(place, count, inputs) {
     if (this.full || count <= (this.marks.at(-1) ?? 0)) return false;
     try {
       this.text = this.library.extend(this.text, inputs.subarray(INPUT_BYTES * this.taken), place, joined(this.sent));
     } catch (error) {
       if (!(error instanceof Refused)) throw error;
-      this.full = error.message;
+      this.end(error.message);
       return false;
     }
     this.marks.push(count);
     this.taken = inputs.length / INPUT_BYTES;
+    this.sentBefore += this.sentLength;
     this.forgetSent();
     return true;
   }

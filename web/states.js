@@ -3,7 +3,7 @@
 "use strict";
 
 const STATE_BYTES = 136, WORDS = 262144, MEMORY_BYTES = 4 * WORDS, INPUT_BYTES = 16;
-const KINDS = ["", "timer", "switches", "mouse", "key", "serial"];
+const KINDS = ["", "timer", "switches", "mouse", "key", "serial"], SWITCHES = 2, MOUSE = 3, KEY = 4, SERIAL = 5;
 const STOPS = ["running", "float", "divisor", "fetch", "address"];
 const PAGES = 1024, PAGE_BYTES = 1024;
 
@@ -66,10 +66,22 @@ function equal(some, others) {
   return some.length === others.length && some.every((byte, at) => byte === others[at]);
 }
 
+/** Returns bytes as words, to compare them by four. They begin at a multiple of four, and their number is one. */
+function wordsOf(bytes) {
+  return new Uint32Array(bytes.buffer, bytes.byteOffset, bytes.length / 4);
+}
+
+/** Whether two lists of words are the same from one position on and before another. */
+function equalWords(some, others, from = 0, to = some.length) {
+  for (let at = from; at < to; at++) if (some[at] !== others[at]) return false;
+  return true;
+}
+
 /** Returns the numbers of the pages in which two memories differ. */
-function differingPages(words, others) {
-  const page = (memory, at) => memory.subarray(at * PAGE_BYTES, (at + 1) * PAGE_BYTES);
-  return Array.from({ length: PAGES }, (_, at) => at).filter((at) => !equal(page(words, at), page(others, at)));
+function differingPages(memory, other) {
+  const [words, others] = [wordsOf(memory), wordsOf(other)], inPage = PAGE_BYTES / 4, pages = [];
+  for (let page = 0; page < PAGES; page++) if (!equalWords(words, others, page * inPage, (page + 1) * inPage)) pages.push(page);
+  return pages;
 }
 
 /** Returns the name of the first part in which two machines differ, or null. Each has its memory and the bytes that it sent. */

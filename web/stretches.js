@@ -76,21 +76,21 @@ class Checker {
   }
 
   /** Returns the joined line of the stretches of a recording, its status, and their number. After each piece it calls `tell` with the number of
-   * steps done. */
+   * steps done, and with the number of the last checkpoint that was found true. */
   line(recording, tell) {
     const { claims } = recording, last = claims.length - 1, table = firstTable(recording);
     let first = 0, stretches = 0;
     for (let size = Math.min(FIRST_STEPS, this.size); first < last; size = Math.min(this.size, 2 * size)) {
       const end = this.end(claims, first, size), begin = claims[first].count;
-      const found = this.found(stretch(recording, table, first, end), size, (steps) => tell(begin + steps));
+      const found = this.found(stretch(recording, table, first, end), size, (steps) => tell(begin + steps, first));
       stretches++;
       if (found) {
         const number = first + found.number;
-        tell(claims[number].count);
+        tell(claims[number].count, number - 1);
         return { line: `false checkpoint ${number} at ${claims[number].count} part ${found.part}`, status: 1, stretches };
       }
       first = end;
-      tell(claims[end].count);
+      tell(claims[end].count, end);
     }
     return { line: acceptedLine(claims), status: 0, stretches };
   }
@@ -111,11 +111,12 @@ class Checker {
     return foundBy(this.library.check(last).line, [{ count: 0 }, { count: steps }]);
   }
 
-  /** Runs a stretch of two checkpoints up to its last frame. Returns whether it sent what is claimed, as far as it ran. */
+  /** Runs a stretch of two checkpoints up to its last frame, or until the machine stops: a stopped machine changes no more, so its frame may be long.
+   * Returns whether it sent what is claimed, as far as it ran. */
   run(recording, size, tell) {
     const { machine } = this, [, { count, sent }] = recording.claims;
     machine.beginRecording(recording, 0);
-    for (this.sent = 0; count - machine.count > size; tell(machine.count)) {
+    for (this.sent = 0; count - machine.count > size && !machine.part("stop"); tell(machine.count)) {
       const now = machine.advance(machine.count + size);
       if (!equal(now, sent.subarray(this.sent, this.sent + now.length))) return false;
       this.sent += now.length;

@@ -1,35 +1,35 @@
-/* The last part of the worker script: it answers the page's requests. Two workers run it. One has the live machine and records it. The other,
- * the clerk, checks, so that a long check can be stopped without touching the machine. A request is `{id, ask, ..}`, and its answer
- * `{id, answer}`, `{id, refused}` with a line for the user, or `{id, broken}` for a bug in this script. Messages that answer no request have no
- * id. */
+/* The last part of the worker script: it answers the page's requests. Two workers run it. One has the live machine and records it.
+ * The other, the clerk, checks, so that a long check can be stopped without touching the machine. A request is `{id, ask, ..}`,
+ * and its answer `{id, answer}`, `{id, refused}` with a line for the user, or `{id, broken}` for a bug in this script. Messages
+ * that answer no request have no id. */
 "use strict";
 
-const FRAME_MS = 1000 / 60, BUDGET_MS = 12, FIRST_CHUNK = 200000, LAG_MS = 100;
+const FRAME_MS = 1000 / 60, BUDGET_MS = 12, FIRST_CHUNK = 200000, LAG_MS = 100, PER_MS = PER_SECOND / 1000;
+// While typed keys or serial bytes wait, a turn runs in pieces as long as this, so that the program gets more than one of them in a
+// turn.
+const PIECES = 48, PIECES_MS = 8;
 // A recording of up to one second of the machine's time is checked by one call.
 const WHOLE_STEPS = 25000000;
 
 let library = null, machine = null;
 let run = { on: false };
+// The number of the machine that is shown: each one that is opened has the next.
+let generation = 0;
 
 // The live machine
 
 /** Posts what the page shows of the machine: always its state; its dots if they changed; the listing while it is paused. */
 let shownDots = null;
 function show(sent, isWhole = false) {
-  const dots = machine.dots, same = !isWhole && shownDots && equalWords(shownDots, dots);
+  const dots = machine.dots, same = !isWhole && shownDots && equalWords(wordsOf(shownDots), wordsOf(dots));
   if (!same) shownDots = dots.slice();
-  const { inputs, given, next, marks, planned, isReplay, isTrue, waiting } = machine;
+  const { inputs, given, next, marks, planned, isReplay, isTrue, arrivals, full, deaf } = machine;
   postMessage({
     state: machine.state.slice(), dots: same ? null : shownDots, sent: sentText(sent), on: run.on, goal: run.goal ?? null,
-    inputs: inputs.length, ahead: Math.max(0, given - next), marks: marks.length, planned: planned.length, isReplay, isTrue,
-    listing: run.on ? null : machine.listing(6, 14), typed: waiting.keys.length + waiting.serial.length,
-    speed: run.on ? speedOf() : null, memory: library.size, frames: run.frames ?? 0,
+    inputs: inputs.length, ahead: Math.max(0, given - next), marks: marks.length, planned: planned.length, isReplay, isTrue, full, deaf,
+    listing: run.on ? null : machine.listing(6, 14), typed: arrivals.typed, hasOwn: machine.own + arrivals.typed > 0,
+    speed: run.on ? speedOf() : null, memory: library.size, frames: run.frames ?? 0, generation,
   });
-}
-
-function equalWords(some, others) {
-  const [words, others32] = [some, others].map((bytes) => new Uint32Array(bytes.buffer, bytes.byteOffset, bytes.length / 4));
-  return words.every((word, at) => word === others32[at]);
 }
 
 function speedOf() {
@@ -40,28 +40,53 @@ function speedOf() {
 /** Starts or ends the run: at 25 MHz or as fast as it goes, up to a goal if there is one. */
 function setRun({ on, fast, goal = null, seconds }) {
   const now = performance.now();
-  run = { on, fast, goal, seconds, begun: now, from: machine.count, clock: { ms: now, count: machine.count }, busy: 0, frames: 0, chunk: FIRST_CHUNK };
-  if (on) tick();
-  else show([]);
+  const clock = { ms: now, count: machine.count };
+  run = { on, fast, goal, seconds, begun: now, turn: now, from: machine.count, clock, busy: 0, frames: 0, chunk: FIRST_CHUNK };
+  if (on) return tick();
+  endRun();
+  show([]);
+}
+
+/** Ends the run. What still waits for its count gets it, so that it is kept. */
+function endRun() {
+  Object.assign(run, { on: false, goal: null });
+  machine.stamp(() => machine.count);
+}
+
+/** Changes the speed of the run, or how often there is a checkpoint. The goal stays. */
+function setPace({ fast, seconds }) {
+  const { on, goal } = run;
+  if (on) setRun({ on, fast, goal, seconds });
 }
 
 /** Does one turn: advances as far as the clock, or the time of a frame, allows, and stops at each checkpoint on the way. */
 function tick() {
   if (!run.on) return;
   try {
-    const begun = performance.now();
-    machine.feed();
-    const sent = run.fast ? fastTurn(begun) : clockedTurn(begun);
+    const begun = performance.now(), wasReplay = machine.isReplay;
+    const sent = isAtEnd() ? turnTo(machine.end, begun + LAG_MS) : run.fast ? fastTurn(begun) : clockedTurn(begun);
     run.busy += performance.now() - begun;
+    run.turn = begun;
     run.frames++;
-    if (machine.part("stop") && !machine.isReplay) run.on = false;
-    if (run.goal !== null && machine.count >= run.goal) run.on = false;
+    if (isOver(wasReplay)) endRun();
     show(sent);
     if (run.on) again(begun);
   } catch (error) {
     run.on = false;
     postMessage(faultOf(error));
   }
+}
+
+/** Whether the machine has stopped in a replay. It changes no more, so it is at the end of the replay at once. */
+function isAtEnd() {
+  return machine.isReplay && machine.part("stop") !== 0;
+}
+
+/** Whether the run ends after a turn: at its goal, at the end of a replay, where the machine has stopped, and where the recording
+ * became full. */
+function isOver(wasReplay) {
+  if (run.becameFull || (run.goal !== null && machine.count >= run.goal)) return true;
+  return !machine.isReplay && (wasReplay || machine.part("stop") !== 0);
 }
 
 const turns = new MessageChannel();
@@ -74,28 +99,33 @@ function again(begun) {
 }
 
 function clockedTurn(now) {
-  const perMs = PER_SECOND / 1000;
-  let to = run.clock.count + Math.floor((now - run.clock.ms) * perMs);
+  let to = run.clock.count + Math.floor((now - run.clock.ms) * PER_MS);
   // Too slow for real time, or suspended: the machine falls behind real time.
-  if (to - machine.count > LAG_MS * perMs) {
+  if (to - machine.count > LAG_MS * PER_MS) {
     run.clock = { ms: now, count: machine.count };
-    to = machine.count + Math.floor(FRAME_MS * perMs);
+    to = machine.count + Math.floor(FRAME_MS * PER_MS);
   }
+  const { ms, count } = run.clock;
+  machine.stamp((at) => count + (at - ms) * PER_MS, to);
   return turnTo(to, now + LAG_MS);
 }
 
 /** Runs a piece that takes about a frame, so that messages are read between two pieces. */
 function fastTurn(begun) {
-  const from = machine.count, sent = turnTo(from + run.chunk, begun + BUDGET_MS), ms = performance.now() - begun;
+  const from = machine.count, perMs = run.chunk / BUDGET_MS, { turn } = run;
+  machine.stamp((at) => from + (at - turn) * perMs, from + run.chunk);
+  const sent = turnTo(from + run.chunk, begun + BUDGET_MS), ms = performance.now() - begun;
   if (machine.count - from === run.chunk) run.chunk = Math.ceil(run.chunk * Math.min(4, Math.max(0.25, BUDGET_MS / Math.max(ms, 0.1))));
   return sent;
 }
 
 /** Advances to a count, from checkpoint to checkpoint, until then or until the time is up. */
 function turnTo(to, deadline) {
-  const sent = [];
-  while (machine.count < to && (!sent.length || performance.now() < deadline)) {
-    const stop = Math.min(to, machine.nextStop(run.seconds ?? 0), run.goal ?? Infinity, MOST_COUNT);
+  const sent = [], piece = Math.ceil((to - machine.count) / PIECES), pieced = performance.now() + PIECES_MS, { isReplay } = machine;
+  const isToGoOn = () => machine.count < to && machine.isReplay === isReplay && !run.becameFull;
+  while (isToGoOn() && (!sent.length || performance.now() < deadline)) {
+    const waits = machine.feed(), end = waits && performance.now() < pieced ? machine.count + piece : Infinity;
+    const stop = Math.min(to, machine.nextStop(run.seconds ?? 0), run.goal ?? Infinity, end, machine.roomEnd, MOST_COUNT);
     if (stop <= machine.count) break;
     sent.push(machine.advance(stop));
     reached();
@@ -106,47 +136,60 @@ function turnTo(to, deadline) {
 /** Records and judges a checkpoint if the machine has just come to one. */
 function reached() {
   const { count } = machine, isPlanned = machine.planned.includes(count), step = (run.seconds ?? 0) * PER_SECOND;
-  if (isPlanned || (step && count % step === 0)) mark(isPlanned ? CHECKPOINT_LIMIT : CHECKPOINT_LIMIT - 1);
+  if (isPlanned) machine.mark();
+  else if (step && count % step === 0) mark();
+  run.becameFull = machine.endIfFull();
   const passed = machine.judge();
   if (passed) postMessage({ passed });
 }
 
-/** Records a checkpoint. Room for one is left for the end of the recording. If the recording became full, the page is told at once. */
-function mark(most = CHECKPOINT_LIMIT - 1) {
-  const { full } = machine.recorder, isNew = machine.mark(most);
-  if (machine.recorder.full !== full) postMessage({ refused: `${machine.recorder.full}: it ends with its last checkpoint` });
-  return isNew;
+/** Records a checkpoint. Room for one is left for the end of the recording. */
+function mark() {
+  return machine.mark(CHECKPOINT_LIMIT - 1);
 }
 
-/** Shows what was opened, and returns what it is. */
-function opened(kind) {
+/** Opens a machine in place of the one that is there, unless `begin` refuses: then that one stays as it is. Returns what was
+ * opened, and what the browser is to keep of the one before. */
+function opened(kind, begin) {
+  const left = machine.recorder.text ? machine.kept() : null;
+  begin();
   run = { on: false };
+  generation++;
   show([], true);
   const { recording, planned, inputs } = machine;
   return { kind, claims: recording?.claims.map((claim) => claim.count) ?? null, version: recording?.version, inputs: inputs.length,
-           checkpoints: planned.length };
+           checkpoints: planned.length, left, generation };
+}
+
+/** Reads a recording; one that is not valid is refused with its verdict line. */
+function recordingOf(text) {
+  const recording = unlessRefused(() => lawful(text));
+  if (recording) return recording;
+  const { line, status } = library.check(text);
+  throw new Refused(status === 2 ? line : "the recording cannot be opened: no memory");
 }
 
 const LIVE = {
   openRecording({ text, checkpoint }) {
-    machine.beginRecording(readRecording(text), checkpoint);
-    return opened("recording");
+    const recording = recordingOf(text);
+    return opened("recording", () => machine.beginRecording(recording, checkpoint));
   },
   openSession({ text }) {
-    machine.begin(readSession(text));
-    return opened("session");
+    const session = readSession(text);
+    return opened("session", () => machine.begin(session));
   },
   openImage({ image, address, registers }) {
-    machine.begin(readImage(image, address, registers));
-    return opened("image");
+    const session = readImage(image, address, registers);
+    return opened("image", () => machine.begin(session));
   },
   resume({ kept }) {
-    machine.resume(kept);
-    return opened("session");
+    return opened("session", () => machine.resume(kept));
   },
   setRun,
+  setPace,
   step() {
-    run = { on: false };
+    endRun();
+    machine.feed();
     const sent = machine.advance(machine.count + 1);
     reached();
     show(sent);
@@ -159,17 +202,27 @@ const LIVE = {
     machine.takeOver();
     show([]);
   },
-  input({ kind, value }) {
-    machine.input(kind, value);
+  /** Takes changes of the mouse or of the switches, each with its value and its time since 1970 in ms. Returns why they have no
+   * effect, or null. */
+  change({ kind, changes }) {
+    if (machine.deaf) return machine.deaf;
+    for (const [value, at] of changes) {
+      if (run.on) machine.arrivals.changes.push({ kind, value, ms: at - performance.timeOrigin });
+      else machine.change(kind, value);
+    }
+    return null;
   },
-  type({ codes }) {
-    if (!machine.isReplay) machine.waiting.keys.push(...codes);
-  },
-  send({ bytes }) {
-    if (!machine.isReplay) for (const byte of bytes) machine.waiting.serial.push(byte);
+  /** Takes key codes or serial bytes, which wait until the machine takes them. Returns why they have no effect, or null. */
+  type({ keys = [], serial = [] }) {
+    if (machine.deaf) return machine.deaf;
+    for (const code of keys) machine.arrivals.keys.push(code);
+    for (const byte of serial) machine.arrivals.serial.push(byte);
+    if (!run.on) show([]);
+    return null;
   },
   mark() {
     const isNew = mark();
+    run.becameFull = machine.endIfFull();
     show([]);
     return isNew;
   },
@@ -186,8 +239,10 @@ const LIVE = {
     show([]);
     return { text, count, full, isWhole: count === machine.count };
   },
+  /** Returns what the browser keeps, or null if there is nothing of the user's. */
   kept() {
-    return { ...machine.kept(), count: machine.count };
+    const kept = machine.kept();
+    return kept && { ...kept, generation };
   },
 };
 
@@ -204,7 +259,8 @@ function unlessRefused(task) {
 }
 
 const CLERK = {
-  /** Returns the line of one call over the whole. For a long recording it first posts its progress stretch by stretch, and their joined line. */
+  /** Returns the line of one call over the whole. For a long recording it first posts its progress stretch by stretch, and their
+   * joined line. */
   check({ text, whole = WHOLE_STEPS, size }) {
     const recording = text.length <= LONGEST_RECORDING ? unlessRefused(() => lawful(text)) : null;
     if (recording?.claims.at(-1).count > whole) unlessRefused(() => checkStretches(recording, size));
@@ -213,10 +269,10 @@ const CLERK = {
 };
 
 function checkStretches(recording, size) {
-  const steps = recording.claims.at(-1).count, begun = performance.now();
+  const { claims } = recording, steps = claims.at(-1).count, begun = performance.now();
   let done = 0;
-  const tell = (now) => postMessage({ done: (done = now), steps });
-  tell(0);
+  const tell = (now, judged) => postMessage({ done: (done = now), steps, judged, checkpoints: claims.length - 1 });
+  tell(0, 0);
   const stretches = new Checker(machine, size).line(recording, tell);
   postMessage({ stretches, estimate: performance.now() - begun, steps: done });
 }
@@ -225,7 +281,7 @@ function checkStretches(recording, size) {
 function lawful(text) {
   const place = library.hold(text);
   try {
-    library.claim(place, text.length, 0, machine.place, machine.place + STATE_BYTES);
+    library.claim(place, text.length, 0, machine.other, machine.other + STATE_BYTES);
     return readRecording(text);
   } finally {
     library.leave(place);

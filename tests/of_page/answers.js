@@ -16,6 +16,7 @@ globalThis.postMessage = (news) => { if (news.id !== undefined) said = news; };
 (0, eval)(`${part("worker")}\n;globalThis.tell = (data) => onmessage({ data });
 globalThis.runToLast = () => turnTo(machine.planned.at(-1) ?? 0, Infinity);
 globalThis.cut = cutAll;
+globalThis.times = { pages: () => differingPages(new Uint8Array(MEMORY_BYTES), new Uint8Array(MEMORY_BYTES)), feed: () => machine.feed() };
 globalThis.joinStretches = (text, size) => unlessRefused(() => new Checker(machine, size).line(lawful(text), () => {}));
 function cutAll(text, ends) {
   const recording = lawful(text), table = firstTable(recording);
@@ -27,12 +28,13 @@ function cutAll(text, ends) {
 const encoded = (_, value) => (value instanceof Uint8Array ? Buffer.from(value).toString("base64") : value);
 
 /** The answer of the worker to a request; bytes are given in base64. `record` opens a session, runs it to its last checkpoint, and has the
- * recording. `cut` has the stretches of a recording, and `join` the line that those of about so many steps make. */
+ * recording. `cut` has the stretches of a recording, and `join` the line that those of about so many steps make. `time` has the least time of a task. */
 function answerTo([ask, given]) {
   if (ask === "instruction") return { answer: ofPage.instruction(...given) };
   const { base64, ...rest } = given;
   const text = base64 === undefined ? {} : { text: new Uint8Array(Buffer.from(base64, "base64")) };
   if (ask === "cut") return JSON.parse(JSON.stringify({ answer: cut(text.text, rest.ends) }, encoded));
+  if (ask === "time") return { answer: leastTime(times[given.what]) };
   if (ask === "join") return { answer: joinStretches(text.text, rest.size) };
   tell({ id: 1, ask: ask === "record" ? "openSession" : ask, ...rest, ...text });
   if (ask === "record" && "answer" in said) {
@@ -40,6 +42,15 @@ function answerTo([ask, given]) {
     tell({ id: 1, ask: "recording" });
   }
   return JSON.parse(JSON.stringify({ ...said, id: undefined }, encoded));
+}
+
+/** The least time that a task takes, in ms, of a few turns. */
+function leastTime(task) {
+  return Math.min(...Array.from({ length: 9 }, () => {
+    const begun = performance.now();
+    task();
+    return performance.now() - begun;
+  }));
 }
 
 tell({ id: 0, ask: "start", module: module_ });

@@ -149,6 +149,22 @@ class Page:
         button = {"button": "none"} if kind == "mouseMoved" else {"button": "left", "clickCount": 1}
         self._ask("Input.dispatchMouseEvent", type=kind, x=x, y=y, buttons=buttons, **button)
 
+    def send_mouse(self, kind: str, x: float, y: float, buttons: int = 0) -> None:
+        """Does as `point` does, and does not wait until the page has seen it."""
+        button = {"button": "none"} if kind == "mouseMoved" and not buttons else {"button": "left"}
+        clicks = {} if kind == "mouseMoved" else {"clickCount": 1}
+        parameters = {"type": kind, "x": x, "y": y, "buttons": buttons, **button, **clicks}
+        self._pipe.send({"method": "Input.dispatchMouseEvent", "params": parameters, "sessionId": self._session})
+
+    def insert(self, text: str) -> None:
+        """Inserts a text where the focus is, as pasting and input methods do."""
+        self._ask("Input.insertText", text=text)
+
+    def compose(self, begun: str, text: str) -> None:
+        """Composes a text where the focus is, as a dead key and the key after it do."""
+        self._ask("Input.imeSetComposition", text=begun, selectionStart=len(begun), selectionEnd=len(begun))
+        self._ask("Input.insertText", text=text)
+
     def press(self, key: str, code: str = "", modifiers: int = 0, number: int = 0) -> None:
         """Presses and releases a key; one character is its text."""
         text = {"text": "\r" if key == "Enter" else key} if len(key) == 1 or key == "Enter" else {}

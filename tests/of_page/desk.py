@@ -1,0 +1,199 @@
+"""The page in a browser, as a user has it before them, and what a test expects of it."""
+
+import base64
+import re
+import sys
+import time
+from collections.abc import Callable
+from functools import cache
+from pathlib import Path
+from typing import NoReturn
+
+import browser
+from samples import PROGRAM, TOP, run
+
+PAGE = TOP / "web/galluspa.html"
+CTRL, SHIFT = 2, 8
+
+
+def shown(name: str) -> str:
+    """The expression for the text of an element of the page."""
+    return f"document.getElementById('g-{name}').textContent"
+
+
+# The verdict line of the file that is open and how it came, that of the recording that was saved, and what is said of a file that is refused.
+LINE, HOW, OWN_LINE, REFUSED_LINE = shown("line"), shown("how"), shown("own-line"), shown("refused")
+NOTICE, SENT, MODE = shown("notice"), shown("out"), shown("mode")
+JUDGED = f"{LINE} && !verdicts.file.clerk && {LINE} !== 'stopped: no verdict'"
+OWN_JUDGED = f"{OWN_LINE} && !verdicts.own.clerk"
+DRAWN = "pixelsSet()"
+# How many dots of the screen are dark.
+COUNT_DOTS = """
+window.pixelsSet = () => {
+  const copy = new OffscreenCanvas(1024, 768).getContext("2d", { willReadFrequently: true });
+  copy.drawImage(el("screen"), 0, 0);
+  const data = copy.getImageData(0, 0, 1024, 768).data;
+  let dark = 0;
+  for (let at = 0; at < data.length; at += 4) dark += data[at] === 0;
+  return dark;
+};
+"""
+
+
+def fail(why: str) -> NoReturn:
+    """Ends the test."""
+    sys.exit(f"page: {why}")
+
+
+def expect(what: str, found: object, wanted: object) -> None:
+    """Ends the test unless what was found is what was wanted."""
+    if found != wanted:
+        fail(f"{what}: {found!r:.400} in place of {wanted!r:.400}")
+
+
+@cache
+def program(command: str, text: bytes) -> tuple[str, int]:
+    """The line that the program prints of a text, and the status."""
+    ran = run([PROGRAM, command], text)
+    return ran.output.decode().rstrip("\n"), ran.status
+
+
+class Desk:
+    """The page in a browser, as a user has it before them."""
+
+    def __init__(self, running: browser.Browser, page: browser.Page, folder: Path) -> None:
+        self.browser = running
+        self.page = page
+        self.folder = folder
+        self.ready()
+        page.save_into(folder)
+
+    def ready(self) -> None:
+        """Waits until the page can be used."""
+        self.page.wait("document.body.dataset.ready")
+        self.page.answer(COUNT_DOTS)
+
+    def reload(self) -> None:
+        """Loads the page anew."""
+        self.page.reload()
+        self.ready()
+
+    def click(self, name: str) -> None:
+        """Clicks a button."""
+        self.page.answer(f"el('{name}').click()")
+
+    def go(self, name: str, back: bool = False) -> None:
+        """Goes to a control by Tab, or back to it by Shift+Tab."""
+        for _ in range(100):
+            self.page.press("Tab", modifiers=SHIFT if back else 0)
+            if self.page.answer("document.activeElement.id") == f"g-{name}":
+                return
+        fail(f"Tab does not reach {name}")
+
+    def clear(self) -> None:
+        """Clears what the page says, so that what it says next is seen."""
+        self.page.answer("verdicts.file.clear(); verdicts.own.clear(); clearRefusal(); app.latest = null")
+
+    def choose(self, name: str, text: bytes) -> None:
+        """Opens a file by the button."""
+        path = self.folder / name
+        path.write_bytes(text)
+        self.page.choose("#g-file", path)
+
+    def open(self, name: str, text: bytes) -> None:
+        """Opens a file by the button, after what the page says was cleared."""
+        self.clear()
+        self.choose(name, text)
+
+    def drop(self, name: str, text: bytes) -> None:
+        """Drops a file on the page."""
+        content = base64.b64encode(text).decode()
+        self.clear()
+        self.page.answer(f"""(() => {{
+          const data = new DataTransfer();
+          data.items.add(new File([Uint8Array.from(atob("{content}"), (it) => it.charCodeAt(0))], "{name}"));
+          dispatchEvent(new DragEvent("drop", {{ dataTransfer: data, cancelable: true }}));
+        }})()""")
+
+    def start(self, name: str, text: bytes) -> None:
+        """Opens a file, and waits until its machine is there."""
+        before = self.page.answer("app.work.generation")
+        self.open(name, text)
+        self.page.wait(f"app.work.generation !== {before} && app.latest?.generation === app.work.generation")
+
+    def draw(self) -> None:
+        """Starts the drawing program, and waits until it runs."""
+        before = self.page.answer("app.work.generation")
+        self.click("draw")
+        self.page.wait(f"app.work.generation !== {before} && app.latest.generation === app.work.generation && app.latest.on")
+
+    def go_on(self) -> None:
+        """Runs the machine."""
+        self.click("run")
+        self.page.wait("app.latest.on")
+
+    def pause(self) -> None:
+        """Pauses the machine."""
+        self.click("run")
+        self.page.wait("!app.latest.on")
+
+    def expect_line(self, what: str, text: bytes) -> None:
+        """Expects the program's line of a recording that is open, in its colour."""
+        self.page.wait(JUDGED)
+        wanted, status = program("check", text)
+        expect(what, self.page.answer(LINE), wanted)
+        expect(f"the colour of {what}", self.page.answer("el('line').className"), f"line {('accepted', 'false', 'refused')[status]}")
+
+    def expect_refused(self, name: str, line: str) -> None:
+        """Expects a file to be refused with a line."""
+        self.page.wait(REFUSED_LINE)
+        found = self.page.answer(f"[{shown('refused-name')}, {REFUSED_LINE}]")
+        expect(f"what is refused of {name}", found, [f"The file {name} is refused:", line])
+
+    def expect_notice(self, what: str, pattern: str) -> None:
+        """Expects a notice in one line."""
+        self.page.wait(NOTICE)
+        if not re.fullmatch(pattern, self.page.answer(NOTICE)):
+            fail(f"{what}: {self.page.answer(NOTICE)!r}")
+
+    def save(self, name: str, what: str) -> bytes:
+        """Saves the recording; its line is the program's, and the program accepts it."""
+        self.page.answer("verdicts.own.clear()")
+        self.click("record")
+        self.page.wait(OWN_JUDGED)
+        recording = self.saved(f"{name}-live.orsr")
+        expect(what, (self.page.answer(OWN_LINE), 0), program("check", recording))
+        return recording
+
+    def saved(self, name: str) -> bytes:
+        """A file that the page saved, once it is whole."""
+        path, end = self.folder / name, time.monotonic() + browser.PATIENCE
+        while not path.exists():
+            if time.monotonic() > end:
+                fail(f"the page did not save {name}")
+            time.sleep(0.05)
+        content = path.read_bytes()
+        path.unlink()
+        return content
+
+    def screen(self) -> tuple[float, float, float]:
+        """The left and the upper end of the screen, and its width."""
+        return self.page.answer("(({ left, top, width }) => [left, top, width])(el('screen').getBoundingClientRect())")
+
+    def expect_sound(self) -> None:
+        """Expects that nothing went wrong on the console, and that nothing was asked of the network."""
+        expect("the errors of the page", self.page.errors, [])
+        outside = [url for url in self.page.requests if not url.startswith(("file:", "blob:", "data:"))]
+        expect("what the page asked of the network", outside, [])
+
+
+def use(folder: Path, task: Callable[[Desk], None]) -> None:
+    """Does something with the page in a browser of its own."""
+    folder.mkdir()
+    try:
+        with browser.browser() as running, running.page(PAGE) as page:
+            desk = Desk(running, page, folder)
+            task(desk)
+            desk.expect_sound()
+    except RuntimeError as error:
+        fail(f"{error}")

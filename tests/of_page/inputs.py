@@ -1,0 +1,148 @@
+"""What the user does reaches the machine whole: clicks and strokes, text for the serial line, composed characters, controls; or the page says so."""
+
+import json
+import time
+
+import galluspa.recording
+from desk import MODE, NOTICE, SENT, SHIFT, Desk, expect, fail
+from samples import EXAMPLES, JUMP, record, session
+from kept import BUTTONS, DRAW
+
+MOUSE, PER_MS, KEYS = 3, 25000, 7 << 24
+# The bytes of the display's lines in which something is drawn, each as often as there are such lines.
+PLACES = """(() => {
+  const places = new Set();
+  screens.dots.forEach((byte, at) => byte && places.add(at % 128));
+  return places.size;
+})()"""
+CLEAN = "screens.dots && !screens.dots.some(Boolean)"
+
+
+def click_fast(desk: Desk) -> None:
+    """The program sees each click, however short; a fast stroke has positions of the mouse between two frames."""
+    page = desk.page
+    page.resize(1280, 1100)
+    for speed in ("clock", "fast"):
+        page.answer(f"el('speed').value = '{speed}'")
+        desk.draw()
+        page.wait(CLEAN)
+        left, top, width = desk.screen()
+        for number in range(10):
+            at = {"x": left + width * (0.1 + number * 0.08), "y": top + 100}
+            page.send_mouse("mouseMoved", **at)
+            page.send_mouse("mousePressed", buttons=1, **at)
+            page.send_mouse("mouseReleased", **at)
+            time.sleep(0.02)
+        page.wait("app.latest.inputs >= 30")
+        page.wait(f"{PLACES} === 10")
+    page.answer("el('speed').value = 'clock'")
+    desk.draw()
+    page.wait(CLEAN)
+    left, top, width = desk.screen()
+    page.send_mouse("mousePressed", buttons=1, x=left + 50, y=top + 50)
+    for number in range(200):
+        page.send_mouse("mouseMoved", buttons=1, x=left + 50 + 3 * number, y=top + 50 + number)
+        time.sleep(0.002)
+    page.send_mouse("mouseReleased", x=left + 650, y=top + 250)
+    page.wait("app.latest.inputs > 100 && field(app.latest.state, AT.mouse) === pointer.sent && !(pointer.sent >> 24)")
+    moves, frames = page.answer("[app.latest.inputs, app.latest.frames]")
+    events = [it for it in galluspa.recording.read(desk.save("draw", "a stroke")).events if it.kind == MOUSE]
+    changes = [now.count for before, now in zip([None, *events], events) if (now.value ^ (before.value if before else 0)) & KEYS]
+    if len(changes) != 2 or changes[1] - changes[0] < PER_MS or any(two.count - one.count < PER_MS for one, two in zip(events, events[1:-1])):
+        fail(f"the stroke has changes of the keys at {changes}")
+    print(f"clicks: 10 without length are seen, at both speeds; a stroke of 200 positions has {moves} inputs in {frames} frames")
+
+
+def send_lines(desk: Desk) -> None:
+    """Lines pasted into the field are sent as lines, several bytes a frame; in a replay the text stays, and keys typed while paused are said to have no effect."""
+    page = desk.page
+    page.answer("el('return').checked = true")
+    desk.draw()
+    page.answer("el('serial').focus()")
+    page.insert("one\ntwo")
+    page.press("Enter", modifiers=SHIFT)
+    page.insert("three")
+    page.press("Enter")
+    page.wait(f"{SENT} === 'one\\\\0dtwo\\\\0dthree\\\\0d'")
+    expect("the field after it was sent", page.answer("el('serial').value"), "")
+    frames = page.answer("app.latest.frames")
+    page.answer("el('serial').value = 'x'.repeat(400); el('serial-form').requestSubmit()")
+    page.wait(f"{SENT}.endsWith('x'.repeat(400) + '\\\\0d')")
+    if page.answer("app.latest.frames") - frames > 200:
+        fail(f"400 bytes took {page.answer('app.latest.frames') - frames} frames")
+    desk.pause()
+    page.answer("el('screen').focus()")
+    page.press("k")
+    desk.expect_notice("a key typed while paused", "The machine is paused: keys and the mouse go to it while it runs.")
+    desk.start("keys.json", (EXAMPLES / "keys.json").read_bytes())
+    page.answer("el('serial').value = 'later'; el('serial-form').requestSubmit()")
+    desk.expect_notice("text in a replay", "REPLAY: the inputs are the file's until you take over. The text stays here.")
+    expect("the text in a replay", page.answer("el('serial').value"), "later")
+    page.answer("el('serial').value = ''")
+    print("serial line: pasted lines, 400 bytes in few frames; text and keys that cannot be sent are said to be")
+
+
+def compose_text(desk: Desk) -> None:
+    """Composed characters are sent by their Latin-1 codes, and what has none is said not to be sent."""
+    page = desk.page
+    desk.draw()
+    page.compose("´", "é")
+    page.insert("ü")
+    page.press("ß")
+    page.wait(f"{SENT} === '\\\\e9\\\\fc\\\\df'")
+    page.insert("日本")
+    desk.expect_notice("composed text that has no codes", "日本: keys send the characters of Latin-1 only.")
+    page.answer("notice()")
+    page.press("€")
+    desk.expect_notice("a key that has no code", "€: keys send the characters of Latin-1 only.")
+    page.answer("notice(); el('keys').value = 'ps2'")
+    page.insert("é")
+    desk.expect_notice("composed text as PS/2 codes", "é: PS/2 codes have no composed text.")
+    page.answer("el('keys').value = 'characters'")
+    expect("what was sent", page.answer(SENT), "\\e9\\fc\\df")
+    print("composed text: é by a dead key, ü and ß are sent; 日本, € and composed text as PS/2 codes are said not to be")
+
+
+def go_to_checkpoints(desk: Desk) -> None:
+    """A session without checkpoints has an end to go to; a change of the speed keeps the goal and the focus; controls show what is opened."""
+    page = desk.page
+    page.answer("el('speed').value = 'clock'; el('each').value = 0")
+    keys = json_of("keys.json", checkpoints=[])
+    desk.start("keys.json", keys)
+    desk.click("next")
+    page.wait("!app.latest.on && countOf(app.latest.state) === 51 && !app.latest.isReplay")
+    page.answer("el('each').value = 1")
+    desk.start("draw.json", DRAW)
+    desk.click("next")
+    page.wait("app.latest.on")
+    page.answer("el('speed').focus()")
+    page.press("ArrowDown")
+    page.answer("el('each').focus()")
+    page.press("ArrowUp")
+    page.wait("!app.latest.on")
+    expect("the goal after a change of the speed", page.answer("[countOf(app.latest.state), el('speed').value, el('each').value]"), [25000000, "fast", "2"])
+    expect("what has the focus after an arrow", page.answer("document.activeElement.id"), "g-each")
+    page.answer("el('speed').value = 'clock'; el('switches').querySelector('input[value=\"3\"]').click()")
+    desk.click("step")
+    page.wait("field(app.latest.state, AT.switches) === 8")
+    desk.start("draw.json", DRAW)
+    expect("the switches of another machine", page.answer("el('switches').querySelectorAll('input:checked').length"), 0)
+    switched = record(session([JUMP], [20], [(5, "switches", 5), (6, "mouse", 7)]))
+    desk.start("switched.orsr", switched)
+    desk.click("next")
+    page.wait("countOf(app.latest.state) === 20 && !app.latest.on")
+    expect("the controls after a replay", page.answer("[el('switches').querySelectorAll('input:checked').length, el('x').value]"), [2, "7"])
+    print("controls: the end of a session is a goal, a goal outlives a change of the speed, and switches show the machine's own")
+
+
+def json_of(name: str, **changes: object) -> bytes:
+    """An example's session with some members changed."""
+    return json.dumps({**json.loads((EXAMPLES / name).read_text()), **changes}).encode()
+
+
+def drive(desk: Desk) -> None:
+    """All of it."""
+    click_fast(desk)
+    send_lines(desk)
+    compose_text(desk)
+    go_to_checkpoints(desk)

@@ -1,0 +1,214 @@
+"""What the browser keeps: the user's work and nothing else, in each page that goes on with it, and whatever other pages write there."""
+
+from collections.abc import Iterator
+from contextlib import contextmanager
+
+import browser
+from desk import NOTICE, PAGE, SENT, Desk, expect, fail
+from samples import EXAMPLES, rejoining
+
+DRAW = (EXAMPLES / "draw.json").read_bytes()
+ITEMS = "withKept('readonly', (store) => store.getAll()).then((all) => all.map(({ name, count, sent }) => [name, count, sent]))"
+IS_KEPT = "app.work.kept.startsWith(`${countOf(app.latest.state)} ${app.latest.inputs} `)"
+BUTTONS = "[...document.querySelectorAll('#g-kept button')]"
+
+
+def items(page: browser.Page) -> list[list]:
+    """The name, the count and the output of each item that is kept."""
+    return page.answer(ITEMS)
+
+
+def forget_all(desk: Desk) -> None:
+    """Opens a machine that has nothing to keep, and forgets all that is kept."""
+    desk.start("draw.json", DRAW)
+    desk.page.answer("keeping.then(() => withKept('readwrite', (store) => store.clear())).then(showKept)")
+
+
+def type_and_pause(desk: Desk, key: str) -> int:
+    """Types a key that the program sends back, pauses, and waits until that is kept. Returns the count."""
+    page = desk.page
+    page.press(key)
+    page.wait(f"{SENT}.endsWith({key!r})")
+    desk.pause()
+    page.wait(IS_KEPT)
+    return page.answer("countOf(app.latest.state)")
+
+
+@contextmanager
+def another(desk: Desk, name: str) -> Iterator[Desk]:
+    """The page once more, in another tab of the browser."""
+    folder = desk.folder / name
+    folder.mkdir()
+    with desk.browser.page(PAGE) as page:
+        yield Desk(desk.browser, page, folder)
+    desk.page.save_into(desk.folder)
+
+
+def keep_each(desk: Desk) -> None:
+    """A recording is kept though the one before stopped at the same count; one that only replays is not kept; none is dropped for another."""
+    page = desk.page
+    page.answer("el('speed').value = 'fast'; el('each').value = 1")
+    for _ in range(2):
+        desk.start("draw.json", DRAW)
+        page.answer("el('x').value = 7; el('x').dispatchEvent(new Event('change', { bubbles: true }))")
+        desk.click("next")
+        page.wait("countOf(app.latest.state) === 25000000 && !app.latest.on")
+        page.wait(IS_KEPT)
+    expect("what is kept of two recordings of the same length", items(page), [["draw", 25000000, ""]] * 2)
+    for number in range(5):
+        desk.start(f"watched-{number}.orsr", rejoining(1))
+        desk.click("run")
+        page.wait("!app.latest.on && countOf(app.latest.state) === 4")
+        desk.go_on()
+        page.wait("countOf(app.latest.state) > 1000000")
+        desk.pause()
+    page.answer("keep()")
+    expect("what is kept after five replays", items(page), [["draw", 25000000, ""]] * 2)
+    desk.reload()
+    page.wait("el('kept-list').firstChild")
+    expect("what is offered", page.answer("document.querySelectorAll('#g-kept p').length"), 2)
+    forget_all(desk)
+    print("kept: two recordings of the same length; five replays that went on past their ends are not, and drop nothing")
+
+
+def keep_under_its_name(desk: Desk) -> None:
+    """A machine that runs while a file is opened is kept once, under its own name, with all of its inputs."""
+    page = desk.page
+    desk.draw()
+    page.press("q")
+    page.wait(f"{SENT} === 'q'")
+    page.press("r")
+    desk.start("keys.json", (EXAMPLES / "keys.json").read_bytes())
+    page.answer("keeping")
+    found = items(page)
+    expect("the names of what is kept", [name for name, *_ in found], ["draw"])
+    page.wait("el('kept-list').firstChild")
+    page.answer(f"{BUTTONS}[0].click()")
+    page.wait("app.work.name === 'draw' && app.latest.hasOwn")
+    desk.go_on()
+    page.wait(f"{SENT} === 'qr'")
+    desk.pause()
+    forget_all(desk)
+    print("kept: a machine that ran while a file was opened, once and under its name")
+
+
+def resume_twice(desk: Desk) -> None:
+    """Two tabs that resume one recording keep two, with locks and without them."""
+    page = desk.page
+    for has_locks in (True, False):
+        if not has_locks:
+            page.answer("Object.defineProperty(navigator, 'locks', { value: undefined })")
+        desk.draw()
+        first = type_and_pause(desk, "a")
+        with another(desk, f"tab-{has_locks}") as tab:
+            if not has_locks:
+                tab.page.answer("Object.defineProperty(navigator, 'locks', { value: undefined })")
+            tab.page.wait("el('kept-list').firstChild")
+            tab.page.answer(f"{BUTTONS}[0].click()")
+            tab.page.wait("app.latest?.hasOwn")
+            if has_locks:
+                tab.expect_notice("a second resume", "This recording is open in another page: what you do here is kept as a copy.")
+            tab.go_on()
+            second = type_and_pause(tab, "b")
+            # Without locks the second tab goes on with the item, and the first one gets a copy as soon as it goes on.
+            own = [["draw", first, "a"]] if has_locks else []
+            expect("what two tabs keep", sorted(items(page)), sorted([*own, ["draw", second, "ab"]]))
+            desk.go_on()
+            third = type_and_pause(desk, "c")
+            expect("what two tabs keep of both", sorted(items(page)), sorted([["draw", third, "ac"], ["draw", second, "ab"]]))
+            tab.expect_sound()
+        forget_all(desk)
+    desk.reload()
+    print("kept: two tabs that resume one recording keep two, with locks and without")
+
+
+def forget_and_undo(desk: Desk) -> None:
+    """What was forgotten can be brought back; what another tab has open is not forgotten."""
+    page = desk.page
+    desk.draw()
+    type_and_pause(desk, "f")
+    with another(desk, "other") as tab:
+        tab.page.wait("el('kept-list').firstChild")
+        tab.page.answer(f"{BUTTONS}[1].click()")
+        tab.expect_notice("what another tab has open", "This recording is open in another page, so it cannot be forgotten here.")
+    desk.start("keys.json", (EXAMPLES / "keys.json").read_bytes())
+    page.answer("keeping")
+    before = items(page)
+    page.answer(f"{BUTTONS}[1].click()")
+    page.wait(f"{BUTTONS}[0].textContent === 'Undo'")
+    expect("what is kept once it is forgotten", items(page), [])
+    page.answer(f"{BUTTONS}[0].click()")
+    page.wait(f"{BUTTONS}[0].textContent === 'Resume'")
+    expect("what is kept once that is undone", items(page), before)
+    forget_all(desk)
+    print("kept: forgotten and brought back; not forgotten while another tab has it open")
+
+
+# Items that another page may have written: their shapes are wrong, or only what they say is.
+ODD = """
+const bytes = (length) => new Uint8Array(length), machine = { state: bytes(136), words: bytes(1048576) };
+const whole = { name: "odd", sent: "", count: 0, inputs: bytes(0), live: machine, recording: bytes(30), sentSince: bytes(0) };
+const odd = [{}, { ...whole, inputs: null }, { ...whole, name: { toString: 1 } }, { ...whole, count: -1 }, { ...whole, count: "<b>" }, { ...whole, inputs: bytes(7) },
+             { ...whole, live: { state: bytes(8), words: [] } }, { ...whole, first: 1, marks: 7 }, { ...whole, sent: 5 }, { ...whole, waiting: { keys: ["a"], serial: [] } }];
+const items = [...odd.map((item, at) => ({ ...item, id: at })), { ...whole, id: [1, "x"] }, { ...whole, id: 100 }];
+"""
+WRITE = """
+new Promise((done) => {
+  const asked = indexedDB.open("galluspa", 1);
+  asked.onupgradeneeded = () => asked.result.createObjectStore("sessions", { keyPath: "id" });
+  asked.onsuccess = () => {
+    const transaction = asked.result.transaction("sessions", "readwrite");
+    for (const item of items) transaction.objectStore("sessions").put(item);
+    transaction.oncomplete = () => { asked.result.close(); done(); };
+  };
+})
+"""
+ANEW = """
+new Promise((done) => {
+  indexedDB.deleteDatabase("galluspa").onsuccess = () => {
+    const asked = indexedDB.open("galluspa", 9);
+    asked.onsuccess = () => { asked.result.close(); done(); };
+  };
+})
+"""
+
+
+def survive_other_pages(desk: Desk) -> None:
+    """What another page from disk wrote to the storage is shown as unreadable or refused, and never keeps the page from starting."""
+    page, blank = desk.page, desk.folder / "other.html"
+    blank.write_text("<!doctype html><title>Another page</title>")
+    forget_all(desk)
+    with desk.browser.page(blank) as other:
+        other.answer(f"(() => {{ {ODD} return {WRITE.strip()}; }})()")
+        desk.reload()
+        page.wait("el('kept-list').firstChild")
+        texts = page.answer("[...document.querySelectorAll('#g-kept p')].map((it) => it.textContent)")
+        expect("how many are unreadable", sum(it.endswith("cannot be read: this page did not write it.") for it in texts), len(texts) - 1)
+        expect("how many items are shown", len(texts), 12)
+        desk.draw()
+        page.answer(f"{BUTTONS}.find((it) => it.textContent === 'Resume').click()")
+        desk.expect_notice("an item that says what cannot be", "the file is no recording")
+        expect("what is open still", page.answer("[app.work.name, app.latest.on]"), ["draw", True])
+        forget_all(desk)
+        other.answer(ANEW)
+        desk.reload()
+        page.wait("el('kept-list').firstChild")
+        told = page.answer("el('kept').textContent")
+        if "What this browser keeps cannot be read: " not in told:
+            fail(f"a database of another version: {told}")
+        page.answer(f"{BUTTONS}[0].click()")
+        page.wait("!el('kept-list').firstChild")
+        desk.draw()
+        type_and_pause(desk, "k")
+        expect("what is kept after all was forgotten", [name for name, *_ in items(page)], ["draw"])
+    forget_all(desk)
+    print("kept: 11 odd items of another page are unreadable, one is refused, and a database of another version is shown and forgotten")
+
+
+def drive(desk: Desk) -> None:
+    """All of it."""
+    keep_each(desk)
+    keep_under_its_name(desk)
+    resume_twice(desk)
+    forget_and_undo(desk)
+    survive_other_pages(desk)

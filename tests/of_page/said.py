@@ -1,0 +1,163 @@
+"""What the page says is so: where a recording ends, what is open, which verdict is whose, and what is known of a check that was stopped."""
+
+import json
+import re
+import struct
+
+import galluspa.recording
+from desk import HOW, JUDGED, LINE, MODE, NOTICE, OWN_JUDGED, OWN_LINE, SENT, Desk, expect, fail, program
+from galluspa.recording import Event, Recording
+from samples import EXAMPLES, JUMP, STORED, claim, encoded, page_of, record, rejoining, session
+
+# Sends a byte with every other instruction.
+SENDER = session([0x5100FFC8, 0xA0100000, 0xE7FFFFFE], [])
+MOST_INPUTS = 1000000
+
+
+def say_full(desk: Desk) -> None:
+    """A recording has a checkpoint before its limit of sent bytes; that it is full is said until something else is opened."""
+    page = desk.page
+    page.answer("el('speed').value = 'fast'; el('each').value = 5")
+    desk.start("sender.json", json.dumps(SENDER).encode())
+    desk.click("run")
+    page.wait("app.latest.full && !app.latest.on")
+    count = page.answer("app.latest.full.count")
+    told = f"sender FULL at {count:,}: the recording has reached its limit of sent bytes. What comes after is not recorded."
+    expect("what is said of a full recording", page.answer(MODE), told)
+    desk.go_on()
+    page.wait(f"countOf(app.latest.state) > {count + 1000000}")
+    desk.pause()
+    expect("what is said of it later", page.answer(MODE), told)
+    read = galluspa.recording.read(desk.save("sender", "a full recording"))
+    expect("where it ends", page.answer(OWN_LINE), f"accepted 1 checkpoints {count} steps")
+    if not 950000 < len(read.checkpoints[-1].output) <= 1 << 20:
+        fail(f"a full recording has {len(read.checkpoints[-1].output)} bytes")
+    desk.start("keys.json", (EXAMPLES / "keys.json").read_bytes())
+    expect("what is said of the next machine", page.answer(MODE).split()[:2], ["keys", "REPLAY"])
+    print(f"full: the recording of a program that sends without end ends with a checkpoint at {count:,}, and that stays said")
+
+
+def fill_inputs(desk: Desk) -> None:
+    """A recording with all but one of the inputs that there can be takes one more, and then says that it is full, and what was typed."""
+    page = desk.page
+    events = [Event(10 + at, 4, 65) for at in range(MOST_INPUTS - 1)]
+    text = encoded(2, [page_of(JUMP)], [claim(0)], events)
+    page.answer("el('speed').value = 'fast'; el('each').value = 0")
+    desk.start("inputs.orsr", text)
+    desk.click("run")
+    page.wait("!app.latest.isReplay && !app.latest.on")
+    desk.click("run")
+    page.wait("app.latest.on && document.activeElement === el('screen')")
+    page.answer("el('x').value = 5; el('x').dispatchEvent(new Event('change', { bubbles: true }))")
+    page.wait("app.latest.full && !app.latest.on")
+    count = page.answer("app.latest.full.count")
+    told = f"inputs FULL at {count:,}: the recording has reached its limit of inputs. The machine takes no more."
+    expect("what is said of a machine with all inputs", page.answer(MODE), told)
+    desk.go_on()
+    page.press("k")
+    desk.expect_notice("a key after all inputs", "FULL: the machine takes no more inputs.")
+    desk.pause()
+    read = galluspa.recording.read(desk.save("inputs", "a recording with all inputs"))
+    expect("its last input", (len(read.events), read.events[-1].kind, read.events[-1].value), (MOST_INPUTS, 3, 5))
+    expect("whether there is a checkpoint after it", read.checkpoints[1].count > read.events[-1].count, True)
+    print(f"full: {len(read.events):,} inputs are recorded, and then the machine takes no more, and says so")
+
+
+def leave_what_is_open(desk: Desk) -> None:
+    """A file that is refused, and the form of a memory image, leave the machine that is open, with its name, its verdict and its checkpoints."""
+    page, face = desk.page, (EXAMPLES / "face.orsr").read_bytes()
+    page.answer("el('speed').value = 'clock'")
+    desk.start("face.orsr", face)
+    desk.expect_line("the recording that is open", face)
+    desk.click("take")
+    desk.go_on()
+    for name, text, line in (("short.orsr", STORED[:-1], program("check", STORED[:-1])[0]), ("shape.json", b"{}", "session refused 2 shape")):
+        page.answer("clearRefusal()")
+        desk.choose(name, text)
+        desk.expect_refused(name, line)
+        expect("what is still open", page.answer(f"[{LINE}, app.latest.on, el('refused-how').textContent, el('claims').hidden]"),
+               [program("check", face)[0], True, "face is still open.", False])
+    desk.choose("image.bin", STORED[24:1048])
+    page.wait("!el('image').hidden")
+    desk.click("mark")
+    page.wait("app.latest.marks > 0")
+    page.answer("el('registers').value = 'PC=5000000'; el('image').requestSubmit()")
+    desk.expect_notice("a wrong register", "PC=5000000: .*")
+    desk.click("cancel")
+    expect("the form when it is cancelled, and what is open", page.answer("[el('image').hidden, app.latest.on, app.work.name]"), [True, True, "face"])
+    desk.pause()
+    desk.save("face", "what was open all the time")
+    print("refused: two files and a memory image leave the machine, its name, its verdict and its checkpoints")
+
+
+def judge_both(desk: Desk) -> None:
+    """The verdict of a false file stays where it is when its replay is saved, which is accepted; each has its name."""
+    page, false = desk.page, rejoining(9)
+    desk.start("false.orsr", false)
+    desk.expect_line("a false file", false)
+    desk.click("run")
+    page.wait("!app.latest.isReplay && !app.latest.on")
+    desk.save("false", "the replay of a false file")
+    names = page.answer("[el('judged').textContent, el('line').textContent, el('own-judged').textContent, el('own-line').textContent]")
+    expect("both verdicts", names, ["The file false.orsr", "false checkpoint 1 at 2 part R5", "The recording that you saved, false-live.orsr",
+                                    "accepted 2 checkpoints 4 steps"])
+    print("verdicts: that of a false file and that of its saved replay each have a place and a name")
+
+
+def end_at_once(desk: Desk) -> None:
+    """A machine that stopped is at its end at once, in a check and in a replay; a check that is stopped says what it has found."""
+    page = desk.page
+    stopped = record(session([0x40080000 | 12 << 16], [1, 1 << 40]))
+    desk.start("stopped.orsr", stopped)
+    desk.expect_line("a machine that stopped at once", stopped)
+    page.answer("el('speed').value = 'clock'")
+    desk.click("run")
+    page.wait("!app.latest.on && countOf(app.latest.state) === 2 ** 40")
+    expect("the checkpoints that it passed", page.answer("[...document.querySelectorAll('#g-passed li')].map((it) => it.textContent)"),
+           ["at 1: true", "at 1,099,511,627,776: true"])
+    never = bytearray(record(session([JUMP], [10000000, 20000000, 30000000])))
+    struct.pack_into("<Q", never, len(never) - 144, 1 << 40)
+    desk.open("never.orsr", bytes(never))
+    page.wait("verdicts.file.work?.judged === 2 && verdicts.file.work.done > 25000000")
+    desk.click("stop")
+    expect("the line of a check that was stopped", page.answer(LINE), "stopped: no verdict")
+    if not re.fullmatch(r"Up to checkpoint 2 of 3 all are true; [\d,]+ of 1,099,511,627,776 steps were checked\.", page.answer(HOW)):
+        fail(f"what it says it found: {page.answer(HOW)!r}")
+    print("stopped: a machine that stopped is at 2^40 at once, checked and replayed; a check that was stopped says what it found")
+
+
+def refuse_each(desk: Desk) -> None:
+    """Each request has its own refusal, and a worker that breaks refuses what waits. Refused recordings take no memory."""
+    page = desk.page
+    desk.start("face.orsr", (EXAMPLES / "face.orsr").read_bytes())
+    desk.expect_line("a file", (EXAMPLES / "face.orsr").read_bytes())
+    asked = "Promise.allSettled([app.live.ask('claimed', { number: 99 }), app.live.ask('openSession', { text: new Uint8Array(2) })])"
+    expect("two refusals", page.answer(f"{asked}.then((all) => all.map((it) => it.reason.message))"), ["no checkpoint 99", "session refused 1 json"])
+    expect("the page's notice after them", page.answer(NOTICE), "")
+    odd = bytearray((EXAMPLES / "face.orsr").read_bytes())
+    struct.pack_into("<I", odd, 20, 1)
+    desk.choose("odd.orsr", bytes(odd))
+    desk.expect_refused("odd.orsr", program("check", bytes(odd))[0])
+    before = page.answer("app.latest.memory")
+    page.answer(f"(async () => {{ const bytes = app.file.text.slice(); bytes[20] = 1; for (let k = 0; k < 40; k++) await openBytes('odd.orsr', bytes); }})()")
+    desk.click("step")
+    page.wait("countOf(app.latest.state) === 1")
+    if page.answer("app.latest.memory") > before + (1 << 20):
+        fail(f"40 refused recordings grew the memory from {before:,} to {page.answer('app.latest.memory'):,} bytes")
+    page.answer("el('worker').textContent = 'throw new Error(`broken`)'; Helper.url = null")
+    desk.click("record")
+    desk.saved("face-live.orsr")
+    desk.expect_notice("a clerk that is broken", "the worker failed: Uncaught Error: broken")
+    desk.click("step")
+    page.wait("countOf(app.latest.state) === 2")
+    print("refusals: each request has its own; a worker that breaks is said to, and the machine goes on; refused recordings take no memory")
+
+
+def drive(desk: Desk) -> None:
+    """All of it."""
+    say_full(desk)
+    fill_inputs(desk)
+    leave_what_is_open(desk)
+    judge_both(desk)
+    end_at_once(desk)
+    refuse_each(desk)

@@ -1,0 +1,232 @@
+/* The devices that the user works with: keys and composed text, the mouse, the switches and the serial line. What cannot be sent
+ * stays where it is, or the page says so. */
+"use strict";
+
+const CHARACTERS = { Enter: 13, Backspace: 8, Tab: 9, Escape: 27, Delete: 127 };
+// The codes of a PS/2 keyboard, set 2, as Oberon's own driver reads them: E0 before some, F0 before a key that is released.
+const PS2 = Object.fromEntries(
+  ("KeyA 1c KeyB 32 KeyC 21 KeyD 23 KeyE 24 KeyF 2b KeyG 34 KeyH 33 KeyI 43 KeyJ 3b KeyK 42 KeyL 4b KeyM 3a KeyN 31 KeyO 44 KeyP 4d KeyQ 15 " +
+    "KeyR 2d KeyS 1b KeyT 2c KeyU 3c KeyV 2a KeyW 1d KeyX 22 KeyY 35 KeyZ 1a Digit0 45 Digit1 16 Digit2 1e Digit3 26 Digit4 25 Digit5 2e " +
+    "Digit6 36 Digit7 3d Digit8 3e Digit9 46 Minus 4e Equal 55 BracketLeft 54 BracketRight 5b Backslash 5d Semicolon 4c Quote 52 " +
+    "Backquote 0e Comma 41 Period 49 Slash 4a Space 29 Enter 5a Backspace 66 Tab 0d Escape 76 ShiftLeft 12 ShiftRight 59 " +
+    "ControlLeft 14 AltLeft 11 F1 05 F2 06 F3 04 F4 0c ArrowUp e075 ArrowDown e072 ArrowLeft e06b ArrowRight e074 Delete e071")
+    .match(/\w+ \w+/g).map((pair) => pair.split(" ")).map(([key, code]) => [key, parseInt(code, 16)]),
+);
+const held = new Set();
+
+// Keys
+
+const isPs2 = () => el("keys").value === "ps2";
+
+/** Returns the codes of a key that is pressed or released: its PS/2 codes, or its character. */
+function codesOf({ type, code, key, ctrlKey, metaKey }) {
+  if (isPs2()) {
+    const number = PS2[code];
+    if (!number || (type === "keyup" && !held.delete(code))) return [];
+    if (type === "keydown") held.add(code);
+    return [...(number > 255 ? [number >> 8] : []), ...(type === "keyup" ? [0xf0] : []), number & 255];
+  }
+  if (type === "keyup" || ctrlKey || metaKey) return [];
+  const character = CHARACTERS[key] ?? (key.length === 1 ? key.charCodeAt(0) : 0);
+  return character && character < 256 ? [character] : [];
+}
+
+/** Whether a key that is pressed is for the machine: a key of a PS/2 keyboard, a character, or the beginning of one. */
+function isForMachine({ code, key, ctrlKey, metaKey }) {
+  if (isPs2()) return code in PS2;
+  return !ctrlKey && !metaKey && (key in CHARACTERS || [...key].length === 1 || key === "Dead");
+}
+
+function pressed(event) {
+  const isTab = event.key === "Tab" && (event.shiftKey || !app.latest?.on);
+  if (event.isComposing || event.key === "Process" || isTab) return;
+  if (event.key === "Enter" && event.ctrlKey) return leaveScreen(event);
+  if (event.type === "keydown" && (!isForMachine(event) || !isRunning())) return;
+  const codes = codesOf(event);
+  if (codes.length) {
+    event.preventDefault();
+    sendCodes(codes);
+  } else if (event.type === "keydown") unsent(event.key);
+}
+
+/** Says that a key is not sent: it begins a character that this browser does not compose, or is a character that the machine has no
+ * code for. */
+function unsent(key) {
+  if (key !== "Dead") sendText(key);
+  else if (!el("screen").editContext) notice("This browser composes no characters here: send them over the serial line.");
+}
+
+/** Whether keys and the mouse go to the machine now; if not, the page says why. */
+function isRunning() {
+  if (!app.latest) return false;
+  const { on, deaf } = app.latest;
+  if (on && !deaf) return true;
+  notice(`${deaf ?? "The machine is paused: keys and the mouse go to it while it runs"}.`);
+  return false;
+}
+
+function sendCodes(codes) {
+  tell("type", { keys: codes });
+}
+
+/** Sends a text that was composed as if it were typed, each character by its Latin-1 code. */
+function sendText(text) {
+  if (!isRunning()) return;
+  const characters = [...text].map((character) => (character === "\n" ? "\r" : character));
+  const unsent = isPs2() ? characters : characters.filter((character) => character.codePointAt(0) > 255);
+  const why = isPs2() ? "PS/2 codes have no composed text" : "keys send the characters of Latin-1 only";
+  if (unsent.length) return notice(`${unsent.join("")}: ${why}.`);
+  sendCodes(characters.map((character) => character.charCodeAt(0)));
+}
+
+/** Has the browser compose characters of several keys on the screen, where it can: by dead keys, or by an input method. */
+function compose() {
+  if (typeof EditContext === "undefined") return;
+  const context = new EditContext();
+  let isComposing = false;
+  const send = (text) => {
+    context.updateText(0, context.text.length, "");
+    context.updateSelection(0, 0);
+    if (text) sendText(text);
+  };
+  context.addEventListener("compositionstart", () => (isComposing = true));
+  context.addEventListener("textupdate", ({ text }) => isComposing || send(text));
+  context.addEventListener("compositionend", ({ data }) => {
+    isComposing = false;
+    send(data);
+  });
+  el("screen").editContext = context;
+}
+
+/** Goes from the screen to the next control, since Tab goes to the machine. */
+function leaveScreen(event) {
+  event.preventDefault();
+  if (event.type === "keydown") el("mark").focus();
+}
+
+/** Releases all PS/2 keys when the screen loses the focus. */
+function letGo() {
+  for (const code of [...held]) tell("type", { keys: codesOf({ type: "keyup", code, key: "" }) });
+}
+
+// The mouse
+
+const pointer = { word: 0, sent: 0 };
+
+/** Returns the mouse word: x in bits 0 to 9, y from the bottom in bits 12 to 21, the left key in bit 26, the middle one in 25, the
+ * right one in 24. */
+function mouseWord(x, y, left, middle, right) {
+  return (x | (y << 12) | (left << 26) | (middle << 25) | (right << 24)) >>> 0;
+}
+
+/** Returns the mouse word of an event over the screen, which is in a box of the window. */
+function wordOf(event, box) {
+  const inside = (value, most) => Math.max(0, Math.min(most, Math.floor(value)));
+  const x = inside(((event.clientX - box.left) * 1024) / box.width, 1023);
+  const y = 767 - inside(((event.clientY - box.top) * 768) / box.height, 767);
+  const first = event.buttons & 1, [isMiddle, isRight] = [first && event.altKey, first && event.ctrlKey];
+  const keys = [first && !isMiddle && !isRight, event.buttons & 4 || isMiddle, event.buttons & 2 || isRight].map((is) => (is ? 1 : 0));
+  return mouseWord(x, y, ...keys);
+}
+
+/** Takes a movement or a key of the mouse, with all the positions that the browser has put into one event. */
+function pointed(event) {
+  const box = el("screen").getBoundingClientRect();
+  const between = event.type === "pointermove" ? event.getCoalescedEvents?.() ?? [] : [];
+  const changes = (between.length ? between : [event]).map((one) => [wordOf(one, box), performance.timeOrigin + one.timeStamp]);
+  if (!app.latest?.deaf) showMouse((pointer.word = changes.at(-1)[0]));
+  if (event.type === "pointerdown") {
+    el("screen").setPointerCapture(event.pointerId);
+    el("screen").focus({ preventScroll: true });
+    isRunning();
+  }
+  sendPointer(changes);
+}
+
+/** Sends the mouse words that differ from the one before, if the machine takes them. */
+function sendPointer(changes) {
+  const { on, deaf } = app.latest ?? {};
+  if (!on || deaf) return;
+  const isNew = ([word]) => word !== pointer.sent && ((pointer.sent = word), true);
+  const sent = changes.filter(isNew);
+  if (sent.length) tell("change", { kind: MOUSE, changes: sent });
+}
+
+/** Sends where the mouse is now, after it was moved while the machine did not run. */
+function catchUp() {
+  sendPointer([[pointer.word, performance.timeOrigin + performance.now()]]);
+}
+
+function showMouse(word) {
+  [el("x").value, el("y").value] = [word & 0x3ff, word >> 12 & 0x3ff];
+  ["left", "middle", "right"].forEach((name, at) => (el(`${name}-key`).checked = (word >> (26 - at) & 1) === 1));
+}
+
+function mouseByFields(event) {
+  const inside = (name, most) => Math.max(0, Math.min(most, Math.floor(Number(el(name).value)) || 0));
+  const keys = ["left", "middle", "right"].map((name) => Number(el(`${name}-key`).checked));
+  pointer.word = mouseWord(inside("x", 1023), inside("y", 767), ...keys);
+  return changeByHand(MOUSE, (pointer.sent = pointer.word), event);
+}
+
+// The switches
+
+function switched(event) {
+  const boxes = [...el("switches").querySelectorAll("input")];
+  return changeByHand(SWITCHES, boxes.reduce((sum, it) => sum | (it.checked << Number(it.value)), 0), event);
+}
+
+/** Sends what was set by a control. If it has no effect, the page says why, and the controls show the machine's own again. */
+async function changeByHand(kind, value, { timeStamp }) {
+  if (!app.latest) return;
+  const deaf = await app.live.ask("change", { kind, changes: [[value, performance.timeOrigin + timeStamp]] });
+  if (!deaf) return;
+  notice(`${deaf}.`);
+  showDevices(app.latest.state);
+}
+
+/** Has the controls follow a replay. */
+let devicesShown = "";
+function followDevices(state) {
+  const now = `${field(state, AT.switches)} ${field(state, AT.mouse)}`;
+  if (now !== devicesShown) showDevices(state);
+  devicesShown = now;
+}
+
+/** Has the controls show the switches and the mouse of a state. */
+function showDevices(state) {
+  const switches = field(state, AT.switches);
+  for (const box of el("switches").querySelectorAll("input")) box.checked = (switches >> Number(box.value) & 1) === 1;
+  pointer.word = pointer.sent = field(state, AT.mouse);
+  showMouse(pointer.word);
+}
+
+function makeDevices() {
+  el("leds").replaceChildren(...Array.from({ length: 8 }, () => document.createElement("i")));
+  for (let at = 11; at >= 0; at--) {
+    const label = document.createElement("label"), box = document.createElement("input");
+    Object.assign(box, { type: "checkbox", value: at });
+    label.append(box, at > 7 ? ` button ${at - 8} ` : ` ${at} `);
+    el("switches").append(label);
+  }
+}
+
+// The serial line
+
+/** Sends the text of the field, each line break as a return, as a typed Enter is. If the machine takes none, the text stays. */
+async function sendSerial(event) {
+  event.preventDefault();
+  const text = el("serial").value, lines = text.replaceAll("\n", "\r") + (el("return").checked ? "\r" : "");
+  if (!app.latest || !lines) return;
+  const deaf = await app.live.ask("type", { serial: [...new TextEncoder().encode(lines)] });
+  if (deaf) return notice(`${deaf}. The text stays here.`);
+  notice();
+  if (el("serial").value === text) el("serial").value = "";
+}
+
+/** Enter sends the text; Shift+Enter makes a new line. */
+function enterSends(event) {
+  if (event.key !== "Enter" || event.shiftKey || event.isComposing) return;
+  event.preventDefault();
+  el("serial-form").requestSubmit();
+}

@@ -1,0 +1,101 @@
+/* The verdict lines that the page shows, each in a place of its own: that of the file that is open, and that of the recording that
+ * was saved. Each check has a worker of its own, the clerk. */
+"use strict";
+
+const STATUSES = ["accepted", "false", "refused"];
+const OF_ONE_CALL = "This line is that of one call of the proved check, over the whole recording.";
+
+/** A place for a verdict: the name of what is judged, its line, how that was computed, and while a check goes on its progress. */
+class Verdict {
+  /** `place` begins the names of its elements, and `what` says what is judged. */
+  constructor(place, what) {
+    Object.assign(this, { place, what, clerk: null, work: null, timer: 0, line: null, status: null });
+  }
+
+  part(name) {
+    return el(this.place + name);
+  }
+
+  /** Shows a line and how it was computed. */
+  show(line, status = null, how = "") {
+    Object.assign(this, { line, status });
+    this.part("line").textContent = line ?? "";
+    this.part("line").className = `line ${STATUSES[status] ?? "note"}`;
+    this.part("how").textContent = how;
+  }
+
+  /** Clears the place, and ends its check. */
+  clear() {
+    this.end();
+    this.work = null;
+    this.show(null);
+    this.part("judged").textContent = "";
+  }
+
+  /** Has a clerk check a recording. For a long one the joined line of its stretches comes first. Returns the line of one call over
+   * the whole, with its status; or null if the check is ended before. */
+  async check(name, text) {
+    this.clear();
+    this.part("judged").textContent = `${this.what} ${name}`;
+    const work = { begun: performance.now(), done: 0 };
+    const clerk = (this.clerk = new Helper(app.module, (news) => this.heard(work, news)));
+    this.timer = setInterval(() => this.progress(work, performance.now() - work.begun), 100);
+    this.work = work;
+    try {
+      const answer = await clerk.ask("check", { text });
+      return answer && this.clerk === clerk ? this.judged(answer) : null;
+    } finally {
+      if (this.clerk === clerk) this.end();
+    }
+  }
+
+  judged({ line, status }) {
+    const other = this.line;
+    this.show(line, status, OF_ONE_CALL);
+    if (other && other !== line) notice(`The stretches came to another line, which this page's script or the browser got wrong: ${other}`);
+    return { line, status };
+  }
+
+  /** Takes a report of the clerk: the steps done; or the joined line of the stretches, and about how long the whole will take. */
+  heard(work, news) {
+    if (!("steps" in news)) return notice(news.refused ?? news.broken);
+    Object.assign(work, news);
+    if (!news.stretches) return;
+    work.begun = performance.now();
+    const { line, status, stretches } = news.stretches;
+    this.show(line, status, `The proved check of ${grouped(stretches)} stretches gave this line, put together by this page's script.`);
+  }
+
+  progress({ done, steps, stretches, estimate }, ms) {
+    this.part("progress").hidden = ms < 300;
+    const share = stretches ? Math.min(0.97, ms / estimate) : done / steps;
+    if (share >= 0) this.part("bar").value = share;
+    else this.part("bar").removeAttribute("value");
+    const left = share ? `, about ${Math.max(1, Math.ceil((ms / share - ms) / 1000))} s left` : "";
+    const what = stretches ? `now the whole in one call, ${grouped(steps)} steps` : steps ? `${grouped(done)} of ${grouped(steps)} steps` : "";
+    this.part("left").textContent = what + left;
+  }
+
+  /** Ends the check, if there is one. */
+  end() {
+    clearInterval(this.timer);
+    this.part("progress").hidden = true;
+    this.clerk?.end();
+    this.clerk = null;
+  }
+
+  /** Stops the check by hand, and says what is known so far. */
+  stop() {
+    if (!this.clerk) return;
+    this.end();
+    if (this.line) this.part("how").textContent += " The check of the whole was stopped.";
+    else this.show("stopped: no verdict", null, knownSoFar(this.work));
+  }
+}
+
+/** Says what a check has found that was stopped before it had a line. */
+function knownSoFar({ done, steps, judged, checkpoints }) {
+  if (!steps) return "Nothing is known of it yet.";
+  const found = judged ? `Up to checkpoint ${grouped(judged)} of ${grouped(checkpoints)} all are true` : "No checkpoint was judged";
+  return `${found}; ${grouped(done)} of ${grouped(steps)} steps were checked.`;
+}
