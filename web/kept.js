@@ -105,8 +105,8 @@ async function store(work, { generation, ...kept }) {
     await put(work, { name: work.name, sent: work.sent, ...kept });
     Object.assign(work, { by: writer, isUnkept: false });
   } catch (error) {
+    if (!work.isUnkept) notice(`This browser cannot keep the recording of ${work.name}, so save it to a file: ${error.message}`);
     work.isUnkept = true;
-    notice(`This browser cannot keep the recording of ${work.name}, so save it to a file: ${error.message}`);
   }
 }
 
@@ -204,6 +204,7 @@ function unreadable(error) {
 
 /** Resumes what is kept. If another page has it open, this is a copy. */
 async function resume(id) {
+  if (!(await mayLeave())) return;
   const work = new Work(""), isFree = await work.take(id);
   try {
     const kept = await withKept("readonly", (store) => store.get(id));

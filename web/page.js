@@ -472,6 +472,7 @@ function listen() {
   compose();
   setInterval(keep, KEEP_MS);
   document.addEventListener("visibilitychange", keep);
+  addEventListener("beforeunload", (event) => app.work.isUnkept && event.preventDefault());
 }
 
 async function openExample(name) {

@@ -5,8 +5,8 @@
 "use strict";
 
 const FRAME_MS = 1000 / 60, BUDGET_MS = 12, FIRST_CHUNK = 200000, LAG_MS = 100, PER_MS = PER_SECOND / 1000;
-// While typed keys or serial bytes wait, a turn runs in pieces as long as this, so that the program gets more than one of them in a
-// turn.
+// While typed keys or serial bytes wait, a turn runs in up to so many pieces, for so long, so that the program gets more than one of
+// them in a turn.
 const PIECES = 48, PIECES_MS = 8;
 // A recording of up to one second of the machine's time is checked by one call.
 const WHOLE_STEPS = 25000000;
@@ -121,10 +121,13 @@ function fastTurn(begun) {
 
 /** Advances to a count, from checkpoint to checkpoint, until then or until the time is up. */
 function turnTo(to, deadline) {
-  const sent = [], piece = Math.ceil((to - machine.count) / PIECES), pieced = performance.now() + PIECES_MS, { isReplay } = machine;
+  const sent = [], pieced = performance.now() + PIECES_MS, { isReplay } = machine, least = Math.ceil((to - machine.count) / PIECES);
   const isToGoOn = () => machine.count < to && machine.isReplay === isReplay && !run.becameFull;
-  while (isToGoOn() && (!sent.length || performance.now() < deadline)) {
-    const waits = machine.feed(), end = waits && performance.now() < pieced ? machine.count + piece : Infinity;
+  for (let piece = least; isToGoOn() && (!sent.length || performance.now() < deadline);) {
+    const waited = machine.arrivals.typed, waits = machine.feed();
+    // A program that takes nothing now gets longer pieces.
+    piece = machine.arrivals.typed < waited ? least : 2 * piece;
+    const end = waits && performance.now() < pieced ? machine.count + piece : Infinity;
     const stop = Math.min(to, machine.nextStop(run.seconds ?? 0), run.goal ?? Infinity, end, machine.roomEnd, MOST_COUNT);
     if (stop <= machine.count) break;
     sent.push(machine.advance(stop));
@@ -231,11 +234,13 @@ const LIVE = {
   },
   session() {
     const text = writeSession(machine.session());
+    machine.endIfFull();
     show([]);
     return text;
   },
   recording() {
     const { text, count, full } = machine.recorded();
+    machine.endIfFull();
     show([]);
     return { text, count, full, isWhole: count === machine.count };
   },

@@ -144,6 +144,23 @@ def forget_and_undo(desk: Desk) -> None:
     print("kept: forgotten and brought back; not forgotten while another tab has it open")
 
 
+def ask_before_dropping(desk: Desk) -> None:
+    """Where the browser can't keep a recording, the page says so, and another machine is opened only when the user says so."""
+    page = desk.page
+    page.answer("window.opens = IDBFactory.prototype.open; IDBFactory.prototype.open = () => { throw new Error('no room'); }; "
+                "window.confirm = (said) => { window.asked = said; return window.says; }")
+    desk.draw()
+    page.press("d")
+    page.wait(f"{SENT} === 'd'")
+    desk.pause()
+    desk.expect_notice("what cannot be kept", "This browser cannot keep the recording of draw, so save it to a file: no room")
+    for says, name in (("false", "draw"), ("true", "face")):
+        page.answer(f"window.says = {says}; openBytes('face.json', new TextEncoder().encode(JSON.stringify(EXAMPLES.face)))")
+        expect("what is asked, and what is open", page.answer("[asked.endsWith('and drop it?'), app.work.name]"), [True, name])
+    page.answer("IDBFactory.prototype.open = opens")
+    print("kept: what cannot be kept is said to be, and dropped only when the user says so")
+
+
 # Items that another page may have written: their shapes are wrong, or only what they say is.
 ODD = """
 const bytes = (length) => new Uint8Array(length), machine = { state: bytes(136), words: bytes(1048576) };
@@ -212,3 +229,4 @@ def drive(desk: Desk) -> None:
     resume_twice(desk)
     forget_and_undo(desk)
     survive_other_pages(desk)
+    ask_before_dropping(desk)

@@ -11,7 +11,7 @@ from samples import EXAMPLES, JUMP, STORED, claim, encoded, page_of, record, rej
 
 # Sends a byte with every other instruction.
 SENDER = session([0x5100FFC8, 0xA0100000, 0xE7FFFFFE], [])
-MOST_INPUTS = 1000000
+MOST_INPUTS, PAGES = 1000000, 1024
 
 
 def say_full(desk: Desk) -> None:
@@ -61,6 +61,22 @@ def fill_inputs(desk: Desk) -> None:
     expect("its last input", (len(read.events), read.events[-1].kind, read.events[-1].value), (MOST_INPUTS, 3, 5))
     expect("whether there is a checkpoint after it", read.checkpoints[1].count > read.events[-1].count, True)
     print(f"full: {len(read.events):,} inputs are recorded, and then the machine takes no more, and says so")
+
+
+def fill_pages(desk: Desk) -> None:
+    """A recording whose pool may have no room for all the pages of another checkpoint is full."""
+    pool = [page_of(JUMP, number) for number in range(63 * PAGES + 1)]
+    tables = [{at: PAGES * number + at + 1 for at in range(PAGES)} for number in range(63)] + [{0: len(pool)}]
+    text = encoded(2, pool, [claim(0), *(claim(10 * number, table) for number, table in enumerate(tables, 1))])
+    page = desk.page
+    desk.start("pages.orsr", text)
+    page.answer("showClaim(64).then(() => runOnFrom(64))")
+    page.wait("app.latest && countOf(app.latest.state) === 640")
+    desk.click("run")
+    page.wait("app.latest.full && !app.latest.on")
+    told = f"pages FULL at {page.answer('countOf(app.latest.state)'):,}: the recording has reached its limit of pages. What comes after is not recorded."
+    expect("what is said of a pool without room", page.answer(MODE), told)
+    print("full: a recording of 64,513 pages ends before a checkpoint may have too many")
 
 
 def leave_what_is_open(desk: Desk) -> None:
@@ -157,6 +173,7 @@ def drive(desk: Desk) -> None:
     """All of it."""
     say_full(desk)
     fill_inputs(desk)
+    fill_pages(desk)
     leave_what_is_open(desk)
     judge_both(desk)
     end_at_once(desk)

@@ -247,6 +247,32 @@ class ReportInBrowserTest(ReportTest):
             self.assertEqual(page.answer("document.querySelector('#g-passed li').textContent"), "at 12,000,000: true")
             self.assertEqual(page.errors, [])
 
+    def test_a_live_report_always_judges_its_recording(self) -> None:
+        told = "document.querySelector('#again').textContent"
+        for text, name in ((rejoining(9), "it.orsr"), (STORED[:-1], "short.bin"), (b"{}", "shape.json")):
+            line = run([PROGRAM, "check"], text).output.decode().rstrip("\n")
+            expected = f"Computed in this browser: {line}, the line of this report"
+            with self.browser.page(self.report(text, name, "--live")) as page:
+                for other in (None, "openExample('draw')", "openBytes('other.orsr', EXAMPLES && new Uint8Array(3))"):
+                    page.answer("document.querySelector('#again').textContent = ''")
+                    if other:
+                        page.answer(other)
+                    page.answer("document.querySelector('#check-again').click()")
+                    page.wait(f"{told}.startsWith('Computed')")
+                    self.assertEqual(page.answer(told), expected, f"{name} after {other}")
+                self.assertEqual(page.answer("app.work.name"), "draw")
+                self.assertEqual(page.errors, [])
+
+    def test_a_live_report_runs_on_from_its_recording_after_another_one(self) -> None:
+        with self.browser.page(self.report((EXAMPLES / "face.orsr").read_bytes(), "face.orsr", "--live")) as page:
+            page.answer("document.querySelector('#check-again').click()")
+            page.wait("document.querySelector('#again.same')")
+            page.answer("openExample('draw')")
+            page.wait("app.work.name === 'draw' && app.latest.on")
+            page.answer("document.querySelector('button[data-from=\"3\"]').click()")
+            page.wait("app.work.name === 'face' && countOf(app.latest.state) === 12000000")
+            self.assertEqual(page.errors, [])
+
     def test_a_live_report_that_is_tampered_with_says_another_line(self) -> None:
         page_file = self.report(rejoining(9), "it.orsr", "--live")
         told = page_file.read_text()
