@@ -40,7 +40,7 @@ class Arrivals {
   }
 
   /** Calls `give` with each change whose count is before an end, and with that count, in the order in which they were made.
-   * `countAt` returns the machine's count at a time. A change arrives after the machine has passed that count, `now`. So all of
+   * `countAt` returns a machine's count at a time. A change arrives after the machine has passed that count, `now`. So all of
    * them are delayed alike, by as much as one of them is late, until none waits: the time between two of them stays. */
   stamp(countAt, now, end, give) {
     const { changes } = this;

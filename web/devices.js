@@ -96,6 +96,8 @@ function compose() {
     send(data);
   });
   el("screen").editContext = context;
+  // A tap on the screen is the mouse's, and brings up no keyboard.
+  el("screen").virtualKeyboardPolicy = "manual";
 }
 
 /** Goes from the screen to the next control, since Tab goes to the machine. */

@@ -79,14 +79,14 @@ function inTurn(task) {
 /** Keeps the recording in progress, if it has inputs of the user and has gone on since. */
 function keep() {
   const { work } = app;
-  return inTurn(async () => {
+  return inTurn(() => attempt(async () => {
     const { latest } = app, now = latest && `${countOf(latest.state)} ${latest.inputs} ${latest.typed}`;
     if (app.work !== work || !latest?.hasOwn || work.kept === now) return;
     const kept = await app.live.ask("kept");
     if (kept?.generation !== work.generation) return;
     await store(work, kept);
     work.kept = now;
-  });
+  }));
 }
 
 /** Keeps what a machine was that is no longer there, and gives its item free. */

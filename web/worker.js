@@ -106,7 +106,8 @@ function clockedTurn(now) {
     to = machine.count + Math.floor(FRAME_MS * PER_MS);
   }
   const { ms, count } = run.clock;
-  machine.stamp((at) => count + (at - ms) * PER_MS, to);
+  // What was done within the last frame comes at the same times within the next one.
+  machine.stamp((at) => count + (at - ms + FRAME_MS) * PER_MS, to);
   return turnTo(to, now + LAG_MS);
 }
 

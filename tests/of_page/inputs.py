@@ -3,12 +3,13 @@
 import json
 import time
 
+import browser
 import galluspa.recording
-from desk import MODE, NOTICE, SENT, SHIFT, Desk, expect, fail
+from desk import SENT, SHIFT, Desk, expect, fail
 from samples import EXAMPLES, JUMP, record, session
-from kept import BUTTONS, DRAW
+from kept import DRAW
 
-MOUSE, PER_MS, KEYS = 3, 25000, 7 << 24
+MOUSE, KEYS, PER_SECOND, PER_MS = 3, 7 << 24, 25000000, 25000
 # The bytes of the display's lines in which something is drawn, each as often as there are such lines.
 PLACES = """(() => {
   const places = new Set();
@@ -18,39 +19,58 @@ PLACES = """(() => {
 CLEAN = "screens.dots && !screens.dots.some(Boolean)"
 
 
+def click(page: browser.Page, x: float, y: float, hold: float = 0) -> None:
+    """Goes to a place, and clicks there for so many seconds, faster than the page sees it."""
+    now = time.time()
+    page.send_mouse("mouseMoved", x, y, now)
+    page.send_mouse("mousePressed", x, y, now, 1)
+    page.send_mouse("mouseReleased", x, y, now + hold)
+
+
+def key_changes(recording: bytes) -> list[int]:
+    """The counts at which the mouse's keys change."""
+    words = [(0, 0), *((it.count, it.value) for it in galluspa.recording.read(recording).events if it.kind == MOUSE)]
+    return [count for (_, before), (count, now) in zip(words, words[1:]) if (before ^ now) & KEYS]
+
+
 def click_fast(desk: Desk) -> None:
-    """The program sees each click, however short; a fast stroke has positions of the mouse between two frames."""
+    """The program sees each click, however short, and a longer one for its time."""
     page = desk.page
     page.resize(1280, 1100)
-    for speed in ("clock", "fast"):
+    for speed, hold in (("fast", 0), ("clock", 0), ("clock", 0.005)):
         page.answer(f"el('speed').value = '{speed}'")
         desk.draw()
         page.wait(CLEAN)
         left, top, width = desk.screen()
         for number in range(10):
-            at = {"x": left + width * (0.1 + number * 0.08), "y": top + 100}
-            page.send_mouse("mouseMoved", **at)
-            page.send_mouse("mousePressed", buttons=1, **at)
-            page.send_mouse("mouseReleased", **at)
-            time.sleep(0.02)
-        page.wait("app.latest.inputs >= 30")
-        page.wait(f"{PLACES} === 10")
+            click(page, left + width * (0.1 + number * 0.08), top + 100, hold)
+            time.sleep(0.03)
+        page.wait(f"app.latest.inputs >= 30 && {PLACES} === 10")
+        changes = key_changes(desk.save("draw", "ten clicks"))
+        holds = [up - down for down, up in zip(changes[::2], changes[1::2])]
+        if len(holds) != 10 or min(holds) < PER_MS or (hold and sorted(holds)[5] > 2 * hold * PER_SECOND):
+            fail(f"clicks of {hold} seconds are held for {holds}")
+    print("clicks: 10 without length are seen, at both speeds; 10 of 5 ms are held for so long")
+
+
+def stroke(desk: Desk) -> None:
+    """A fast stroke has the positions of the mouse between two frames."""
+    page = desk.page
     page.answer("el('speed').value = 'clock'")
     desk.draw()
     page.wait(CLEAN)
-    left, top, width = desk.screen()
-    page.send_mouse("mousePressed", buttons=1, x=left + 50, y=top + 50)
-    for number in range(200):
-        page.send_mouse("mouseMoved", buttons=1, x=left + 50 + 3 * number, y=top + 50 + number)
+    left, top, _ = desk.screen()
+    begun = time.time()
+    page.send_mouse("mousePressed", left + 50, top + 50, begun, 1)
+    for number in range(1, 200):
+        page.send_mouse("mouseMoved", left + 50 + 3 * number, top + 50 + number, begun + 0.002 * number, 1)
         time.sleep(0.002)
-    page.send_mouse("mouseReleased", x=left + 650, y=top + 250)
-    page.wait("app.latest.inputs > 100 && field(app.latest.state, AT.mouse) === pointer.sent && !(pointer.sent >> 24)")
-    moves, frames = page.answer("[app.latest.inputs, app.latest.frames]")
-    events = [it for it in galluspa.recording.read(desk.save("draw", "a stroke")).events if it.kind == MOUSE]
-    changes = [now.count for before, now in zip([None, *events], events) if (now.value ^ (before.value if before else 0)) & KEYS]
-    if len(changes) != 2 or changes[1] - changes[0] < PER_MS or any(two.count - one.count < PER_MS for one, two in zip(events, events[1:-1])):
-        fail(f"the stroke has changes of the keys at {changes}")
-    print(f"clicks: 10 without length are seen, at both speeds; a stroke of 200 positions has {moves} inputs in {frames} frames")
+    page.send_mouse("mouseReleased", left + 650, top + 250, begun + 0.4)
+    page.wait("app.latest.inputs > 1 && !(pointer.sent >> 24) && field(app.latest.state, AT.mouse) === pointer.sent")
+    inputs, frames = page.answer("[app.latest.inputs, app.latest.frames]")
+    if inputs < 190 or len(key_changes(desk.save("draw", "a stroke"))) != 2:
+        fail(f"a stroke of 200 positions has {inputs} inputs")
+    print(f"strokes: 200 positions in {frames} frames are {inputs} inputs")
 
 
 def send_lines(desk: Desk) -> None:
@@ -143,6 +163,7 @@ def json_of(name: str, **changes: object) -> bytes:
 def drive(desk: Desk) -> None:
     """All of it."""
     click_fast(desk)
+    stroke(desk)
     send_lines(desk)
     compose_text(desk)
     go_to_checkpoints(desk)

@@ -4,7 +4,7 @@ from collections.abc import Iterator
 from contextlib import contextmanager
 
 import browser
-from desk import NOTICE, PAGE, SENT, Desk, expect, fail
+from desk import PAGE, SENT, Desk, expect, fail
 from samples import EXAMPLES, rejoining
 
 DRAW = (EXAMPLES / "draw.json").read_bytes()

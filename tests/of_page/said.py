@@ -5,8 +5,8 @@ import re
 import struct
 
 import galluspa.recording
-from desk import HOW, JUDGED, LINE, MODE, NOTICE, OWN_JUDGED, OWN_LINE, SENT, Desk, expect, fail, program
-from galluspa.recording import Event, Recording
+from desk import HOW, LINE, MODE, NOTICE, OWN_LINE, Desk, expect, fail, program
+from galluspa.recording import Event
 from samples import EXAMPLES, JUMP, STORED, claim, encoded, page_of, record, rejoining, session
 
 # Sends a byte with every other instruction.
@@ -26,6 +26,7 @@ def say_full(desk: Desk) -> None:
     expect("what is said of a full recording", page.answer(MODE), told)
     desk.go_on()
     page.wait(f"countOf(app.latest.state) > {count + 1000000}")
+    expect("what is said of it while it runs on", page.answer(MODE), told)
     desk.pause()
     expect("what is said of it later", page.answer(MODE), told)
     read = galluspa.recording.read(desk.save("sender", "a full recording"))
@@ -155,7 +156,11 @@ def refuse_each(desk: Desk) -> None:
     desk.choose("odd.orsr", bytes(odd))
     desk.expect_refused("odd.orsr", program("check", bytes(odd))[0])
     before = page.answer("app.latest.memory")
-    page.answer(f"(async () => {{ const bytes = app.file.text.slice(); bytes[20] = 1; for (let k = 0; k < 40; k++) await openBytes('odd.orsr', bytes); }})()")
+    page.answer("""(async () => {
+      const bytes = app.file.text.slice();
+      bytes[20] = 1;
+      for (let k = 0; k < 40; k++) await openBytes("odd.orsr", bytes);
+    })()""")
     desk.click("step")
     page.wait("countOf(app.latest.state) === 1")
     if page.answer("app.latest.memory") > before + (1 << 20):

@@ -149,11 +149,11 @@ class Page:
         button = {"button": "none"} if kind == "mouseMoved" else {"button": "left", "clickCount": 1}
         self._ask("Input.dispatchMouseEvent", type=kind, x=x, y=y, buttons=buttons, **button)
 
-    def send_mouse(self, kind: str, x: float, y: float, buttons: int = 0) -> None:
-        """Does as `point` does, and does not wait until the page has seen it."""
+    def send_mouse(self, kind: str, x: float, y: float, at: float, buttons: int = 0) -> None:
+        """Does as `point` does, at a time in seconds since 1970, and does not wait until the page has seen it."""
         button = {"button": "none"} if kind == "mouseMoved" and not buttons else {"button": "left"}
         clicks = {} if kind == "mouseMoved" else {"clickCount": 1}
-        parameters = {"type": kind, "x": x, "y": y, "buttons": buttons, **button, **clicks}
+        parameters = {"type": kind, "x": x, "y": y, "buttons": buttons, "timestamp": at, **button, **clicks}
         self._pipe.send({"method": "Input.dispatchMouseEvent", "params": parameters, "sessionId": self._session})
 
     def insert(self, text: str) -> None:
