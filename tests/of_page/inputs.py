@@ -20,10 +20,11 @@ CLEAN = "screens.dots && !screens.dots.some(Boolean)"
 
 
 def click(page: browser.Page, x: float, y: float, hold: float = 0) -> None:
-    """Goes to a place, and clicks there for so many seconds, faster than the page sees it."""
+    """Goes to a place, and clicks there for so many seconds; the page may see all of it at once."""
     now = time.time()
     page.send_mouse("mouseMoved", x, y, now)
     page.send_mouse("mousePressed", x, y, now, 1)
+    time.sleep(hold)
     page.send_mouse("mouseReleased", x, y, now + hold)
 
 
@@ -48,7 +49,7 @@ def click_fast(desk: Desk) -> None:
         page.wait(f"app.latest.inputs >= 30 && {PLACES} === 10")
         changes = key_changes(desk.save("draw", "ten clicks"))
         holds = [up - down for down, up in zip(changes[::2], changes[1::2])]
-        if len(holds) != 10 or min(holds) < PER_MS or (hold and sorted(holds)[5] > 2 * hold * PER_SECOND):
+        if len(holds) != 10 or min(holds) < PER_MS or (hold and sorted(holds)[6] > 2 * hold * PER_SECOND):
             fail(f"clicks of {hold} seconds are held for {holds}")
     print("clicks: 10 without length are seen, at both speeds; 10 of 5 ms are held for so long")
 
