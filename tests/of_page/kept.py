@@ -48,13 +48,14 @@ def keep_each(desk: Desk) -> None:
     """A recording is kept though the one before stopped at the same count; one that only replays is not kept; none is dropped for another."""
     page = desk.page
     page.answer("el('speed').value = 'fast'; el('each').value = 1")
-    for _ in range(5):
-        desk.start("draw.json", DRAW)
+    for name in ("draw.json", "draw.json", "third.json", "fourth.json", "fifth.json"):
+        desk.start(name, DRAW)
         page.answer("el('x').value = 7; el('x').dispatchEvent(new Event('change', { bubbles: true }))")
-        desk.click("next")
-        page.wait("countOf(app.latest.state) === 25000000 && !app.latest.on")
-        page.wait(IS_KEPT)
-    expect("what is kept of five recordings of the same length", items(page), [["draw", 25000000, ""]] * 5)
+        desk.click("next" if name == "draw.json" else "step")
+        page.wait(f"countOf(app.latest.state) === {25000000 if name == 'draw.json' else 1} && !app.latest.on && app.latest.hasOwn")
+        page.answer("keep()")
+    wanted = [["draw", 25000000, ""]] * 2 + [[name, 1, ""] for name in ("third", "fourth", "fifth")]
+    expect("what is kept of five recordings", items(page), wanted)
     for number in range(5):
         desk.start(f"watched-{number}.orsr", rejoining(1))
         desk.click("run")
@@ -63,12 +64,12 @@ def keep_each(desk: Desk) -> None:
         page.wait("countOf(app.latest.state) > 1000000")
         desk.pause()
     page.answer("keep()")
-    expect("what is kept after five replays", items(page), [["draw", 25000000, ""]] * 5)
+    expect("what is kept after five replays", items(page), wanted)
     desk.reload()
     page.wait("el('kept-list').firstChild")
     expect("what is offered", page.answer("document.querySelectorAll('#g-kept p').length"), 5)
     forget_all(desk)
-    print("kept: five recordings of the same length; five replays that went on past their ends are not, and drop nothing")
+    print("kept: five recordings, two of the same length; five replays that went on past their ends are not, and drop nothing")
 
 
 def keep_under_its_name(desk: Desk) -> None:

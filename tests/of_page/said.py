@@ -38,30 +38,41 @@ def say_full(desk: Desk) -> None:
     print(f"full: the recording of a program that sends without end ends with a checkpoint at {count:,}, and that stays said")
 
 
+def with_inputs(number: int) -> bytes:
+    """A recording of a loop, with one checkpoint and so many keys before instruction 10."""
+    one = encoded(2, [page_of(JUMP)], [claim(0)], [Event(10, 4, 65)])
+    inputs = 24 + 1024
+    return one[:12] + struct.pack("<I", number) + one[16:inputs] + number * one[inputs : inputs + 16] + one[inputs + 16 :]
+
+
+def last_input(recording: bytes) -> tuple[int, ...]:
+    """The number of inputs, and the last one's count, kind and value."""
+    pages, number = struct.unpack_from("<II", recording, 8)
+    return number, *struct.unpack_from("<QII", recording, 24 + 1024 * pages + 16 * (number - 1))
+
+
 def fill_inputs(desk: Desk) -> None:
     """A recording with all but one of the inputs that there can be takes one more, and then says that it is full, and what was typed."""
     page = desk.page
-    events = [Event(10 + at, 4, 65) for at in range(MOST_INPUTS - 1)]
-    text = encoded(2, [page_of(JUMP)], [claim(0)], events)
     page.answer("el('speed').value = 'fast'; el('each').value = 0")
-    desk.start("inputs.orsr", text)
+    desk.start("inputs.orsr", with_inputs(MOST_INPUTS - 1))
     desk.click("run")
     page.wait("!app.latest.isReplay && !app.latest.on")
     desk.click("run")
     page.wait("app.latest.on && document.activeElement === el('screen')")
     page.answer("el('x').value = 5; el('x').dispatchEvent(new Event('change', { bubbles: true }))")
     page.wait("app.latest.full && !app.latest.on")
-    count = page.answer("app.latest.full.count")
-    told = f"inputs FULL at {count:,}: the recording has reached its limit of inputs. The machine takes no more."
+    end = page.answer("app.latest.full.count")
+    told = f"inputs FULL at {end:,}: the recording has reached its limit of inputs. The machine takes no more."
     expect("what is said of a machine with all inputs", page.answer(MODE), told)
     desk.go_on()
     page.press("k")
     desk.expect_notice("a key after all inputs", "FULL: the machine takes no more inputs.")
     desk.pause()
-    read = galluspa.recording.read(desk.save("inputs", "a recording with all inputs"))
-    expect("its last input", (len(read.events), read.events[-1].kind, read.events[-1].value), (MOST_INPUTS, 3, 5))
-    expect("whether there is a checkpoint after it", read.checkpoints[1].count > read.events[-1].count, True)
-    print(f"full: {len(read.events):,} inputs are recorded, and then the machine takes no more, and says so")
+    number, count, *last = last_input(desk.save("inputs", "a recording with all inputs"))
+    expect("its last input", (number, last), (MOST_INPUTS, [3, 5]))
+    expect("whether there is a checkpoint after it", count < end, True)
+    print(f"full: {number:,} inputs are recorded, and then the machine takes no more, and says so")
 
 
 def fill_pages(desk: Desk) -> None:
@@ -70,9 +81,9 @@ def fill_pages(desk: Desk) -> None:
     tables = [{at: PAGES * number + at + 1 for at in range(PAGES)} for number in range(63)] + [{0: len(pool)}]
     text = encoded(2, pool, [claim(0), *(claim(10 * number, table) for number, table in enumerate(tables, 1))])
     page = desk.page
+    page.answer("window.opening = openRecording; openRecording = (name, text) => replaced(name, 'openRecording', { text, checkpoint: 64 })")
     desk.start("pages.orsr", text)
-    page.answer("showClaim(64).then(() => runOnFrom(64))")
-    page.wait("app.latest && countOf(app.latest.state) === 640")
+    page.answer("openRecording = opening")
     desk.click("run")
     page.wait("app.latest.full && !app.latest.on")
     told = f"pages FULL at {page.answer('countOf(app.latest.state)'):,}: the recording has reached its limit of pages. What comes after is not recorded."
