@@ -46,9 +46,13 @@ function database() {
   return new Promise((resolve, reject) => {
     const asked = indexedDB.open("galluspa", 1);
     asked.onupgradeneeded = () => asked.result.createObjectStore("sessions", { keyPath: "id" });
-    asked.onsuccess = () => resolve(asked.result);
-    asked.onerror = () => reject(asked.error);
-    setTimeout(() => reject(new Refusal("the browser's storage does not answer")), STORAGE_MS);
+    const late = setTimeout(() => {
+      reject(new Refusal("the browser's storage does not answer"));
+      asked.onsuccess = () => asked.result.close();
+    }, STORAGE_MS);
+    const inTime = (settle) => () => (clearTimeout(late), settle());
+    asked.onsuccess = inTime(() => resolve(asked.result));
+    asked.onerror = inTime(() => reject(asked.error));
   });
 }
 
@@ -212,7 +216,7 @@ async function resume(id) {
     const answer = await app.live.ask("resume", { kept });
     const { generation } = answer, name = kept.name.slice(0, MOST_NAME);
     Object.assign(work, { name, generation, sent: kept.first ? "" : kept.sent, by: kept.by ?? null });
-    await showOpened(answer, work);
+    showOpened(answer, work);
     if (kept.first) notice("An earlier page kept this session without its recording: Run plays it back and records it.");
   } catch (error) {
     work.release?.();

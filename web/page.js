@@ -94,7 +94,7 @@ function clearRefusal() {
 async function replaced(name, ask, given) {
   if (!(await mayLeave())) return null;
   const answer = await app.live.ask(ask, given);
-  await showOpened(answer, new Work(nameOf(name), answer.generation));
+  showOpened(answer, new Work(nameOf(name), answer.generation));
   return answer;
 }
 
@@ -109,10 +109,9 @@ async function mayLeave() {
 
 /** Opens a recording at its beginning, and checks it. */
 async function openRecording(name, text) {
-  if (await replaced(name, "openRecording", { text, checkpoint: 0 })) {
-    Object.assign(app.file, { name, text });
-    await checkFile();
-  }
+  if (!(await replaced(name, "openRecording", { text, checkpoint: 0 }))) return;
+  Object.assign(app.file, { name, text });
+  await attempt(checkFile);
 }
 
 async function openSession(name, text) {
@@ -122,7 +121,8 @@ async function openSession(name, text) {
 /** Has the file that is open checked, and shows the checkpoint that its line is about. */
 async function checkFile() {
   const { file } = app;
-  showClaim(0);
+  await showClaim(0);
+  if (file !== app.file) return;
   const answer = await verdicts.file.check(file.name, file.text);
   if (answer) await showVerdict(file, answer);
 }
@@ -159,7 +159,7 @@ function cancelImage() {
 }
 
 /** Shows a machine that was opened in place of the one before, whose recording is kept. */
-async function showOpened({ claims, version, inputs, checkpoints, left }, work) {
+function showOpened({ claims, version, inputs, checkpoints, left }, work) {
   const before = app.work;
   Object.assign(app, { work, file: claims ? { claims, version, inputs, checkpoints, verdict: null } : null, image: null });
   leave(before, left);
@@ -303,6 +303,7 @@ function cells(state, before, wrong) {
 }
 
 function showPaused({ state, listing }) {
+  if (pausedBefore && equal(pausedBefore, state)) return;
   el("state").replaceChildren(...cells(state, pausedBefore, null));
   pausedBefore = state;
   const pc = field(state, AT.PC);
@@ -330,8 +331,8 @@ async function showClaim(number) {
   const { file } = app;
   if (!file) return;
   number = Math.max(0, Math.min(file.claims.length - 1, Math.floor(number) || 0));
-  const shown = await app.live.ask("claimed", { number });
-  if (file !== app.file) return;
+  const shown = await app.live.ask("claimed", { number, of: app.work.generation });
+  if (!shown || file !== app.file) return;
   el("number").value = number;
   const [, wrongNumber, part] = /^false checkpoint (\d+) at \d+ part (.*)$/.exec(file.verdict?.line ?? "") ?? [];
   const wrong = Number(wrongNumber) === number ? part : null;
@@ -521,14 +522,15 @@ function beginReport(name) {
   const start = async () => {
     document.getElementById("live").hidden = false;
     report.text = await unpacked("recording");
-    if (await started()) await openReport(report);
+    const isStarted = await started();
+    if (isStarted) await openReport(report);
+    return isStarted;
   };
   const ready = () => (report.starting ??= start());
   document.getElementById("check-again").addEventListener("click", () => attempt(async () => {
     again.textContent = "checking ..";
-    await ready();
-    const answer = await verdicts.file.check(name, report.text);
-    if (app.file?.text === report.text) await showVerdict(app.file, answer);
+    const answer = (await ready()) && await verdicts.file.check(name, report.text);
+    if (answer && app.file?.text === report.text) await showVerdict(app.file, answer);
     const isSame = answer?.line === document.getElementById("line").textContent;
     again.textContent = `Computed in this browser: ${answer?.line ?? "no verdict"}${isSame ? ", the line of this report" : ""}`;
     again.className = isSame ? "same" : "other";
@@ -548,7 +550,7 @@ async function openReport({ name, text }) {
 
 /** Runs on from a checkpoint of the report's recording, whatever was opened since. */
 async function runOnReport(report, ready, number) {
-  await ready();
+  if (!(await ready())) return;
   if (app.file?.text !== report.text) await openReport(report);
   await showClaim(number);
   await runOnFrom(number);

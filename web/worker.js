@@ -42,7 +42,7 @@ function setRun({ on, fast, goal = null, seconds }) {
   const now = performance.now();
   const clock = { ms: now, count: machine.count };
   run = { on, fast, goal, seconds, begun: now, turn: now, from: machine.count, clock, busy: 0, frames: 0, chunk: FIRST_CHUNK };
-  if (on) return tick();
+  if (on) return isDue ? undefined : tick();
   endRun();
   show([]);
 }
@@ -70,10 +70,11 @@ function tick() {
     run.frames++;
     if (isOver(wasReplay)) endRun();
     show(sent);
-    if (run.on) again(begun);
+    if (run.on && !isDue) again(begun);
   } catch (error) {
     run.on = false;
     postMessage(faultOf(error));
+    show([]);
   }
 }
 
@@ -89,12 +90,20 @@ function isOver(wasReplay) {
   return !machine.isReplay && (wasReplay || machine.part("stop") !== 0);
 }
 
+// Whether the next turn is under way: there is never more than one.
+let isDue = false;
 const turns = new MessageChannel();
-turns.port1.onmessage = tick;
+turns.port1.onmessage = nextTurn;
+
+function nextTurn() {
+  isDue = false;
+  tick();
+}
 
 function again(begun) {
   const left = run.fast ? 0 : FRAME_MS - (performance.now() - begun);
-  if (left > 1) setTimeout(tick, left);
+  isDue = true;
+  if (left > 1) setTimeout(nextTurn, left);
   else turns.port2.postMessage(null);
 }
 
@@ -230,8 +239,9 @@ const LIVE = {
     show([]);
     return isNew;
   },
-  claimed({ number }) {
-    return machine.claimed(number);
+  /** Returns what a checkpoint of the recording claims that was opened as a machine of this number, or null if that is gone. */
+  claimed({ number, of }) {
+    return of === generation ? machine.claimed(number) : null;
   },
   session() {
     const text = writeSession(machine.session());

@@ -155,6 +155,12 @@ def go_to_checkpoints(desk: Desk) -> None:
     desk.click("next")
     page.wait("countOf(app.latest.state) === 20 && !app.latest.on")
     expect("the controls after a replay", page.answer("[el('switches').querySelectorAll('input:checked').length, el('x').value]"), [2, "7"])
+    desk.draw()
+    for _ in range(6):
+        page.answer("app.live.ask('setPace', { fast: false, seconds: 0 })")
+    frames = page.answer("new Promise((done) => setTimeout(() => { const { frames } = app.latest; setTimeout(() => done(app.latest.frames - frames), 300); }, 50))")
+    if frames > 40:
+        fail(f"after six changes of the speed there are {frames} frames in 0.3 s")
     print("controls: the end of a session is a goal, a goal outlives a change of the speed, and switches show the machine's own")
 
 

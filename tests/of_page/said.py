@@ -159,7 +159,7 @@ def refuse_each(desk: Desk) -> None:
     page = desk.page
     desk.start("face.orsr", (EXAMPLES / "face.orsr").read_bytes())
     desk.expect_line("a file", (EXAMPLES / "face.orsr").read_bytes())
-    asked = "Promise.allSettled([app.live.ask('claimed', { number: 99 }), app.live.ask('openSession', { text: new Uint8Array(2) })])"
+    asked = "Promise.allSettled([app.live.ask('claimed', { number: 99, of: app.work.generation }), app.live.ask('openSession', { text: new Uint8Array(2) })])"
     expect("two refusals", page.answer(f"{asked}.then((all) => all.map((it) => it.reason.message))"), ["no checkpoint 99", "session refused 1 json"])
     expect("the page's notice after them", page.answer(NOTICE), "")
     odd = bytearray((EXAMPLES / "face.orsr").read_bytes())
