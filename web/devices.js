@@ -31,29 +31,33 @@ function codesOf({ type, code, key, ctrlKey, metaKey }) {
   return character && character < 256 ? [character] : [];
 }
 
-/** Whether a key that is pressed is for the machine: a key of a PS/2 keyboard, a character, or the beginning of one. */
+/** Whether a key that is pressed is for the machine: a key of a PS/2 keyboard, or a character. */
 function isForMachine({ code, key, ctrlKey, metaKey }) {
   if (isPs2()) return code in PS2;
-  return !ctrlKey && !metaKey && (key in CHARACTERS || [...key].length === 1 || key === "Dead");
+  return !ctrlKey && !metaKey && (key in CHARACTERS || [...key].length === 1);
+}
+
+/** Whether a key is part of a character that the browser composes. */
+function isComposed({ isComposing, key }) {
+  return !isPs2() && (isComposing || key === "Dead" || key === "Process");
 }
 
 function pressed(event) {
-  const isTab = event.key === "Tab" && (event.shiftKey || !app.latest?.on);
-  if (event.isComposing || event.key === "Process" || isTab) return;
+  const isDown = event.type === "keydown", isToLeave = event.key === "Tab" && (event.shiftKey || !app.latest?.on);
+  if (isToLeave) return;
   if (event.key === "Enter" && event.ctrlKey) return leaveScreen(event);
-  if (event.type === "keydown" && (!isForMachine(event) || !isRunning())) return;
+  if (isComposed(event)) return isDown ? sayIfUncomposed() : undefined;
+  if (isDown && (!isForMachine(event) || !isRunning())) return;
   const codes = codesOf(event);
   if (codes.length) {
     event.preventDefault();
     sendCodes(codes);
-  } else if (event.type === "keydown") unsent(event.key);
+  } else if (isDown) sendText(event.key);
 }
 
-/** Says that a key is not sent: it begins a character that this browser does not compose, or is a character that the machine has no
- * code for. */
-function unsent(key) {
-  if (key !== "Dead") sendText(key);
-  else if (!el("screen").editContext) notice("This browser composes no characters here: send them over the serial line.");
+/** Says so where the browser composes no characters on the screen. */
+function sayIfUncomposed() {
+  if (!el("screen").editContext && isRunning()) notice("This browser composes no characters here: send them over the serial line.");
 }
 
 /** Whether keys and the mouse go to the machine now; if not, the page says why. */

@@ -121,7 +121,10 @@ def compose_text(desk: Desk) -> None:
     page.answer("notice(); el('keys').value = 'ps2'")
     page.insert("é")
     desk.expect_notice("composed text as PS/2 codes", "é: PS/2 codes have no composed text.")
-    page.answer("el('keys').value = 'characters'")
+    page.answer("notice(); el('keys').value = 'characters'; window.context = el('screen').editContext; el('screen').editContext = null")
+    page.press("Dead")
+    desk.expect_notice("a dead key where nothing is composed", "This browser composes no characters here: send them over the serial line.")
+    page.answer("el('screen').editContext = context")
     expect("what was sent", page.answer(SENT), "\\e9\\fc\\df")
     print("composed text: é by a dead key, ü and ß are sent; 日本, € and composed text as PS/2 codes are said not to be")
 
