@@ -201,6 +201,7 @@ function forgottenItem({ item, text }) {
 
 function unreadable(error) {
   const forgetAll = async () => {
+    if (!confirm("Delete all that this browser keeps of this page? That cannot be undone.")) return;
     indexedDB.deleteDatabase("galluspa").onsuccess = showKept;
   };
   return [paragraph(`What this browser keeps cannot be read: ${error.message}`), button("Forget all of it", forgetAll)];

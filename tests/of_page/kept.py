@@ -214,7 +214,7 @@ def survive_other_pages(desk: Desk) -> None:
         told = page.answer("el('kept').textContent")
         if "What this browser keeps cannot be read: " not in told:
             fail(f"a database of another version: {told}")
-        page.answer(f"{BUTTONS}[0].click()")
+        page.answer(f"window.confirm = (said) => said.endsWith('That cannot be undone.'); {BUTTONS}[0].click()")
         page.wait("!el('kept-list').firstChild")
         desk.draw()
         type_and_pause(desk, "k")
