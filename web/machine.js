@@ -312,14 +312,15 @@ class Machine {
    * checkpoint. */
   recorded() {
     this.mark();
-    return { text: this.recorder.text, count: this.marks.at(-1) ?? 0, full: this.full?.why };
+    return { text: this.recorder.text, count: this.marks.at(-1) ?? 0 };
   }
 
-  /** Returns the session up to here, with the checkpoints of the recording and a last one at this count. */
+  /** Returns the session up to here, with the checkpoints of the recording, the last one at this count; or, if there is no room for
+   * one, up to its last checkpoint: what comes after that could not be recorded from the session either. */
   session() {
-    const { text, count } = this.recorded(), end = count < this.count ? [this.count] : [];
-    const checkpoints = [...this.marks.slice(0, CHECKPOINT_LIMIT - end.length), ...end];
-    return { ...this.firstOf(text), inputs: new Inputs(this.takenInputs), checkpoints };
+    const { text, count } = this.recorded(), end = count < this.count ? this.inputs.from(count) : this.next;
+    const inputs = new Inputs(this.inputs.bytes.subarray(0, INPUT_BYTES * end));
+    return { ...this.firstOf(text), inputs, checkpoints: this.marks };
   }
 
   /** Returns what the browser keeps, so that the recording in progress survives a reload; or null if there are no inputs of the
@@ -349,7 +350,8 @@ function lawfulInputs(bytes) {
   for (let at = 0; at < inputs.length; at++) {
     const [count, kind, value] = inputs.item(at);
     const isInOrder = count <= MOST_COUNT && (!at || inputs.count(at - 1) <= count);
-    if (!kind || !isInput(inputs.kind(at), BigInt(value)) || !isInOrder) throw new Refused("what was kept has inputs that are none");
+    const isLawful = kind && isInput(inputs.kind(at), BigInt(value)) && isInOrder;
+    if (!isLawful) throw new Refused("what was kept has inputs that are none");
   }
   return inputs;
 }

@@ -271,7 +271,8 @@ function modeOf({ state, on, isReplay, ahead, full }) {
   if (full) return ["FULL", `at ${grouped(full.count)}: ${full.why}. ${then}`];
   if (isReplay) return ["REPLAY", `${left} of the file are still to come. Your own keys and mouse count once you take over.`];
   if (stop) return ["STOPPED", `${STOPS[stop]}: the machine does nothing more.`];
-  return ["LIVE", on ? "What you type, click and send is recorded." : "The machine is paused: keys and the mouse go to it while it runs."];
+  if (on) return ["LIVE", "What you type, click and send is recorded."];
+  return ["LIVE", "The machine is paused: keys and the mouse go to it while it runs."];
 }
 
 /** Writes the status line: while the machine runs, no more often than can be read. */
@@ -406,7 +407,14 @@ async function paused(ask) {
 
 async function saveSession() {
   notice();
-  download(`${app.work.name}-live.json`, await paused("session"), "application/json");
+  const made = await paused("session");
+  download(`${app.work.name}-live.json`, made.text, "application/json");
+  sayIfCut("session", made);
+}
+
+/** Says where what was saved ends, if that is before the machine's count. */
+function sayIfCut(what, { isWhole, count, full = "the recording has reached its limit of checkpoints" }) {
+  if (!isWhole) notice(`The ${what} ends with its checkpoint at ${grouped(count)}: ${full}.`);
 }
 
 /** Saves the recording, and checks it to show its verdict line. */
@@ -414,8 +422,7 @@ async function saveRecording() {
   notice();
   const made = await paused("recording"), name = `${app.work.name}-live.orsr`;
   download(name, made.text, "application/octet-stream");
-  const why = made.full ?? "the recording has reached its limit of checkpoints";
-  if (!made.isWhole) notice(`The recording ends with its checkpoint at ${grouped(made.count)}: ${why}.`);
+  sayIfCut("recording", made);
   const begun = performance.now();
   if (!(await verdicts.own.check(name, made.text))) return;
   el("say").textContent = `${grouped(made.text.length)} bytes, checked in ${((performance.now() - begun) / 1000).toFixed(1)} s`;

@@ -5,8 +5,7 @@
 "use strict";
 
 const FRAME_MS = 1000 / 60, BUDGET_MS = 12, FIRST_CHUNK = 200000, LAG_MS = 100, PER_MS = PER_SECOND / 1000;
-// While typed keys or serial bytes wait, a turn runs in up to so many pieces, for so long, so that the program gets more than one of
-// them in a turn.
+// While typed keys or serial bytes wait, a turn runs in up to so many pieces, for so long, so that the program gets more than one.
 const PIECES = 48, PIECES_MS = 8;
 // A recording of up to one second of the machine's time is checked by one call.
 const WHOLE_STEPS = 25000000;
@@ -26,8 +25,8 @@ function show(sent, isWhole = false) {
   const { inputs, given, next, marks, planned, isReplay, isTrue, arrivals, full, deaf } = machine;
   postMessage({
     state: machine.state.slice(), dots: same ? null : shownDots, sent: sentText(sent), on: run.on, goal: run.goal ?? null,
-    inputs: inputs.length, ahead: Math.max(0, given - next), marks: marks.length, planned: planned.length, isReplay, isTrue, full, deaf,
-    listing: run.on ? null : machine.listing(6, 14), typed: arrivals.typed, hasOwn: machine.own + arrivals.typed > 0,
+    inputs: inputs.length, ahead: Math.max(0, given - next), marks: marks.length, planned: planned.length, isReplay, isTrue, full,
+    listing: run.on ? null : machine.listing(6, 14), typed: arrivals.typed, hasOwn: machine.own + arrivals.typed > 0, deaf,
     speed: run.on ? speedOf() : null, memory: library.size, frames: run.frames ?? 0, generation,
   });
 }
@@ -182,6 +181,14 @@ function recordingOf(text) {
   throw new Refused(status === 2 ? line : "the recording cannot be opened: no memory");
 }
 
+/** Returns what was made to be saved, at which count it ends, and, if that is before the machine's, why. */
+function made(text) {
+  machine.endIfFull();
+  show([]);
+  const count = machine.marks.at(-1) ?? 0;
+  return { text, count, full: machine.full?.why, isWhole: count === machine.count };
+}
+
 const LIVE = {
   openRecording({ text, checkpoint }) {
     const recording = recordingOf(text);
@@ -244,16 +251,10 @@ const LIVE = {
     return of === generation ? machine.claimed(number) : null;
   },
   session() {
-    const text = writeSession(machine.session());
-    machine.endIfFull();
-    show([]);
-    return text;
+    return made(writeSession(machine.session()));
   },
   recording() {
-    const { text, count, full } = machine.recorded();
-    machine.endIfFull();
-    show([]);
-    return { text, count, full, isWhole: count === machine.count };
+    return made(machine.recorded().text);
   },
   /** Returns what the browser keeps, or null if there is nothing of the user's. */
   kept() {

@@ -7,7 +7,7 @@ import struct
 import galluspa.recording
 from desk import HOW, LINE, MODE, NOTICE, OWN_LINE, Desk, expect, fail, program
 from galluspa.recording import Event
-from samples import EXAMPLES, JUMP, STORED, claim, encoded, page_of, record, rejoining, session
+from samples import EXAMPLES, JUMP, PROGRAM, STORED, claim, encoded, page_of, record, rejoining, run, session
 
 # Sends a byte with every other instruction.
 SENDER = session([0x5100FFC8, 0xA0100000, 0xE7FFFFFE], [])
@@ -29,7 +29,10 @@ def say_full(desk: Desk) -> None:
     expect("what is said of it while it runs on", page.answer(MODE), told)
     desk.pause()
     expect("what is said of it later", page.answer(MODE), told)
-    read = galluspa.recording.read(desk.save("sender", "a full recording"))
+    desk.click("save")
+    note, recording = desk.saved("sender-live.json"), desk.save("sender", "a full recording")
+    expect("what the program records of the session", run([PROGRAM, "record"], note).output == recording, True)
+    read = galluspa.recording.read(recording)
     expect("where it ends", page.answer(OWN_LINE), f"accepted 1 checkpoints {count} steps")
     if not 950000 < len(read.checkpoints[-1].output) <= 1 << 20:
         fail(f"a full recording has {len(read.checkpoints[-1].output)} bytes")
