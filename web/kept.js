@@ -2,7 +2,7 @@
  * browser's storage with this one, so what is read is judged first. A lock says which page an item is open in. */
 "use strict";
 
-const MOST_NAME = 80, MOST_STEPS = 2 ** 40, STORAGE_MS = 5000;
+const MOST_NAME = 80, MOST_STEPS = 2 ** 40, STORAGE_MS = 10000;
 
 /** The recording in progress, as far as it is kept. It is replaced whole when another machine is opened. `generation` is the
  * worker's number of the machine, `id` that of the item, `kept` says what was kept last, and `by` who wrote it. */
@@ -98,7 +98,7 @@ function leave(work, kept) {
   return inTurn(async () => {
     if (kept) await store(work, kept);
     work.release?.();
-    await showKept();
+    showKept();
   });
 }
 
@@ -175,10 +175,12 @@ async function summaries() {
 // The list
 
 const forgotten = new Map();
+let listing = 0;
 
-/** Shows what is kept and not open here, and what was forgotten since the page was opened. */
+/** Shows what is kept and not open here, and what was forgotten since the page was opened. Of two at a time the later one counts. */
 async function showKept() {
-  const read = await summaries().catch((error) => error);
+  const turn = ++listing, read = await summaries().catch((error) => error);
+  if (turn !== listing) return;
   const items = read instanceof Error ? [unreadable(read)] : read.filter(({ id }) => id !== app.work.id).map(keptItem);
   write("kept-number", `Recordings kept in this browser: ${items.length || "none"}`);
   el("kept-list").replaceChildren(...[...[...forgotten.values()].map(forgottenItem), ...items].flat());

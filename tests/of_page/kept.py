@@ -135,6 +135,7 @@ def forget_and_undo(desk: Desk) -> None:
     desk.start("keys.json", (EXAMPLES / "keys.json").read_bytes())
     page.answer("keeping")
     before = items(page)
+    page.wait(f"{BUTTONS}.length === 2")
     page.answer(f"{BUTTONS}[1].click()")
     page.wait(f"{BUTTONS}[0].textContent === 'Undo'")
     expect("what is kept once it is forgotten", items(page), [])
