@@ -2,12 +2,12 @@
  * while an emulator runs.
  *
  * The caller owns all memory. Each function works on the caller's buffers and keeps nothing: there are no handles, nothing has to be
- * freed, and threads may call at the same time. Within one call no two buffers may overlap, unless both are only read, and no pointer
- * may be NULL, not even that of an empty buffer. Nothing else is asked of the caller: each number is tested, and one that is out of
- * its range is refused.
+ * freed, and threads may call at the same time. A buffer that a call writes may not overlap any other buffer of the call; buffers that
+ * it only reads may overlap. No pointer may be NULL, not even that of an empty buffer. Nothing else is asked of the caller: each
+ * number is tested, and one that is out of its range is refused.
  *
  * A function that writes an answer writes it to the front of the buffer, and leaves the bytes after it as they were. A call that is
- * refused writes nothing, except the length that is needed if there is too little room.
+ * refused writes nothing, except that galluspa_begin and galluspa_extend write the length that is needed if there is too little room.
  *
  * A recording and a session are bytes in the formats of docs/formats.md. docs/from-c.md is a walk through this header. */
 #ifndef GALLUSPA_H
@@ -36,7 +36,8 @@ enum {
     GALLUSPA_TOO_MANY_INPUTS = 6,      /* the recording would have more than 1,000,000 inputs */
     GALLUSPA_TOO_MANY_CHECKPOINTS = 7, /* .. more than 4,097 checkpoints */
     GALLUSPA_TOO_MUCH_OUTPUT = 8,      /* .. more than 1,048,576 bytes sent */
-    GALLUSPA_TOO_MANY_PAGES = 9        /* .. more than 65,536 pages */
+    GALLUSPA_TOO_MANY_PAGES = 9,       /* .. more than 65,536 pages */
+    GALLUSPA_PENDING_INPUTS = 10       /* the recording has inputs at or after its last checkpoint */
 };
 
 /* The state of a machine without its memory: 136 bytes. The fields are those of a checkpoint in a recording. A function that writes
@@ -50,7 +51,7 @@ typedef struct {
     uint32_t stop;      /* 0 while it runs; 1 float, 2 divisor, 3 fetch, 4 address: at most 4 */
     uint32_t timer;     /* milliseconds */
     uint32_t rate;      /* instructions in a millisecond; 0 if only inputs set the timer */
-    uint32_t phase;     /* instructions of the current millisecond: below rate, or 0 */
+    uint32_t phase;     /* instructions of the current millisecond: below rate, or 0 if rate is 0 */
     uint32_t switches;  /* buttons (bits 11 to 8) and switches: below 4,096 */
     uint32_t leds;      /* below 256 */
     uint32_t mouse;     /* inside the mask 073FF3FF */
@@ -82,13 +83,18 @@ size_t galluspa_migrate(const uint8_t *text, size_t text_len, uint8_t *out, size
 
 /* Reads what a checkpoint of a recording claims: its state, and its memory. words_len is GALLUSPA_WORDS. Checkpoint 0 is the initial
  * state. Whether the claim is true is not tested. Returns GALLUSPA_DONE; or GALLUSPA_OUT_OF_RANGE (words_len),
- * GALLUSPA_OUT_OF_MEMORY, GALLUSPA_NO_RECORDING or GALLUSPA_NO_CHECKPOINT, and then nothing is written. */
+ * GALLUSPA_NO_RECORDING, GALLUSPA_OUT_OF_MEMORY (never for bytes that are not a valid recording) or GALLUSPA_NO_CHECKPOINT, and then
+ * nothing is written. */
 uint8_t galluspa_claim(const uint8_t *text, size_t text_len, uint32_t at, galluspa_state *state, uint32_t *words, size_t words_len);
 
 /* Runs a machine from the count of its state up to the count to. inputs are in the order of their counts; inputs before the state's
  * count, and inputs from to on, have no effect. The bytes that the machine sends are written to sent, and their number to
  * *sent_count. words_len is GALLUSPA_WORDS. Returns GALLUSPA_DONE; or GALLUSPA_OUT_OF_RANGE, GALLUSPA_NO_ROOM or
- * GALLUSPA_OUT_OF_MEMORY, and then nothing is written. A call copies the memory, which takes about half a millisecond. */
+ * GALLUSPA_OUT_OF_MEMORY, and then nothing is written. All numbers are tested before anything is allocated, so GALLUSPA_OUT_OF_MEMORY
+ * means that they are in their ranges.
+ *
+ * A call copies the memory. However far it runs, it holds at most some 2.3 MB, 16 bytes for each input, and three times sent_len + 65,536
+ * bytes: the run stops as soon as there is no room for what the machine has sent. */
 uint8_t galluspa_advance(galluspa_state *state, uint32_t *words, size_t words_len, const galluspa_input *inputs, size_t inputs_len,
                          uint64_t to, uint8_t *sent, size_t sent_len, size_t *sent_count);
 
@@ -101,10 +107,18 @@ uint8_t galluspa_begin(const galluspa_state *state, const uint32_t *words, size_
 
 /* Extends a recording by its next checkpoint: writes the recording with these inputs and one more checkpoint to out, and its length
  * to *out_count. The checkpoint claims this state, and that these bytes were sent since the checkpoint before. The state's count is
- * above that of the last checkpoint. Each input comes between the two: at the last checkpoint's count or later, and before the
- * state's. words_len is GALLUSPA_WORDS. Whether the claim is true is not tested; it is true if galluspa_advance returned this state
- * and these bytes, from the last checkpoint with these inputs. Returns as galluspa_begin does, or GALLUSPA_NO_RECORDING or
- * GALLUSPA_TOO_.. */
+ * above that of the last checkpoint, and at most 2^40. Each input comes between the two: at the last checkpoint's count or later, and
+ * before the state's. words_len is GALLUSPA_WORDS.
+ *
+ * Whether the claim is true is not tested. If all claims of the recording are true, and galluspa_advance returned this state and these
+ * bytes from the state of its last checkpoint with these inputs, then all claims of the new recording are true. A recording with an
+ * input at or after its last checkpoint is refused, since that input would be part of the run, too.
+ *
+ * Returns as galluspa_begin does, or GALLUSPA_NO_RECORDING, GALLUSPA_PENDING_INPUTS or GALLUSPA_TOO_.. It returns the first of these
+ * that applies: GALLUSPA_OUT_OF_RANGE for a number of the state or of an input, words_len, or inputs that are out of order;
+ * GALLUSPA_NO_RECORDING; GALLUSPA_PENDING_INPUTS; GALLUSPA_OUT_OF_RANGE for what does not come next; GALLUSPA_TOO_MANY_INPUTS,
+ * .._CHECKPOINTS, GALLUSPA_TOO_MUCH_OUTPUT, GALLUSPA_TOO_MANY_PAGES; GALLUSPA_NO_ROOM. GALLUSPA_OUT_OF_MEMORY comes only for a valid
+ * recording, and numbers in their ranges. */
 uint8_t galluspa_extend(const uint8_t *text, size_t text_len, const galluspa_input *inputs, size_t inputs_len,
                         const galluspa_state *state, const uint32_t *words, size_t words_len, const uint8_t *sent, size_t sent_len,
                         uint8_t *out, size_t out_len, size_t *out_count);

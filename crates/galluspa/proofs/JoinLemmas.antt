@@ -1,16 +1,14 @@
 -- Two runs of a caller, the second from the end of the first, are one.
-use Rattle.std.proofs.Common.{◌≡◌, ◌∙◌, ◌<◌, ◌≤◌, ◌+◌, ◌-◌, ℕ, zero, suc, inl, inr, List, [], ◌∷◌, ◌++◌, ap, arith, get_or, length, length-append, map, refl, subst, sym}
-use Rattle.std.proofs.lemmas.Bool.{cases_lt}
-use Rattle.std.proofs.lemmas.List.{append-nil, get_or-append_right, get_or-map, get_or_append_left, length-map, map-append}
+use Rattle.std.proofs.Common.{◌≡◌, ◌∙◌, ◌<◌, ◌≤◌, ◌+◌, ◌-◌, ℕ, List, [], ◌∷◌, ◌++◌, ap, arith, get_or, length, map, refl, subst, sym}
+use Rattle.std.proofs.lemmas.List.{append-nil, get_or-map, length-map, map-append}
 use Rattle.std.specs.List.{All}
-use Rattle.risc_machine.proofs.DueLemmas.{counts-order}
 use Rattle.risc_model.proofs.LawLemmas.{run_of-on, sent_of-on}
-use Rattle.risc_model.proofs.OrderLemmas.{count_at-is, count_before-next}
-use Rattle.risc_model.specs.InputOrder.{AreOrdered, IsRightPlace, count_at, count_before}
+use Rattle.risc_model.proofs.OrderLemmas.{count_at-is}
+use Rattle.risc_model.specs.InputOrder.{count_at}
 use Rattle.risc_model.specs.MachineState.{State}
 use Rattle.risc_model.specs.Replay.{run_of, sent_of}
 use Rattle.risc_model.specs.declared.event.Event.{Event}
-use Rattle.risc_model.specs.declared.inputs.TheConstants.{MAX_COUNT}
+use Rattle.oberon_session.proofs.JoinedOrder.{ordered-append}
 use Rattle.galluspa.specs.Laws.{JoinLaw}
 use Rattle.galluspa.specs.Raw.{raw_input, state_of}
 use Rattle.galluspa.specs.declared.raw.RawInput.{RawInput}
@@ -23,53 +21,6 @@ raw-counts Q (e ∷ es) each i lt =
     let here : (get_or (map raw_input (e ∷ es)) i (raw_input e)).count ≡ count_at (e ∷ es) i =
     ap (λ (r : RawInput). r.count) (get_or-map raw_input (e ∷ es) i e (raw_input e) lt) ∙ sym (count_at-is (e ∷ es) i e lt) in
     subst Q here (each i (raw_input e) (omega (arith, lt, length-map (e ∷ es) raw_input)))
-
-right-place : (es : List Event) (place : ℕ) → count_at es place ≤ MAX_COUNT → ((p : ℕ) → p + 1 ≡ place → count_at es p ≤ count_at es place) → IsRightPlace es place
-right-place es zero bound step = (omega arith, bound)
-right-place es (suc p) bound step =
-    let next : p + 1 ≡ suc p = omega arith in
-    let before : count_before es (suc p) ≡ count_at es p = subst (λ (k : ℕ). count_before es k ≡ count_at es p) next (count_before-next es p) in
-    (rw before (step p next), bound)
-
-module _ (xs ys : List Event) where
-  abbrev count : Event → ℕ
-  count e = e.count
-
-  left : (i : ℕ) → i < length xs → count_at (xs ++ ys) i ≡ count_at xs i
-  left i lt =
-      ap (λ (ns : List ℕ). get_or ns i 0) (map-append count xs ys)
-      ∙ get_or_append_left (map count xs) (map count ys) 0 i (omega (arith, lt, length-map xs count))
-
-  right : (i : ℕ) → length xs ≤ i → count_at (xs ++ ys) i ≡ count_at ys (i - length xs)
-  right i le =
-      ap (λ (ns : List ℕ). get_or ns i 0) (map-append count xs ys)
-      ∙ get_or-append_right (map count xs) (map count ys) (length xs) i 0 (length-map xs count) le
-
-  -- events in order, and later ones in order after them
-  ordered-append : (m : ℕ) → AreOrdered xs → AreOrdered ys → ((i : ℕ) → i < length xs → count_at xs i < m) → ((i : ℕ) → i < length ys → m ≤ count_at ys i)
-      → AreOrdered (xs ++ ys)
-  ordered-append m ordered_xs ordered_ys before after place inside =
-      let long = length-append xs ys in
-      elim (cases_lt place (length xs)) [
-        | inl less ↦
-            let at = left place less in
-            right-place (xs ++ ys) place (rw at (ordered_xs place less).1)
-            (λ p next. rw (at, left p (omega (arith, less, next))) (counts-order xs ordered_xs p place (omega (arith, next)) less))
-        | inr more ↦
-            let at = right place (omega (arith, more)) in
-            let in_ys : place - length xs < length ys = omega (arith, long, inside, more) in
-            right-place (xs ++ ys) place (rw at (ordered_ys (place - length xs) in_ys).1)
-            (λ p next.
-            elim (cases_lt p (length xs)) [
-              | inl less ↦
-                  let low = before p less in
-                  let high = after (place - length xs) in_ys in
-                  rw (at, left p less) (omega (arith, low, high))
-              | inr later ↦
-                  rw (at, right p (omega (arith, later)))
-                  (counts-order ys ordered_ys (p - length xs) (place - length xs) (omega (arith, next)) in_ys)
-            ])
-      ]
 
 module _ (xs ys : List Event) (from at end : ℕ) (s : State) (begun : from ≤ at) (on : at ≤ end)
     (before : (i : ℕ) → i < length xs → count_at xs i < at) (after : (i : ℕ) → i < length ys → at ≤ count_at ys i) where

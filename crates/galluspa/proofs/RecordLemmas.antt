@@ -1,11 +1,8 @@
 -- Recordings that are made while a machine runs are true.
-use Rattle.std.proofs.Common.{◌≡◌, ◌∙◌, ◌<◌, ◌≤◌, ◌+◌, ◌-◌, ℕ, zero, suc, inl, inr, List, [], ◌∷◌, ◌++◌, ap, arith, length, subst, sym}
+use Rattle.std.proofs.Common.{◌≡◌, ◌∙◌, ◌<◌, ◌≤◌, ◌+◌, ◌-◌, ℕ, zero, suc, inl, inr, List, [], ◌++◌, ap, arith, length, subst, sym}
 use Rattle.std.proofs.lemmas.Bool.{cases_lt}
 use Rattle.std.proofs.lemmas.List.{append-nil}
-use Rattle.std.proofs.lemmas.List.Elements.{All-append}
-use Rattle.std.specs.List.{All}
 use Rattle.risc_model.proofs.LawLemmas.{run_of-on}
-use Rattle.risc_model.proofs.OrderLemmas.{count_at-is}
 use Rattle.risc_model.specs.InputOrder.{count_at as event_count}
 use Rattle.risc_model.specs.MachineState.{State}
 use Rattle.risc_model.specs.Replay.{run_of, sent_of}
@@ -15,7 +12,8 @@ use Rattle.oberon_format.specs.Defined.{IsTrueAt, Outcome, claimed}
 use Rattle.oberon_format.specs.Recording.{IsLawful, RecordingParts, count_at, last_of}
 use Rattle.oberon_format.specs.declared.layout.TheConstants.{VERSION}
 use Rattle.oberon_check.proofs.Accepting.{accepted}
-use Rattle.oberon_session.specs.Extended.{IsExtended, IsNext, last_count}
+use Rattle.oberon_session.proofs.JoinedOrder.{each-count}
+use Rattle.oberon_session.specs.Extended.{HasRoom, HasTakenAll, IsExtended, IsNext, last_count}
 use Rattle.galluspa.specs.Advance.{HasRun}
 use Rattle.galluspa.specs.Extend.{IsBeginning, IsExtension, claim_of}
 use Rattle.galluspa.specs.Laws.{IsTrueUpTo, RecordLaw}
@@ -24,11 +22,6 @@ use Rattle.galluspa.specs.declared.raw.RawInput.{RawInput}
 use Rattle.galluspa.specs.declared.raw.RawState.{RawState}
 use Rattle.galluspa.proofs.ExtendLemmas.{same-events}
 use Rattle.galluspa.proofs.FrameLemmas.{frame_law-holds}
-
--- what holds of the count of each event holds of the count at each place
-each-count : (Q : ℕ → Type 0) (es : List Event) (i : ℕ) → i < length es → All (λ (e : Event). Q e.count) es → Q (event_count es i)
-each-count Q [] i lt each = absurd (omega (arith, lt))
-each-count Q (e ∷ es) i lt each = subst Q (sym (count_at-is (e ∷ es) i e lt)) (each i e lt)
 
 -- what one run from a first state gives from one count up to another
 abbrev given : List Event → State → ℕ → ℕ → Outcome
@@ -51,7 +44,7 @@ module _ (r : RecordingParts) (lawful : IsLawful r) where
       subst (λ (n : ℕ). count_at r j ≤ count_at r n) whole (counts-rise j (k - j) (omega arith))
 
   module _ (events : List Event) (count : ℕ) (claim : Outcome) (new : RecordingParts) (truth : (k : ℕ) → k < length r.checkpoints → IsTrueAt r k)
-      (past : All (λ (e : Event). e.count < last_count r) r.inputs) (next : IsNext r events count) (ext : IsExtended r events count claim new) where
+      (past : HasTakenAll r) (next : IsNext r events count) (ext : IsExtended r events count claim new) where
     abbrev first : State
     first = (claimed r 0).state
 
@@ -173,13 +166,11 @@ extended-true text inputs old new old_words new_words sent new_text live run ext
     let same_old = same_recording text ext.old r ext.is_text (record { version = VERSION; is = live.is_text }) in
     let same_inputs = same-events ext.events run.events (ext.are_events.written ∙ sym run.are_events.written) in
     let claim = claim_of new new_words sent in
-    let next : IsNext r run.events new.count =
-    subst (λ (es : List Event). IsNext r es new.count) same_inputs (subst (λ (x : RecordingParts). IsNext x ext.events new.count) same_old ext.next) in
+    let room : HasRoom r run.events new.count claim =
+    subst (λ (es : List Event). HasRoom r es new.count claim) same_inputs (subst (λ (x : RecordingParts). HasRoom x ext.events new.count claim) same_old ext.room) in
     let more : IsExtended r run.events new.count claim ext.new =
     subst (λ (es : List Event). IsExtended r es new.count claim ext.new) same_inputs
     (subst (λ (x : RecordingParts). IsExtended x ext.events new.count claim ext.new) same_old ext.extended) in
-    let past : All (λ (e : Event). e.count < last_count r) r.inputs =
-    subst (λ (n : ℕ). All (λ (e : Event). e.count < n) r.inputs) (sym live.count_is) live.past in
     let state_is =
     run.state_is
     ∙ ap (λ (n : ℕ). run_of run.events n (new.count - n) (state_of old old_words)) (sym live.count_is)
@@ -189,17 +180,12 @@ extended-true text inputs old new old_words new_words sent new_text live run ext
     ∙ ap (λ (n : ℕ). sent_of run.events n (new.count - n) (state_of old old_words)) (sym live.count_is)
     ∙ ap (λ (s : State). sent_of run.events (last_count r) (new.count - last_count r) s) (sym live.claims) in
     let last : length r.checkpoints ≡ last_of ext.new = omega (arith, more.more) in
-    let bound = next.later in
     record {
       recording = ext.new;
       is_text = ext.text_is;
-      truth = true-more r live.is_text.lawful run.events new.count claim ext.new live.truth past next more state_is sent_is;
+      truth = true-more r live.is_text.lawful run.events new.count claim ext.new live.truth room.taken room.next more state_is sent_is;
       count_is = ap (λ (k : ℕ). count_at ext.new k) (sym last) ∙ more.last_counts;
       claims = ap (λ (k : ℕ). (claimed ext.new k).state) (sym last) ∙ ap (λ (o : Outcome). o.state) more.last_claims;
-      past =
-          subst (λ (es : List Event). All (λ (e : Event). e.count < new.count) es) (sym more.inputs_more)
-          (All-append (λ (e : Event). e.count < new.count) r.inputs run.events
-          (λ k d lt. let low = past k d lt in omega (arith, low, bound)) (λ k d lt. (next.between k d lt).1));
     }
 
 -- the recording that begins with a state is true up to it
@@ -218,9 +204,6 @@ begun-true state words text begun =
       truth = λ k lt. let first : 0 ≡ k = omega (arith, begun.begun.one, lt) in subst (λ (n : ℕ). IsTrueAt r n) first here;
       count_is = ap (λ (k : ℕ). count_at r k) last ∙ begun.begun.begins ∙ sym begun.begins;
       claims = ap (λ (k : ℕ). (claimed r k).state) last ∙ ap (λ (o : Outcome). o.state) begun.begun.claims;
-      past =
-          subst (λ (es : List Event). All (λ (e : Event). e.count < state.count) es) (sym begun.begun.inputs)
-          (λ k d lt. absurd (omega (arith, lt)));
     }
 
 pub record_law-holds : RecordLaw

@@ -1,9 +1,11 @@
 -- What bytes are read as, and the answers to that.
-use Rattle.std.proofs.Common.{◌≡◌, ◌≢◌, ℕ, List, Err, Ok, Some, arith, inl}
+use Rattle.std.proofs.Common.{◌≡◌, ◌≢◌, ◌∙◌, ℕ, List, Err, IfSome, MatchOption, MatchResult, None, Ok, Option, Result, Some, arith, inl, refl, subst, sym}
+use Rattle.oberon_format.specs.Line.{IsNamedFault}
 use Rattle.oberon_format.specs.Recording.{RecordingParts}
 use Rattle.oberon_format.specs.Text.{Text}
 use Rattle.oberon_format.specs.TextFields.{AnswersText, first_fault_of}
 use Rattle.oberon_format.specs.declared.fault.Fault.{Fault}
+use Rattle.oberon_format.proofs.Named.{text_named}
 use Rattle.oberon_check.specs.Headline.{IsLineOf, IsLineOfFault}
 use Rattle.galluspa.specs.Claim.{IsNoRecording}
 use Rattle.galluspa.specs.inner.Answering.{IsFaultAnswer, IsVerdictAnswer}
@@ -20,6 +22,23 @@ read-text text recording = good-text text (Text text) recording
 first-fault : {A : Type 0} (text : List ℕ) (IsGood : A → Type 0) (why : Fault) → AnswersText text IsGood (Err why) → why ≢ Fault.Memory
     → first_fault_of text ≡ Some why
 first-fault text IsGood why answer other = search arith
+
+-- bytes that are read have no fault
+pub no-fault : {A : Type 0} (text : List ℕ) (IsGood : A → Type 0) (answer : A) → AnswersText text IsGood (Ok answer) → first_fault_of text ≡ None
+no-fault text IsGood answer is = search arith
+
+memory-only : {A : Type 0} (first : Option Fault) (IsGood : A → Type 0) (why : Fault)
+    → MatchOption first (MatchResult (Err why) IsGood (λ (f : Fault). f ≡ Fault.Memory)) (λ (f : Fault). Path (Result A Fault) (Err why) (Err f)) → why ≡ Fault.Memory
+    → IfSome first IsNamedFault → first ≡ None
+memory-only None IsGood why same memory named = refl
+memory-only (Some fault) IsGood why same memory named =
+    let other : why ≡ fault = cc in
+    absurd (subst IsNamedFault (sym other ∙ memory) named)
+
+-- .. nor have those for which memory ran out, since no rule is broken with that
+pub no-fault-memory : {A : Type 0} (text : List ℕ) (IsGood : A → Type 0) (why : Fault) → AnswersText text IsGood (Err why) → why ≡ Fault.Memory
+    → first_fault_of text ≡ None
+no-fault-memory text IsGood why is memory = memory-only (first_fault_of text) IsGood why is memory (text_named text)
 
 -- .. and they are no recording
 pub no-text : (text : List ℕ) (why : Fault) → AnswersText text (Text text) (Err why) → why ≢ Fault.Memory → IsNoRecording text

@@ -4,7 +4,7 @@ use Rattle.oberon_format.specs.Defined.{Outcome}
 use Rattle.oberon_format.specs.Recording.{RecordingParts}
 use Rattle.oberon_format.specs.Text.{Text, TextIn}
 use Rattle.oberon_format.specs.declared.layout.TheConstants.{VERSION}
-use Rattle.oberon_session.specs.Extended.{IsBegun, IsExtendFault, IsExtended, IsNext}
+use Rattle.oberon_session.specs.Extended.{HasRoom, IsBegun, IsExtendFault, IsExtended, IsNext}
 use Rattle.oberon_session.specs.declared.extend_fault.ExtendFault.{ExtendFault}
 use Rattle.risc_model.specs.declared.event.Event.{Event}
 use Rattle.galluspa.specs.declared.raw.RawState.{RawState}
@@ -59,15 +59,15 @@ pub record IsExtension (text : List ℕ) (inputs : List RawInput) (state : RawSt
   pub is_text : Text text old
   pub events : List Event
   pub are_events : AreEvents inputs events
-  pub next : IsNext old events state.count
+  pub room : HasRoom old events state.count (claim_of state words sent)
   pub new : RecordingParts
   pub extended : IsExtended old events state.count (claim_of state words sent) new
   pub text_is : TextIn VERSION new_text new
 
--- the bytes are a recording, and with what follows it would have more of something than a recording may have
-pub record HasTooMuch (text : List ℕ) (inputs : List RawInput) (state : RawState) (words sent : List ℕ) (fault : ExtendFault) : Type 0 where
+-- the bytes are a recording, and this is why it is not extended by what follows
+pub record HasExtendFault (text : List ℕ) (inputs : List RawInput) (state : RawState) (words sent : List ℕ) (fault : ExtendFault) : Type 0 where
   pub recording : RecordingParts
   pub is_text : Text text recording
   pub events : List Event
   pub are_events : AreEvents inputs events
-  pub too_much : IsExtendFault recording events state.count (claim_of state words sent) fault
+  pub is_fault : IsExtendFault recording events state.count (claim_of state words sent) fault

@@ -1,5 +1,5 @@
 -- The laws that join the calls of a caller into one run, with the law of `risc_model` that a run continues a run (`RunLaw`), and that make
--- the recordings of such a run true.
+-- the recordings of such a run true; and the numbers that a caller gets.
 use Rattle.std.specs.Prelude.{ℕ, ◌≡◌, ◌+◌, ◌<◌, ◌≤◌, List, ◌++◌, length}
 use Rattle.std.specs.List.{All}
 use Rattle.risc_model.specs.declared.event.Event.{Event}
@@ -13,6 +13,8 @@ use Rattle.oberon_format.specs.declared.layout.TheConstants.{VERSION}
 use Rattle.oberon_session.specs.Extended.{last_count}
 use Rattle.galluspa.specs.declared.raw.RawInput.{RawInput}
 use Rattle.galluspa.specs.declared.raw.RawState.{RawState}
+use Rattle.galluspa.specs.declared.refusal.TheConstants.{DONE, NO_CHECKPOINT, NO_RECORDING, NO_ROOM, OUT_OF_MEMORY, OUT_OF_RANGE, PENDING_INPUTS, TOO_MANY_CHECKPOINTS, TOO_MANY_INPUTS, TOO_MANY_PAGES, TOO_MUCH_OUTPUT}
+use Rattle.galluspa.specs.declared.words.TheConstants.{WORDS}
 use Rattle.galluspa.specs.Advance.{HasRun}
 use Rattle.galluspa.specs.Extend.{IsBeginning, IsExtension}
 use Rattle.galluspa.specs.Raw.{state_of}
@@ -40,17 +42,16 @@ JoinLaw =
 
 -- ---- recordings that are made while a machine runs
 
--- the bytes are a recording all of whose claims are true. Its last checkpoint claims this state, and each input comes before it
+-- the bytes are a recording all of whose claims are true. Its last checkpoint claims this state
 pub record IsTrueUpTo (text : List ℕ) (state : RawState) (words : List ℕ) : Type 0 where
   pub recording : RecordingParts
   pub is_text : TextIn VERSION text recording
   pub truth : (k : ℕ) → k < length recording.checkpoints → IsTrueAt recording k
   pub count_is : last_count recording ≡ state.count
   pub claims : (claimed recording (last_of recording)).state ≡ state_of state words
-  pub past : All (λ e. e.count < state.count) recording.inputs
 
--- the recording that begins with a state is true up to it; one that is extended by the result of a run is true up to the state in which
--- the run ends; and a check accepts each such recording
+-- the recording that begins with a state is true up to it. A recording that is true up to a state, and is extended by the result of a run
+-- from that state, is true up to the state in which the run ends. And a check accepts each such recording
 abbrev pub RecordLaw : Type 0
 RecordLaw =
     ((state : RawState) (words text : List ℕ) → IsBeginning state words text → IsTrueUpTo text state words)
@@ -58,3 +59,20 @@ RecordLaw =
     → IsTrueUpTo text old old_words → HasRun inputs new.count old old_words new new_words sent
     → IsExtension text inputs new new_words sent new_text → IsTrueUpTo new_text new new_words)
     × ((text : List ℕ) (state : RawState) (words : List ℕ) (live : IsTrueUpTo text state words) → IsAccepted live.recording text)
+
+-- ---- the numbers that a caller in C gets
+
+-- each number by its value, so that a mistyped one cannot change a contract unnoticed
+pub record HasCodes : Type 0 where
+  pub done : DONE ≡ 0
+  pub out_of_range : OUT_OF_RANGE ≡ 1
+  pub no_room : NO_ROOM ≡ 2
+  pub out_of_memory : OUT_OF_MEMORY ≡ 3
+  pub no_recording : NO_RECORDING ≡ 4
+  pub no_checkpoint : NO_CHECKPOINT ≡ 5
+  pub too_many_inputs : TOO_MANY_INPUTS ≡ 6
+  pub too_many_checkpoints : TOO_MANY_CHECKPOINTS ≡ 7
+  pub too_much_output : TOO_MUCH_OUTPUT ≡ 8
+  pub too_many_pages : TOO_MANY_PAGES ≡ 9
+  pub pending_inputs : PENDING_INPUTS ≡ 10
+  pub words : WORDS ≡ 262144

@@ -1,11 +1,12 @@
 //! A run of a machine in the memory of a caller.
-ghost use Rattle.std.specs.Prelude.{◌≡◌, ◌≢◌, ◌<◌, ◌≤◌, ◌-◌, IfErr, IfNone, IfOk, IfSome, OnErr, OnOk, drop, length, map, take};
+ghost use Rattle.std.specs.Prelude.{◌≡◌, ◌≢◌, ◌<◌, ◌≤◌, ◌+◌, ◌-◌, ◌++◌, ◌⊎◌, ◌↔◌, IfErr, IfNone, IfOk, IfSome, IsTrue, OnErr, OnOk, drop, length, map, max, take};
 ghost use Rattle.risc_devices.specs.InputKind.{IsInput};
+ghost use Rattle.risc_machine.specs.Allocation.{MayFail};
 ghost use Rattle.risc_model.specs.MachineState.{cpu_state};
 ghost use Rattle.risc_model.specs.Replay.{run_of, sent_of};
 ghost use Rattle.galluspa.specs.Advance.{HasRun, IsInRange, SendsMore};
-ghost use Rattle.galluspa.specs.Raw.{AreEvents, IsWhole, IsWritten, cpu_of, devices_of, raw_input, state_of};
-ghost use Rattle.galluspa.specs.inner.Running.{IsAdvanceRefusal, IsInputsRefusal, IsRun, IsRunRefusal};
+ghost use Rattle.galluspa.specs.Raw.{AreEvents, AreInOrder, IsWhole, IsWritten, cpu_of, devices_of, raw_input, state_of};
+ghost use Rattle.galluspa.specs.inner.Running.{IsAdvanceRefusal, IsRun, IsRunRefusal};
 
 use crate::front::copy_to_front;
 use crate::raw::{RawInput, RawState, parts_of, state_of};
@@ -13,8 +14,8 @@ use crate::refusal::{DONE, NO_ROOM, OUT_OF_MEMORY, OUT_OF_RANGE, Refusal};
 use crate::words::{WORDS, copy_words, paged};
 use risc_devices::{Devices, Input};
 use risc_machine::Machine;
-use risc_model::{Cpu, Event, Inputs};
-use std::alloc::Global;
+use risc_model::{Cpu, Event, Inputs, MAX_COUNT};
+use std::alloc::{AllocError, Global};
 
 /// Returns the event of an input at a count, if its kind and its value are in their ranges.
 fn event_at(count: u64, kind: u32, value: u32) -> Option<Event>
@@ -30,33 +31,55 @@ fn event_at(count: u64, kind: u32, value: u32) -> Option<Event>
     }
 }
 
-/// Returns the events of inputs whose kinds and values are in their ranges.
-fn events_of(alloc: Global, inputs: &[RawInput]) -> Result<Vec<Event>, Refusal>
-    ensures events { IfOk result (λ events. map raw_input events.items ≡ inputs.now) }
-    ensures refused { IfErr result (IsInputsRefusal inputs.now) }
+/// Reports whether each input of a caller is in its range, and their counts are in order. Allocates nothing.
+pub fn are_in_order(inputs: &[RawInput]) -> bool
+    ensures { IsTrue result ↔ AreInOrder inputs.now }
 {
-    let mut events = Vec::new(alloc);
+    let mut least = 0;
+    for input in inputs {
+        if input.count < least || input.count > MAX_COUNT {
+            return false;
+        }
+        let Some(event) = event_at(input.count, input.kind, input.value) else {
+            return false;
+        };
+        least = event.count;
+    }
+    true
+}
+
+/// Returns the events of inputs that are in order.
+fn events_of(alloc: Global, inputs: &[RawInput]) -> Result<Vec<Event>, AllocError>
+    requires { AreInOrder inputs.now }
+    ensures { IfOk result (λ events. map raw_input events.items ≡ inputs.now) }
+{
+    let mut events = Vec::with_capacity(alloc, inputs.len())?;
     for input in inputs {
         let Some(event) = event_at(input.count, input.kind, input.value) else {
-            return Err(Refusal::Range);
+            unreachable!()
         };
         events.push(event)?;
     }
     Ok(events)
 }
 
-/// Returns the inputs of a caller, if each is in its range and their counts are in order.
-pub fn inputs_of(alloc: Global, inputs: &[RawInput]) -> Result<Inputs, Refusal>
-    ensures events { IfOk result (λ events. AreEvents inputs.now events) }
-    ensures refused { IfErr result (IsInputsRefusal inputs.now) }
+/// Returns the inputs of a caller, which are in order.
+pub fn inputs_of(alloc: Global, inputs: &[RawInput]) -> Result<Inputs, AllocError>
+    requires { AreInOrder inputs.now }
+    ensures { IfOk result (λ events. AreEvents inputs.now events) }
 {
     match Inputs::new(events_of(alloc, inputs)?) {
         Ok(inputs) => Ok(inputs),
-        Err(_) => Err(Refusal::Range),
+        Err(_) => unreachable!(),
     }
 }
 
+/// The most steps of a piece of a run for which there may be no room. The output is compared with the room after each piece.
+const PIECE: u64 = 65_536;
+
 /// Runs a machine from one count up to another, and returns the bytes that it sends, of which there are at most `room`.
+///
+/// It runs in pieces, and stops after the first for which there is no room. So no more than `room + PIECE` bytes are held at any time.
 fn sent_by(
     alloc: Global,
     machine: &mut Machine<'_>,
@@ -71,16 +94,64 @@ fn sent_by(
     ensures room { IfOk result (λ sent. length sent.items ≤ room) }
     ensures no_room { IfErr result (λ refusal.
         refusal ≡ Refusal.Room → room < length (sent_of inputs.now from (to - from) machine.old.state)) }
+    ensures memory { IfErr result (λ refusal. refusal ≡ Refusal.Memory → MayFail machine.new) }
     ensures refusal { IfErr result (λ refusal. refusal ≢ Refusal.Range) }
 {
     let mut sent = Vec::new(alloc);
-    let Ok(()) = machine.run(inputs, from, to, &mut sent) else {
+    let mut at = from;
+    while at < to {
+        at = run_piece(machine, inputs, at, to, room, &mut sent)?;
+    }
+    Ok(sent)
+}
+
+/// Runs the piece of a run that begins at a count, and returns the count at which it ends. The bytes that the machine sends are added to
+/// `sent`.
+fn run_piece(
+    machine: &mut Machine<'_>,
+    inputs: &Inputs,
+    at: u64,
+    to: u64,
+    room: usize,
+    sent: &mut Vec<u8>,
+) -> Result<u64, Refusal>
+    requires forward { at < to }
+    requires room { length sent.old.items ≤ room }
+    ensures further { IfOk result (λ end. (at < end) × (end ≤ to)) }
+    ensures state { IfOk result (λ end. machine.new.state ≡ run_of inputs.now at (end - at) machine.old.state) }
+    ensures sent { IfOk result (λ end. sent.new.items ≡ sent.old.items ++ sent_of inputs.now at (end - at) machine.old.state) }
+    ensures room { OnOk result (length sent.new.items ≤ room) }
+    ensures no_room { IfErr result (λ refusal.
+        refusal ≡ Refusal.Room → room < length sent.old.items + length (sent_of inputs.now at (to - at) machine.old.state)) }
+    ensures memory { IfErr result (λ refusal. refusal ≡ Refusal.Memory → MayFail machine.new) }
+    ensures refusal { IfErr result (λ refusal. refusal ≢ Refusal.Range) }
+    // Whatever comes, so many bytes are held.
+    ensures held { length sent.new.items ≤ room + PIECE }
+{
+    let end = piece_end(machine, at, to, room - sent.len());
+    let Ok(()) = machine.run(inputs, at, end, sent) else {
         return Err(Refusal::Memory);
     };
     if sent.len() > room {
         return Err(Refusal::Room);
     }
-    Ok(sent)
+    Ok(end)
+}
+
+/// Returns the count at which the piece of a run ends that begins at a count, if there is room for `left` bytes more. For a stopped
+/// machine that is `to`, since no step is left to do.
+fn piece_end(machine: &Machine<'_>, at: u64, to: u64, left: usize) -> u64
+    requires { at < to }
+    ensures further { at < result }
+    ensures within { result ≤ to }
+    ensures few { (machine.now.state.cpu.stop ≢ 0) ⊎ (result ≤ at + max PIECE left) }
+{
+    let most = PIECE.max(left as u64);
+    if machine.cpu().stop != 0 || to - at <= most {
+        to
+    } else {
+        at + most
+    }
 }
 
 /// Runs the machine of a state with its words up to a count. Writes the state and the words after it, and returns the bytes that it
@@ -133,7 +204,8 @@ fn run_parts(
     run_machine(alloc, &mut machine, state, words, inputs, to, room)
 }
 
-/// Runs a machine up to a count, and returns the bytes that it sends, of which there are at most `room`.
+/// Runs a machine up to a count, and returns the bytes that it sends, of which there are at most `room`. All numbers are tested before
+/// anything is allocated.
 fn run(
     alloc: Global,
     state: &mut RawState,
@@ -149,7 +221,7 @@ fn run(
     ensures in_range { OnOk result (IsInRange inputs.now to state.old words.old) }
     ensures refused { IfErr result (IsAdvanceRefusal inputs.now to state.old words.old room) }
 {
-    if to < state.count {
+    if to < state.count || !are_in_order(inputs) {
         return Err(Refusal::Range);
     }
     let Some(parts) = parts_of(state, words) else {
@@ -166,7 +238,7 @@ fn run(
 ///
 /// Otherwise nothing is written, and the result is 1 (`OUT_OF_RANGE`) if `words` is not of 262,144 words, `to` is below the count
 /// of the state, a number of the state or of an input is out of its range, or the inputs' counts fall or are above 2^40; 2
-/// (`NO_ROOM`) if the machine sends more bytes than `sent` has room for; and 3 (`OUT_OF_MEMORY`) if memory ran out.
+/// (`NO_ROOM`) if the machine sends more bytes than `sent` has room for; and 3 (`OUT_OF_MEMORY`) if all is in range and memory ran out.
 #[unsafe(no_mangle)]
 pub extern "C" fn galluspa_advance(
     alloc: Global,
@@ -185,9 +257,7 @@ pub extern "C" fn galluspa_advance(
     ensures unchanged { result ≢ DONE → (state.new ≡ state.old) × (words.new ≡ words.old) }
     ensures unsent { result ≢ DONE → (sent.new ≡ sent.old) × (sent_count.new ≡ sent_count.old) }
     ensures no_room { result ≡ NO_ROOM → SendsMore inputs.now to state.old words.old (length sent.old) }
-    ensures in_range { result ≢ OUT_OF_RANGE → result ≢ OUT_OF_MEMORY → IsInRange inputs.now to state.old words.old }
-    ensures forward { result ≢ OUT_OF_RANGE → state.old.count ≤ to }
-    ensures whole { result ≢ OUT_OF_RANGE → IsWhole state.old words.old }
+    ensures in_range { result ≢ OUT_OF_RANGE → IsInRange inputs.now to state.old words.old }
     ensures range { result ≡ OUT_OF_RANGE → ¬ (IsInRange inputs.now to state.old words.old) }
     ensures codes { result ≤ OUT_OF_MEMORY }
 {

@@ -1,7 +1,8 @@
 //! What a checkpoint of a recording claims, written to the memory of a caller.
-ghost use Rattle.std.specs.Prelude.{◌≡◌, ◌≢◌, ◌<◌, ◌≤◌, OnErr, OnOk, length};
+ghost use Rattle.std.specs.Prelude.{◌≡◌, ◌≢◌, ◌<◌, ◌≤◌, None, OnErr, OnOk, length};
 ghost use Rattle.oberon_format.specs.Defined.{claimed};
 ghost use Rattle.oberon_format.specs.Recording.{count_at};
+ghost use Rattle.oberon_format.specs.TextFields.{first_fault_of};
 ghost use Rattle.galluspa.specs.Claim.{HasNoCheckpoint, IsClaim, IsNoRecording};
 ghost use Rattle.galluspa.specs.Raw.{IsWritten, state_of};
 
@@ -37,8 +38,8 @@ fn write_claim(
 /// Reads what checkpoint `at` of a recording claims, its state and its words, and returns 0 (`DONE`). Whether the claim is true is
 /// not tested. Checkpoint 0 is the initial state.
 ///
-/// Otherwise nothing is written, and the result is 1 (`OUT_OF_RANGE`) if `words` is not of 262,144 words, 3 (`OUT_OF_MEMORY`) if
-/// memory ran out, 4 (`NO_RECORDING`) if the bytes are no recording, and 5 (`NO_CHECKPOINT`) if the recording has no such
+/// Otherwise nothing is written, and the result is 1 (`OUT_OF_RANGE`) if `words` is not of 262,144 words, 4 (`NO_RECORDING`) if the
+/// bytes are no recording, 3 (`OUT_OF_MEMORY`) if they are one and memory ran out, and 5 (`NO_CHECKPOINT`) if the recording has no such
 /// checkpoint.
 #[unsafe(no_mangle)]
 pub extern "C" fn galluspa_claim(
@@ -55,6 +56,7 @@ pub extern "C" fn galluspa_claim(
     ensures range { result ≡ OUT_OF_RANGE → length words.old ≢ WORDS }
     ensures no_recording { result ≡ NO_RECORDING → IsNoRecording text.now }
     ensures no_checkpoint { result ≡ NO_CHECKPOINT → HasNoCheckpoint text.now at }
+    ensures memory { result ≡ OUT_OF_MEMORY → first_fault_of text.now ≡ None }
     ensures codes { (result ≢ NO_ROOM) × (result ≤ NO_CHECKPOINT) }
 {
     if words.len() != WORDS {

@@ -2,26 +2,26 @@
 ghost use Rattle.std.specs.Prelude.{◌≡◌, ◌≢◌, ◌<◌, ◌≤◌, ◌⊎◌, IfErr, IfNone, IfOk, IfSome, drop, length, take};
 ghost use Rattle.risc_core.specs.declared.branch.TheConstants.{COUNTER_END};
 ghost use Rattle.oberon_format.specs.Text.{TextIn};
+ghost use Rattle.oberon_format.specs.TextFields.{first_fault_of};
 ghost use Rattle.oberon_format.specs.declared.layout.TheConstants.{VERSION};
 ghost use Rattle.oberon_session.specs.Extended.{outcome_of};
 ghost use Rattle.oberon_session.specs.declared.extend_fault.ExtendFault.{ExtendFault};
 ghost use Rattle.galluspa.specs.Claim.{IsNoRecording};
-ghost use Rattle.galluspa.specs.Extend.{CanBegin, CanFollow, DoesNotFollow, HasTooMuch, IsBeginning, IsExtension, claim_of};
+ghost use Rattle.galluspa.specs.Extend.{CanBegin, CanFollow, DoesNotFollow, HasExtendFault, IsBeginning, IsExtension, claim_of};
 ghost use Rattle.galluspa.specs.Raw.{AreInOrder, IsWhole};
 ghost use Rattle.galluspa.specs.Room.{NeedsRoom};
 ghost use Rattle.galluspa.specs.inner.Extending.{IsMore, IsNoMore, IsUnextended, code_of, unextended};
 
-use crate::advance::inputs_of;
+use crate::advance::{are_in_order, inputs_of};
 use crate::front::copy_to_front;
 use crate::raw::{RawInput, RawState, parts_of};
 use crate::refusal::{
-    DONE, NO_RECORDING, NO_ROOM, OUT_OF_MEMORY, OUT_OF_RANGE, Refusal, TOO_MANY_CHECKPOINTS,
-    TOO_MANY_INPUTS, TOO_MANY_PAGES, TOO_MUCH_OUTPUT,
+    DONE, NO_CHECKPOINT, NO_RECORDING, NO_ROOM, OUT_OF_MEMORY, OUT_OF_RANGE, PENDING_INPUTS,
+    TOO_MANY_CHECKPOINTS, TOO_MANY_INPUTS, TOO_MANY_PAGES, TOO_MUCH_OUTPUT,
 };
 use crate::words::WORDS;
 use oberon_format::{Fault, Recording, read, write};
 use oberon_session::{Claim, ExtendFault, begin_recording, extend_recording};
-use risc_model::Inputs;
 use std::alloc::Global;
 
 /// Why a recording was not begun, or not extended.
@@ -31,6 +31,8 @@ pub enum Unrecorded {
     Range,
     /// The bytes are no recording.
     NoRecording,
+    /// The recording has inputs at or after its last checkpoint.
+    Pending,
     /// There would be too many inputs.
     Inputs,
     /// There would be too many checkpoints.
@@ -48,11 +50,12 @@ impl Unrecorded {
     fn code(self) -> u8
         ensures code { result ≡ code_of self }
         ensures refused { (result ≡ OUT_OF_RANGE) ⊎ (OUT_OF_MEMORY ≤ result) }
-        ensures codes { result ≤ TOO_MANY_PAGES }
+        ensures codes { (result ≢ NO_CHECKPOINT) × (result ≤ PENDING_INPUTS) }
     {
         match self {
             Unrecorded::Range => OUT_OF_RANGE,
             Unrecorded::NoRecording => NO_RECORDING,
+            Unrecorded::Pending => PENDING_INPUTS,
             Unrecorded::Inputs => TOO_MANY_INPUTS,
             Unrecorded::Checkpoints => TOO_MANY_CHECKPOINTS,
             Unrecorded::Output => TOO_MUCH_OUTPUT,
@@ -120,6 +123,7 @@ fn unextended(fault: ExtendFault) -> Unrecorded
     ensures { result ≡ unextended fault }
 {
     match fault {
+        ExtendFault::Pending => Unrecorded::Pending,
         ExtendFault::Order => Unrecorded::Range,
         ExtendFault::Inputs => Unrecorded::Inputs,
         ExtendFault::Checkpoints => Unrecorded::Checkpoints,
@@ -129,16 +133,17 @@ fn unextended(fault: ExtendFault) -> Unrecorded
     }
 }
 
-/// Returns the recording of the bytes, extended by a claim.
+/// Returns the recording of the bytes, extended by a claim and inputs that are in order.
 fn extended(
     alloc: Global,
     text: &[u8],
-    inputs: &Inputs,
+    inputs: &[RawInput],
     claim: &Claim<'_>,
 ) -> Result<Recording, Unrecorded>
     requires counter { claim.now.cpu.pc < COUNTER_END }
     requires stop { claim.now.cpu.stop ≤ 4 }
     requires whole { length claim.now.words.now ≡ WORDS }
+    requires ordered { AreInOrder inputs.now }
     ensures more { IfOk result (IsMore text.now inputs.now claim.now) }
     ensures refused { IfErr result (IsNoMore text.now inputs.now claim.now) }
 {
@@ -146,6 +151,9 @@ fn extended(
         Ok(recording) => recording,
         Err(Fault::Memory) => return Err(Unrecorded::Memory),
         Err(_) => return Err(Unrecorded::NoRecording),
+    };
+    let Ok(inputs) = inputs_of(alloc, inputs) else {
+        return Err(Unrecorded::Memory);
     };
     match extend_recording(alloc, recording, inputs.events(), claim) {
         Ok(more) => Ok(more),
@@ -166,20 +174,17 @@ fn extension(
     ensures follows { IfOk result (λ _. CanFollow text.now inputs.now state.now words.now) }
     ensures refused { IfErr result (IsUnextended text.now inputs.now state.now words.now sent.now) }
     ensures whole { IfErr result (λ refusal. refusal ≢ Unrecorded.Range → IsWhole state.now words.now) }
-    ensures ordered { IfErr result (λ refusal.
-        refusal ≢ Unrecorded.Range → refusal ≢ Unrecorded.Memory → AreInOrder inputs.now) }
+    ensures ordered { IfErr result (λ refusal. refusal ≢ Unrecorded.Range → AreInOrder inputs.now) }
     ensures reason { IfErr result (λ refusal.
         refusal ≡ Unrecorded.Range → DoesNotFollow text.now inputs.now state.now words.now) }
 {
     let Some(claim) = claim_of(state, words, sent) else {
         return Err(Unrecorded::Range);
     };
-    let inputs = match inputs_of(alloc, inputs) {
-        Ok(inputs) => inputs,
-        Err(Refusal::Memory) => return Err(Unrecorded::Memory),
-        Err(_) => return Err(Unrecorded::Range),
-    };
-    let more = extended(alloc, text, &inputs, &claim)?;
+    if !are_in_order(inputs) {
+        return Err(Unrecorded::Range);
+    }
+    let more = extended(alloc, text, inputs, &claim)?;
     written(alloc, more)
 }
 
@@ -234,11 +239,14 @@ pub extern "C" fn galluspa_begin(
 /// state and that these bytes were sent since the previous checkpoint, to the front of `out`, and its length to `out_count`; and
 /// returns 0 (`DONE`). Whether the claim is true is not tested.
 ///
-/// Otherwise `out` is as it was, and the result is 1 (`OUT_OF_RANGE`) if `words` is not of 262,144 words, a number of the state or
-/// of an input is out of its range, the state's count is not above that of the last checkpoint, or an input doesn't come between
-/// the two; 2 (`NO_ROOM`) if `out` has no room for the recording, whose length is then written to `out_count`; 3 (`OUT_OF_MEMORY`)
-/// if memory ran out; 4 (`NO_RECORDING`) if the bytes are no recording; and 6 to 9 (`TOO_MANY_INPUTS`, `TOO_MANY_CHECKPOINTS`,
-/// `TOO_MUCH_OUTPUT`, `TOO_MANY_PAGES`) if the recording would have more of these than a recording may have.
+/// Otherwise `out` is as it was, and the result is the first of these that holds, unless memory runs out before it is known: 1
+/// (`OUT_OF_RANGE`) if `words` is not of 262,144 words, a number of the state or of an input is out of its range, or the inputs' counts
+/// fall; 4 (`NO_RECORDING`) if the bytes are no recording; 10 (`PENDING_INPUTS`) if the recording has an input at or after its last
+/// checkpoint; 1 (`OUT_OF_RANGE`) if the state's count is not above that of the last checkpoint, or is above 2^40, or an input doesn't
+/// come between the two; 6 to 9 (`TOO_MANY_INPUTS`, `TOO_MANY_CHECKPOINTS`, `TOO_MUCH_OUTPUT`, `TOO_MANY_PAGES`) if the recording
+/// would have more of these than a recording may have; and 2 (`NO_ROOM`) if `out` has no room for the recording, whose length is then
+/// written to `out_count`. If memory runs out, it is 3 (`OUT_OF_MEMORY`): then the numbers are in their ranges, and the bytes are a
+/// recording.
 #[unsafe(no_mangle)]
 pub extern "C" fn galluspa_extend(
     alloc: Global,
@@ -259,16 +267,18 @@ pub extern "C" fn galluspa_extend(
     ensures uncounted { result ≢ DONE → result ≢ NO_ROOM → out_count.new ≡ out_count.old }
     ensures in_range { result ≤ NO_ROOM → result ≢ OUT_OF_RANGE → CanFollow text.now inputs.now state.now words.now }
     ensures whole { result ≢ OUT_OF_RANGE → IsWhole state.now words.now }
-    ensures ordered { result ≢ OUT_OF_RANGE → result ≢ OUT_OF_MEMORY → AreInOrder inputs.now }
+    ensures ordered { result ≢ OUT_OF_RANGE → AreInOrder inputs.now }
     ensures range { result ≡ OUT_OF_RANGE → ¬ (CanFollow text.now inputs.now state.now words.now) }
     ensures reason { result ≡ OUT_OF_RANGE → DoesNotFollow text.now inputs.now state.now words.now }
     ensures no_recording { result ≡ NO_RECORDING → IsNoRecording text.now }
-    ensures inputs { result ≡ TOO_MANY_INPUTS → HasTooMuch text.now inputs.now state.now words.now sent.now ExtendFault.Inputs }
+    ensures memory { result ≡ OUT_OF_MEMORY → first_fault_of text.now ≡ None }
+    ensures pending { result ≡ PENDING_INPUTS → HasExtendFault text.now inputs.now state.now words.now sent.now ExtendFault.Pending }
+    ensures inputs { result ≡ TOO_MANY_INPUTS → HasExtendFault text.now inputs.now state.now words.now sent.now ExtendFault.Inputs }
     ensures checkpoints { result ≡ TOO_MANY_CHECKPOINTS →
-        HasTooMuch text.now inputs.now state.now words.now sent.now ExtendFault.Checkpoints }
-    ensures output { result ≡ TOO_MUCH_OUTPUT → HasTooMuch text.now inputs.now state.now words.now sent.now ExtendFault.Output }
-    ensures pages { result ≡ TOO_MANY_PAGES → HasTooMuch text.now inputs.now state.now words.now sent.now ExtendFault.Pages }
-    ensures codes { result ≤ TOO_MANY_PAGES }
+        HasExtendFault text.now inputs.now state.now words.now sent.now ExtendFault.Checkpoints }
+    ensures output { result ≡ TOO_MUCH_OUTPUT → HasExtendFault text.now inputs.now state.now words.now sent.now ExtendFault.Output }
+    ensures pages { result ≡ TOO_MANY_PAGES → HasExtendFault text.now inputs.now state.now words.now sent.now ExtendFault.Pages }
+    ensures codes { (result ≢ NO_CHECKPOINT) × (result ≤ PENDING_INPUTS) }
 {
     match extension(alloc, text, inputs, state, words, sent) {
         Ok(bytes) => put(&bytes, out, out_count),

@@ -2,13 +2,13 @@
 //! machine, and makes a recording while one runs. `include/galluspa.h` declares its functions, and `docs/from-c.md` shows them at work.
 //!
 //! Each function takes all that it needs in slices of the caller's memory, and keeps nothing: there are no handles, and nothing
-//! has to be freed. A machine lives with the caller as plain numbers: a `RawState` and its 262,144 words. The slices of one call
-//! must not overlap, and no pointer is null, not even that of an empty slice. Nothing else is asked of the caller: each number is
-//! tested, and one that is out of its range is refused.
+//! has to be freed. A machine lives with the caller as plain numbers: a `RawState` and its 262,144 words. A slice that a call writes
+//! must not overlap another of its slices, and no pointer is null, not even that of an empty slice. Nothing else is asked of the caller:
+//! each number is tested, and one that is out of its range is refused.
 //!
 //! Three laws join the calls. A run needs only the inputs of its own counts (`frame_law`). Calls from count to count are one run
-//! (`join_law`). A recording that begins with a state, and is extended by what `galluspa_advance` returns, claims only what is true, and
-//! is accepted (`record_law`).
+//! (`join_law`). A recording whose claims are true, and which is extended by what `galluspa_advance` returns from its last checkpoint,
+//! claims only what is true, and is accepted (`record_law`).
 #![tactic(auto)]
 
 mod advance;
@@ -29,12 +29,12 @@ pub use advance::galluspa_advance;
 pub use check::galluspa_check;
 pub use claim::galluspa_claim;
 pub use extend::{galluspa_begin, galluspa_extend};
-pub use laws::{frame_law, join_law, record_law};
+pub use laws::{codes_law, frame_law, join_law, record_law};
 pub use migrate::galluspa_migrate;
 pub use raw::{RawInput, RawState};
 pub use record::galluspa_record;
 pub use refusal::{
-    DONE, NO_CHECKPOINT, NO_RECORDING, NO_ROOM, OUT_OF_MEMORY, OUT_OF_RANGE, TOO_MANY_CHECKPOINTS,
-    TOO_MANY_INPUTS, TOO_MANY_PAGES, TOO_MUCH_OUTPUT,
+    DONE, NO_CHECKPOINT, NO_RECORDING, NO_ROOM, OUT_OF_MEMORY, OUT_OF_RANGE, PENDING_INPUTS,
+    TOO_MANY_CHECKPOINTS, TOO_MANY_INPUTS, TOO_MANY_PAGES, TOO_MUCH_OUTPUT,
 };
 pub use words::WORDS;

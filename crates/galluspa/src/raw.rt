@@ -32,7 +32,7 @@ pub struct RawState {
     pub timer: u32,
     /// Instructions in a millisecond, or 0 for a timer that only inputs set.
     pub rate: u32,
-    /// Instructions of the current millisecond: below `rate`, or 0.
+    /// Instructions of the current millisecond: below `rate`, or 0 if `rate` is 0.
     pub phase: u32,
     /// Buttons (bits 11 to 8) and switches: below 4,096.
     pub switches: u32,

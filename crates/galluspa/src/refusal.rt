@@ -1,5 +1,5 @@
 //! Why a call on a machine was refused, and the number that a caller in C gets.
-use std::alloc::{AllocError, AllocFailed};
+use std::alloc::AllocError;
 
 /// The call did what it is for.
 pub const DONE: u8 = 0;
@@ -31,6 +31,9 @@ pub const TOO_MUCH_OUTPUT: u8 = 8;
 /// The recording would have more than 65,536 pages.
 pub const TOO_MANY_PAGES: u8 = 9;
 
+/// The recording has inputs at or after its last checkpoint.
+pub const PENDING_INPUTS: u8 = 10;
+
 /// Why a machine was not advanced.
 #[derive(Clone, Copy)]
 pub enum Refusal {
@@ -49,17 +52,6 @@ impl From<AllocError> for Refusal {
     ghost from_gives = { λ _ refusal. refusal ≡ Refusal.Memory };
 
     fn from(_failure: AllocError) -> Refusal {
-        Refusal::Memory
-    }
-}
-
-impl<T: Drop> From<AllocFailed<T>> for Refusal {
-    ghost use Rattle.std.specs.Prelude.{◌≡◌};
-    ghost use Rattle.galluspa.specs.declared.refusal.Refusal.{Refusal};
-
-    ghost from_gives = { λ _ refusal. refusal ≡ Refusal.Memory };
-
-    fn from(_failure: AllocFailed<T>) -> Refusal {
         Refusal::Memory
     }
 }

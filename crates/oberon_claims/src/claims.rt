@@ -86,7 +86,8 @@ impl Claims {
         }
     }
 
-    /// Returns the least segment that any pass has reported so far, or `None` if none was reported.
+    /// Returns a segment that some pass reported, and that is not above any that this pass reported or was shown; or `None`, only if
+    /// there is none of these.
     ///
     /// It is one load of `least`, allocates nothing and never waits. The contract of `finish` says that some pass reported
     /// the value. No contract promises that a look sees what another pass reported before it.

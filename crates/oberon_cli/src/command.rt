@@ -53,7 +53,7 @@ fn check<'a>(alloc: Global) -> Result<Command<'a>, AllocError>
     command(
         alloc,
         "check",
-        "Replays the recording on standard input and prints its verdict; done for no words at all, too",
+        "Replays the recording on standard input and prints its verdict; this is the command if no arguments are given",
         "Example:\n  oberon_replay check --workers 4 <face.orsr",
     )
     .arg(workers(alloc))?
@@ -92,7 +92,7 @@ fn migrate<'a>(alloc: Global) -> Command<'a>
     command(
         alloc,
         "migrate",
-        "Prints the recording on standard input as a text of the version that is written now",
+        "Prints the recording on standard input in the current version of the file format",
         "Example:\n  oberon_replay migrate <old.orsr >new.orsr",
     )
 }

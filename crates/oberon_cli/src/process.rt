@@ -1,7 +1,10 @@
 //! The program in its process: its arguments, and its exit status. The program itself is `serve`.
 ghost use Rattle.std.specs.Prelude.{◌≡◌, ◌≢◌, IfOk, drop, map, string_bytes};
 ghost use Rattle.std.specs.Process.{exit_status};
+ghost use Rattle.oberon_cli.specs.Answer.{limit_for};
+ghost use Rattle.oberon_cli.specs.Asked.{request_in};
 ghost use Rattle.oberon_cli.specs.Reply.{AnswersAll, IsSentText, IsThreeForFaults, Replies, failure_line, failure_status};
+ghost use Rattle.oberon_cli.specs.Transfer.{TakesAtMost};
 
 use crate::failure::Failure;
 use crate::service::{refuse, serve};
@@ -15,7 +18,8 @@ use std::rt::Env;
 use std::sync::Wait;
 use std::thread::Threads;
 
-/// Returns the arguments of the process, after the program's own name.
+/// Returns the arguments of the process, of which the first is the program's own name. No contract can say which these are, since the kit's
+/// `env::args` has none: `tests/library` runs the built program with the arguments of each command.
 pub fn process_words<H: AllocGlobal + Env>(rt: &H) -> Result<Vec<String>, Failure> {
     Ok(
         env::args(rt)
@@ -61,6 +65,8 @@ pub fn run<'a, H: Threads + Wait + Sync, R: Source, W: Sink>(
         (W.known output.new) (exit_status result) }
     ensures three { IsThreeForFaults (R.known input.old) (R.known input.new) (W.known output.old) (W.known output.new)
         (exit_status result) }
+    ensures reads { TakesAtMost (limit_for (request_in (map (λ word. word.now) (drop 1 words.entry.now))))
+        (R.known input.old) (R.known input.new) }
 {
     ExitCode::from(serve(rt, alloc, after_name(words), input, output))
 }

@@ -1,6 +1,5 @@
 -- A recording with one more checkpoint, and one that begins.
-use Rattle.std.proofs.Common.{◌≡◌, ◌≢◌, ℕ, ◌+◌, ◌-◌, ◌^◌, ◌<◌, ◌≤◌, inl, inr, List, [], ◌∷◌, ◌++◌, ap, arith, get_or, length, length-append, map, refl, subst, sym, ◌∙◌}
-use Rattle.std.proofs.lemmas.Bool.{cases_lt}
+use Rattle.std.proofs.Common.{◌≡◌, ◌≢◌, ℕ, ◌-◌, ◌^◌, ◌<◌, ◌≤◌, List, [], ◌∷◌, ◌++◌, ap, arith, get_or, length, length-append, map, refl, subst, sym, ◌∙◌}
 use Rattle.std.proofs.lemmas.Grind.{common_steps}
 use Rattle.std.proofs.lemmas.List.{get_or_push, length-map, length-replicate, length_push, map-append}
 use Rattle.std.proofs.lemmas.List.Elements.{All-replicate}
@@ -11,16 +10,16 @@ use Rattle.risc_model.specs.MachineState.{CpuState, IsCpuState, cpu_state}
 use Rattle.risc_model.specs.declared.event.Event.{Event}
 use Rattle.risc_pages.specs.Pages.{ArePages}
 use Rattle.risc_pages.specs.Tables.{IsNamed, table_words, zero_numbers}
-use Rattle.recording_limits.specs.declared.limits.TheConstants.{LAST_CHECKPOINT, MAX_EVENTS, MAX_OUTPUT, MAX_PAGES}
+use Rattle.recording_limits.specs.declared.limits.TheConstants.{MAX_PAGES}
 use Rattle.oberon_format.proofs.CheckpointLemmas.{checkpoint_at-is}
 use Rattle.oberon_format.specs.CheckpointParts.{CheckpointParts, checkpoint_parts, no_checkpoint}
 use Rattle.oberon_format.specs.declared.checkpoint.Checkpoint.{Checkpoint}
 use Rattle.oberon_format.specs.Defined.{Outcome, claim_of, claimed}
-use Rattle.oberon_format.specs.Recording.{IsFit, IsLawful, RecordingParts, checkpoint_at, last_of, output_of, parts_of}
+use Rattle.oberon_format.specs.Recording.{IsFit, IsLawful, RecordingParts, checkpoint_at, last_of, parts_of}
 use Rattle.oberon_session.proofs.Contents.{Leads, memory-stored, table_words-grown}
 use Rattle.oberon_session.proofs.StoredLaws.{stored-law}
 use Rattle.oberon_session.proofs.LawfulMore.{lawful-more}
-use Rattle.oberon_session.specs.Extended.{IsBegun, IsExtendFault, IsExtended, IsNext, outcome_of}
+use Rattle.oberon_session.specs.Extended.{HasRoom, IsBegun, IsExtendFault, IsExtended, outcome_of}
 use Rattle.oberon_session.specs.declared.claim.Claim.{Claim}
 use Rattle.oberon_session.specs.declared.extend_fault.ExtendFault.{ExtendFault}
 use Rattle.oberon_session.specs.declared.extend_fault.ExtendFault.TheVariants as fault
@@ -89,15 +88,14 @@ module _ (r : RecordingParts) (lawful : IsLawful r) where
     }
 
     -- it is lawful if it exceeds no limit
-    module _ (follows : IsNext r inputs count) (events : length (r.inputs ++ inputs) ≤ MAX_EVENTS) (room : length r.checkpoints ≤ LAST_CHECKPOINT)
-        (few : length stored-next.pool ≤ MAX_PAGES) (pages : ArePages stored-next.pool) (cpus : IsCpuState cpu) (states : IsDeviceState devices)
-        (bytes : All (λ byte. byte < 2 ^ 8) sent) where
+    module _ (room : HasRoom r inputs count outcome) (few : length stored-next.pool ≤ MAX_PAGES) (pages : ArePages stored-next.pool)
+        (cpus : IsCpuState cpu) (states : IsDeviceState devices) (bytes : All (λ byte. byte < 2 ^ 8) sent) where
       with-inputs : IsLawful (record r { inputs = r.inputs ++ inputs })
       with-inputs = record {
         pages = lawful.pages;
         pool = lawful.pool;
-        events = events;
-        ordered = follows.ordered;
+        events = omega (arith, room.inputs_fit, length-append r.inputs inputs);
+        ordered = room.next.ordered;
         some = lawful.some;
         few = lawful.few;
         begins = lawful.begins;
@@ -109,7 +107,7 @@ module _ (r : RecordingParts) (lawful : IsLawful r) where
 
       next-fits : IsFit stored-next.pool next
       next-fits = record {
-        bounded = follows.bounded;
+        bounded = room.next.bounded;
         cpu = cpus;
         devices = states;
         table = record { count = led.0.table.count; fit = λ j d lt. omega (arith, led.0.table.named j d lt, few) };
@@ -117,15 +115,15 @@ module _ (r : RecordingParts) (lawful : IsLawful r) where
         bytes = bytes;
       }
 
-      pub is-lawful-more : length (output_of r.checkpoints) + length sent ≤ MAX_OUTPUT → IsLawful new
-      is-lawful-more output =
+      pub is-lawful-more : IsLawful new
+      is-lawful-more =
           let grown = led.0.grown in
           let more = lawful-more (record r { inputs = r.inputs ++ inputs }) led.0.extra next with-inputs
           (subst (λ (p : List (List ℕ)). length p ≤ MAX_PAGES) grown few)
           (subst ArePages grown pages)
-          room follows.later
+          room.checkpoint_fits room.next.later
           (subst (λ (p : List (List ℕ)). IsFit p next) grown next-fits)
-          output in
+          room.output_fits in
           subst (λ (p : List (List ℕ)). IsLawful (record { pool = p; inputs = r.inputs ++ inputs; checkpoints = r.checkpoints ++ next ∷ [] })) (sym grown) more
 
 -- the same for the values of the code
@@ -144,35 +142,34 @@ module _ (r : RecordingParts) (lawful : IsLawful r) (inputs all : List Event) (c
       subst (IsExtended r inputs claim.count (outcome_of claim)) (sym (is ∙ grown-is))
       (is-extended r lawful inputs claim.count (cpu_state claim.cpu) claim.devices claim.words.now claim.sent.now whole)
 
-  -- if it exceeds no other limit but is not lawful, it exceeds that of the output
-  pub grown-output : claim.cpu.pc < COUNTER_END → claim.cpu.stop ≤ 4 → IsNext r inputs claim.count → length (r.inputs ++ inputs) ≤ MAX_EVENTS
-      → length r.checkpoints ≤ LAST_CHECKPOINT → (IsLawful (parts_of stored.pool all checkpoints) → ⊥) → MAX_OUTPUT < length (output_of r.checkpoints) + length claim.sent.now
-  grown-output counter stop follows events room unlawful = elim (cases_lt MAX_OUTPUT (length (output_of r.checkpoints) + length claim.sent.now)) [
-    | inl more ↦ more
-    | inr few ↦ absurd (unlawful (subst IsLawful (sym grown-is)
-        (is-lawful-more r lawful inputs claim.count (cpu_state claim.cpu) claim.devices claim.words.now claim.sent.now whole follows events room
-        (subst (λ (l : Stored). length l.pool ≤ MAX_PAGES) grown.stored_is grown.few)
-        (subst (λ (l : Stored). ArePages l.pool) grown.stored_is grown.pages)
-        (record { count = claim.cpu.count; registers = claim.cpu.registers; auxiliary = claim.cpu.auxiliary; counter = counter; stops = stop })
-        grown.devices grown.bytes few)))
-  ]
+  pub grown-lawful : claim.cpu.pc < COUNTER_END → claim.cpu.stop ≤ 4 → HasRoom r inputs claim.count (outcome_of claim)
+      → IsLawful (parts_of stored.pool all checkpoints)
+  grown-lawful counter stop room =
+      subst IsLawful (sym grown-is)
+      (is-lawful-more r lawful inputs claim.count (cpu_state claim.cpu) claim.devices claim.words.now claim.sent.now whole room
+      (subst (λ (l : Stored). length l.pool ≤ MAX_PAGES) grown.stored_is grown.few)
+      (subst (λ (l : Stored). ArePages l.pool) grown.stored_is grown.pages)
+      (record { count = claim.cpu.count; registers = claim.cpu.registers; auxiliary = claim.cpu.auxiliary; counter = counter; stops = stop })
+      grown.devices grown.bytes)
 
 not-pages : {P : Type 0} (f : ExtendFault) → (f ≡ fault.Memory → ⊥) → (f ≡ fault.Pages → ⊥) → (f ≢ fault.Memory → (f ≡ fault.Pages) × P) → ⊥
 not-pages f memory pages needs = pages (needs memory).0
 
 -- a fault of the pages is one of the recording
-pub too-many-pages : (r : RecordingParts) → IsLawful r → (inputs : List Event) (claim : Claim) → length claim.words.now ≡ 262144 → (f : ExtendFault)
+pub too-many-pages : (r : RecordingParts) → IsLawful r → (inputs : List Event) (claim : Claim) → length claim.words.now ≡ 262144
+    → HasRoom r inputs claim.count (outcome_of claim) → (f : ExtendFault)
     → NeedsPages (last_stored r) claim.words.now f → IsExtendFault r inputs claim.count (outcome_of claim) f
-too-many-pages r lawful inputs claim whole fault.Order needs = absurd (not-pages fault.Order (λ e. let no : fault.Order ≡ fault.Memory = e in cc) (λ e. let no : fault.Order ≡ fault.Pages = e in cc) needs)
-too-many-pages r lawful inputs claim whole fault.Inputs needs = absurd (not-pages fault.Inputs (λ e. let no : fault.Inputs ≡ fault.Memory = e in cc) (λ e. let no : fault.Inputs ≡ fault.Pages = e in cc) needs)
-too-many-pages r lawful inputs claim whole fault.Checkpoints needs = absurd (not-pages fault.Checkpoints (λ e. let no : fault.Checkpoints ≡ fault.Memory = e in cc) (λ e. let no : fault.Checkpoints ≡ fault.Pages = e in cc) needs)
-too-many-pages r lawful inputs claim whole fault.Output needs = absurd (not-pages fault.Output (λ e. let no : fault.Output ≡ fault.Memory = e in cc) (λ e. let no : fault.Output ≡ fault.Pages = e in cc) needs)
-too-many-pages r lawful inputs claim whole fault.Pages needs =
+too-many-pages r lawful inputs claim whole room fault.Pending needs = absurd (not-pages fault.Pending (λ e. let no : fault.Pending ≡ fault.Memory = e in cc) (λ e. let no : fault.Pending ≡ fault.Pages = e in cc) needs)
+too-many-pages r lawful inputs claim whole room fault.Order needs = absurd (not-pages fault.Order (λ e. let no : fault.Order ≡ fault.Memory = e in cc) (λ e. let no : fault.Order ≡ fault.Pages = e in cc) needs)
+too-many-pages r lawful inputs claim whole room fault.Inputs needs = absurd (not-pages fault.Inputs (λ e. let no : fault.Inputs ≡ fault.Memory = e in cc) (λ e. let no : fault.Inputs ≡ fault.Pages = e in cc) needs)
+too-many-pages r lawful inputs claim whole room fault.Checkpoints needs = absurd (not-pages fault.Checkpoints (λ e. let no : fault.Checkpoints ≡ fault.Memory = e in cc) (λ e. let no : fault.Checkpoints ≡ fault.Pages = e in cc) needs)
+too-many-pages r lawful inputs claim whole room fault.Output needs = absurd (not-pages fault.Output (λ e. let no : fault.Output ≡ fault.Memory = e in cc) (λ e. let no : fault.Output ≡ fault.Pages = e in cc) needs)
+too-many-pages r lawful inputs claim whole room fault.Pages needs =
     let many = (needs (λ e. let no : fault.Pages ≡ fault.Memory = e in cc)).1 in
     let stored = pool-stored (last_stored r) claim.words.now (last-table r lawful) lawful.pool whole in
     let long = ap length stored in
-    omega (arith, many, long, length-append r.pool (new_pages (table_words r.pool (checkpoint_at r (last_of r)).table) claim.words.now))
-too-many-pages r lawful inputs claim whole fault.Memory needs = tt
+    (room, omega (arith, many, long, length-append r.pool (new_pages (table_words r.pool (checkpoint_at r (last_of r)).table) claim.words.now)))
+too-many-pages r lawful inputs claim whole room fault.Memory needs = room
 
 -- ---- a recording that begins
 

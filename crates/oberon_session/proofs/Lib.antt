@@ -4,7 +4,7 @@ mod Orders
 mod Lawful
 mod PartLemmas
 mod RuleLemmas
-mod Runs
+pub mod Runs
 mod StoredPages
 mod Contents
 mod Steps
@@ -14,7 +14,9 @@ mod Reaching
 mod Begun
 mod Whole
 mod StoredLaws
-mod Following
+pub mod JoinedOrder
+mod Continuing
+mod Outputs
 mod Growing
 mod FirstTables
 mod Deciding

@@ -1,6 +1,6 @@
 -- Recordings that are made while a machine runs: one that begins with a state, and one with one more checkpoint. Nothing here says
 -- that a claim is true.
-use Rattle.std.specs.Prelude.{ℕ, ◌≡◌, ◌+◌, ◌<◌, ◌≤◌, List, [], ◌++◌, length, ⊤}
+use Rattle.std.specs.Prelude.{ℕ, ◌≡◌, ◌+◌, ◌<◌, ◌≤◌, List, [], ◌++◌, length}
 use Rattle.std.specs.List.{All}
 use Rattle.risc_pages.specs.Tables.{table_words, zero_numbers}
 use Rattle.risc_model.specs.declared.event.Event.{Event}
@@ -40,6 +40,10 @@ outcome_of c = record { state = record { cpu = cpu_state c.cpu; devices = c.devi
 abbrev pub last_count : RecordingParts → ℕ
 last_count r = count_at r (last_of r)
 
+-- each input of a recording comes before its last checkpoint, so that none is left for a run that continues from there
+abbrev pub HasTakenAll : RecordingParts → Type 0
+HasTakenAll r = All (λ e. e.count < last_count r) r.inputs
+
 -- a checkpoint at this count, with these inputs, can follow a recording's last checkpoint: the count is higher, the inputs continue those
 -- of the recording in order, and each of their counts is from that of the last checkpoint up to this one, and below it
 pub record IsNext (r : RecordingParts) (inputs : List Event) (count : ℕ) : Type 0 where
@@ -47,6 +51,25 @@ pub record IsNext (r : RecordingParts) (inputs : List Event) (count : ℕ) : Typ
   pub bounded : count ≤ MAX_COUNT
   pub ordered : AreOrdered (r.inputs ++ inputs)
   pub between : All (λ e. (last_count r ≤ e.count) × (e.count < count)) inputs
+
+-- the limits of what a recording may have
+abbrev pub FitInputs : RecordingParts → List Event → Type 0
+FitInputs r inputs = length r.inputs + length inputs ≤ MAX_EVENTS
+
+abbrev pub FitsCheckpoint : RecordingParts → Type 0
+FitsCheckpoint r = length r.checkpoints ≤ LAST_CHECKPOINT
+
+abbrev pub FitsOutput : RecordingParts → Outcome → Type 0
+FitsOutput r claim = length (output_of r.checkpoints) + length claim.sent ≤ MAX_OUTPUT
+
+-- all that is tested before anything is stored: the recording has taken its inputs, the checkpoint and the new inputs come next, and
+-- there is room for the inputs, the checkpoint and the output
+pub record HasRoom (r : RecordingParts) (inputs : List Event) (count : ℕ) (claim : Outcome) : Type 0 where
+  pub taken : HasTakenAll r
+  pub next : IsNext r inputs count
+  pub inputs_fit : FitInputs r inputs
+  pub checkpoint_fits : FitsCheckpoint r
+  pub output_fits : FitsOutput r claim
 
 -- the recording has these inputs and one more checkpoint
 pub record IsExtended (old : RecordingParts) (inputs : List Event) (count : ℕ) (claim : Outcome) (new : RecordingParts) : Type 0 where
@@ -61,13 +84,17 @@ pub record IsExtended (old : RecordingParts) (inputs : List Event) (count : ℕ)
   pub last_counts : count_at new (length old.checkpoints) ≡ count
   pub last_claims : claimed new (length old.checkpoints) ≡ claim
 
--- why a recording is not extended: the checkpoint and the inputs cannot follow, or it would have more of something than a recording may
--- have
+-- why a recording is not extended: the first of these rules that is broken, in this order. It has an input at or after its last
+-- checkpoint; the checkpoint or a new input does not come next; or it would have more inputs, checkpoints, output or pages than a
+-- recording may have. Memory can only run out once all rules hold but the last, which the pages decide
 abbrev pub IsExtendFault : RecordingParts → List Event → ℕ → Outcome → ExtendFault → Type 0
-IsExtendFault r inputs count claim fault.Order = ¬ (IsNext r inputs count)
-IsExtendFault r inputs count claim fault.Inputs = MAX_EVENTS < length r.inputs + length inputs
-IsExtendFault r inputs count claim fault.Checkpoints = LAST_CHECKPOINT < length r.checkpoints
-IsExtendFault r inputs count claim fault.Output = MAX_OUTPUT < length (output_of r.checkpoints) + length claim.sent
+IsExtendFault r inputs count claim fault.Pending = ¬ (HasTakenAll r)
+IsExtendFault r inputs count claim fault.Order = HasTakenAll r × ¬ (IsNext r inputs count)
+IsExtendFault r inputs count claim fault.Inputs = HasTakenAll r × IsNext r inputs count × ¬ (FitInputs r inputs)
+IsExtendFault r inputs count claim fault.Checkpoints =
+    HasTakenAll r × IsNext r inputs count × FitInputs r inputs × ¬ (FitsCheckpoint r)
+IsExtendFault r inputs count claim fault.Output =
+    HasTakenAll r × IsNext r inputs count × FitInputs r inputs × FitsCheckpoint r × ¬ (FitsOutput r claim)
 IsExtendFault r inputs count claim fault.Pages =
-    MAX_PAGES < length r.pool + length (new_pages (claimed r (last_of r)).state.words claim.state.words)
-IsExtendFault r inputs count claim fault.Memory = ⊤
+    HasRoom r inputs count claim × (MAX_PAGES < length r.pool + length (new_pages (claimed r (last_of r)).state.words claim.state.words))
+IsExtendFault r inputs count claim fault.Memory = HasRoom r inputs count claim

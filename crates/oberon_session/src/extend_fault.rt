@@ -3,11 +3,14 @@
 use std::alloc::{AllocError, AllocFailed};
 use thiserror::Error;
 
-/// Why a recording is not extended: its next checkpoint is wrong, a limit would be exceeded, or memory ran out.
+/// Why a recording is not extended: the first of these rules that is broken, in this order; or memory ran out.
 ///
-/// The limits are this project's own choice.
+/// The rules and their limits are this project's own choice.
 #[derive(Clone, Copy, Debug, PartialEq, Eq, Error)]
 pub enum ExtendFault {
+    /// The recording has an input at or after its last checkpoint. A run from there would take that input, too.
+    #[error("the recording has inputs at or after its last checkpoint")]
+    Pending,
     /// The count is not above that of the last checkpoint, or is above 2^40; an input is not between the two; or the counts of inputs
     /// fall.
     #[error("the checkpoint or an input does not come next")]

@@ -1,23 +1,25 @@
 //! Recordings that are made while a machine runs elsewhere: one begins with a state, and each call adds a checkpoint. No machine runs
 //! here, so only a check can find out whether a claim is true.
 
-ghost use Rattle.std.specs.Prelude.{◌≡◌, ◌+◌, ◌<◌, ◌≤◌, ◌^◌, ◌↔◌, ◌++◌, [], All, IfErr, IfNone, IfOk, IfSome, IsTrue, OnOk, length, map};
+ghost use Rattle.std.specs.Prelude.{◌≡◌, ◌+◌, ◌<◌, ◌≤◌, ◌^◌, ◌++◌, [], All, IfErr, IfOk, OnOk, length, map};
 ghost use Rattle.risc_core.specs.declared.branch.TheConstants.{COUNTER_END};
 ghost use Rattle.risc_devices.specs.DeviceState.{IsDeviceState};
+ghost use Rattle.risc_model.specs.InputOrder.{AreOrdered};
 ghost use Rattle.risc_model.specs.MachineState.{cpu_state};
 ghost use Rattle.risc_pages.specs.Pages.{ArePages};
 ghost use Rattle.risc_pages.specs.Tables.{IsNamed};
 ghost use Rattle.oberon_format.specs.CheckpointParts.{checkpoint_parts};
-ghost use Rattle.oberon_format.specs.Recording.{IsLawful, parts_of};
-ghost use Rattle.oberon_session.specs.Extended.{IsBegun, IsExtendFault, IsExtended, IsNext, outcome_of};
+ghost use Rattle.oberon_format.specs.Recording.{IsLawful};
+ghost use Rattle.oberon_session.specs.Extended.{HasRoom, IsBegun, IsExtendFault, IsExtended, outcome_of};
 ghost use Rattle.oberon_session.specs.inner.Growing.{HasGrown, NeedsPages, checkpoint_of, stored_on, last_stored};
 ghost use Rattle.oberon_session.specs.inner.Progress.{stored_view};
 
 use crate::claim::Claim;
 use crate::extend_fault::ExtendFault;
+use crate::following::next_fault;
 use crate::recorder::{bytes_fit, recording_of};
 use crate::storing::{StoredPages, store_words};
-use oberon_format::{Checkpoint, LAST_CHECKPOINT, MAX_COUNT, MAX_EVENTS, MAX_PAGES, Recording};
+use oberon_format::{Checkpoint, MAX_PAGES, Recording};
 use risc_devices::Devices;
 use risc_model::{Cpu, Event, Inputs};
 use risc_pages::{Pool, Table};
@@ -59,8 +61,8 @@ pub fn begin_recording(
 
 /// Returns the recording with these inputs, which came after its last checkpoint, and one more checkpoint, which makes this claim.
 ///
-/// On an error the recording is dropped. The error says what is wrong, or which limit would be exceeded. If memory runs out, it is
-/// `Memory` instead.
+/// On an error the recording is dropped. The error is the first rule of `ExtendFault` that is broken. All rules but that of the pages
+/// are tested before anything is allocated, so `Memory` means that those hold.
 pub fn extend_recording(
     alloc: Global,
     recording: Recording,
@@ -72,83 +74,35 @@ pub fn extend_recording(
     requires whole { length claim.now.words.now ≡ 262144 }
     // The result has the inputs and the checkpoint, and is otherwise as the recording was.
     ensures extended { IfOk result (IsExtended recording inputs.now claim.now.count (outcome_of claim.now)) }
-    // Inputs and checkpoint come after the last checkpoint.
-    ensures next { OnOk result (IsNext recording inputs.now claim.now.count) }
+    // The recording had taken its inputs, and had room for what comes next.
+    ensures room { OnOk result (HasRoom recording inputs.now claim.now.count (outcome_of claim.now)) }
     // The result is within all limits.
     ensures lawful { IfOk result IsLawful }
-    // On an error, what it says is true.
+    // On an error, it is the first rule that is broken.
     ensures refused { IfErr result (IsExtendFault recording inputs.now claim.now.count (outcome_of claim.now)) }
 {
-    let inputs = next_inputs(alloc, &recording, inputs, claim)?;
+    if let Some(fault) = next_fault(&recording, inputs, claim) {
+        return Err(fault);
+    }
+    let inputs = joined(alloc, &recording, inputs)?;
     let (stored, checkpoints) = next_checkpoints(alloc, recording, claim)?;
-    // All limits except that of the output were tested.
-    match recording_if_lawful(stored.pool, inputs, checkpoints) {
-        Some(recording) => Ok(recording),
-        None => Err(ExtendFault::Output),
-    }
+    Ok(recording_of(stored.pool, inputs, checkpoints))
 }
 
-/// Returns the recording of parts, if they are lawful.
-fn recording_if_lawful(
-    pool: Pool,
-    inputs: Inputs,
-    checkpoints: Vec<Checkpoint>,
-) -> Option<Recording>
-    ensures recording { IfSome result (λ r. (r ≡ parts_of pool inputs checkpoints.items) × IsLawful (parts_of pool inputs checkpoints.items)) }
-    ensures unlawful { IfNone result (¬ (IsLawful (parts_of pool inputs checkpoints.items))) }
+/// Returns the inputs of a recording, followed by others.
+fn joined(alloc: Global, recording: &Recording, inputs: &[Event]) -> Result<Inputs, AllocError>
+    requires ordered { AreOrdered (recording.now.inputs ++ inputs.now) }
+    requires few { length recording.now.inputs + length inputs.now < 2 ^ 32 }
+    ensures { IfOk result (λ all. all ≡ recording.now.inputs ++ inputs.now) }
 {
-    Recording::from_parts(pool, inputs, checkpoints).ok()
-}
-
-/// Returns the inputs of a recording with those that come next, if the recording has room for these and for a checkpoint.
-fn next_inputs(
-    alloc: Global,
-    recording: &Recording,
-    inputs: &[Event],
-    claim: &Claim<'_>,
-) -> Result<Inputs, ExtendFault>
-    ensures inputs { IfOk result (λ all. all ≡ recording.now.inputs ++ inputs.now) }
-    ensures next { OnOk result (IsNext recording.now inputs.now claim.now.count) }
-    ensures events { OnOk result (length (recording.now.inputs ++ inputs.now) ≤ MAX_EVENTS) }
-    ensures checkpoints { OnOk result (length recording.now.checkpoints ≤ LAST_CHECKPOINT) }
-    ensures refused { IfErr result (IsExtendFault recording.now inputs.now claim.now.count (outcome_of claim.now)) }
-{
-    let last = recording.checkpoint(recording.count() - 1).count;
-    if claim.count <= last || claim.count > MAX_COUNT || !are_between(last, claim.count, inputs) {
-        return Err(ExtendFault::Order);
-    }
     let before = recording.inputs().events();
-    if inputs.len() > MAX_EVENTS as usize - before.len() {
-        return Err(ExtendFault::Inputs);
-    }
-    if recording.count() > LAST_CHECKPOINT {
-        return Err(ExtendFault::Checkpoints);
-    }
-    let all = joined(alloc, before, inputs)?;
+    let mut all = Vec::with_capacity(alloc, before.len() + inputs.len())?;
+    all.extend_from_slice(before)?;
+    all.extend_from_slice(inputs)?;
     match Inputs::new(all) {
         Ok(all) => Ok(all),
-        Err(_) => Err(ExtendFault::Order),
+        Err(_) => unreachable!(),
     }
-}
-
-/// Reports whether all counts of inputs are from `from` up to `to`, without `to`.
-fn are_between(from: u64, to: u64, inputs: &[Event]) -> bool
-    ensures { IsTrue result ↔ All (λ e. (from ≤ e.count) × (e.count < to)) inputs.now }
-{
-    inputs
-        .iter()
-        .all(|event| from <= event.count && event.count < to)
-}
-
-/// Returns events, followed by others.
-fn joined(alloc: Global, before: &[Event], after: &[Event]) -> Result<Vec<Event>, AllocError>
-    requires { length before.now + length after.now < 2 ^ 32 }
-    ensures { IfOk result (λ all. all.items ≡ before.now ++ after.now) }
-{
-    let mut all = Vec::with_capacity(alloc, before.len() + after.len())?;
-    all.extend_from_slice(before)?;
-    all.extend_from_slice(after)?;
-    Ok(all)
 }
 
 /// Returns the pages and the checkpoints of a recording, with those of a claim.

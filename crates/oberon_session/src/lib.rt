@@ -13,6 +13,7 @@ mod events;
 mod extend_fault;
 mod extension;
 mod fault;
+mod following;
 mod json;
 mod laws;
 mod parts;

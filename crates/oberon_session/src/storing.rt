@@ -121,7 +121,7 @@ fn write_words(memory: &mut Memory<'_>, words: &[u32]) -> Result<(), AllocError>
     Ok(())
 }
 
-/// Writes a word to a memory, if the memory has another word there.
+/// Writes a word to a memory, if the memory has another word there. Otherwise the memory stays as it is, and no page becomes private.
 fn write_word(memory: &mut Memory<'_>, word_no: u32, word: u32) -> Result<(), AllocError>
     requires inside { word_no < 262144 }
     requires whole { length memory.old.words ≡ 262144 }
@@ -129,6 +129,7 @@ fn write_word(memory: &mut Memory<'_>, word_no: u32, word: u32) -> Result<(), Al
     ensures others { OnOk result ((k : ℕ) → k ≢ word_no → slice_index memory.new.words k ≡ slice_index memory.old.words k) }
     ensures whole { OnOk result (length memory.new.words ≡ 262144) }
     ensures base { memory.new.base ≡ memory.old.base }
+    ensures same { slice_index memory.old.words word_no ≡ word → memory.new ≡ memory.old }
 {
     if memory.read(word_no) == word {
         return Ok(());

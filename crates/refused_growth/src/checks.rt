@@ -8,11 +8,11 @@ use std::io;
 use std::sync::Wait;
 use std::thread::Threads;
 
-/// A session of one page, with a checkpoint after its first instruction.
+/// The session of the stored recording: one page, and a checkpoint after 100 instructions.
 const SESSION: &str = concat!(
     "{\"format\":\"oberon-session\",\"version\":1,",
     "\"start\":{\"R\":[0,0,0,0,0,0,0,0,0,0,0,0,0,0,0,0],\"H\":0,\"PC\":0,\"flags\":0},",
-    "\"pages\":[{\"at\":0,\"hex\":\"05000040\"}],\"inputs\":[],\"checkpoints\":[1]}"
+    "\"pages\":[{\"at\":0,\"hex\":\"05000040\"}],\"inputs\":[],\"checkpoints\":[100]}"
 );
 
 /// Checks a recording and records a session, and prints the result of each.

@@ -55,6 +55,16 @@ fn refuse(rt: &(impl Abort + AllocGlobal + Threads + Wait + Sync), text: &[u8], 
     }
 }
 
+/// The same, for few workers and many and for several cuts.
+fn refuse_with_each(
+    rt: &(impl Abort + AllocGlobal + Threads + Wait + Sync),
+    text: &[u8],
+    line: &str,
+) {
+    refuse(rt, text, line);
+    check_with_each(rt, text, line, 2);
+}
+
 /// The same for the file of version 2.
 const CHANGED_BYTES_2: [(usize, u8, &str); 7] = [
     (0, 0x00, "refused 2 magic at byte 0\n"),
@@ -87,11 +97,10 @@ fn refuses_a_text_of_version_2_that_is_cut_or_goes_on(rt: HostRuntime) -> Result
 fn refuses_a_file_that_is_cut_or_too_long(rt: HostRuntime) -> Result<(), Fail> {
     let mut text = STORED_RUN.first_file(rt.alloc(), &[])?;
     text.push(0)?;
-    refuse(&rt, &text, "refused 8 trailing at byte 9504\n");
+    refuse_with_each(&rt, &text, "refused 8 trailing at byte 9504\n");
     text.truncate(9503);
-    refuse(&rt, &text, "refused 1 short at byte 9503\n");
-    check_with_each(&rt, &text, "refused 1 short at byte 9503\n", 2);
-    refuse(&rt, &[], "refused 1 short at byte 0\n");
+    refuse_with_each(&rt, &text, "refused 1 short at byte 9503\n");
+    refuse_with_each(&rt, &[], "refused 1 short at byte 0\n");
     Ok(())
 }
 

@@ -6,14 +6,16 @@ use std::sync::Wait;
 use std::thread::Threads;
 
 /// Arguments that ask for nothing.
-const REFUSED: [&[&str]; 13] = [
+const REFUSED: [&[&str]; 15] = [
     &["screen"],
     &["screen", "--at", "4097"],
+    &["screen", "--at", "-0"],
     &["check", "--workers", "65"],
     &["check", "--workers", "0"],
     &["check", "--cut", "4097"],
     &["check", "--cut", "0"],
     &["bogus"],
+    &["help", "bogus"],
     &["check", "again"],
     &["record", "again"],
     &["record", "--at", "0"],

@@ -34,9 +34,9 @@ fn shows_one_dot(rt: HostRuntime) -> Result<(), Fail> {
     Ok(())
 }
 
-/// Checks that the picture of checkpoint 0 has one byte after its header that is not 0.
+/// Checks that the picture of checkpoint 0 has one byte after its header that is not 0. The number may have a sign.
 fn show(rt: &(impl Abort + AllocGlobal + Threads + Wait + Sync), text: &[u8], at: usize, byte: u8) {
-    let (written, ended) = served(rt, &["screen", "--at", "0"], text);
+    let (written, ended) = served(rt, &["screen", "--at=-0"], text);
     assert_eq!(rt; ended, 0);
     has_dot(rt, &written, at, byte);
     let (migrated, _) = served(rt, &["migrate"], text);

@@ -68,7 +68,7 @@ fn checks(
     status: u8,
 ) -> Result<(), Fail> {
     let text = recording.second_file(rt.alloc(), turned)?;
-    for workers in ["--workers=1", "--workers=2", "--workers=64"] {
+    for workers in ["--workers=1", "--workers=+2", "--workers=64"] {
         gives(rt, &["check", workers], &text, line.as_bytes(), status);
     }
     Ok(())

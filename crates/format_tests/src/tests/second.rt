@@ -5,7 +5,7 @@ use crate::tests::files::{
     put_words, row_of_another_fault,
 };
 use oberon_format::{Checkpoint, Fault, Recording, read, write};
-use recording_texts::{Claim, EMPTY, JUMP, STORED_RUN, Sketch, ZEROS};
+use recording_texts::{Claim, EMPTY, EQUAL_PAGES, JUMP, ONE_BYTE_SENT, STORED_RUN, Sketch, ZEROS};
 use std::alloc::{AllocError, Global};
 
 /// Two pages; checkpoint 0, from byte 2072 on, with changes of slots 0, 7 and 1023 from byte 2216 on; checkpoint 1, from byte
@@ -61,7 +61,8 @@ fn is_written_again(alloc: Global, sketch: &Sketch<'_>) -> bool {
 }
 
 /// Recordings that have a file of version 2.
-const SKETCHES: [Sketch<'static>; 3] = [STORED_RUN, FIVE_CHANGES, EMPTY];
+const SKETCHES: [Sketch<'static>; 5] =
+    [STORED_RUN, FIVE_CHANGES, EMPTY, EQUAL_PAGES, ONE_BYTE_SENT];
 
 /// Returns the first row whose file is not written again, if there is one.
 fn row_of_another_file(alloc: Global) -> Option<usize> {

@@ -1,11 +1,8 @@
 use Rattle.std.proofs.Common.{◌≡◌, ◌∙◌, ℕ, ap, arith, length, map, take}
 use Rattle.std.proofs.Math.Seq.{take-length}
 use Rattle.galluspa.specs.Raw.{raw_input}
-use Rattle.galluspa.proofs.InputLemmas.{one-more, unlawful}
+use Rattle.galluspa.proofs.InputLemmas.{one-more, right}
 use Rattle.galluspa.proofs.advance.events_of.Goals as goal
-
-pub returns-in_default-clause-refused : goal.returns-in_default-clause-refused
-returns-in_default-clause-refused c = unlawful c.args.inputs.now c.loop-input.input-index (record { count = 0; kind = 0; value = 0 }) c.loop-input-test.true c.in_default.ensures.range
 
 pub loop-input-preserved : goal.loop-input-preserved
 loop-input-preserved c =
@@ -13,10 +10,12 @@ loop-input-preserved c =
     ∙ one-more c.args.inputs.now c.loop-input.events.items c.in-Some.event c.loop-input.input-index (record { count = 0; kind = 0; value = 0 })
     c.loop-input-test.true c.loop-input.invariant c.in-Some.ensures.event
 
-pub returns-clause-events : goal.returns-clause-events
-returns-clause-events c =
+pub returns : goal.returns
+returns c =
     let all : c.loop-input.input-index ≡ length c.args.inputs.now = omega (arith, c.loop-input.auto.input-index-end, c.loop-input-test.false) in
     c.loop-input.invariant ∙ ap (λ (n : ℕ). take n c.args.inputs.now) all ∙ take-length c.args.inputs.now
 
-pub returns-clause-refused : goal.returns-clause-refused
-returns-clause-refused c = tt
+pub unreachable-requires : goal.unreachable-requires
+unreachable-requires c =
+    let is = right c.args.inputs.now c.requires c.loop-input.input-index c.loop-input-test.true in
+    c.in_default.ensures.range (is.is_input (record { count = 0; kind = 0; value = 0 }))

@@ -22,7 +22,7 @@ pub returns-in-Ok-clause-unsent : goal.returns-in-Ok-clause-unsent
 returns-in-Ok-clause-unsent c = λ other. absurd (other refl)
 
 pub returns-in-Ok-clause-in_range : goal.returns-in-Ok-clause-in_range
-returns-in-Ok-clause-in_range c = λ _ _. c.in-Ok.ensures.in_range
+returns-in-Ok-clause-in_range c = λ _. c.in-Ok.ensures.in_range
 
 pub returns-in-Err-Range-clause-unchanged : goal.returns-in-Err-Range-clause-unchanged
 returns-in-Err-Range-clause-unchanged c = λ _. c.in-Err-Range.ensures.unchanged
@@ -34,22 +34,10 @@ pub returns-in-Err-Memory-clause-unchanged : goal.returns-in-Err-Memory-clause-u
 returns-in-Err-Memory-clause-unchanged c = λ _. c.in-Err-Memory.ensures.unchanged
 
 pub returns-in-Err-Range-clause-in_range : goal.returns-in-Err-Range-clause-in_range
-returns-in-Err-Range-clause-in_range c = λ other _. absurd (other refl)
-
-pub returns-in-Err-Range-clause-forward : goal.returns-in-Err-Range-clause-forward
-returns-in-Err-Range-clause-forward c = λ other. absurd (other refl)
-
-pub returns-in-Err-Range-clause-whole : goal.returns-in-Err-Range-clause-whole
-returns-in-Err-Range-clause-whole c = λ other. absurd (other refl)
+returns-in-Err-Range-clause-in_range c = λ other. absurd (other refl)
 
 pub returns-in-Err-Memory-clause-in_range : goal.returns-in-Err-Memory-clause-in_range
-returns-in-Err-Memory-clause-in_range c = λ _ other. absurd (other refl)
-
-pub returns-in-Ok-clause-forward : goal.returns-in-Ok-clause-forward
-returns-in-Ok-clause-forward c = λ _. c.in-Ok.ensures.in_range.forward
-
-pub returns-in-Ok-clause-whole : goal.returns-in-Ok-clause-whole
-returns-in-Ok-clause-whole c = λ _. c.in-Ok.ensures.in_range.is_whole
+returns-in-Err-Memory-clause-in_range c = λ _. rw c.in-Err-Memory.field-0-is at c.in-Err-Memory.ensures.refused
 
 pub copy_to_front-requires : goal.copy_to_front-requires
 copy_to_front-requires c = rw c.deref.ensures.value c.in-Ok.ensures.room
@@ -69,19 +57,7 @@ pub returns-in-Err-Room-clause-no_room : goal.returns-in-Err-Room-clause-no_room
 returns-in-Err-Room-clause-no_room c = λ _. let refused = rw c.in-Err-Room.field-0-is at c.in-Err-Room.ensures.refused in refused.1
 
 pub returns-in-Err-Room-clause-in_range : goal.returns-in-Err-Room-clause-in_range
-returns-in-Err-Room-clause-in_range c = λ _ _. let refused = rw c.in-Err-Room.field-0-is at c.in-Err-Room.ensures.refused in refused.0
-
-pub returns-in-Err-Room-clause-forward : goal.returns-in-Err-Room-clause-forward
-returns-in-Err-Room-clause-forward c = λ _. let refused = rw c.in-Err-Room.field-0-is at c.in-Err-Room.ensures.refused in refused.0.forward
-
-pub returns-in-Err-Room-clause-whole : goal.returns-in-Err-Room-clause-whole
-returns-in-Err-Room-clause-whole c = λ _. let refused = rw c.in-Err-Room.field-0-is at c.in-Err-Room.ensures.refused in refused.0.is_whole
-
-pub returns-in-Err-Memory-clause-forward : goal.returns-in-Err-Memory-clause-forward
-returns-in-Err-Memory-clause-forward c = λ _. let refused = rw c.in-Err-Memory.field-0-is at c.in-Err-Memory.ensures.refused in refused.0
-
-pub returns-in-Err-Memory-clause-whole : goal.returns-in-Err-Memory-clause-whole
-returns-in-Err-Memory-clause-whole c = λ _. let refused = rw c.in-Err-Memory.field-0-is at c.in-Err-Memory.ensures.refused in refused.1
+returns-in-Err-Room-clause-in_range c = λ _. let refused = rw c.in-Err-Room.field-0-is at c.in-Err-Room.ensures.refused in refused.0
 
 pub returns-in-Ok-clause-range : goal.returns-in-Ok-clause-range
 returns-in-Ok-clause-range c = λ is. absurd (omega arith)

@@ -1,5 +1,6 @@
 use Rattle.std.proofs.Common.{arith, refl}
-use Rattle.galluspa.proofs.TextLemmas.{read-text}
+use Rattle.oberon_format.specs.Text.{Text}
+use Rattle.galluspa.proofs.TextLemmas.{no-fault, no-fault-memory, read-text}
 use Rattle.galluspa.proofs.claim.galluspa_claim.Goals as goal
 
 pub returns-then-at-count-clause-no_checkpoint : goal.returns-then-at-count-clause-no_checkpoint
@@ -86,3 +87,9 @@ returns-in-Err-Memory-clause-no_checkpoint c = λ is. absurd (omega arith)
 
 pub returns-in-Err-Memory-clause-in_range : goal.returns-in-Err-Memory-clause-in_range
 returns-in-Err-Memory-clause-in_range c = λ _. omega arith
+
+pub returns-in-Err-Memory-clause-memory : goal.returns-in-Err-Memory-clause-memory
+returns-in-Err-Memory-clause-memory c = λ _. no-fault-memory c.args.text.now (Text c.args.text.now) _ c.in-Err-Memory.ensures c.in-Err-Memory.field-0-is
+
+pub returns-clause-memory : goal.returns-clause-memory
+returns-clause-memory c = λ _. no-fault c.args.text.now (Text c.args.text.now) c.in-Ok.recording c.in-Ok.ensures

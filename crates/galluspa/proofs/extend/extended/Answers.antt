@@ -1,11 +1,12 @@
 use Rattle.std.proofs.Common.{◌≢◌, arith}
+use Rattle.oberon_format.specs.Text.{Text}
 use Rattle.oberon_format.specs.declared.fault.Fault.{Fault}
 use Rattle.galluspa.proofs.ExtendLemmas.{unextended-full}
-use Rattle.galluspa.proofs.TextLemmas.{no-text, read-text}
+use Rattle.galluspa.proofs.TextLemmas.{no-fault, no-fault-memory, no-text, read-text}
 use Rattle.galluspa.proofs.extend.extended.Goals as goal
 
 pub returns-in-Err-Memory-clause-refused : goal.returns-in-Err-Memory-clause-refused
-returns-in-Err-Memory-clause-refused c = search arith
+returns-in-Err-Memory-clause-refused c = no-fault-memory c.args.text.now (Text c.args.text.now) _ c.in-Err-Memory.ensures c.in-Err-Memory.field-0-is
 
 pub returns-in-Err-Memory-clause-more : goal.returns-in-Err-Memory-clause-more
 returns-in-Err-Memory-clause-more c = tt
@@ -22,22 +23,24 @@ extend_recording-requires-clause-whole c = c.requires.whole
 pub returns-in-Ok-extend_recording-clause-refused : goal.returns-in-Ok-extend_recording-clause-refused
 returns-in-Ok-extend_recording-clause-refused c = tt
 
-pub returns-in-Err-extend_recording-clause-more : goal.returns-in-Err-extend_recording-clause-more
-returns-in-Err-extend_recording-clause-more c = tt
-
 pub returns-in-Ok-extend_recording-clause-more : goal.returns-in-Ok-extend_recording-clause-more
 returns-in-Ok-extend_recording-clause-more c = record {
+  no_fault = no-fault c.args.text.now (Text c.args.text.now) c.in-Ok.recording c.in-Ok.ensures;
   old = c.in-Ok.recording;
   is_text = read-text c.args.text.now c.in-Ok.recording c.in-Ok.ensures;
-  next = rw c.events.ensures.events at c.in-Ok-extend_recording.ensures.next;
+  events = c.in-Ok-inputs_of.inputs;
+  are_events = c.in-Ok-inputs_of.ensures;
+  room = rw c.events.ensures.events at c.in-Ok-extend_recording.ensures.room;
   extended = rw c.events.ensures.events at c.in-Ok-extend_recording.ensures.extended;
   lawful = c.in-Ok-extend_recording.ensures.lawful;
 }
 
-pub returns-in-Err-extend_recording-clause-refused : goal.returns-in-Err-extend_recording-clause-refused
-returns-in-Err-extend_recording-clause-refused c =
+pub returns-clause-refused : goal.returns-clause-refused
+returns-clause-refused c =
     rw c.unextended.ensures
-    (unextended-full c.args.text.now c.args.inputs.now c.args.claim.now c.in-Ok.recording (read-text c.args.text.now c.in-Ok.recording c.in-Ok.ensures)
+    (unextended-full c.args.text.now c.args.inputs.now c.in-Ok-inputs_of.inputs c.args.claim.now c.in-Ok.recording
+    (read-text c.args.text.now c.in-Ok.recording c.in-Ok.ensures) c.in-Ok-inputs_of.ensures
+    (no-fault c.args.text.now (Text c.args.text.now) c.in-Ok.recording c.in-Ok.ensures)
     c.in-Err-extend_recording.fault (rw c.events.ensures.events at c.in-Err-extend_recording.ensures.refused))
 
 pub returns-in-Err : goal.returns-in-Err

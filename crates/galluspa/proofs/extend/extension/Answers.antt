@@ -1,4 +1,4 @@
-use Rattle.std.proofs.Common.{◌∙◌, arith, subst, sym}
+use Rattle.std.proofs.Common.{◌∙◌, subst, sym}
 use Rattle.std.proofs.lemmas.Result.{IfErr-weaker, IfOk-weaker, err_from_is_err_and}
 use Rattle.oberon_format.proofs.One.{same_recording}
 use Rattle.galluspa.specs.inner.Extending.{IsNoMore, IsUnextended}
@@ -9,28 +9,22 @@ pub returns-in_err-more-clause-refused : goal.returns-in_err-more-clause-refused
 returns-in_err-more-clause-refused c =
     let from = err_from_is_err_and c.from_residual.result c.from_residual.ensures.1 in
     rw (from.1, from.2)
-    (unextended c.args.text.now c.args.inputs.now c.in-Ok.inputs c.args.state.now c.args.words.now c.args.sent.now c.in-Some.claim
-    c.in-Ok.ensures.events c.in-Some.ensures.count c.in-Some.ensures.outcome same_recording _ c.in_err-more.ensures.refused)
+    (unextended c.args.text.now c.args.inputs.now c.args.state.now c.args.words.now c.args.sent.now c.in-Some.claim
+    c.in-Some.ensures.count c.in-Some.ensures.outcome same_recording _ c.in_err-more.ensures.refused)
 
 pub returns-clause-extension : goal.returns-clause-extension
 returns-clause-extension c =
     IfOk-weaker c.written.result _ _ (λ bytes text.
-    is-extension c.args.text.now c.args.inputs.now c.in-Ok.inputs c.args.state.now c.args.words.now c.args.sent.now c.in-Some.claim
-    c.in-Ok.ensures.events c.in-Some.ensures.count c.in-Some.ensures.outcome c.in_ok-more.more bytes.items c.in_ok-more.ensures.more text)
+    is-extension c.args.text.now c.args.inputs.now c.args.state.now c.args.words.now c.args.sent.now c.in-Some.claim
+    c.in-Some.ensures.count c.in-Some.ensures.outcome c.in_ok-more.more bytes.items c.in_ok-more.ensures.more text)
     c.written.ensures.text
 
 pub returns-clause-follows : goal.returns-clause-follows
 returns-clause-follows c =
     IfOk-weaker c.written.result _ _ (λ _ _.
-    can-follow c.args.text.now c.args.inputs.now c.in-Ok.inputs c.args.state.now c.args.words.now c.args.sent.now c.in-Some.claim
-    c.in-Ok.ensures.events c.in-Some.ensures.count c.in-Some.ensures.outcome c.in_ok-more.more c.in_ok-more.ensures.more c.in-Some.ensures.whole)
+    can-follow c.args.text.now c.args.inputs.now c.args.state.now c.args.words.now c.args.sent.now c.in-Some.claim
+    c.in-Some.ensures.count c.in-Some.ensures.outcome c.in_ok-more.more c.in_ok-more.ensures.more c.in-Some.ensures.whole)
     c.written.ensures.text
-
-pub returns-in-Err-Memory-clause-refused : goal.returns-in-Err-Memory-clause-refused
-returns-in-Err-Memory-clause-refused c = tt
-
-pub returns-in-Err-Memory-clause-reason : goal.returns-in-Err-Memory-clause-reason
-returns-in-Err-Memory-clause-reason c = search arith
 
 pub returns-in_err-more-clause-whole : goal.returns-in_err-more-clause-whole
 returns-in_err-more-clause-whole c =
@@ -40,26 +34,26 @@ returns-in_err-more-clause-whole c =
 pub returns-in_err-more-clause-ordered : goal.returns-in_err-more-clause-ordered
 returns-in_err-more-clause-ordered c =
     let from = err_from_is_err_and c.from_residual.result c.from_residual.ensures.1 in
-    rw from.1 (λ _ _. (c.in-Ok.inputs, c.in-Ok.ensures.events))
+    rw from.1 (λ _. c.are_in_order.ensures.0 c.if-not-are_in_order.false)
 
 pub returns-in_err-more-clause-reason : goal.returns-in_err-more-clause-reason
 returns-in_err-more-clause-reason c =
     let from = err_from_is_err_and c.from_residual.result c.from_residual.ensures.1 in
-    let no-more = IsNoMore c.args.text.now c.in-Ok.inputs c.in-Some.claim in
-    rw from.1 (λ is. out-of-place c.args.text.now c.args.inputs.now c.in-Ok.inputs c.args.state.now c.args.words.now c.args.sent.now c.in-Some.claim
-    c.in-Ok.ensures.events c.in-Some.ensures.count c.in-Some.ensures.outcome (subst no-more (sym from.2 ∙ is) c.in_err-more.ensures.refused))
+    let no-more = IsNoMore c.args.text.now c.args.inputs.now c.in-Some.claim in
+    rw from.1 (λ is. out-of-place c.args.text.now c.args.inputs.now c.args.state.now c.args.words.now c.args.sent.now c.in-Some.claim
+    c.in-Some.ensures.count c.in-Some.ensures.outcome (subst no-more (sym from.2 ∙ is) c.in_err-more.ensures.refused))
 
 pub returns-clause-refused : goal.returns-clause-refused
 returns-clause-refused c =
     IfErr-weaker c.written.result _ (IsUnextended c.args.text.now c.args.inputs.now c.args.state.now c.args.words.now c.args.sent.now)
-    (λ refusal is. rw is tt) c.written.ensures.memory
+    (λ refusal is. rw is c.in_ok-more.ensures.more.no_fault) c.written.ensures.memory
 
 pub returns-clause-whole : goal.returns-clause-whole
 returns-clause-whole c = IfErr-weaker c.written.result _ _ (λ _ _ _. c.in-Some.ensures.whole) c.written.ensures.memory
 
 pub returns-clause-ordered : goal.returns-clause-ordered
 returns-clause-ordered c =
-    IfErr-weaker c.written.result _ _ (λ _ _ _ _. (c.in-Ok.inputs, c.in-Ok.ensures.events)) c.written.ensures.memory
+    IfErr-weaker c.written.result _ _ (λ _ _ _. c.are_in_order.ensures.0 c.if-not-are_in_order.false) c.written.ensures.memory
 
 pub returns-clause-reason : goal.returns-clause-reason
 returns-clause-reason c =

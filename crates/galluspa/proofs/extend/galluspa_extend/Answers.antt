@@ -1,6 +1,6 @@
 use Rattle.std.proofs.Common.{◌∙◌, ap, arith, subst, sym}
 use Rattle.galluspa.specs.Extend.{IsExtension}
-use Rattle.galluspa.specs.declared.refusal.TheConstants.{NO_RECORDING, OUT_OF_RANGE, TOO_MANY_CHECKPOINTS, TOO_MANY_INPUTS, TOO_MANY_PAGES, TOO_MUCH_OUTPUT}
+use Rattle.galluspa.specs.declared.refusal.TheConstants.{NO_RECORDING, OUT_OF_MEMORY, OUT_OF_RANGE, PENDING_INPUTS, TOO_MANY_CHECKPOINTS, TOO_MANY_INPUTS, TOO_MANY_PAGES, TOO_MUCH_OUTPUT}
 use Rattle.galluspa.specs.inner.Extending.{code_of}
 use Rattle.galluspa.proofs.ExtendLemmas.{no-other, refusal-by, unextended-by}
 use Rattle.galluspa.proofs.extend.galluspa_extend.Goals as goal
@@ -21,13 +21,13 @@ pub returns-in-Ok-clause-in_range : goal.returns-in-Ok-clause-in_range
 returns-in-Ok-clause-in_range c = λ _ _. c.in-Ok.ensures.follows
 
 pub returns-in-Ok-clause-ordered : goal.returns-in-Ok-clause-ordered
-returns-in-Ok-clause-ordered c = λ _ _. (c.in-Ok.ensures.follows.events, c.in-Ok.ensures.follows.are_events)
+returns-in-Ok-clause-ordered c = λ _. (c.in-Ok.ensures.follows.events, c.in-Ok.ensures.follows.are_events)
 
 pub returns-in-Err-clause-whole : goal.returns-in-Err-clause-whole
 returns-in-Err-clause-whole c = λ some. c.in-Err.ensures.whole (λ is. some (c.code.ensures.code ∙ ap code_of is))
 
 pub returns-in-Err-clause-ordered : goal.returns-in-Err-clause-ordered
-returns-in-Err-clause-ordered c = λ some found. c.in-Err.ensures.ordered (λ is. some (c.code.ensures.code ∙ ap code_of is)) (λ is. found (c.code.ensures.code ∙ ap code_of is))
+returns-in-Err-clause-ordered c = λ some. c.in-Err.ensures.ordered (λ is. some (c.code.ensures.code ∙ ap code_of is))
 
 pub returns-in-Err-clause-range : goal.returns-in-Err-clause-range
 returns-in-Err-clause-range c =
@@ -41,6 +41,16 @@ pub returns-in-Err-clause-no_recording : goal.returns-in-Err-clause-no_recording
 returns-in-Err-clause-no_recording c =
     unextended-by c.args.text.now c.args.inputs.now c.args.state.now c.args.words.now c.args.sent.now c.in-Err.refusal c.in-Err.ensures.refused
     c.code.result c.code.ensures.code NO_RECORDING
+
+pub returns-in-Err-clause-memory : goal.returns-in-Err-clause-memory
+returns-in-Err-clause-memory c =
+    unextended-by c.args.text.now c.args.inputs.now c.args.state.now c.args.words.now c.args.sent.now c.in-Err.refusal c.in-Err.ensures.refused
+    c.code.result c.code.ensures.code OUT_OF_MEMORY
+
+pub returns-in-Err-clause-pending : goal.returns-in-Err-clause-pending
+returns-in-Err-clause-pending c =
+    unextended-by c.args.text.now c.args.inputs.now c.args.state.now c.args.words.now c.args.sent.now c.in-Err.refusal c.in-Err.ensures.refused
+    c.code.result c.code.ensures.code PENDING_INPUTS
 
 pub returns-in-Err-clause-inputs : goal.returns-in-Err-clause-inputs
 returns-in-Err-clause-inputs c =
@@ -70,6 +80,12 @@ returns-in-Ok-clause-reason c = no-other c.put.result c.put.ensures.codes OUT_OF
 
 pub returns-in-Ok-clause-no_recording : goal.returns-in-Ok-clause-no_recording
 returns-in-Ok-clause-no_recording c = no-other c.put.result c.put.ensures.codes NO_RECORDING (omega arith) (omega arith)
+
+pub returns-in-Ok-clause-memory : goal.returns-in-Ok-clause-memory
+returns-in-Ok-clause-memory c = no-other c.put.result c.put.ensures.codes OUT_OF_MEMORY (omega arith) (omega arith)
+
+pub returns-in-Ok-clause-pending : goal.returns-in-Ok-clause-pending
+returns-in-Ok-clause-pending c = no-other c.put.result c.put.ensures.codes PENDING_INPUTS (omega arith) (omega arith)
 
 pub returns-in-Ok-clause-inputs : goal.returns-in-Ok-clause-inputs
 returns-in-Ok-clause-inputs c = no-other c.put.result c.put.ensures.codes TOO_MANY_INPUTS (omega arith) (omega arith)

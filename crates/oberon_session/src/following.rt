@@ -1,0 +1,121 @@
+//! What may follow the last checkpoint of a recording. Nothing here allocates memory.
+
+ghost use Rattle.std.specs.Prelude.{◌≡◌, ◌≢◌, ◌≤◌, ◌<◌, ◌↔◌, All, IfNone, IfSome, IsTrue, length};
+ghost use Rattle.recording_limits.specs.declared.limits.TheConstants.{MAX_OUTPUT};
+ghost use Rattle.risc_model.specs.InputOrder.{AreOrdered};
+ghost use Rattle.oberon_format.specs.Recording.{IsLawful, output_of};
+ghost use Rattle.oberon_session.specs.Extended.{HasRoom, HasTakenAll, IsExtendFault, IsNext, last_count, outcome_of};
+ghost use Rattle.oberon_session.specs.declared.extend_fault.ExtendFault.{ExtendFault};
+
+use crate::claim::Claim;
+use crate::extend_fault::ExtendFault;
+use oberon_format::{LAST_CHECKPOINT, MAX_COUNT, MAX_EVENTS, MAX_OUTPUT, Recording};
+use risc_model::Event;
+
+/// Returns the first rule that a claim breaks as the next checkpoint of a recording, with the inputs that come before it. The limit of
+/// the pages is not tested here, since only storing the memory shows how many it needs.
+pub fn next_fault(recording: &Recording, inputs: &[Event], claim: &Claim<'_>) -> Option<ExtendFault>
+    ensures fault { IfSome result (IsExtendFault recording.now inputs.now claim.now.count (outcome_of claim.now)) }
+    ensures tested { IfSome result (λ fault. (fault ≢ ExtendFault.Pages) × (fault ≢ ExtendFault.Memory)) }
+    ensures room { IfNone result (HasRoom recording.now inputs.now claim.now.count (outcome_of claim.now)) }
+{
+    if !has_taken_all(recording) {
+        return Some(ExtendFault::Pending);
+    }
+    if !is_next(recording, inputs, claim.count) {
+        return Some(ExtendFault::Order);
+    }
+    limit_fault(recording, inputs, claim)
+}
+
+/// Returns the first limit that a recording would exceed with a claim and inputs that come next.
+fn limit_fault(recording: &Recording, inputs: &[Event], claim: &Claim<'_>) -> Option<ExtendFault>
+    requires taken { HasTakenAll recording.now }
+    requires next { IsNext recording.now inputs.now claim.now.count }
+    ensures fault { IfSome result (IsExtendFault recording.now inputs.now claim.now.count (outcome_of claim.now)) }
+    ensures tested { IfSome result (λ fault. (fault ≢ ExtendFault.Pages) × (fault ≢ ExtendFault.Memory)) }
+    ensures room { IfNone result (HasRoom recording.now inputs.now claim.now.count (outcome_of claim.now)) }
+{
+    let before = recording.inputs().events();
+    if inputs.len() > MAX_EVENTS as usize - before.len() {
+        return Some(ExtendFault::Inputs);
+    }
+    if recording.count() > LAST_CHECKPOINT {
+        return Some(ExtendFault::Checkpoints);
+    }
+    if claim.sent.len() > MAX_OUTPUT as usize - output_len(recording) {
+        return Some(ExtendFault::Output);
+    }
+    None
+}
+
+/// Returns the count of a recording's last checkpoint.
+fn last_count(recording: &Recording) -> u64
+    ensures count { result ≡ last_count recording.now }
+    ensures lawful { IsLawful recording.now }
+{
+    recording.checkpoint(recording.count() - 1).count
+}
+
+/// Reports whether each input of a recording comes before its last checkpoint.
+fn has_taken_all(recording: &Recording) -> bool
+    ensures { IsTrue result ↔ HasTakenAll recording.now }
+{
+    let last = last_count(recording);
+    are_before(last, recording.inputs().events())
+}
+
+/// Reports whether all counts of inputs are below `to`.
+fn are_before(to: u64, inputs: &[Event]) -> bool
+    ensures { IsTrue result ↔ All (λ e. e.count < to) inputs.now }
+{
+    inputs.iter().all(|event| event.count < to)
+}
+
+/// Reports whether a checkpoint at this count, with these inputs, can follow the last checkpoint of a recording that has taken its
+/// inputs.
+fn is_next(recording: &Recording, inputs: &[Event], count: u64) -> bool
+    requires { HasTakenAll recording.now }
+    ensures { IsTrue result ↔ IsNext recording.now inputs.now count }
+{
+    let last = last_count(recording);
+    if count <= last || count > MAX_COUNT {
+        return false;
+    }
+    are_between(last, count, inputs) && are_ordered(inputs)
+}
+
+/// Reports whether all counts of inputs are from `from` up to `to`, without `to`.
+fn are_between(from: u64, to: u64, inputs: &[Event]) -> bool
+    ensures { IsTrue result ↔ All (λ e. (from ≤ e.count) × (e.count < to)) inputs.now }
+{
+    inputs
+        .iter()
+        .all(|event| from <= event.count && event.count < to)
+}
+
+/// Reports whether the counts of inputs do not fall and are at most `MAX_COUNT`.
+fn are_ordered(inputs: &[Event]) -> bool
+    ensures { IsTrue result ↔ AreOrdered inputs.now }
+{
+    let mut least = 0;
+    for event in inputs {
+        if event.count < least || event.count > MAX_COUNT {
+            return false;
+        }
+        least = event.count;
+    }
+    true
+}
+
+/// Returns the number of bytes that a recording sends.
+fn output_len(recording: &Recording) -> usize
+    ensures len { result ≡ length (output_of recording.now.checkpoints) }
+    ensures bound { result ≤ MAX_OUTPUT }
+{
+    let mut len = 0;
+    for k in 0..recording.count() {
+        len += recording.checkpoint(k).sent.len();
+    }
+    len
+}
