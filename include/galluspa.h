@@ -1,13 +1,14 @@
 /* Galluspa for C: checks, records and migrates recordings of the RISC5 workstation, runs the proved emulator, and makes a recording
  * while an emulator runs.
  *
- * The caller owns all memory. Each function works on the caller's buffers and keeps nothing: there are no handles, nothing has to be
- * freed, and threads may call at the same time. A buffer that a call writes may not overlap any other buffer of the call; buffers that
- * it only reads may overlap. No pointer may be NULL, not even that of an empty buffer. Nothing else is asked of the caller: each
- * number is tested, and one that is out of its range is refused.
+ * The caller owns all memory. Each function works on the caller's buffers and keeps nothing: there are no handles, nothing has to
+ * be freed, and threads may call at the same time. A buffer that a call writes may not overlap any other buffer of the call;
+ * buffers that it only reads may overlap. No pointer may be NULL, not even that of an empty buffer. Nothing else is asked of the
+ * caller: each number is tested, and one that is out of its range is refused.
  *
  * A function that writes an answer writes it to the front of the buffer, and leaves the bytes after it as they were. A call that is
- * refused writes nothing, except that galluspa_begin and galluspa_extend write the length that is needed if there is too little room.
+ * refused writes nothing, except that galluspa_begin and galluspa_extend write the length that is needed if there is too little
+ * room.
  *
  * A recording and a session are bytes in the formats of docs/formats.md. docs/from-c.md is a walk through this header. */
 #ifndef GALLUSPA_H
@@ -68,8 +69,8 @@ typedef struct {
 } galluspa_input;
 
 /* Checks a recording: writes its verdict line, with the line feed, to line, and to *status 0 (accepted), 1 (false) or 2 (refused).
- * The line is what the program prints, and the status what it exits with. Returns the length of the line, which is below 256; if that
- * is more than line_len, nothing is written. Returns 0, and writes nothing, if memory runs out. */
+ * The line is what the program prints, and the status what it exits with. Returns the length of the line, which is below 256; if
+ * that is more than line_len, nothing is written. Returns 0, and writes nothing, if memory runs out. */
 size_t galluspa_check(const uint8_t *text, size_t text_len, uint8_t *line, size_t line_len, uint8_t *status);
 
 /* Records a session in JSON: writes its recording to out, and 0 to *status; or the line that says why it is refused, and 2. Returns
@@ -83,42 +84,42 @@ size_t galluspa_migrate(const uint8_t *text, size_t text_len, uint8_t *out, size
 
 /* Reads what a checkpoint of a recording claims: its state, and its memory. words_len is GALLUSPA_WORDS. Checkpoint 0 is the initial
  * state. Whether the claim is true is not tested. Returns GALLUSPA_DONE; or GALLUSPA_OUT_OF_RANGE (words_len),
- * GALLUSPA_NO_RECORDING, GALLUSPA_OUT_OF_MEMORY (never for bytes that are not a valid recording) or GALLUSPA_NO_CHECKPOINT, and then
- * nothing is written. */
+ * GALLUSPA_NO_RECORDING, GALLUSPA_OUT_OF_MEMORY (never for bytes that are not a valid recording) or GALLUSPA_NO_CHECKPOINT, and
+ * then nothing is written. */
 uint8_t galluspa_claim(const uint8_t *text, size_t text_len, uint32_t at, galluspa_state *state, uint32_t *words, size_t words_len);
 
 /* Runs a machine from the count of its state up to the count to. inputs are in the order of their counts; inputs before the state's
  * count, and inputs from to on, have no effect. The bytes that the machine sends are written to sent, and their number to
  * *sent_count. words_len is GALLUSPA_WORDS. Returns GALLUSPA_DONE; or GALLUSPA_OUT_OF_RANGE, GALLUSPA_NO_ROOM or
- * GALLUSPA_OUT_OF_MEMORY, and then nothing is written. All numbers are tested before anything is allocated, so GALLUSPA_OUT_OF_MEMORY
- * means that they are in their ranges.
+ * GALLUSPA_OUT_OF_MEMORY, and then nothing is written. All numbers are tested before anything is allocated, so
+ * GALLUSPA_OUT_OF_MEMORY means that they are in their ranges.
  *
- * A call copies the memory. However far it runs, it holds at most some 2.3 MB, 16 bytes for each input, and three times sent_len + 65,536
- * bytes: the run stops as soon as there is no room for what the machine has sent. */
+ * A call copies the memory. However far it runs, it holds at most some 2.3 MB, 16 bytes for each input, and three times sent_len +
+ * 65,536 bytes: the run stops as soon as there is no room for what the machine has sent. */
 uint8_t galluspa_advance(galluspa_state *state, uint32_t *words, size_t words_len, const galluspa_input *inputs, size_t inputs_len,
                          uint64_t to, uint8_t *sent, size_t sent_len, size_t *sent_count);
 
 /* Begins a recording: writes the recording that has no inputs, and checkpoint 0 alone, which claims this state, to out, and its
- * length to *out_count. words_len is GALLUSPA_WORDS. The state's count is 0, since a recording counts from its initial state. Returns
- * GALLUSPA_DONE; or GALLUSPA_OUT_OF_RANGE, GALLUSPA_NO_ROOM (then *out_count is the length that is needed) or
+ * length to *out_count. words_len is GALLUSPA_WORDS. The state's count is 0, since a recording counts from its initial state.
+ * Returns GALLUSPA_DONE; or GALLUSPA_OUT_OF_RANGE, GALLUSPA_NO_ROOM (then *out_count is the length that is needed) or
  * GALLUSPA_OUT_OF_MEMORY, and then nothing else is written. */
 uint8_t galluspa_begin(const galluspa_state *state, const uint32_t *words, size_t words_len, uint8_t *out, size_t out_len,
                        size_t *out_count);
 
 /* Extends a recording by its next checkpoint: writes the recording with these inputs and one more checkpoint to out, and its length
  * to *out_count. The checkpoint claims this state, and that these bytes were sent since the checkpoint before. The state's count is
- * above that of the last checkpoint, and at most 2^40. Each input comes between the two: at the last checkpoint's count or later, and
- * before the state's. words_len is GALLUSPA_WORDS.
+ * above that of the last checkpoint, and at most 2^40. Each input comes between the two: at the last checkpoint's count or later,
+ * and before the state's. words_len is GALLUSPA_WORDS.
  *
- * Whether the claim is true is not tested. If all claims of the recording are true, and galluspa_advance returned this state and these
- * bytes from the state of its last checkpoint with these inputs, then all claims of the new recording are true. A recording with an
- * input at or after its last checkpoint is refused, since that input would be part of the run, too.
+ * Whether the claim is true is not tested. If all claims of the recording are true, and galluspa_advance returned this state and
+ * these bytes from the state of its last checkpoint with these inputs, then all claims of the new recording are true. A recording
+ * with an input at or after its last checkpoint is refused, since that input would be part of the run, too.
  *
- * Returns as galluspa_begin does, or GALLUSPA_NO_RECORDING, GALLUSPA_PENDING_INPUTS or GALLUSPA_TOO_.. It returns the first of these
- * that applies: GALLUSPA_OUT_OF_RANGE for a number of the state or of an input, words_len, or inputs that are out of order;
+ * Returns as galluspa_begin does, or GALLUSPA_NO_RECORDING, GALLUSPA_PENDING_INPUTS or GALLUSPA_TOO_.. It returns the first of
+ * these that applies: GALLUSPA_OUT_OF_RANGE for a number of the state or of an input, words_len, or inputs that are out of order;
  * GALLUSPA_NO_RECORDING; GALLUSPA_PENDING_INPUTS; GALLUSPA_OUT_OF_RANGE for what does not come next; GALLUSPA_TOO_MANY_INPUTS,
- * .._CHECKPOINTS, GALLUSPA_TOO_MUCH_OUTPUT, GALLUSPA_TOO_MANY_PAGES; GALLUSPA_NO_ROOM. GALLUSPA_OUT_OF_MEMORY comes only for a valid
- * recording, and numbers in their ranges. */
+ * .._CHECKPOINTS, GALLUSPA_TOO_MUCH_OUTPUT, GALLUSPA_TOO_MANY_PAGES; GALLUSPA_NO_ROOM. GALLUSPA_OUT_OF_MEMORY comes only for a
+ * valid recording, and numbers in their ranges. */
 uint8_t galluspa_extend(const uint8_t *text, size_t text_len, const galluspa_input *inputs, size_t inputs_len,
                         const galluspa_state *state, const uint32_t *words, size_t words_len, const uint8_t *sent, size_t sent_len,
                         uint8_t *out, size_t out_len, size_t *out_count);

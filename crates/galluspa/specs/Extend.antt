@@ -65,7 +65,8 @@ pub record IsExtension (text : List ℕ) (inputs : List RawInput) (state : RawSt
   pub text_is : TextIn VERSION new_text new
 
 -- the bytes are a recording, and this is why it is not extended by what follows
-pub record HasExtendFault (text : List ℕ) (inputs : List RawInput) (state : RawState) (words sent : List ℕ) (fault : ExtendFault) : Type 0 where
+pub record HasExtendFault (text : List ℕ) (inputs : List RawInput) (state : RawState) (words sent : List ℕ) (fault : ExtendFault)
+    : Type 0 where
   pub recording : RecordingParts
   pub is_text : Text text recording
   pub events : List Event

@@ -1,5 +1,5 @@
--- The laws that join the calls of a caller into one run, with the law of `risc_model` that a run continues a run (`RunLaw`), and that make
--- the recordings of such a run true; and the numbers that a caller gets.
+-- The laws that join the calls of a caller into one run, with the law of `risc_model` that a run continues a run (`RunLaw`), and
+-- that make the recordings of such a run true; and the numbers that a caller gets.
 use Rattle.std.specs.Prelude.{ℕ, ◌≡◌, ◌+◌, ◌<◌, ◌≤◌, List, ◌++◌, length}
 use Rattle.std.specs.List.{All}
 use Rattle.risc_model.specs.declared.event.Event.{Event}
@@ -50,8 +50,8 @@ pub record IsTrueUpTo (text : List ℕ) (state : RawState) (words : List ℕ) : 
   pub count_is : last_count recording ≡ state.count
   pub claims : (claimed recording (last_of recording)).state ≡ state_of state words
 
--- the recording that begins with a state is true up to it. A recording that is true up to a state, and is extended by the result of a run
--- from that state, is true up to the state in which the run ends. And a check accepts each such recording
+-- the recording that begins with a state is true up to it. A recording that is true up to a state, and is extended by the result of
+-- a run from that state, is true up to the state in which the run ends. And a check accepts each such recording
 abbrev pub RecordLaw : Type 0
 RecordLaw =
     ((state : RawState) (words text : List ℕ) → IsBeginning state words text → IsTrueUpTo text state words)

@@ -79,7 +79,8 @@ const PIECE: u64 = 65_536;
 
 /// Runs a machine from one count up to another, and returns the bytes that it sends, of which there are at most `room`.
 ///
-/// It runs in pieces, and stops after the first for which there is no room. So no more than `room + PIECE` bytes are held at any time.
+/// It runs in pieces, and stops after the first for which there is no room. So no more than `room + PIECE` bytes are held at any
+/// time.
 fn sent_by(
     alloc: Global,
     machine: &mut Machine<'_>,
@@ -105,8 +106,8 @@ fn sent_by(
     Ok(sent)
 }
 
-/// Runs the piece of a run that begins at a count, and returns the count at which it ends. The bytes that the machine sends are added to
-/// `sent`.
+/// Runs the piece of a run that begins at a count, and returns the count at which it ends. The bytes that the machine sends are
+/// added to `sent`.
 fn run_piece(
     machine: &mut Machine<'_>,
     inputs: &Inputs,
@@ -204,8 +205,8 @@ fn run_parts(
     run_machine(alloc, &mut machine, state, words, inputs, to, room)
 }
 
-/// Runs a machine up to a count, and returns the bytes that it sends, of which there are at most `room`. All numbers are tested before
-/// anything is allocated.
+/// Runs a machine up to a count, and returns the bytes that it sends, of which there are at most `room`. All numbers are tested
+/// before anything is allocated.
 fn run(
     alloc: Global,
     state: &mut RawState,
@@ -238,7 +239,8 @@ fn run(
 ///
 /// Otherwise nothing is written, and the result is 1 (`OUT_OF_RANGE`) if `words` is not of 262,144 words, `to` is below the count
 /// of the state, a number of the state or of an input is out of its range, or the inputs' counts fall or are above 2^40; 2
-/// (`NO_ROOM`) if the machine sends more bytes than `sent` has room for; and 3 (`OUT_OF_MEMORY`) if all is in range and memory ran out.
+/// (`NO_ROOM`) if the machine sends more bytes than `sent` has room for; and 3 (`OUT_OF_MEMORY`) if all is in range and memory ran
+/// out.
 #[unsafe(no_mangle)]
 pub extern "C" fn galluspa_advance(
     alloc: Global,

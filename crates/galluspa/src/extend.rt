@@ -240,13 +240,13 @@ pub extern "C" fn galluspa_begin(
 /// returns 0 (`DONE`). Whether the claim is true is not tested.
 ///
 /// Otherwise `out` is as it was, and the result is the first of these that holds, unless memory runs out before it is known: 1
-/// (`OUT_OF_RANGE`) if `words` is not of 262,144 words, a number of the state or of an input is out of its range, or the inputs' counts
-/// fall; 4 (`NO_RECORDING`) if the bytes are no recording; 10 (`PENDING_INPUTS`) if the recording has an input at or after its last
-/// checkpoint; 1 (`OUT_OF_RANGE`) if the state's count is not above that of the last checkpoint, or is above 2^40, or an input doesn't
-/// come between the two; 6 to 9 (`TOO_MANY_INPUTS`, `TOO_MANY_CHECKPOINTS`, `TOO_MUCH_OUTPUT`, `TOO_MANY_PAGES`) if the recording
-/// would have more of these than a recording may have; and 2 (`NO_ROOM`) if `out` has no room for the recording, whose length is then
-/// written to `out_count`. If memory runs out, it is 3 (`OUT_OF_MEMORY`): then the numbers are in their ranges, and the bytes are a
-/// recording.
+/// (`OUT_OF_RANGE`) if `words` is not of 262,144 words, a number of the state or of an input is out of its range, or the inputs'
+/// counts fall; 4 (`NO_RECORDING`) if the bytes are no recording; 10 (`PENDING_INPUTS`) if the recording has an input at or after
+/// its last checkpoint; 1 (`OUT_OF_RANGE`) if the state's count is not above that of the last checkpoint, or is above 2^40, or an
+/// input doesn't come between the two; 6 to 9 (`TOO_MANY_INPUTS`, `TOO_MANY_CHECKPOINTS`, `TOO_MUCH_OUTPUT`, `TOO_MANY_PAGES`) if
+/// the recording would have more of these than a recording may have; and 2 (`NO_ROOM`) if `out` has no room for the recording,
+/// whose length is then written to `out_count`. If memory runs out, it is 3 (`OUT_OF_MEMORY`): then the numbers are in their
+/// ranges, and the bytes are a recording.
 #[unsafe(no_mangle)]
 pub extern "C" fn galluspa_extend(
     alloc: Global,
@@ -272,7 +272,8 @@ pub extern "C" fn galluspa_extend(
     ensures reason { result ≡ OUT_OF_RANGE → DoesNotFollow text.now inputs.now state.now words.now }
     ensures no_recording { result ≡ NO_RECORDING → IsNoRecording text.now }
     ensures memory { result ≡ OUT_OF_MEMORY → first_fault_of text.now ≡ None }
-    ensures pending { result ≡ PENDING_INPUTS → HasExtendFault text.now inputs.now state.now words.now sent.now ExtendFault.Pending }
+    ensures pending { result ≡ PENDING_INPUTS →
+        HasExtendFault text.now inputs.now state.now words.now sent.now ExtendFault.Pending }
     ensures inputs { result ≡ TOO_MANY_INPUTS → HasExtendFault text.now inputs.now state.now words.now sent.now ExtendFault.Inputs }
     ensures checkpoints { result ≡ TOO_MANY_CHECKPOINTS →
         HasExtendFault text.now inputs.now state.now words.now sent.now ExtendFault.Checkpoints }

@@ -1,4 +1,5 @@
-//! The laws that join the calls of a caller into one run, and that of the numbers, each the contract of a function that does nothing.
+//! The laws that join the calls of a caller into one run, and that of the numbers, each the contract of a function that does
+//! nothing.
 ghost use Rattle.galluspa.specs.Laws.{FrameLaw, HasCodes, JoinLaw, RecordLaw};
 
 /// A run with the inputs of its own counts alone is the run with all inputs, and sends the same bytes.
@@ -11,8 +12,8 @@ pub const fn join_law()
     ensures { JoinLaw }
 {}
 
-/// A recording that begins with a state claims only what is true. One that claims only what is true, and is extended by the result of a run
-/// from its last state, claims only what is true again. Each is accepted.
+/// A recording that begins with a state claims only what is true. One that claims only what is true, and is extended by the result
+/// of a run from its last state, claims only what is true again. Each is accepted.
 pub const fn record_law()
     ensures { RecordLaw }
 {}

@@ -1,14 +1,15 @@
 //! Galluspa as a static library for C: it checks, records and migrates recordings, reads what a checkpoint claims, advances a
-//! machine, and makes a recording while one runs. `include/galluspa.h` declares its functions, and `docs/from-c.md` shows them at work.
+//! machine, and makes a recording while one runs. `include/galluspa.h` declares its functions, and `docs/from-c.md` shows them at
+//! work.
 //!
-//! Each function takes all that it needs in slices of the caller's memory, and keeps nothing: there are no handles, and nothing
-//! has to be freed. A machine lives with the caller as plain numbers: a `RawState` and its 262,144 words. A slice that a call writes
-//! must not overlap another of its slices, and no pointer is null, not even that of an empty slice. Nothing else is asked of the caller:
-//! each number is tested, and one that is out of its range is refused.
+//! Each function takes all that it needs in slices of the caller's memory, and keeps nothing: there are no handles, and nothing has
+//! to be freed. A machine lives with the caller as plain numbers: a `RawState` and its 262,144 words. A slice that a call writes
+//! must not overlap another of its slices, and no pointer is null, not even that of an empty slice. Nothing else is asked of the
+//! caller: each number is tested, and one that is out of its range is refused.
 //!
 //! Three laws join the calls. A run needs only the inputs of its own counts (`frame_law`). Calls from count to count are one run
-//! (`join_law`). A recording whose claims are true, and which is extended by what `galluspa_advance` returns from its last checkpoint,
-//! claims only what is true, and is accepted (`record_law`).
+//! (`join_law`). A recording whose claims are true, and which is extended by what `galluspa_advance` returns from its last
+//! checkpoint, claims only what is true, and is accepted (`record_law`).
 #![tactic(auto)]
 
 mod advance;

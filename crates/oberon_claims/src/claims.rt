@@ -86,8 +86,8 @@ impl Claims {
         }
     }
 
-    /// Returns a segment that some pass reported, and that is not above any that this pass reported or was shown; or `None`, only if
-    /// there is none of these.
+    /// Returns a segment that some pass reported, and that is not above any that this pass reported or was shown; or `None`, only
+    /// if there is none of these.
     ///
     /// It is one load of `least`, allocates nothing and never waits. The contract of `finish` says that some pass reported
     /// the value. No contract promises that a look sees what another pass reported before it.

@@ -18,8 +18,8 @@ use std::rt::Env;
 use std::sync::Wait;
 use std::thread::Threads;
 
-/// Returns the arguments of the process, of which the first is the program's own name. No contract can say which these are, since the kit's
-/// `env::args` has none: `tests/library` runs the built program with the arguments of each command.
+/// Returns the arguments of the process, of which the first is the program's own name. No contract can say which these are, since
+/// the kit's `env::args` has none: `tests/library` runs the built program with the arguments of each command.
 pub fn process_words<H: AllocGlobal + Env>(rt: &H) -> Result<Vec<String>, Failure> {
     Ok(
         env::args(rt)

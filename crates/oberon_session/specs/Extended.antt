@@ -44,8 +44,8 @@ last_count r = count_at r (last_of r)
 abbrev pub HasTakenAll : RecordingParts → Type 0
 HasTakenAll r = All (λ e. e.count < last_count r) r.inputs
 
--- a checkpoint at this count, with these inputs, can follow a recording's last checkpoint: the count is higher, the inputs continue those
--- of the recording in order, and each of their counts is from that of the last checkpoint up to this one, and below it
+-- a checkpoint at this count, with these inputs, can follow a recording's last checkpoint: the count is higher, the inputs continue
+-- those of the recording in order, and each of their counts is from that of the last checkpoint up to this one, and below it
 pub record IsNext (r : RecordingParts) (inputs : List Event) (count : ℕ) : Type 0 where
   pub later : last_count r < count
   pub bounded : count ≤ MAX_COUNT
@@ -62,8 +62,8 @@ FitsCheckpoint r = length r.checkpoints ≤ LAST_CHECKPOINT
 abbrev pub FitsOutput : RecordingParts → Outcome → Type 0
 FitsOutput r claim = length (output_of r.checkpoints) + length claim.sent ≤ MAX_OUTPUT
 
--- all that is tested before anything is stored: the recording has taken its inputs, the checkpoint and the new inputs come next, and
--- there is room for the inputs, the checkpoint and the output
+-- all that is tested before anything is stored: the recording has taken its inputs, the checkpoint and the new inputs come next,
+-- and there is room for the inputs, the checkpoint and the output
 pub record HasRoom (r : RecordingParts) (inputs : List Event) (count : ℕ) (claim : Outcome) : Type 0 where
   pub taken : HasTakenAll r
   pub next : IsNext r inputs count
@@ -96,5 +96,6 @@ IsExtendFault r inputs count claim fault.Checkpoints =
 IsExtendFault r inputs count claim fault.Output =
     HasTakenAll r × IsNext r inputs count × FitInputs r inputs × FitsCheckpoint r × ¬ (FitsOutput r claim)
 IsExtendFault r inputs count claim fault.Pages =
-    HasRoom r inputs count claim × (MAX_PAGES < length r.pool + length (new_pages (claimed r (last_of r)).state.words claim.state.words))
+    HasRoom r inputs count claim
+    × (MAX_PAGES < length r.pool + length (new_pages (claimed r (last_of r)).state.words claim.state.words))
 IsExtendFault r inputs count claim fault.Memory = HasRoom r inputs count claim

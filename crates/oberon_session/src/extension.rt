@@ -1,5 +1,5 @@
-//! Recordings that are made while a machine runs elsewhere: one begins with a state, and each call adds a checkpoint. No machine runs
-//! here, so only a check can find out whether a claim is true.
+//! Recordings that are made while a machine runs elsewhere: one begins with a state, and each call adds a checkpoint. No machine
+//! runs here, so only a check can find out whether a claim is true.
 
 ghost use Rattle.std.specs.Prelude.{◌≡◌, ◌+◌, ◌<◌, ◌≤◌, ◌^◌, ◌++◌, [], All, IfErr, IfOk, OnOk, length, map};
 ghost use Rattle.risc_core.specs.declared.branch.TheConstants.{COUNTER_END};
@@ -61,8 +61,8 @@ pub fn begin_recording(
 
 /// Returns the recording with these inputs, which came after its last checkpoint, and one more checkpoint, which makes this claim.
 ///
-/// On an error the recording is dropped. The error is the first rule of `ExtendFault` that is broken. All rules but that of the pages
-/// are tested before anything is allocated, so `Memory` means that those hold.
+/// On an error the recording is dropped. The error is the first rule of `ExtendFault` that is broken. All rules but that of the
+/// pages are tested before anything is allocated, so `Memory` means that those hold.
 pub fn extend_recording(
     alloc: Global,
     recording: Recording,

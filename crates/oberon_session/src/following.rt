@@ -12,8 +12,8 @@ use crate::extend_fault::ExtendFault;
 use oberon_format::{LAST_CHECKPOINT, MAX_COUNT, MAX_EVENTS, MAX_OUTPUT, Recording};
 use risc_model::Event;
 
-/// Returns the first rule that a claim breaks as the next checkpoint of a recording, with the inputs that come before it. The limit of
-/// the pages is not tested here, since only storing the memory shows how many it needs.
+/// Returns the first rule that a claim breaks as the next checkpoint of a recording, with the inputs that come before it. The limit
+/// of the pages is not tested here, since only storing the memory shows how many it needs.
 pub fn next_fault(recording: &Recording, inputs: &[Event], claim: &Claim<'_>) -> Option<ExtendFault>
     ensures fault { IfSome result (IsExtendFault recording.now inputs.now claim.now.count (outcome_of claim.now)) }
     ensures tested { IfSome result (λ fault. (fault ≢ ExtendFault.Pages) × (fault ≢ ExtendFault.Memory)) }

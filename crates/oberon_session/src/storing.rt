@@ -121,7 +121,8 @@ fn write_words(memory: &mut Memory<'_>, words: &[u32]) -> Result<(), AllocError>
     Ok(())
 }
 
-/// Writes a word to a memory, if the memory has another word there. Otherwise the memory stays as it is, and no page becomes private.
+/// Writes a word to a memory, if the memory has another word there. Otherwise the memory stays as it is, and no page becomes
+/// private.
 fn write_word(memory: &mut Memory<'_>, word_no: u32, word: u32) -> Result<(), AllocError>
     requires inside { word_no < 262144 }
     requires whole { length memory.old.words ≡ 262144 }
