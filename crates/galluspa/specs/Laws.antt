@@ -8,8 +8,7 @@ use Rattle.risc_model.specs.MachineState.{State}
 use Rattle.risc_model.specs.Replay.{run_of, sent_of}
 use Rattle.oberon_format.specs.Defined.{IsTrueAt, claimed}
 use Rattle.oberon_format.specs.Recording.{RecordingParts, last_of}
-use Rattle.oberon_format.specs.Text.{TextIn}
-use Rattle.oberon_format.specs.declared.layout.TheConstants.{VERSION}
+use Rattle.oberon_format.specs.Text.{Text}
 use Rattle.oberon_session.specs.Extended.{last_count}
 use Rattle.galluspa.specs.declared.raw.RawInput.{RawInput}
 use Rattle.galluspa.specs.declared.raw.RawState.{RawState}
@@ -42,10 +41,10 @@ JoinLaw =
 
 -- ---- recordings that are made while a machine runs
 
--- the bytes are a recording all of whose claims are true. Its last checkpoint claims this state
+-- the bytes are a recording, in either version, all of whose claims are true. Its last checkpoint claims this state
 pub record IsTrueUpTo (text : List ℕ) (state : RawState) (words : List ℕ) : Type 0 where
   pub recording : RecordingParts
-  pub is_text : TextIn VERSION text recording
+  pub is_text : Text text recording
   pub truth : (k : ℕ) → k < length recording.checkpoints → IsTrueAt recording k
   pub count_is : last_count recording ≡ state.count
   pub claims : (claimed recording (last_of recording)).state ≡ state_of state words
