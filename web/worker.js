@@ -132,6 +132,8 @@ function fastTurn(begun) {
 function turnTo(to, deadline) {
   const sent = [], pieced = performance.now() + PIECES_MS, { isReplay } = machine, least = Math.ceil((to - machine.count) / PIECES);
   const isToGoOn = () => machine.count < to && machine.isReplay === isReplay && !run.becameFull;
+  // A recording that goes on may have reached a limit before.
+  run.becameFull ||= machine.endIfFull();
   for (let piece = least; isToGoOn() && (!sent.length || performance.now() < deadline);) {
     const waited = machine.arrivals.typed, waits = machine.feed();
     // A program that takes nothing now gets longer pieces.

@@ -94,6 +94,21 @@ def fill_pages(desk: Desk) -> None:
     print("full: a recording of 64,513 pages ends before a checkpoint may have too many")
 
 
+def go_on_full(desk: Desk) -> None:
+    """A recording that is full already when it is run on is said to be at once, and the machine runs."""
+    page = desk.page
+    desk.start("sent.orsr", encoded(2, [page_of(JUMP)], [claim(0), claim(10, output=b"x" * (1 << 20))]))
+    page.answer("showClaim(1).then(() => runOnFrom(1))")
+    page.wait("countOf(app.latest.state) === 10")
+    desk.click("run")
+    page.wait("app.latest.full && !app.latest.on")
+    expect("where a recording is full that was so", page.answer("[countOf(app.latest.state), app.latest.full.count]"), [10, 10])
+    desk.go_on()
+    page.wait("countOf(app.latest.state) > 1000000")
+    desk.pause()
+    print("full: a recording that is full already is said to be, and runs on")
+
+
 def leave_what_is_open(desk: Desk) -> None:
     """A file that is refused, and the form of a memory image, leave the machine that is open, with its name, its verdict and its checkpoints."""
     page, face = desk.page, (EXAMPLES / "face.orsr").read_bytes()
@@ -193,6 +208,7 @@ def drive(desk: Desk) -> None:
     say_full(desk)
     fill_inputs(desk)
     fill_pages(desk)
+    go_on_full(desk)
     leave_what_is_open(desk)
     judge_both(desk)
     end_at_once(desk)
