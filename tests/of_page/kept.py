@@ -106,7 +106,7 @@ def resume_twice(desk: Desk) -> None:
                 tab.page.answer("Object.defineProperty(navigator, 'locks', { value: undefined })")
             tab.page.wait("el('kept-list').firstChild")
             tab.page.answer(f"{BUTTONS}[0].click()")
-            tab.page.wait("app.latest?.hasOwn")
+            tab.page.wait("app.work.generation && app.latest.hasOwn")
             if has_locks:
                 tab.expect_notice("a second resume", "This recording is open in another page: what you do here is kept as a copy.")
             tab.go_on()
