@@ -49,7 +49,9 @@ class MainTest(ToolTest):
 
     def test_the_commands_are_those_of_the_program(self) -> None:
         keys, stored = EXAMPLES / "keys.json", self.file("stored.orsr", STORED)
-        for words, path in ((["record"], keys), (["screen", "--at", 1], stored), (["screen", "--at", 9], stored), (["migrate"], stored)):
+        for words, path in (
+            (["record"], keys), (["screen", "--at", 1], stored), (["screen", "--at", 9], stored), (["migrate"], stored),
+        ):
             alone = run([PROGRAM, *words], path.read_bytes())
             for ran in (tool("main", *words, path), run([TOOLS / "main", *words], path.read_bytes())):
                 self.assertEqual((ran.output, ran.status, ran.errors), (alone.output, alone.status, ""))

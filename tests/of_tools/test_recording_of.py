@@ -31,6 +31,8 @@ class RecordingOfTest(ToolTest):
         self.assert_refused(tool("recording-of", self.report(STORED)), "it holds no recording")
         whole = gzip.compress(STORED)
         self.assert_refused(tool("recording-of", self.page(whole, whole)), "it holds 2 recordings")
-        for packed, told in ((b"ORSR", "can't be unpacked"), (whole[:-20], "is cut off"), (gzip.compress(bytes(120_000_000), 1), "longer")):
+        bomb = gzip.compress(bytes(120_000_000), 1)
+        for packed, told in ((b"ORSR", "can't be unpacked"), (whole[:-20], "is cut off"), (bomb, "longer")):
             self.assert_refused(tool("recording-of", self.page(packed)), told)
-        self.assert_refused(tool("recording-of", self.file("page.html", b'<script type="text/plain" id="g-recording">\xff</script>')), "unpacked")
+        odd = self.file("page.html", b'<script type="text/plain" id="g-recording">\xff</script>')
+        self.assert_refused(tool("recording-of", odd), "unpacked")

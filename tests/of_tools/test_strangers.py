@@ -185,7 +185,8 @@ class SizeTest(ToolTest):
         huge = self.file("huge.orsr", b"")
         os.truncate(huge, 1 << 40)
         for words, told in (
-            (["explain", huge], "refused 2 magic"), (["session", "--memory", huge, "--every", 1, "--until", 1], "beyond the memory"),
+            (["explain", huge], "refused 2 magic"),
+            (["session", "--memory", huge, "--every", 1, "--until", 1], "beyond the memory"),
             (["session", "--memory", EXAMPLES / "face.orsr", "--inputs", huge, "--every", 1, "--until", 1], "not a CSV file"),
             (["suite", self.folder, "--keep", self.folder / "it"], "refused 2 magic"),
         ):
@@ -254,12 +255,13 @@ class TimeTest(ToolTest):
         self.file("suite/a.orsr", STORED)
         for at in range(9):
             self.file(f"suite/{at}.orsr", rejoining(at))
-        program = self.file("program", f"#!/bin/sh\ncat > {self.folder}/it; cmp -s {self.folder}/it {self.folder}/suite/a.orsr && sleep 60\n"
+        program = self.file("program", f"#!/bin/sh\ncd {self.folder}\ncat > it; cmp -s it suite/a.orsr && sleep 60\n"
                             "echo false\nexit 1\n")
         program.chmod(0o755)
         start = time.monotonic()
         with open("/dev/full", "wb") as full:
-            ran = subprocess.run([TOOLS / "suite", self.folder / "suite", "--program", program], stdout=full, stderr=subprocess.PIPE)
+            command = [TOOLS / "suite", self.folder / "suite", "--program", program]
+            ran = subprocess.run(command, stdout=full, stderr=subprocess.PIPE, check=False)
         self.assertEqual((ran.returncode, ran.stderr), (3, b"suite: standard output: No space left on device\n"))
         self.assertLess(time.monotonic() - start, 20)
 
