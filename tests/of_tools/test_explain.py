@@ -7,14 +7,19 @@ import os
 import re
 import struct
 import tracemalloc
+from dataclasses import replace
 
 from PIL import Image
 
 from galluspa import recording
+from galluspa.explanation import FalseClaim, explain_false, plain
 from galluspa.faults import explain_fault
+from galluspa.library import Library
+from galluspa.limits import Limit, TimeIsUp
 from galluspa.pictures import LIGHT_RED, RED
 from galluspa.program import Program
 from galluspa.sessionfaults import explain_session, explained
+from galluspa.tracing import Run
 from samples import EXAMPLES, JUMP, PROGRAM, STORED, TOP, ToolTest, record, rejoining, run, session, status_of, tool
 
 CHANGE = re.compile(r"^\| ((?:byte \d+ is [0-9a-f]{2}(?:, )?)+)[^|]*\| `(refused [^`]+)` \|$", re.MULTILINE)
@@ -23,6 +28,21 @@ BYTE = re.compile(r"byte (\d+) is ([0-9a-f]{2})")
 
 # R0 := 5, then 40 instructions that write nothing, then R0 := 6; 65 to the serial line; Mem[400] := 6; a jump to itself.
 WORDS = (0x40000005, *[0xEF000000] * 40, 0x40000006, 0x5100FFC8, 0xA0100000, 0xA0200190, JUMP)
+
+
+class Ending(Limit):
+    """A limit of time that is over when it was asked so many times."""
+
+    def __init__(self, times: int) -> None:
+        super().__init__(60)
+        self.times = times
+
+    def left(self) -> float:
+        """Counts down."""
+        self.times -= 1
+        if self.times < 0:
+            raise TimeIsUp("no answer")
+        return 60
 
 
 class ExplainTest(ToolTest):
@@ -122,6 +142,25 @@ class ExplainTest(ToolTest):
         self.assertIn("; and at the earlier checkpoints 1 to 2.", self.explained(text, "--steps", 1)[-1])
         told = "R0 had the claimed value at none of the counts 42 to 43"
         self.assertTrue(self.explained(text, "--steps", 1)[-1].startswith(told))
+
+    def test_what_there_is_no_time_for_is_told(self) -> None:
+        text = self.claiming(record(session(WORDS, [43, 60])), 1, "R0=5")
+        read, program = recording.read(text), Program.find(None)
+        answer = program.check(text)
+
+        def explained(slices: int) -> FalseClaim:
+            """What is explained in the time for so many slices of the machine's run."""
+            run = Run.of_answer(replace(Library.find(None), limit=Ending(slices)), text, read, answer)
+            return explain_false(run, program, read, answer.false_claim, 1000)
+
+        lines = list(plain(explained(30)))
+        self.assertIn("R0  00000005  00000006", lines)
+        self.assertIn("The last instructions before count 29 that wrote R0:", lines)
+        self.assertTrue(lines[-1].endswith(" of the counts 0 to 29: last at 29, 14 before. There was no answer: not all was looked at "
+                                           "(--limit)."), lines)
+        self.assertNotIn("(--limit)", "\n".join(plain(explained(1000))))
+        with self.assertRaisesRegex(TimeIsUp, "no answer: the machine came to count 0"):
+            explained(0)
 
     def test_a_claim_that_rejoins(self) -> None:
         lines = self.explained(rejoining(9))

@@ -9,6 +9,7 @@ import re
 import shlex
 import time
 import unittest
+from dataclasses import replace
 from pathlib import Path
 from unittest import mock
 
@@ -16,6 +17,7 @@ from PIL import Image
 
 import browser
 from galluspa import pictures
+from galluspa.limits import Limit
 from galluspa.page import Report
 from galluspa.program import Program
 from galluspa.recording import Event, page_of
@@ -152,6 +154,16 @@ class SizeTest(ReportTest):
         self.assertEqual([int(at) for at, _ in commands], list(range(full, 16)))
         self.assertEqual(html.unescape(commands[0][1]), shlex.quote("it's.orsr"))
         self.assertEqual(run([PROGRAM, "screen", "--at", 15], text).status, 0)
+
+    def test_what_there_is_no_time_for_is_told(self) -> None:
+        report = Report.of(Program.find(None), "it.orsr", rejoining(9))
+        late = replace(report, program=replace(report.program, limit=Limit(0)))
+        page = "".join(late.html())
+        over = "What the machine has was not found: no answer in 0 s: the machine came to count 0."
+        for told in (over, "false checkpoint 1 at 2 part R5</h1>",
+                     "it has 0 of the\n  1 different screens in full", "screen --at 0 &lt; it.orsr"):
+            self.assertIn(told, page)
+        self.assertIn(over, list(late.plain()))
 
     def test_a_report_without_a_limit_of_its_size_has_no_such_line(self) -> None:
         self.assertNotIn('id="few"', self.report((EXAMPLES / "face.orsr").read_bytes()).read_text())

@@ -160,6 +160,8 @@ class SuiteTest(ToolTest):
         self.file("suite/f.orsr", STORED)
         self.file("suite/f.expect", "# nothing\n")
         self.file("suite/g.orsr", STORED)
+        self.file("suite/h.orsr", STORED)
+        (self.folder / "suite/h.expect").symlink_to("h.expect")
         self.file("suite/accepted", "accepted 1\n")
         (self.folder / "suite/g.expect").symlink_to("accepted")
         page, junit, kept = (self.folder / name for name in ("page.html", "it.xml", "kept.json"))
@@ -167,14 +169,14 @@ class SuiteTest(ToolTest):
                    self.file("before.json", '{"format": "galluspa-suite-run", "version": 1, "recordings": {}}'))
         self.assertEqual((ran.status, ran.errors), (1, ""))
         told = ran.output.decode()
-        self.assertEqual([line[:6] for line in told.splitlines() if " - " in line], ["ok 1 -", *["not ok"] * 5, "ok 7 -"])
+        self.assertEqual([line[:6] for line in told.splitlines() if " - " in line], ["ok 1 -", *["not ok"] * 5, "ok 7 -", "not ok"])
         for why in ("b.expect: a link that leads out of the suite", "c.orsr: No such file or directory", "d.orsr: not a file",
-                    "e.expect: not a file", "f.expect: no line says what to expect"):
+                    "e.expect: not a file", "h.expect: not a file", "f.expect: no line says what to expect"):
             self.assertIn(why, told)
-        self.assertEqual(len(json.loads(kept.read_bytes())["recordings"]), 7)
+        self.assertEqual(len(json.loads(kept.read_bytes())["recordings"]), 8)
         suite = ElementTree.parse(junit).getroot()[0]
-        self.assertEqual((suite.get("tests"), suite.get("failures"), suite.get("errors")), ("7", "0", "5"))
-        self.assertIn("2 of 7 as expected", page.read_text())
+        self.assertEqual((suite.get("tests"), suite.get("failures"), suite.get("errors")), ("8", "0", "6"))
+        self.assertIn("2 of 8 as expected", page.read_text())
         self.assertNotIn("root's own line", told + page.read_text() + junit.read_text() + kept.read_text())
         self.assertIn("d.orsr: not a file", tool("coverage", self.folder / "suite").output.decode())
 
