@@ -61,8 +61,13 @@ fn is_written_again(alloc: Global, sketch: &Sketch<'_>) -> bool {
 }
 
 /// Recordings that have a file of version 2.
-const SKETCHES: [Sketch<'static>; 5] =
-    [STORED_RUN, FIVE_CHANGES, EMPTY, EQUAL_PAGES, ONE_BYTE_SENT];
+const SKETCHES: [Sketch<'static>; 5] = [
+    STORED_RUN,
+    FIVE_CHANGES,
+    EMPTY,
+    EQUAL_PAGES,
+    ONE_BYTE_SENT,
+];
 
 /// Returns the first row whose file is not written again, if there is one.
 fn row_of_another_file(alloc: Global) -> Option<usize> {
