@@ -8,7 +8,7 @@ const DONE = 0, NO_ROOM = 2, NO_CHECKPOINT = 5;
 const ADVANCE_REFUSALS = ["", "a number is out of its range", "more is sent than there is room for", "no memory"];
 const RECORD_REFUSALS = ["", "a number is out of its range", "", "no memory", "the bytes are no recording", "", "the recording has reached its limit of inputs",
                          "the recording has reached its limit of checkpoints", "the recording has reached its limit of sent bytes",
-                         "the recording has reached its limit of pages"];
+                         "the recording has reached its limit of pages", "the recording has inputs at or after its last checkpoint"];
 const RECORD_ROOM = 1 << 18, LINE_ROOM = 256;
 
 /** Bad input, or a request that cannot be met. Its message is one line for the user. */
