@@ -1,0 +1,123 @@
+"""Finds how many instructions a run has before it stops, or goes round in a loop for ever."""
+
+from collections.abc import Sequence
+
+from galluspa.assembler import DEVICES, TIMER
+from galluspa.command import Refused
+from galluspa.instructions import address, is_store
+from galluspa.library import WORDS, Inputs, Library, Machine
+from galluspa.program import ACCEPTED, Program
+from galluspa.sessions import Session
+
+# The longest loop that is looked for, and by which factor the counts grow at which one is looked for.
+LONGEST_LOOP = 2000
+GROWTH = 8
+# How many instructions are done at most, if it is not said.
+MOST = 1 << 30
+STOPS, LOOPS = ENDS = ("stops", "loops")
+TIMER_ADDRESS = (DEVICES + TIMER) & 0xFFFFFF
+
+
+class Run:
+    """A run of a session, of which states at rising counts are asked for."""
+
+    def __init__(self, library: Library, program: Program, session: Session) -> None:
+        alone = Session(**{**vars(session), "inputs": [], "checkpoints": []})
+        answer = program.record(alone.text().encode())
+        if answer.status != ACCEPTED:
+            raise Refused(answer.line)
+        self.library = library
+        self.first = library.claim(answer.output, 0)
+        self.inputs = Inputs(session.inputs)
+        self.settled = session.inputs[-1].count + 1 if session.inputs else 0
+
+    def at(self, count: int, before: Machine | None = None) -> Machine:
+        """The machine at a count, from one at a count before."""
+        machine = (before or self.first).copy()
+        self.library.advance(machine, self.inputs, count)
+        return machine
+
+    def stop(self, most: int) -> int | None:
+        """The first count at which the machine is stopped, up to one."""
+        before, machine = self.first, self.at(min(GROWTH, most))
+        while not machine.state.stop:
+            if machine.count >= most:
+                return None
+            before, machine = machine, self.at(min(machine.count * GROWTH, most), machine)
+        end = machine.count
+        while end - before.count > 1:
+            middle = self.at((before.count + end) // 2, before)
+            if middle.state.stop:
+                end = middle.count
+            else:
+                before = middle
+        return end
+
+    def loop(self, most: int) -> int | None:
+        """The first count, up to one, from which on the machine comes back to the same state again and again."""
+        before = machine = self.at(min(self.settled, most))
+        steps = GROWTH
+        while True:
+            is_last = machine.count >= most
+            length = self.loop_length(machine, LONGEST_LOOP if is_last else min(steps // GROWTH, LONGEST_LOOP))
+            if length:
+                return self._loop_start(before, machine.count, length)
+            if is_last:
+                return None
+            before, machine = machine, self.at(min(machine.count + steps, most), machine)
+            steps *= GROWTH
+
+    def _loop_start(self, before: Machine, end: int, length: int) -> int:
+        """The first count in a loop that a machine is in at the end, and perhaps from some count on before it."""
+        while end > before.count:
+            middle = self.at((before.count + end) // 2, before)
+            if self.loop_length(middle, length):
+                end = middle.count
+            elif middle.count == before.count:
+                break
+            else:
+                before = middle
+        return end
+
+    def loop_length(self, start: Machine, longest: int) -> int | None:
+        """How many instructions, up to the longest loop, bring a machine back to its state; None if none do. A loop
+        that reads the timer while it counts is none: it may wait for it."""
+        machine = start.copy()
+        for length in range(1, longest + 1):
+            if start.state.stop or machine.state.rate and _reads_timer(machine):
+                return None
+            self.library.advance(machine, self.inputs, machine.count + 1)
+            if machine.state.pc == start.state.pc and _is_same(start, machine):
+                return length
+        return None
+
+
+def _reads_timer(machine: Machine) -> bool:
+    """Whether the next instruction loads the timer."""
+    if machine.state.pc >= WORDS:
+        return False
+    word = machine.words[machine.state.pc]
+    place = address(word, machine.state.r)
+    return place is not None and not is_store(word) and place & ~3 == TIMER_ADDRESS
+
+
+def _is_same(one: Machine, other: Machine) -> bool:
+    """Whether two machines are in the same state, but for their counts and for a timer that counts."""
+    return _parts(one) == _parts(other) and one.memory() == other.memory()
+
+
+def _parts(machine: Machine) -> Sequence[object]:
+    it = machine.seen()
+    timer = () if it.rate else (it.timer,)
+    return (it.registers, it.h, it.pc, it.flags, it.stop, it.switches, it.leds, it.mouse, it.serial, it.keys, *timer)
+
+
+def end_of(run: Run, end: str, most: int) -> int:
+    """The count at which a run `stops` or `loops`; refused if it does not by the most counts."""
+    count = run.stop(most) if end == STOPS else run.loop(most)
+    if count is not None:
+        return max(count, 1)
+    if end == LOOPS and (stopped := run.stop(most)):
+        raise Refused(f"the machine enters no loop: it stops at count {stopped:,}")
+    what = "stop" if end == STOPS else "enter a loop that it never leaves"
+    raise Refused(f"the machine does not {what} within {most:,} instructions")
