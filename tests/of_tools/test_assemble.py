@@ -1,0 +1,295 @@
+"""tools/assemble: the notation of the listing both ways, the language, its mistakes, its page, and the sources of the examples."""
+
+import json
+import random
+import struct
+from collections.abc import Iterator
+
+from galluspa import recording
+from galluspa.assembly import assembled
+from galluspa.instructions import instruction
+from galluspa.mnemonics import BRANCHES, MNEMONICS, source_of, word_of
+from galluspa.settings import set_checkpoints, settings_of
+from galluspa.tokens import Wrong
+from samples import EXAMPLES, TOP, Ran, ToolTest, record, run, session, tool
+
+HELLO = """; Sends a text.
+        MOV R1, SERIAL
+        MOV R2, text
+next:   LDB R0, R2, 0
+        BEQ done        ; a byte of 0 ends it
+        STR R0, R1, 0
+        ADD R2, R2, 1
+        B next
+done:   B done
+text:   byte "Hello, world\\n"
+        checkpoints 30, 100
+"""
+HEADS = [top << 16 for top in range(0, 1 << 16, 17)]
+
+
+def words_of_suite() -> Iterator[int]:
+    """The words of all pages of the suite's recordings."""
+    for path in sorted((EXAMPLES / "suite").rglob("*.orsr")):
+        pool = bytes(recording.read(path.read_bytes()).pool)
+        yield from struct.unpack(f"<{len(pool) // 4}I", pool)
+
+
+def words_in(source: str) -> list[int]:
+    """The words of a source without mistakes."""
+    it = assembled(source)
+    assert not it.problems, it.problems
+    return list(struct.unpack(f"<{len(it.memory) // 4}I", it.memory))
+
+
+class NotationTest(ToolTest):
+    def assert_comes_back(self, words: list[int]) -> None:
+        """What is printed as the source of words assembles to the same words."""
+        self.assertEqual(words_in("\n".join(map(source_of, words))), words)
+
+    def test_each_form_comes_back(self) -> None:
+        rng = random.Random(7)
+        self.assert_comes_back([head | low for head in HEADS for low in (rng.getrandbits(16), rng.getrandbits(4))])
+
+    def test_words_of_the_suite_come_back(self) -> None:
+        words = sorted(set(words_of_suite()))
+        self.assertGreater(len(words), 800)
+        self.assert_comes_back(words)
+
+    def test_random_words_come_back(self) -> None:
+        rng = random.Random(8)
+        self.assert_comes_back([rng.getrandbits(32) for _ in range(20_000)])
+
+    def test_a_notation_is_of_one_word(self) -> None:
+        for word in (*HEADS, 0x7D00800E, 0x0000FFF0, 0xE73FFFFF, 0xE7C00001, 0xC7000010):
+            mnemonic = instruction(word, 0).mnemonic
+            self.assertEqual(instruction(word_of(mnemonic), 0).mnemonic, mnemonic)
+            self.assertEqual(source_of(word), mnemonic if word_of(mnemonic) == word else f"word 0x{word:08X}  ; {mnemonic}")
+        self.assertEqual([word_of(text) for text in ("B -1", "BL 5", "BNE -2")], [0xE7FFFFFF, 0xF7000005, 0xE9FFFFFE])
+
+    def test_the_source_of_a_listing_is_the_session_again(self) -> None:
+        for name in ("hello", "face", "draw", "clock"):
+            path = EXAMPLES / f"{name}.json"
+            source = self.file("it.asm", tool("listing", "--source", "--words", 64, path).output)
+            image = self.folder / "it.bin"
+            self.assertEqual(tool("assemble", source, "--image", image).errors, "")
+            page = bytes.fromhex(json.loads(path.read_bytes())["pages"][0]["hex"])
+            self.assertEqual(image.read_bytes().rstrip(b"\0"), page.rstrip(b"\0"))
+
+    def test_listings_begin_where_they_are_told(self) -> None:
+        path = self.file("it.json", json.dumps(session([0, 0, 0x7D00800E, 0xE7FFFFFF], [1])))
+        ran = tool("listing", "--source", "--from", 2, path)
+        self.assertEqual(ran.output, b"        origin 0x8\n        word 0x7D00800E  ; MOV' R13, 32782\n        B -1\n")
+        self.assertEqual(tool("listing", "--source", "--markdown", path).status, 2)
+
+
+class AssembleTest(ToolTest):
+    def assemble(self, source: str, *words: object) -> Ran:
+        """What the tool answers to a source."""
+        return tool("assemble", self.file("it.asm", source), *words)
+
+    def assert_wrong(self, source: str, *told: str) -> None:
+        """A source has exactly these mistakes, each told with its line and its column."""
+        ran = self.assemble(source)
+        path, number = self.folder / "it.asm", f"{len(told)} {'mistake' if len(told) == 1 else 'mistakes'}"
+        lines = [f"{path}:{one}" for one in told] + [f"assemble: {path}: {number}: nothing is written"]
+        self.assertEqual((ran.errors.splitlines(), ran.output, ran.status), (lines, b"", 2))
+
+    def test_helps(self) -> None:
+        self.assert_helps("assemble")
+
+    def test_makes_the_session_of_an_example(self) -> None:
+        made, hello = self.assemble(HELLO), (EXAMPLES / "hello.json").read_bytes()
+        self.assertEqual((made.output, made.errors, made.status), (hello, "", 0))
+        path = self.folder / "it.json"
+        self.assertEqual(self.assemble(HELLO, "-o", path).output, b"")
+        self.assertEqual(path.read_bytes(), hello)
+
+    def test_makes_images_and_lists_words(self) -> None:
+        image = self.folder / "it.bin"
+        self.assemble(HELLO, "--image", image)
+        self.assertEqual(json.loads((EXAMPLES / "hello.json").read_bytes())["pages"][0]["hex"], image.read_bytes().hex())
+        lines = self.assemble(HELLO, "--words").output.decode().splitlines()
+        self.assertEqual(lines[0], "     0  5100FFC8  MOV R1, SERIAL")
+        self.assertEqual(lines[7:10], ["     7  E7FFFFFF  done: B done", '     8  6C6C6548  text: byte "Hello, world\\n"',
+                                       "     9  77202C6F"])
+
+    def test_labels_constants_and_expressions(self) -> None:
+        for source, words in (
+            ("a: B a\nB a\nBL a + 8\nBNE b\nb:", [0xE7FFFFFF, 0xE7FFFFFE, 0xF7FFFFFF, 0xE9000000]),
+            ("B 2\nB -1\nB R3\nBLEQ R15", [0xE7000002, 0xE7FFFFFF, 0xC7000003, 0xD100000F]),
+            ("b $\nword $, $ + 4", [0xE7FFFFFF, 4, 8]),
+            ("word x\nx = y * 2 + 1\ny = 3\nword end - here\nhere: word here\nend:", [7, 4, 8]),
+            ("word 31, 0x1F, 1fh, 'A', '\\n', '\\x41', -1, 4294967295", [31, 31, 31, 65, 10, 65, 0xFFFFFFFF, 0xFFFFFFFF]),
+            ("word 7 / 2, -7 / 2, -7 % 2, 2 + 3 * 4, (2 + 3) * 4, -(1 - 3), +1", [3, 0xFFFFFFFC, 1, 14, 20, 2, 1]),
+            ("mov' r13, DISPLAY / 10000H\nior R13, R13, display % 10000H", [0x6D00000E, 0x4DD67F00]),
+            ("STR R0, R1, LEDS - SERIAL\nMOV R1, KEY\nMOV R2, Timer", [0xA01FFFFC, 0x5100FFDC, 0x5200FFC0]),
+            ('byte "ab", 0, -1\nstring "c;"\nx: word x', [0xFF006261, 0x00003B63, 8]),
+            ("origin 8\nword 1\norigin 0\nword 2\norigin $ + 12\nx: y: word x", [2, 0, 1, 0, 16]),
+        ):
+            self.assertEqual(words_in(source), words, source)
+
+    def test_says_what_a_session_needs(self) -> None:
+        made = json.loads(self.assemble(
+            "set R2 = -1\nset R3 = x + 1\nset h = 5\nset flags = NV\nrate 1000\nphase 999\nstart x\norigin 400H\nword 0\n"
+            'x: B x\ninput 5, key, "Hi"\ninput 5 + 1, mouse, 1 \ninput 7, TIMER, 0\ncheckpoints 9, 3\nevery 100, 250').output)
+        registers = [0, 0, 0xFFFFFFFF, 0x405, *[0] * 12]
+        self.assertEqual(made["start"], {"R": registers, "H": 5, "PC": 0x101, "flags": 9, "rate": 1000, "phase": 999})
+        self.assertEqual(made["inputs"], [[5, "key", 72], [5, "key", 105], [6, "mouse", 1], [7, "timer", 0]])
+        self.assertEqual(made["checkpoints"], [3, 9, 100, 200])
+        self.assertEqual(made["pages"], [{"at": 1, "hex": "00000000ffffffe7"}])
+
+    def test_the_program_begins_at_the_first_instruction(self) -> None:
+        made = json.loads(self.assemble('string "abcd"\nMOV R0, 1\nB -1').output)
+        self.assertEqual((made["start"]["PC"], made["checkpoints"]), (2, []))
+        record(json.dumps(made).encode())
+
+    def test_runs_until_it_stops_or_loops(self) -> None:
+        count_down = "MOV R0, 20\nMUL R0, R0, R0\nw: SUB R0, R0, 1\nBNE w\n"
+        wait = "rate 10\nMOV R1, TIMER\nLDR R2, R1, 0\nw: LDR R0, R1, 0\nSUB R0, R0, R2\nSUB R0, R0, 5\nBMI w\n"
+        keys = "MOV R1, KEY\nw: LDR R0, R1, 0\nBEQ w\nd: B d\ninput 1000, key, 5\n"
+        for source, counts in (
+            (f"{count_down}DIV R0, R0, 0\nuntil stops", [803]),
+            (f"{count_down}d: B d\nuntil loops", [802]),
+            (f"{count_down}d: B d\nuntil loops\nevery 300\ncheckpoints 5", [5, 300, 600, 802]),
+            (f"{wait}d: B d\nuntil loops", [54]),
+            (f"{keys}until loops", [1003]),
+            ("B -1\nuntil loops", [1]),
+            ("FAD R0, R0, R0\nuntil stops, 1", [1]),
+        ):
+            self.assertEqual(json.loads(self.assemble(source).output)["checkpoints"], counts, source)
+        self.assert_refused(self.assemble("B -1\nuntil stops, 1000"), "does not stop within 1,000 instructions")
+        self.assert_refused(self.assemble("FAD R0, R0, R0\nuntil loops"), "enters no loop: it stops at count 1")
+        self.assert_refused(self.assemble("ADD R0, R0, 1\nB -2\nuntil loops, 90"), "does not enter a loop")
+
+    def test_the_session_tool_finds_the_same_ends(self) -> None:
+        image = self.folder / "it.bin"
+        self.assemble(HELLO, "--image", image)
+        for words, counts in ((["--until-loops"], [69]), (["--until-loops", "--every", 30], [30, 60, 69]),
+                              (["--until-loops", "--every", 69], [69]), (["--until-loops", "--most", 69], [69])):
+            self.assertEqual(json.loads(tool("session", "--memory", image, *words).output)["checkpoints"], counts)
+        stops = self.file("stops.bin", struct.pack("<2I", 0x40000005, 0x000C0000))
+        self.assertEqual(json.loads(tool("session", "--memory", stops, "--until-stops").output)["checkpoints"], [2])
+        self.assert_refused(tool("session", "--memory", image, "--until-stops", "--most", 500), "within 500 instructions")
+        self.assert_refused(tool("session", "--memory", image, "--until-stops", "--until-loops"), "not allowed with")
+        self.assert_refused(tool("session", "--memory", image, "--until-loops", "--checkpoints", 5), "finds the last")
+        self.assert_refused(tool("session", "--memory", image, "--until-loops", "--until", 5), "finds the last")
+        count_down = [0x40000900, 0x40090001, 0xE9FFFFFE, 0xE7FFFFFF]
+        long = self.file("long.bin", struct.pack("<4I", *count_down))
+        self.assert_refused(tool("session", "--memory", long, "--until-loops", "--every", 1), "more than 4,096")
+
+    def test_each_mistake_is_told_at_its_place(self) -> None:
+        for line, told in (
+            ("MOV R1, 70000", "1:9: the immediate operand 70,000 is not from -65,536 to 65,535"),
+            ("MOV' R1, -1", "1:10: the upper half -1 is not from 0 to 65,535"),
+            ("LDR R1, R2, 524288", "1:13: the offset 524,288 is not from -524,288 to 524,287"),
+            ("B 2097152", "1:3: the offset 2,097,152 is not from -2,097,152 to 2,097,151"),
+            ("B $ + 1", "1:3: the target 1H is no multiple of 4"),
+            ("MOV R16, 3", "1:5: R16 is not defined"),
+            ("MOV 5, 3", "1:5: 5 is no register from R0 to R15"),
+            ("ADD R1, R2", "1:1: ADD has 2 operands; it wants 3"),
+            ("B", "1:1: B has 0 operands; it wants 1"),
+            ("MOV' R0, R1", "1:10: MOV' has H, NZCV or a number, and no register"),
+            ("ADD R0, R1, H", "1:13: H is an operand of MOV' alone"),
+            ("B H", "1:3: H is no number"),
+            ("B nowhere", "1:3: nowhere is not defined"),
+            ("word 2 + R1", "1:10: R1 is a register, where a number is wanted"),
+            ("FOO R1", "1:1: FOO is no instruction and no directive; a label ends with a colon"),
+            ("5 R1", "1:1: 5 begins no statement"),
+            ("word", "1:1: word wants a value"),
+            ("word 1,", "1:8: a number or a name is missing here"),
+            ("word 1, , 2", "1:9: a number or a name is missing here"),
+            ("word 1 2", "1:8: 2 does not continue the expression"),
+            ("word (1 + 2", "1:6: the parenthesis has no end"),
+            ("word )", "1:6: ) is no number and no name"),
+            ("word 5 / 0", "1:8: a division by 0"),
+            ("word 4294967296", "1:6: 4,294,967,296 is no word from -2,147,483,648 to 4,294,967,295"),
+            ("word 99999999999 * 99999999999", "1:18: the result is 2^64 or more"),
+            ("word 999999999999999999999", "1:6: 99999999999999999999 is no number: write it as 31, 0x1F or 1FH"),
+            ("word 12G", "1:6: 12G is no number: write it as 31, 0x1F or 1FH"),
+            ("word " + "(" * 101 + "1" + ")" * 101, "1:106: signs and parentheses are nested deeper than 100"),
+            ("byte 256", "1:6: 256 is no byte from -128 to 255"),
+            ("string 5", "1:8: string wants a text in quotation marks; byte takes numbers"),
+            ('byte "abc', "1:6: a string without its end"),
+            ("word 'ab'", "1:6: a character without its end"),
+            ("byte 'é'", "1:7: 'é' is no ASCII character: write its bytes as \\xHH"),
+            ('byte "a\\q"', "1:8: \\q is no escape: they are \\n \\r \\t \\0 \\\\ \\\" \\' and \\xHH"),
+            ("word 1 @ 2", "1:8: '@' begins no name, number, string or mark"),
+            ("a: a = 5", "1:1: a constant has no label"),
+            ("R1: B -1", "1:1: R1 is the name of a register"),
+            ("key = 5", "1:1: key is the name of a device"),
+            ("x' = 5", "1:1: x' has a mark, which a name has not"),
+            ("x = x + 1", "1:5: the value of x depends on itself"),
+            ("origin 1048576", "1:8: the origin 1,048,576 is no byte address from 0 to 1,048,575"),
+            ("origin", "1:1: origin wants one value"),
+            ("start 2", "1:7: the start 2H is no multiple of 4"),
+            ("start 4194304", "1:7: the byte address 4,194,304 is not from 0 to 1,048,575"),
+            ("set R17 = 5", "1:5: R17 is none of R0 to R15, H and flags"),
+            ("set R1", "1:5: set wants a register or flags, an equals sign and a value"),
+            ("set R1 = 4294967296", "1:10: the value 4,294,967,296 is not from -2,147,483,648 to 4,294,967,295"),
+            ("set flags = Q", "1:13: Q is not made of the letters NZCV"),
+            ("phase 3", "1:1: phase 3 is not below the rate 0, or 0 if that is 0"),
+            ("input 5, key", "1:1: input wants a count, a kind and a value"),
+            ("input 5, pen, 3", "1:10: pen is none of timer, switches, mouse, key, serial"),
+            ("input 3, key, 300", "1:15: the value for key 300 is not from 0 to 255"),
+            ("input 3, mouse, 800H", "1:17: 800H has bits outside the mask 073FF3FFH of the mouse"),
+            ('input 3, timer, "a"', '1:17: "a" is no number and no name'),
+            ("checkpoints", "1:1: checkpoints wants counts"),
+            ("checkpoints 0", "1:13: the count 0 is not from 1 to 1,099,511,627,776"),
+            ("every 5", "1:1: every wants an end: every N, LAST, or a line with until"),
+            ("every 1, 5000", "1:1: a session has at most 4,096 checkpoints"),
+            ("until forever", "1:1: until wants stops or loops, and perhaps the most instructions to try"),
+        ):
+            it = assembled(line)
+            made = settings_of(it)
+            set_checkpoints(it, made, None)
+            self.assertEqual([f"{one.line}:{one.column}: {one.text}" for one in it.problems], [told], line)
+
+    def test_all_mistakes_are_told_in_one_run(self) -> None:
+        self.assert_wrong(
+            "a: MOV R1, 70000\na: B b\nword 1 2\n@\n", "1:12: the immediate operand 70,000 is not from -65,536 to 65,535",
+            "2:1: a is defined in line 1 already", "2:6: b is not defined", "3:8: 2 does not continue the expression",
+            "4:1: '@' begins no name, number, string or mark")
+        self.assert_wrong("input 5, key, 1\ninput 4, key, 1", "2:7: the count 4 is not from 5 to 1,099,511,627,776")
+        self.assert_wrong("until stops\nuntil loops", "2:1: until is in line 1 already")
+        self.assert_wrong("word x\nword x\nx = y\n", "3:5: y is not defined")
+        self.assert_wrong("origin x\nx: word 1", "1:8: x is not defined")
+        self.assert_wrong("\n".join(f"a{at} = a{at + 1}" for at in range(200)) + "\na200 = 1",
+                          *[f"{at}:{len(str(at - 1)) + 5}: a{at} is behind more than 100 constants" for at in (100, 200)])
+
+    def test_memory_is_filled_once_and_no_further_than_it_goes(self) -> None:
+        self.assert_wrong("word 1, 2\norigin 4\nword 3", "2:1: the bytes from 4H to 7H are filled from line 1 on, too")
+        self.assert_wrong("origin 4\nword 3\norigin 0\nword 1, 2", "3:1: the bytes from 4H to 7H are filled from line 1 on, too")
+        self.assert_wrong("origin 0FFFFCH\nword 1\nword 2\nword 3", "3:1: from here on it is beyond the memory of 1,048,576 bytes")
+        self.assertEqual(words_in("origin 0FFFFCH\nword 9")[-1], 9)
+
+    def test_refuses_bad_input(self) -> None:
+        self.assert_refused(tool("assemble"), "want FILE")
+        self.assert_refused(tool("assemble", self.folder / "none"), "No such file")
+        self.assert_refused(tool("assemble", self.file("it.asm", b"\xff")), "not a text in UTF-8: byte 0")
+        self.assert_refused(tool("assemble", self.file("it.asm", b";" * ((1 << 22) + 1))), "at most 4,194,304 bytes")
+        self.assert_refused(self.assemble(HELLO, "--words", "--image", "x"), "not allowed with")
+        ran = self.assemble("\x1b[31m\x07")
+        self.assertEqual(len(ran.errors.splitlines()), 2)
+        self.assertNotIn("\x1b", ran.errors)
+
+    def test_a_word_that_is_no_instruction_is_no_notation(self) -> None:
+        with self.assertRaises(Wrong):
+            word_of("MOV R0, x")
+
+
+class PageTest(ToolTest):
+    def test_the_page_is_the_one_that_is_printed(self) -> None:
+        page = (TOP / "docs/assembler.md").read_text()
+        self.assertEqual(tool("assemble", "--reference").output.decode(), page)
+        for name in {one.rstrip("'") for one in MNEMONICS} | set(BRANCHES):
+            self.assertRegex(page, rf"\| `{name}'? ")
+        self.assertLessEqual(max(len(line) for line in page.splitlines() if not line.startswith("|")), 132)
+
+    def test_its_program_is_recorded(self) -> None:
+        source = (TOP / "docs/assembler.md").read_text().split("```text\n")[1].split("```")[0]
+        made = record(tool("assemble", self.file("it.asm", source)).output)
+        self.assertTrue(made.endswith(b"Hello, world\n"))
+        self.assertEqual(run([TOP / "tools/session", "--of", self.file("it.orsr", made)]).status, 0)
+
+

@@ -1,0 +1,240 @@
+"""Assembles a source: lays its statements out in memory, gives its names their values, and encodes its words.
+
+Each thing that is wrong is a problem of its own, so that one run finds all of them.
+"""
+
+import contextlib
+import struct
+from collections.abc import Iterator, Sequence
+from dataclasses import dataclass, field
+
+from galluspa.assembler import DEVICES, KEY, MOUSE, SERIAL, STATUS, SWITCHES, TIMER
+from galluspa.expressions import DEEPEST, Value, evaluate
+from galluspa.mnemonics import REGISTER, SPECIALS, encoded, operand_of
+from galluspa.recording import DISPLAY_START
+from galluspa.sessions import MEMORY_BYTES
+from galluspa.statements import (
+    BYTE, CONSTANT, INSTRUCTION, ORIGIN, SETTINGS, STRING, WORD, Argument, Statement, content, is_string, statement_of,
+)
+from galluspa.tokens import Token, Wrong
+
+# The addresses of the device words, as the immediate operand of MOV writes them, and that of the display.
+BUILT_IN = {
+    **{name: DEVICES + offset - (1 << 32) for name, offset in (
+        ("TIMER", TIMER), ("SWITCHES", SWITCHES), ("LEDS", SWITCHES), ("SERIAL", SERIAL), ("STATUS", STATUS),
+        ("MOUSE", MOUSE), ("KEY", KEY),
+    )},
+    "DISPLAY": DISPLAY_START,
+}
+
+
+@dataclass(frozen=True, order=True)
+class Problem:
+    """What is wrong at a line and a column, both counted from 1."""
+
+    line: int
+    column: int
+    text: str
+
+
+@dataclass
+class Region:
+    """What is filled from an origin on: the line of the origin, its column, and the bytes from one address to
+    another."""
+
+    line: int
+    column: int
+    start: int
+    end: int
+    is_beyond: bool = False
+
+
+@dataclass
+class Assembly:
+    """A source that is assembled: its statements, its names, its memory, and what is wrong with it."""
+
+    statements: list[Statement] = field(default_factory=list)
+    problems: list[Problem] = field(default_factory=list)
+    regions: list[Region] = field(default_factory=lambda: [Region(1, 1, 0, 0)])
+    labels: dict[str, int] = field(default_factory=dict)
+    constants: dict[str, Statement] = field(default_factory=dict)
+    lines: dict[str, int] = field(default_factory=dict)
+    memory: bytearray = field(default_factory=bytearray)
+    waiting: list[tuple[int, Token]] = field(default_factory=list)
+    known: dict[str, Value] = field(default_factory=dict)
+    open: list[str] = field(default_factory=list)
+
+    @contextlib.contextmanager
+    def keeping(self, line: int) -> Iterator[None]:
+        """Keeps what is wrong in a line as a problem."""
+        try:
+            yield
+        except Wrong as wrong:
+            self.problems.append(Problem(line, wrong.column, str(wrong)))
+
+    def value(self, argument: Argument, here: int) -> Value:
+        """The value of an argument of a statement at an address."""
+        return evaluate(argument.tokens, argument.end, self.named, here)
+
+    def named(self, token: Token) -> Value:
+        """What a name stands for."""
+        name = token.text
+        if name in self.labels:
+            return Value(self.labels[name], True)
+        if name in self.constants:
+            return self._constant(token)
+        if name.upper() in BUILT_IN:
+            return Value(BUILT_IN[name.upper()])
+        if REGISTER.fullmatch(name) or name.upper() in SPECIALS:
+            raise Wrong(token.column, f"{name} is a register, where a number is wanted")
+        raise Wrong(token.column, f"{name} is not defined" + (" above" if name in self.lines else ""))
+
+    def _constant(self, token: Token) -> Value:
+        name = token.text
+        if name in self.known:
+            return self.known[name]
+        if name in self.open:
+            raise Wrong(token.column, f"the value of {name} depends on itself")
+        if len(self.open) >= DEEPEST:
+            raise Wrong(token.column, f"{name} is behind more than {DEEPEST} constants")
+        statement = self.constants[name]
+        self.open.append(name)
+        try:
+            self.known[name] = self.value(statement.arguments[0], statement.here)
+        except Wrong as wrong:
+            if statement.line not in {problem.line for problem in self.problems}:
+                self.problems.append(Problem(statement.line, wrong.column, str(wrong)))
+            self.known[name] = Value(0)
+        finally:
+            self.open.pop()
+        return self.known[name]
+
+
+def assembled(source: str) -> Assembly:
+    """A source, assembled; it has a memory only if there are no problems."""
+    it = Assembly()
+    for number, line in enumerate(source.split("\n"), 1):
+        with it.keeping(number):
+            it.statements.append(statement_of(number, line.rstrip("\r")))
+    for statement in it.statements:
+        with it.keeping(statement.line):
+            _lay_out(it, statement)
+    _set_labels(it)
+    for name, statement in it.constants.items():
+        it.named(statement.name)
+    _find_overlaps(it)
+    contents = list(_contents(it))
+    if not it.problems:
+        _fill(it, contents)
+    return it
+
+
+def _lay_out(it: Assembly, statement: Statement) -> None:
+    """Gives a statement its address, and its labels theirs."""
+    region = it.regions[-1]
+    for label in statement.labels:
+        with it.keeping(statement.line):
+            _define(it, statement.line, label)
+            it.waiting.append((statement.line, label))
+    if statement.does == ORIGIN:
+        _set_labels(it)
+        it.regions.append(_region_of(it, statement))
+        return
+    if statement.is_aligned:
+        region.end += -region.end % 4
+    statement.here = region.end
+    if statement.does == CONSTANT:
+        _define(it, statement.line, statement.name)
+        it.constants[statement.name.text] = statement
+    elif statement.does not in ("", *SETTINGS):
+        _set_labels(it)
+        region.end += statement.size
+        if region.end > MEMORY_BYTES and not region.is_beyond:
+            region.is_beyond = True
+            raise Wrong(statement.name.column, f"from here on it is beyond the memory of {MEMORY_BYTES:,} bytes")
+
+
+def _define(it: Assembly, line: int, name: Token) -> None:
+    text = name.text
+    if REGISTER.fullmatch(text) or text.upper() in SPECIALS or text.upper() in BUILT_IN:
+        what = "device" if text.upper() in BUILT_IN else "register"
+        raise Wrong(name.column, f"{text} is the name of a {what}")
+    if text.endswith("'"):
+        raise Wrong(name.column, f"{text} has a mark, which a name has not")
+    if text in it.lines:
+        raise Wrong(name.column, f"{text} is defined in line {it.lines[text]} already")
+    it.lines[text] = line
+
+
+def _set_labels(it: Assembly) -> None:
+    """Gives the labels that wait for what follows them the address here."""
+    for _, label in it.waiting:
+        it.labels[label.text] = it.regions[-1].end
+    it.waiting.clear()
+
+
+def _region_of(it: Assembly, statement: Statement) -> Region:
+    argument = only(statement)
+    start = it.value(argument, it.regions[-1].end).number
+    if not 0 <= start < MEMORY_BYTES:
+        raise Wrong(argument.column, f"the origin {start:,} is no byte address from 0 to {MEMORY_BYTES - 1:,}")
+    return Region(statement.line, statement.name.column, start, start)
+
+
+def only(statement: Statement) -> Argument:
+    """The one argument of a statement."""
+    if len(statement.arguments) != 1:
+        raise Wrong(statement.name.column, f"{statement.name.text} wants one value")
+    return statement.arguments[0]
+
+
+def _find_overlaps(it: Assembly) -> None:
+    """Finds regions that fill what others fill."""
+    regions = sorted((region for region in it.regions if region.end > region.start), key=lambda region: region.start)
+    for at, before in enumerate(regions):
+        for region in regions[at + 1 :]:
+            if region.start >= before.end:
+                break
+            first, second = sorted((before, region), key=lambda one: one.line)
+            it.problems.append(Problem(
+                second.line, second.column,
+                f"the bytes from {region.start:X}H to {min(region.end, before.end) - 1:X}H are filled from line "
+                f"{first.line} on, too"))
+
+
+def _contents(it: Assembly) -> Iterator[tuple[int, bytes]]:
+    """The bytes of each statement that fills some, with their address."""
+    for statement in it.statements:
+        with it.keeping(statement.line):
+            if statement.does == INSTRUCTION:
+                operands = [operand_of(one.tokens, one.end, it.named, statement.here) for one in statement.arguments]
+                yield statement.here, struct.pack("<I", encoded(statement.name, operands, statement.here))
+            elif statement.does in (WORD, BYTE, STRING):
+                yield statement.here, _data(it, statement)
+
+
+def _data(it: Assembly, statement: Statement) -> bytes:
+    if not statement.arguments:
+        raise Wrong(statement.name.column, f"{statement.name.text} wants a value")
+    if statement.does == WORD:
+        return b"".join(_packed(it, argument, statement.here, 4) for argument in statement.arguments)
+    if statement.does == STRING and not all(map(is_string, statement.arguments)):
+        raise Wrong(statement.arguments[0].column, "string wants a text in quotation marks; byte takes numbers")
+    parts = (content(one) if is_string(one) else _packed(it, one, statement.here, 1) for one in statement.arguments)
+    return b"".join(parts) + b"\0" * (statement.does == STRING)
+
+
+def _packed(it: Assembly, argument: Argument, here: int, size: int) -> bytes:
+    """The bytes of a number, the lowest first; a number below 0 is written modulo 2^8 or 2^32."""
+    end = 1 << 8 * size
+    number = it.value(argument, here).number
+    if not -end // 2 <= number < end:
+        what = "word" if size == 4 else "byte"
+        raise Wrong(argument.column, f"{number:,} is no {what} from {-end // 2:,} to {end - 1:,}")
+    return (number % end).to_bytes(size, "little")
+
+
+def _fill(it: Assembly, contents: Sequence[tuple[int, bytes]]) -> None:
+    it.memory = bytearray(max((region.end for region in it.regions if region.end > region.start), default=0))
+    for at, filled in contents:
+        it.memory[at : at + len(filled)] = filled

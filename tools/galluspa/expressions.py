@@ -1,0 +1,116 @@
+"""Evaluates the expressions of an assembler source: numbers, labels and constants with + - * / % and parentheses."""
+
+from collections.abc import Callable, Sequence
+from dataclasses import dataclass
+
+from galluspa.tokens import Kind, Token, Wrong
+
+DEEPEST = 100
+LARGEST = 1 << 64
+
+
+@dataclass(frozen=True)
+class Value:
+    """A number; a place, if it is the byte address of a label, or so many bytes from one."""
+
+    number: int
+    is_place: bool = False
+
+
+# What a name stands for; it raises Wrong if the name stands for nothing.
+Names = Callable[[Token], Value]
+
+
+class _Reader:
+    """Reads an expression from left to right; `column` is that of its end."""
+
+    def __init__(self, tokens: Sequence[Token], column: int, names: Names, here: int) -> None:
+        self.tokens = tokens
+        self.column = column
+        self.names = names
+        self.here = here
+        self.at = 0
+        self.depth = 0
+
+    def mark(self, marks: str) -> Token | None:
+        """The next token, if it is one of these marks."""
+        token = self.tokens[self.at] if self.at < len(self.tokens) else None
+        if token and token.kind is Kind.MARK and token.text in marks:
+            self.at += 1
+            return token
+        return None
+
+    def sum(self) -> Value:
+        """Products that are added or subtracted."""
+        value = self.product()
+        while mark := self.mark("+-"):
+            value = _bounded(_sum(value, self.product(), mark.text), mark)
+        return value
+
+    def product(self) -> Value:
+        """Atoms that are multiplied or divided."""
+        value = self.atom()
+        while mark := self.mark("*/%"):
+            value = _bounded(_product(value, self.atom(), mark), mark)
+        return value
+
+    def atom(self) -> Value:
+        """A number, a name, the address here, or an expression with a sign or in parentheses."""
+        if self.at == len(self.tokens):
+            raise Wrong(self.column, "a number or a name is missing here")
+        token = self.tokens[self.at]
+        self.at += 1
+        if token.kind is Kind.NUMBER:
+            return Value(token.number)
+        if token.kind is Kind.NAME:
+            return self.names(token)
+        if token.is_mark("$"):
+            return Value(self.here, True)
+        if token.kind is Kind.MARK and token.text in "-+(":
+            return self.nested(token)
+        raise Wrong(token.column, f"{token.text} is no number and no name")
+
+    def nested(self, token: Token) -> Value:
+        """What follows a sign or an opening parenthesis."""
+        self.depth += 1
+        if self.depth > DEEPEST:
+            raise Wrong(token.column, f"signs and parentheses are nested deeper than {DEEPEST}")
+        if token.is_mark("("):
+            value = self.sum()
+            if not self.mark(")"):
+                raise Wrong(token.column, "the parenthesis has no end")
+        else:
+            value = self.atom()
+            value = Value(-value.number) if token.is_mark("-") else value
+        self.depth -= 1
+        return value
+
+
+def evaluate(tokens: Sequence[Token], column: int, names: Names, here: int) -> Value:
+    """The value of an expression: `column` is that of its end, and `here` the byte address that $ stands for."""
+    reader = _Reader(tokens, column, names, here)
+    value = reader.sum()
+    if reader.at < len(tokens):
+        extra = tokens[reader.at]
+        raise Wrong(extra.column, f"{extra.text} does not continue the expression")
+    return value
+
+
+def _sum(left: Value, right: Value, mark: str) -> Value:
+    if mark == "+":
+        return Value(left.number + right.number, left.is_place != right.is_place)
+    return Value(left.number - right.number, left.is_place and not right.is_place)
+
+
+def _product(left: Value, right: Value, mark: Token) -> Value:
+    if mark.text == "*":
+        return Value(left.number * right.number)
+    if not right.number:
+        raise Wrong(mark.column, "a division by 0")
+    return Value(left.number // right.number if mark.text == "/" else left.number % right.number)
+
+
+def _bounded(value: Value, mark: Token) -> Value:
+    if abs(value.number) >= LARGEST:
+        raise Wrong(mark.column, "the result is 2^64 or more")
+    return value

@@ -1,0 +1,131 @@
+"""Encodes an instruction from its mnemonic and its operands, in the notation that instructions.py writes."""
+
+import re
+from collections.abc import Sequence
+from dataclasses import dataclass
+
+from galluspa.assembler import MOV, BYTE, LINK, U, V, branch, branch_register, imm, load, reg, store
+from galluspa.expressions import Names, Value, evaluate
+from galluspa.instructions import CONDITIONS, OPERATIONS, instruction
+from galluspa.tokens import Kind, Token, Wrong, tokens_of
+
+REGISTER = re.compile(r"R(1[0-5]|[0-9])", re.IGNORECASE)
+SPECIALS = {"H": 0, "NZCV": V}
+MEMORY = {"LDR": (load, 0), "LDB": (load, BYTE), "STR": (store, 0), "STB": (store, BYTE)}
+BRANCHES = {f"B{link}{name}": (number, LINK if link else 0) for link in ("", "L")
+            for number, name in enumerate(CONDITIONS)}
+# The machine takes 22 bits of an offset. An offset below 0 is written with 24, as Project Oberon's compiler writes it.
+WIDENED = 3 << 22
+MNEMONICS = frozenset((*OPERATIONS, *(f"{name}'" for name in OPERATIONS), *MEMORY, *BRANCHES))
+
+
+@dataclass(frozen=True)
+class Operand:
+    """An operand with its text and its column: a register, H or NZCV, or a value."""
+
+    text: str
+    column: int
+    register: int | None = None
+    special: str = ""
+    value: Value | None = None
+
+
+def operand_of(tokens: Sequence[Token], column: int, names: Names, here: int) -> Operand:
+    """The operand that tokens write; `column` is that of its end."""
+    text = " ".join(token.text for token in tokens)
+    if len(tokens) == 1 and tokens[0].kind is Kind.NAME:
+        if found := REGISTER.fullmatch(text):
+            return Operand(text, tokens[0].column, register=int(found[1]))
+        if text.upper() in SPECIALS:
+            return Operand(text, tokens[0].column, special=text.upper())
+    begin = tokens[0].column if tokens else column
+    return Operand(text, begin, value=evaluate(tokens, column, names, here))
+
+
+def encoded(name: Token, operands: Sequence[Operand], here: int) -> int:
+    """The word of an instruction that lies at a byte address."""
+    mnemonic = name.text.upper()
+    if mnemonic in BRANCHES:
+        return _branch(name, operands, here)
+    return _memory(name, operands) if mnemonic in MEMORY else _operation(name, operands)
+
+
+def _expect(name: Token, operands: Sequence[Operand], number: int) -> None:
+    if len(operands) != number:
+        raise Wrong(name.column, f"{name.text} has {len(operands)} operands; it wants {number}")
+
+
+def _register(operand: Operand) -> int:
+    if operand.register is None:
+        raise Wrong(operand.column, f"{operand.text} is no register from R0 to R15")
+    return operand.register
+
+
+def _number(operand: Operand, least: int, most: int, what: str) -> int:
+    if operand.value is None:
+        raise Wrong(operand.column, f"{operand.text} is no number")
+    number = operand.value.number
+    if not least <= number <= most:
+        raise Wrong(operand.column, f"{what} {number:,} is not from {least:,} to {most:,}")
+    return number
+
+
+def _operation(name: Token, operands: Sequence[Operand]) -> int:
+    mnemonic = name.text.upper()
+    op, u = OPERATIONS.index(mnemonic.rstrip("'")), U if mnemonic.endswith("'") else 0
+    _expect(name, operands, 2 if op == MOV else 3)
+    a, b = _register(operands[0]), 0 if op == MOV else _register(operands[1])
+    last = operands[-1]
+    if last.register is not None:
+        if op == MOV and u:
+            raise Wrong(last.column, "MOV' has H, NZCV or a number, and no register")
+        return u | reg(op, a, b, last.register)
+    if last.special:
+        if op != MOV or not u:
+            raise Wrong(last.column, f"{last.text} is an operand of MOV' alone")
+        return u | SPECIALS[last.special] | reg(op, a, b, 0)
+    if op == MOV and u:
+        return u | imm(op, a, b, _number(last, 0, 0xFFFF, "the upper half"))
+    return u | imm(op, a, b, _number(last, -0x10000, 0xFFFF, "the immediate operand"))
+
+
+def _memory(name: Token, operands: Sequence[Operand]) -> int:
+    _expect(name, operands, 3)
+    form, byte = MEMORY[name.text.upper()]
+    a, b = (_register(operand) for operand in operands[:2])
+    return byte | form(a, b, _number(operands[2], -0x80000, 0x7FFFF, "the offset"))
+
+
+def _branch(name: Token, operands: Sequence[Operand], here: int) -> int:
+    """A branch to a register's address, by a number of words, or to a place."""
+    _expect(name, operands, 1)
+    (condition, link), target = BRANCHES[name.text.upper()], operands[0]
+    if target.register is not None:
+        return link | branch_register(condition, target.register)
+    if target.value and target.value.is_place:
+        if target.value.number % 4:
+            raise Wrong(target.column, f"the target {target.value.number:X}H is no multiple of 4")
+        offset = Value(target.value.number // 4 - here // 4 - 1)
+        target = Operand(target.text, target.column, value=offset)
+    number = _number(target, -0x200000, 0x1FFFFF, "the offset")
+    return link | branch(condition, number) | (WIDENED if number < 0 else 0)
+
+
+def _no_names(token: Token) -> Value:
+    raise Wrong(token.column, f"{token.text} is not defined")
+
+
+def word_of(text: str) -> int:
+    """The word of an instruction without labels, as a listing writes it."""
+    name, *rest = tokens_of(text)
+    ends = [at for at, token in enumerate(rest) if token.is_mark(",")] + [len(rest)]
+    begins = [0, *(end + 1 for end in ends)]
+    operands = [operand_of(rest[begin:end], 0, _no_names, 0) for begin, end in zip(begins, ends)]
+    return encoded(name, operands, 0)
+
+
+def source_of(word: int) -> str:
+    """What assembles to a word: its instruction; or its number, with the instruction as a comment, if it has bits
+    without effect that are other than those that an instruction gets."""
+    mnemonic = instruction(word, 0).mnemonic
+    return mnemonic if word_of(mnemonic) == word else f"word 0x{word:08X}  ; {mnemonic}"

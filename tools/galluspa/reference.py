@@ -1,0 +1,43 @@
+"""Makes the page that explains the assembler's language, docs/assembler.md: its text, and each instruction with an
+example."""
+
+from collections.abc import Iterator
+from pathlib import Path
+
+from galluspa.assembly import BUILT_IN
+from galluspa.instructions import instruction
+from galluspa.mnemonics import BRANCHES, word_of
+
+EXAMPLES = (
+    "MOV R0, 5", "MOV R1, -56", "MOV R3, R4", "MOV' R13, 14", "MOV' R3, H", "MOV' R3, NZCV", "LSL R0, R1, 3",
+    "ASR R0, R1, R2", "ROR R0, R1, 4", "AND R0, R1, R2", "ANN R0, R1, 255", "IOR R0, R1, R2", "XOR R0, R1, -1",
+    "ADD R0, R0, 1", "ADD' R0, R0, R1", "SUB R0, R0, 1", "SUB' R0, R0, R1", "MUL R0, R1, R2", "MUL' R0, R0, 3",
+    "DIV R0, R0, 10", "DIV' R0, R0, R1", "FAD R0, R1, R2", "FSB R0, R1, R2", "FML R0, R1, R2", "FDV R0, R1, R2",
+    "LDR R1, R2, 4", "LDB R1, R2, -4", "STR R1, R2, 0", "STB R1, R2, 1", "B R15", "BL R1",
+    *(f"{name} 2" for name in BRANCHES),
+)
+DEVICES = {
+    "TIMER": "the timer", "SWITCHES": "a read gives buttons and switches", "LEDS": "a write sets the LEDs",
+    "SERIAL": "the serial line", "STATUS": "the status of the serial line",
+    "MOUSE": "the mouse, and whether a key waits", "KEY": "the oldest key", "DISPLAY": "the display's lowest line",
+}
+
+TEXT = Path(__file__).parent / "reference.md"
+
+
+def reference() -> str:
+    """The page."""
+    text = TEXT.read_text(encoding="utf-8")
+    return text.replace("@DEVICES@", "\n".join(_devices())).replace("@INSTRUCTIONS@", "\n".join(_instructions()))
+
+
+def _devices() -> Iterator[str]:
+    for name, value in BUILT_IN.items():
+        yield f"| `{name}` | {value if value < 0 else f'{value:X}H'} | {DEVICES[name]} |"
+
+
+def _instructions() -> Iterator[str]:
+    """A row for each example, at word 100."""
+    for example in EXAMPLES:
+        word = word_of(example)
+        yield f"| `{example}` | `{word:08X}` | {instruction(word, 100).meaning} |"

@@ -1,0 +1,182 @@
+"""Makes the session of an assembled source: registers, rate, inputs, and the counts of its checkpoints."""
+
+from collections.abc import Callable
+from dataclasses import dataclass, field
+
+from galluspa import endings
+from galluspa.assembly import Assembly, only
+from galluspa.mnemonics import REGISTER
+from galluspa.recording import FLAGS, Event
+from galluspa.sessions import CHECKPOINTS as MOST_CHECKPOINTS
+from galluspa.sessions import COUNTS, INPUTS, KIND_NUMBERS, MEMORY_BYTES, MOST, MOUSE, Session
+from galluspa.statements import (
+    CHECKPOINTS, EVERY, INPUT, INSTRUCTION, PHASE, RATE, SET, SETTINGS, START, UNTIL, Argument, Statement, content,
+    is_string,
+)
+from galluspa.tokens import Wrong
+
+WORD = 0xFFFFFFFF
+
+
+@dataclass
+class Settings:
+    """What a source says of its session: the session without its checkpoints, their counts as far as they are listed,
+    and how the rest of them are found."""
+
+    session: Session = field(default_factory=Session)
+    counts: set[int] = field(default_factory=set)
+    every: Statement | None = None
+    step: int = 0
+    last: int = 0
+    until: Statement | None = None
+    end: str = ""
+    most: int = endings.MOST
+
+
+def settings_of(it: Assembly) -> Settings:
+    """What a source says of its session; what is wrong with it joins the problems of the source."""
+    made = Settings()
+    instructions = (statement.here for statement in it.statements if statement.does == INSTRUCTION)
+    made.session.pc = next(instructions, 0) // 4
+    for statement in it.statements:
+        if statement.does in SETTINGS:
+            with it.keeping(statement.line):
+                SETTERS[statement.does](it, made, statement)
+    _check(it, made)
+    made.session.memory = bytes(it.memory)
+    return made
+
+
+def set_checkpoints(it: Assembly, settings: Settings, end: int | None) -> None:
+    """Sets the checkpoints of the session, of which the last may be at an end that was found."""
+    counts, number = settings.counts | ({end} if end else set()), 0
+    if settings.every:
+        last = settings.last or end or 0
+        number = last // settings.step
+        counts |= set(range(settings.step, min(last, settings.step * MOST_CHECKPOINTS) + 1, settings.step))
+    if max(number, len(counts)) > MOST_CHECKPOINTS:
+        statement = settings.every or next(one for one in it.statements if one.does == CHECKPOINTS)
+        with it.keeping(statement.line):
+            raise Wrong(statement.name.column, f"a session has at most {MOST_CHECKPOINTS:,} checkpoints")
+    settings.session.checkpoints = sorted(counts)
+
+
+def _check(it: Assembly, made: Settings) -> None:
+    """Finds what is wrong with the settings as a whole."""
+    session = made.session
+    if session.phase >= max(session.rate, 1):
+        line, column = next(((one.line, one.name.column) for one in it.statements if one.does == PHASE), (1, 1))
+        with it.keeping(line):
+            raise Wrong(column, f"phase {session.phase:,} is not below the rate {session.rate:,}, or 0 if that is 0")
+    if made.every and not made.last and not made.until:
+        with it.keeping(made.every.line):
+            raise Wrong(made.every.name.column, "every wants an end: every N, LAST, or a line with until")
+    if len(session.inputs) > INPUTS:
+        line, column = next((one.line, one.name.column) for one in it.statements if one.does == INPUT)
+        with it.keeping(line):
+            raise Wrong(column, f"{len(session.inputs):,} inputs; a session has at most {INPUTS:,}")
+
+
+def _bounded(it: Assembly, statement: Statement, argument: Argument, least: int, most: int, what: str) -> int:
+    number = it.value(argument, statement.here).number
+    if not least <= number <= most:
+        raise Wrong(argument.column, f"{what} {number:,} is not from {least:,} to {most:,}")
+    return number
+
+
+def _start(it: Assembly, made: Settings, statement: Statement) -> None:
+    argument = only(statement)
+    at = _bounded(it, statement, argument, 0, MEMORY_BYTES - 1, "the byte address")
+    if at % 4:
+        raise Wrong(argument.column, f"the start {at:X}H is no multiple of 4")
+    made.session.pc = at // 4
+
+
+def _set(it: Assembly, made: Settings, statement: Statement) -> None:
+    """Sets a register to a word, or flags by their letters."""
+    argument = only(statement)
+    if len(argument.tokens) < 3 or not argument.tokens[1].is_mark("="):
+        raise Wrong(argument.column, "set wants a register or flags, an equals sign and a value")
+    name, value = argument.tokens[0], Argument(argument.tokens[2:], argument.end)
+    if name.text.lower() == "flags":
+        made.session.flags = _flags(value)
+        return
+    number = _bounded(it, statement, value, -(1 << 31), WORD, "the value") & WORD
+    if found := REGISTER.fullmatch(name.text):
+        made.session.registers[int(found[1])] = number
+    elif name.text.upper() == "H":
+        made.session.h = number
+    else:
+        raise Wrong(name.column, f"{name.text} is none of R0 to R15, H and flags")
+
+
+def _flags(value: Argument) -> int:
+    letters = value.text.upper()
+    if not set(letters) <= set(FLAGS):
+        raise Wrong(value.column, f"{value.text} is not made of the letters {FLAGS}")
+    return sum(8 >> FLAGS.index(letter) for letter in set(letters))
+
+
+def _rate(it: Assembly, made: Settings, statement: Statement) -> None:
+    made.session.rate = _bounded(it, statement, only(statement), 0, WORD, "the rate")
+
+
+def _phase(it: Assembly, made: Settings, statement: Statement) -> None:
+    made.session.phase = _bounded(it, statement, only(statement), 0, WORD, "the phase")
+
+
+def _input(it: Assembly, made: Settings, statement: Statement) -> None:
+    """Adds an input, or one for each byte of a string."""
+    if len(statement.arguments) != 3:
+        raise Wrong(statement.name.column, "input wants a count, a kind and a value")
+    count, kind, value = statement.arguments
+    least = made.session.inputs[-1].count if made.session.inputs else 0
+    at = _bounded(it, statement, count, least, COUNTS, "the count")
+    name = kind.text.lower()
+    if name not in KIND_NUMBERS:
+        raise Wrong(kind.column, f"{kind.text} is none of {', '.join(MOST)}")
+    if is_string(value) and name in ("key", "serial"):
+        made.session.inputs += [Event(at, KIND_NUMBERS[name], byte) for byte in content(value)]
+        return
+    number = _bounded(it, statement, value, 0, MOST[name], f"the value for {name}")
+    if name == "mouse" and number & ~MOUSE:
+        raise Wrong(value.column, f"{number:X}H has bits outside the mask {MOUSE:08X}H of the mouse")
+    made.session.inputs.append(Event(at, KIND_NUMBERS[name], number))
+
+
+def _checkpoints(it: Assembly, made: Settings, statement: Statement) -> None:
+    if not statement.arguments:
+        raise Wrong(statement.name.column, "checkpoints wants counts")
+    for argument in statement.arguments:
+        made.counts.add(_bounded(it, statement, argument, 1, COUNTS, "the count"))
+
+
+def _every(it: Assembly, made: Settings, statement: Statement) -> None:
+    _once(made.every, statement)
+    made.every = statement
+    made.step = 1
+    if not 1 <= len(statement.arguments) <= 2:
+        raise Wrong(statement.name.column, "every wants a number of instructions, and perhaps the last count")
+    made.step, *last = [_bounded(it, statement, one, 1, COUNTS, "the count") for one in statement.arguments]
+    made.last = last[0] if last else 0
+
+
+def _until(it: Assembly, made: Settings, statement: Statement) -> None:
+    _once(made.until, statement)
+    made.until = statement
+    if not 1 <= len(statement.arguments) <= 2 or statement.arguments[0].text.lower() not in endings.ENDS:
+        raise Wrong(statement.name.column, "until wants stops or loops, and perhaps the most instructions to try")
+    made.end = statement.arguments[0].text.lower()
+    for most in statement.arguments[1:]:
+        made.most = _bounded(it, statement, most, 1, COUNTS, "the count")
+
+
+def _once(before: Statement | None, statement: Statement) -> None:
+    if before:
+        raise Wrong(statement.name.column, f"{statement.name.text} is in line {before.line} already")
+
+
+SETTERS: dict[str, Callable[[Assembly, Settings, Statement], None]] = {
+    START: _start, SET: _set, RATE: _rate, PHASE: _phase, INPUT: _input, CHECKPOINTS: _checkpoints, EVERY: _every,
+    UNTIL: _until,
+}

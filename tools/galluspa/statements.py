@@ -1,0 +1,106 @@
+"""Takes an assembler source apart: the statement of each line, with its labels and its arguments."""
+
+from collections.abc import Sequence
+from dataclasses import dataclass
+
+from galluspa.mnemonics import MNEMONICS
+from galluspa.tokens import Kind, Token, Wrong, tokens_of
+
+CONSTANT, INSTRUCTION, ORIGIN, WORD, BYTE, STRING = "=", "instruction", "origin", "word", "byte", "string"
+START, SET, RATE, PHASE, INPUT, CHECKPOINTS, EVERY, UNTIL = SETTINGS = (
+    "start", "set", "rate", "phase", "input", "checkpoints", "every", "until",
+)
+DIRECTIVES = frozenset((ORIGIN, WORD, BYTE, STRING, *SETTINGS))
+
+
+@dataclass(frozen=True)
+class Argument:
+    """The tokens between two commas, and the column of their end."""
+
+    tokens: Sequence[Token]
+    end: int
+
+    @property
+    def column(self) -> int:
+        """The column where it begins."""
+        return self.tokens[0].column if self.tokens else self.end
+
+    @property
+    def text(self) -> str:
+        """What is written."""
+        return " ".join(token.text for token in self.tokens)
+
+
+@dataclass
+class Statement:
+    """What a line says: its number, its labels, what is done with which arguments, and the byte address where it lies.
+    A line of labels alone has no name. A constant's name is that of the constant."""
+
+    line: int
+    source: str
+    labels: list[Token]
+    name: Token | None = None
+    does: str = ""
+    arguments: Sequence[Argument] = ()
+    here: int = 0
+
+    @property
+    def is_aligned(self) -> bool:
+        """Whether it lies at a multiple of four bytes."""
+        return self.does in (INSTRUCTION, WORD)
+
+    @property
+    def size(self) -> int:
+        """How many bytes it fills."""
+        if self.does in (BYTE, STRING):
+            lengths = (len(content(it)) if is_string(it) else 1 for it in self.arguments)
+            return sum(lengths) + (self.does == STRING)
+        return {INSTRUCTION: 4, WORD: 4 * len(self.arguments)}.get(self.does, 0)
+
+
+def is_string(argument: Argument) -> bool:
+    """Whether an argument is one string."""
+    return len(argument.tokens) == 1 and argument.tokens[0].kind is Kind.STRING
+
+
+def content(argument: Argument) -> bytes:
+    """The bytes of an argument that is a string."""
+    return argument.tokens[0].content
+
+
+def statement_of(line: int, source: str) -> Statement:
+    """The statement of a line."""
+    tokens, labels = tokens_of(source), list[Token]()
+    while len(tokens) > 1 and tokens[0].kind is Kind.NAME and tokens[1].is_mark(":"):
+        labels.append(tokens[0])
+        tokens = tokens[2:]
+    if not tokens:
+        return Statement(line, source, labels)
+    name, rest, end = tokens[0], tokens[1:], len(source.split(";")[0].rstrip()) + 1
+    if name.kind is not Kind.NAME:
+        raise Wrong(name.column, f"{name.text} begins no statement")
+    if rest and rest[0].is_mark("="):
+        if labels:
+            raise Wrong(labels[0].column, "a constant has no label")
+        return Statement(line, source, [], name, CONSTANT, [Argument(rest[1:], end)])
+    return Statement(line, source, labels, name, _what(name), _arguments(rest, end))
+
+
+def _what(name: Token) -> str:
+    if name.text.upper() in MNEMONICS:
+        return INSTRUCTION
+    if name.text.lower() in DIRECTIVES:
+        return name.text.lower()
+    raise Wrong(name.column, f"{name.text} is no instruction and no directive; a label ends with a colon")
+
+
+def _arguments(tokens: Sequence[Token], end: int) -> list[Argument]:
+    """What is between commas; nothing, if nothing is written."""
+    if not tokens:
+        return []
+    arguments, begin = [], 0
+    for at, token in enumerate(tokens):
+        if token.is_mark(","):
+            arguments.append(Argument(tokens[begin:at], token.column))
+            begin = at + 1
+    return [*arguments, Argument(tokens[begin:], end)]
