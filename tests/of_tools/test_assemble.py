@@ -125,6 +125,7 @@ class AssembleTest(ToolTest):
             ("mov' r13, DISPLAY / 10000H\nior R13, R13, display % 10000H", [0x6D00000E, 0x4DD67F00]),
             ("STR R0, R1, LEDS - SERIAL\nMOV R1, KEY\nMOV R2, Timer", [0xA01FFFFC, 0x5100FFDC, 0x5200FFC0]),
             ('byte "ab", 0, -1\nstring "c;"\nx: word x', [0xFF006261, 0x00003B63, 8]),
+            ("offsets 22\na: B a\nB 1\noffsets 24\nB a", [0xE73FFFFF, 0xE7000001, 0xE7FFFFFD]),
             ("origin 8\nword 1\norigin 0\nword 2\norigin $ + 12\nx: y: word x", [2, 0, 1, 0, 16]),
         ):
             self.assertEqual(words_in(source), words, source)
@@ -222,6 +223,7 @@ class AssembleTest(ToolTest):
             ("x = x + 1", "1:5: the value of x depends on itself"),
             ("origin 1048576", "1:8: the origin 1,048,576 is no byte address from 0 to 1,048,575"),
             ("origin", "1:1: origin wants one value"),
+            ("offsets 23", "1:9: offsets have 22 or 24 bits"),
             ("start 2", "1:7: the start 2H is no multiple of 4"),
             ("start 4194304", "1:7: the byte address 4,194,304 is not from 0 to 1,048,575"),
             ("set R17 = 5", "1:5: R17 is none of R0 to R15, H and flags"),
@@ -276,6 +278,15 @@ class AssembleTest(ToolTest):
     def test_a_word_that_is_no_instruction_is_no_notation(self) -> None:
         with self.assertRaises(Wrong):
             word_of("MOV R0, x")
+
+
+class ExamplesTest(ToolTest):
+    def test_their_sessions_are_those_of_their_sources(self) -> None:
+        sources = sorted(EXAMPLES.glob("*.asm"))
+        self.assertEqual([it.with_suffix(".json") for it in sources], sorted(EXAMPLES.glob("*.json")))
+        for source in sources:
+            made = tool("assemble", source)
+            self.assertEqual((made.output, made.errors), (source.with_suffix(".json").read_bytes(), ""), source.name)
 
 
 class PageTest(ToolTest):

@@ -14,7 +14,8 @@ from galluspa.mnemonics import REGISTER, SPECIALS, encoded, operand_of
 from galluspa.recording import DISPLAY_START
 from galluspa.sessions import MEMORY_BYTES
 from galluspa.statements import (
-    BYTE, CONSTANT, INSTRUCTION, ORIGIN, SETTINGS, STRING, WORD, Argument, Statement, content, is_string, statement_of,
+    BYTE, CONSTANT, INSTRUCTION, OFFSETS, ORIGIN, SETTINGS, STRING, WORD, Argument, Statement, content, is_string,
+    statement_of,
 )
 from galluspa.tokens import Token, Wrong
 
@@ -26,6 +27,10 @@ BUILT_IN = {
     )},
     "DISPLAY": DISPLAY_START,
 }
+
+
+# With how many bits the offsets of branches may be written.
+NARROW, WIDE = 22, 24
 
 
 @dataclass(frozen=True, order=True)
@@ -63,6 +68,7 @@ class Assembly:
     waiting: list[tuple[int, Token]] = field(default_factory=list)
     known: dict[str, Value] = field(default_factory=dict)
     open: list[str] = field(default_factory=list)
+    is_narrow: bool = False
 
     @contextlib.contextmanager
     def keeping(self, line: int) -> Iterator[None]:
@@ -120,7 +126,7 @@ def assembled(source: str) -> Assembly:
         with it.keeping(statement.line):
             _lay_out(it, statement)
     _set_labels(it)
-    for name, statement in it.constants.items():
+    for statement in it.constants.values():
         it.named(statement.name)
     _find_overlaps(it)
     contents = list(_contents(it))
@@ -142,8 +148,10 @@ def _lay_out(it: Assembly, statement: Statement) -> None:
         return
     if statement.is_aligned:
         region.end += -region.end % 4
-    statement.here = region.end
-    if statement.does == CONSTANT:
+    statement.here, statement.is_narrow = region.end, it.is_narrow
+    if statement.does == OFFSETS:
+        it.is_narrow = _offset_bits(it, statement) == NARROW
+    elif statement.does == CONSTANT:
         _define(it, statement.line, statement.name)
         it.constants[statement.name.text] = statement
     elif statement.does not in ("", *SETTINGS):
@@ -181,6 +189,14 @@ def _region_of(it: Assembly, statement: Statement) -> Region:
     return Region(statement.line, statement.name.column, start, start)
 
 
+def _offset_bits(it: Assembly, statement: Statement) -> int:
+    argument = only(statement)
+    bits = it.value(argument, statement.here).number
+    if bits not in (NARROW, WIDE):
+        raise Wrong(argument.column, f"offsets have {NARROW} or {WIDE} bits")
+    return bits
+
+
 def only(statement: Statement) -> Argument:
     """The one argument of a statement."""
     if len(statement.arguments) != 1:
@@ -207,10 +223,14 @@ def _contents(it: Assembly) -> Iterator[tuple[int, bytes]]:
     for statement in it.statements:
         with it.keeping(statement.line):
             if statement.does == INSTRUCTION:
-                operands = [operand_of(one.tokens, one.end, it.named, statement.here) for one in statement.arguments]
-                yield statement.here, struct.pack("<I", encoded(statement.name, operands, statement.here))
+                yield statement.here, struct.pack("<I", _instruction(it, statement))
             elif statement.does in (WORD, BYTE, STRING):
                 yield statement.here, _data(it, statement)
+
+
+def _instruction(it: Assembly, statement: Statement) -> int:
+    operands = [operand_of(one.tokens, one.end, it.named, statement.here) for one in statement.arguments]
+    return encoded(statement.name, operands, statement.here, statement.is_narrow)
 
 
 def _data(it: Assembly, statement: Statement) -> bytes:

@@ -42,11 +42,11 @@ def operand_of(tokens: Sequence[Token], column: int, names: Names, here: int) ->
     return Operand(text, begin, value=evaluate(tokens, column, names, here))
 
 
-def encoded(name: Token, operands: Sequence[Operand], here: int) -> int:
-    """The word of an instruction that lies at a byte address."""
+def encoded(name: Token, operands: Sequence[Operand], here: int, is_narrow: bool = False) -> int:
+    """The word of an instruction that lies at a byte address; if it is narrow, its offset is written with 22 bits."""
     mnemonic = name.text.upper()
     if mnemonic in BRANCHES:
-        return _branch(name, operands, here)
+        return _branch(name, operands, here, 0 if is_narrow else WIDENED)
     return _memory(name, operands) if mnemonic in MEMORY else _operation(name, operands)
 
 
@@ -96,7 +96,7 @@ def _memory(name: Token, operands: Sequence[Operand]) -> int:
     return byte | form(a, b, _number(operands[2], -0x80000, 0x7FFFF, "the offset"))
 
 
-def _branch(name: Token, operands: Sequence[Operand], here: int) -> int:
+def _branch(name: Token, operands: Sequence[Operand], here: int, widened: int) -> int:
     """A branch to a register's address, by a number of words, or to a place."""
     _expect(name, operands, 1)
     (condition, link), target = BRANCHES[name.text.upper()], operands[0]
@@ -108,7 +108,7 @@ def _branch(name: Token, operands: Sequence[Operand], here: int) -> int:
         offset = Value(target.value.number // 4 - here // 4 - 1)
         target = Operand(target.text, target.column, value=offset)
     number = _number(target, -0x200000, 0x1FFFFF, "the offset")
-    return link | branch(condition, number) | (WIDENED if number < 0 else 0)
+    return link | branch(condition, number) | (widened if number < 0 else 0)
 
 
 def _no_names(token: Token) -> Value:

@@ -6,11 +6,12 @@ from dataclasses import dataclass
 from galluspa.mnemonics import MNEMONICS
 from galluspa.tokens import Kind, Token, Wrong, tokens_of
 
-CONSTANT, INSTRUCTION, ORIGIN, WORD, BYTE, STRING = "=", "instruction", "origin", "word", "byte", "string"
+CONSTANT, INSTRUCTION, ORIGIN, OFFSETS = "=", "instruction", "origin", "offsets"
+WORD, BYTE, STRING = "word", "byte", "string"
 START, SET, RATE, PHASE, INPUT, CHECKPOINTS, EVERY, UNTIL = SETTINGS = (
     "start", "set", "rate", "phase", "input", "checkpoints", "every", "until",
 )
-DIRECTIVES = frozenset((ORIGIN, WORD, BYTE, STRING, *SETTINGS))
+DIRECTIVES = frozenset((ORIGIN, OFFSETS, WORD, BYTE, STRING, *SETTINGS))
 
 
 @dataclass(frozen=True)
@@ -33,8 +34,9 @@ class Argument:
 
 @dataclass
 class Statement:
-    """What a line says: its number, its labels, what is done with which arguments, and the byte address where it lies.
-    A line of labels alone has no name. A constant's name is that of the constant."""
+    """What a line says: its number, its labels, what is done with which arguments, the byte address where it lies, and
+    whether offsets are written with 22 bits there. A line of labels alone has no name. A constant's name is that of
+    the constant."""
 
     line: int
     source: str
@@ -43,6 +45,7 @@ class Statement:
     does: str = ""
     arguments: Sequence[Argument] = ()
     here: int = 0
+    is_narrow: bool = False
 
     @property
     def is_aligned(self) -> bool:
