@@ -33,6 +33,7 @@ class MainTest(ToolTest):
         for name, text, told in (
             ("short.orsr", STORED[:-1], "main: the text ends in its pages, events and checkpoints, at byte 9503"),
             ("it.json", (EXAMPLES / "keys.json").read_bytes(), "main: a session: tools/main record "),
+            ("it.asm", (EXAMPLES / "keys.asm").read_bytes(), "main: a source: tools/main assemble "),
             ("it.html", b"<!doctype html><html>", "main: a page: tools/main recording-of "),
             ("memory.bin", bytes(40), "main: if it is a memory image, tools/main session --memory "),
         ):

@@ -22,7 +22,7 @@ DEVICES = {
     "MOUSE": "the mouse, and whether a key waits", "KEY": "the oldest key", "DISPLAY": "the display's lowest line",
 }
 
-TEXT = Path(__file__).parent / "reference.md"
+TEXT = Path(__file__).parent / "reference.md.in"
 
 
 def reference() -> str:
