@@ -162,6 +162,8 @@ class AssembleTest(ToolTest):
         self.assert_refused(self.assemble("B -1\nuntil stops, 1000"), "does not stop within 1,000 instructions")
         self.assert_refused(self.assemble("FAD R0, R0, R0\nuntil loops"), "enters no loop: it stops at count 1")
         self.assert_refused(self.assemble("ADD R0, R0, 1\nB -2\nuntil loops, 90"), "does not enter a loop")
+        ran = self.assemble("ADD R0, R0, 1\nB -2\nuntil loops", "--limit", 1)
+        self.assertEqual((ran.errors, ran.output, ran.status), ("assemble: no answer in 1 s\n", b"", 3))
 
     def test_the_session_tool_finds_the_same_ends(self) -> None:
         image = self.folder / "it.bin"
@@ -208,7 +210,7 @@ class AssembleTest(ToolTest):
             ("word 99999999999 * 99999999999", "1:18: the result is 2^64 or more"),
             ("word 999999999999999999999", "1:6: 99999999999999999999 is no number: write it as 31, 0x1F or 1FH"),
             ("word 12G", "1:6: 12G is no number: write it as 31, 0x1F or 1FH"),
-            ("word " + "(" * 101 + "1" + ")" * 101, "1:106: signs and parentheses are nested deeper than 100"),
+            ("word " + "(" * 51 + "1" + ")" * 51, "1:56: signs, parentheses and constants are nested deeper than 50"),
             ("byte 256", "1:6: 256 is no byte from -128 to 255"),
             ("string 5", "1:8: string wants a text in quotation marks; byte takes numbers"),
             ('byte "abc', "1:6: a string without its end"),
@@ -256,13 +258,17 @@ class AssembleTest(ToolTest):
         self.assert_wrong("until stops\nuntil loops", "2:1: until is in line 1 already")
         self.assert_wrong("word x\nword x\nx = y\n", "3:5: y is not defined")
         self.assert_wrong("origin x\nx: word 1", "1:8: x is not defined")
-        self.assert_wrong("\n".join(f"a{at} = a{at + 1}" for at in range(200)) + "\na200 = 1",
-                          *[f"{at}:{len(str(at - 1)) + 5}: a{at} is behind more than 100 constants" for at in (100, 200)])
+        deep = "signs, parentheses and constants are nested deeper than 50"
+        self.assert_wrong("\n".join(f"a{at} = a{at + 1}" for at in range(60)) + "\na60 = 1", f"50:7: {deep}")
+        self.assert_wrong("word a0\n" + "\n".join(f"a{at} = -((a{at + 1}))" for at in range(14)) + "\na14 = 1", f"14:8: {deep}")
 
     def test_memory_is_filled_once_and_no_further_than_it_goes(self) -> None:
         self.assert_wrong("word 1, 2\norigin 4\nword 3", "2:1: the bytes from 4H to 7H are filled from line 1 on, too")
         self.assert_wrong("origin 4\nword 3\norigin 0\nword 1, 2", "3:1: the bytes from 4H to 7H are filled from line 1 on, too")
         self.assert_wrong("origin 0FFFFCH\nword 1\nword 2\nword 3", "3:1: from here on it is beyond the memory of 1,048,576 bytes")
+        self.assert_wrong("word 1, 2\norigin 4\nword 3\norigin 0\nword 4\norigin 8\nword 5",
+                          "2:1: the bytes from 4H to 7H are filled from line 1 on, too",
+                          "4:1: the bytes from 0H to 3H are filled from line 1 on, too")
         self.assertEqual(words_in("origin 0FFFFCH\nword 9")[-1], 9)
 
     def test_refuses_bad_input(self) -> None:

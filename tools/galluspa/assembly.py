@@ -9,7 +9,7 @@ from collections.abc import Iterator, Sequence
 from dataclasses import dataclass, field
 
 from galluspa.assembler import DEVICES, KEY, MOUSE, SERIAL, STATUS, SWITCHES, TIMER
-from galluspa.expressions import DEEPEST, Value, evaluate
+from galluspa.expressions import Value, deeper, evaluate
 from galluspa.mnemonics import REGISTER, SPECIALS, encoded, operand_of
 from galluspa.recording import DISPLAY_START
 from galluspa.sessions import MEMORY_BYTES
@@ -78,41 +78,35 @@ class Assembly:
         except Wrong as wrong:
             self.problems.append(Problem(line, wrong.column, str(wrong)))
 
-    def value(self, argument: Argument, here: int) -> Value:
+    def value(self, argument: Argument, here: int, depth: int = 0) -> Value:
         """The value of an argument of a statement at an address."""
-        return evaluate(argument.tokens, argument.end, self.named, here)
+        return evaluate(argument.tokens, argument.end, self.named, here, depth)
 
-    def named(self, token: Token) -> Value:
-        """What a name stands for."""
+    def named(self, token: Token, depth: int = 0) -> Value:
+        """What a name stands for, in an expression that is so deep."""
         name = token.text
         if name in self.labels:
             return Value(self.labels[name], True)
         if name in self.constants:
-            return self._constant(token)
+            return self._constant(token, depth)
         if name.upper() in BUILT_IN:
             return Value(BUILT_IN[name.upper()])
         if REGISTER.fullmatch(name) or name.upper() in SPECIALS:
             raise Wrong(token.column, f"{name} is a register, where a number is wanted")
         raise Wrong(token.column, f"{name} is not defined" + (" above" if name in self.lines else ""))
 
-    def _constant(self, token: Token) -> Value:
+    def _constant(self, token: Token, depth: int) -> Value:
         name = token.text
-        if name in self.known:
-            return self.known[name]
         if name in self.open:
             raise Wrong(token.column, f"the value of {name} depends on itself")
-        if len(self.open) >= DEEPEST:
-            raise Wrong(token.column, f"{name} is behind more than {DEEPEST} constants")
-        statement = self.constants[name]
+        if name in self.known:
+            return self.known[name]
+        statement, depth = self.constants[name], deeper(depth, token)
         self.open.append(name)
-        try:
-            self.known[name] = self.value(statement.arguments[0], statement.here)
-        except Wrong as wrong:
-            if statement.line not in {problem.line for problem in self.problems}:
-                self.problems.append(Problem(statement.line, wrong.column, str(wrong)))
-            self.known[name] = Value(0)
-        finally:
-            self.open.pop()
+        self.known[name] = Value(0)
+        with self.keeping(statement.line):
+            self.known[name] = self.value(statement.arguments[0], statement.here, depth)
+        self.open.pop()
         return self.known[name]
 
 
@@ -205,17 +199,16 @@ def only(statement: Statement) -> Argument:
 
 
 def _find_overlaps(it: Assembly) -> None:
-    """Finds regions that fill what others fill."""
-    regions = sorted((region for region in it.regions if region.end > region.start), key=lambda region: region.start)
-    for at, before in enumerate(regions):
-        for region in regions[at + 1 :]:
-            if region.start >= before.end:
-                break
-            first, second = sorted((before, region), key=lambda one: one.line)
-            it.problems.append(Problem(
-                second.line, second.column,
-                f"the bytes from {region.start:X}H to {min(region.end, before.end) - 1:X}H are filled from line "
-                f"{first.line} on, too"))
+    """Finds regions that fill what another fills that begins before them or with them."""
+    regions = sorted((one for one in it.regions if one.end > one.start), key=lambda one: (one.start, one.line))
+    furthest = regions[0] if regions else None
+    for region in regions[1:]:
+        if region.start < furthest.end:
+            first, second = sorted((furthest, region), key=lambda one: one.line)
+            last = min(region.end, furthest.end) - 1
+            text = f"the bytes from {region.start:X}H to {last:X}H are filled from line {first.line} on, too"
+            it.problems.append(Problem(second.line, second.column, text))
+        furthest = max(furthest, region, key=lambda one: one.end)
 
 
 def _contents(it: Assembly) -> Iterator[tuple[int, bytes]]:

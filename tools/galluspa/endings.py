@@ -1,11 +1,14 @@
 """Finds how many instructions a run has before it stops, or goes round in a loop for ever."""
 
+import argparse
 from collections.abc import Sequence
+from dataclasses import replace
 
 from galluspa.assembler import DEVICES, TIMER
 from galluspa.command import Refused
 from galluspa.instructions import address, is_store
 from galluspa.library import WORDS, Inputs, Library, Machine
+from galluspa.limits import Limit
 from galluspa.program import ACCEPTED, Program
 from galluspa.sessions import Session
 
@@ -22,7 +25,7 @@ class Run:
     """A run of a session, of which states at rising counts are asked for."""
 
     def __init__(self, library: Library, program: Program, session: Session) -> None:
-        alone = Session(**{**vars(session), "inputs": [], "checkpoints": []})
+        alone = replace(session, inputs=[], checkpoints=[])
         answer = program.record(alone.text().encode())
         if answer.status != ACCEPTED:
             raise Refused(answer.line)
@@ -112,8 +115,11 @@ def _parts(machine: Machine) -> Sequence[object]:
     return (it.registers, it.h, it.pc, it.flags, it.stop, it.switches, it.leds, it.mouse, it.serial, it.keys, *timer)
 
 
-def end_of(run: Run, end: str, most: int) -> int:
-    """The count at which a run `stops` or `loops`; refused if it does not by the most counts."""
+def end_of(asked: argparse.Namespace, session: Session, end: str, most: int) -> int:
+    """The count at which the run of a session `stops` or `loops`; refused if it does not by the most counts. What is
+    asked names the program, the library and the limit of time."""
+    limit = Limit(asked.limit)
+    run = Run(Library.find(asked.library, limit), Program.find(asked.program, limit), session)
     count = run.stop(most) if end == STOPS else run.loop(most)
     if count is not None:
         return max(count, 1)

@@ -5,7 +5,7 @@ from dataclasses import dataclass
 
 from galluspa.tokens import Kind, Token, Wrong
 
-DEEPEST = 100
+DEEPEST = 50
 LARGEST = 1 << 64
 
 
@@ -17,20 +17,20 @@ class Value:
     is_place: bool = False
 
 
-# What a name stands for; it raises Wrong if the name stands for nothing.
-Names = Callable[[Token], Value]
+# What a name stands for, given how deep the expression is that it is in; it raises Wrong if it stands for nothing.
+Names = Callable[[Token, int], Value]
 
 
 class _Reader:
     """Reads an expression from left to right; `column` is that of its end."""
 
-    def __init__(self, tokens: Sequence[Token], column: int, names: Names, here: int) -> None:
+    def __init__(self, tokens: Sequence[Token], column: int, names: Names, here: int, depth: int) -> None:
         self.tokens = tokens
         self.column = column
         self.names = names
         self.here = here
         self.at = 0
-        self.depth = 0
+        self.depth = depth
 
     def mark(self, marks: str) -> Token | None:
         """The next token, if it is one of these marks."""
@@ -63,7 +63,7 @@ class _Reader:
         if token.kind is Kind.NUMBER:
             return Value(token.number)
         if token.kind is Kind.NAME:
-            return self.names(token)
+            return self.names(token, self.depth)
         if token.is_mark("$"):
             return Value(self.here, True)
         if token.kind is Kind.MARK and token.text in "-+(":
@@ -72,9 +72,7 @@ class _Reader:
 
     def nested(self, token: Token) -> Value:
         """What follows a sign or an opening parenthesis."""
-        self.depth += 1
-        if self.depth > DEEPEST:
-            raise Wrong(token.column, f"signs and parentheses are nested deeper than {DEEPEST}")
+        self.depth = deeper(self.depth, token)
         if token.is_mark("("):
             value = self.sum()
             if not self.mark(")"):
@@ -86,9 +84,16 @@ class _Reader:
         return value
 
 
-def evaluate(tokens: Sequence[Token], column: int, names: Names, here: int) -> Value:
+def deeper(depth: int, token: Token) -> int:
+    """One level deeper than a depth, for what is behind a token."""
+    if depth >= DEEPEST:
+        raise Wrong(token.column, f"signs, parentheses and constants are nested deeper than {DEEPEST}")
+    return depth + 1
+
+
+def evaluate(tokens: Sequence[Token], column: int, names: Names, here: int, depth: int = 0) -> Value:
     """The value of an expression: `column` is that of its end, and `here` the byte address that $ stands for."""
-    reader = _Reader(tokens, column, names, here)
+    reader = _Reader(tokens, column, names, here, depth)
     value = reader.sum()
     if reader.at < len(tokens):
         extra = tokens[reader.at]

@@ -111,7 +111,7 @@ def _branch(name: Token, operands: Sequence[Operand], here: int, widened: int) -
     return link | branch(condition, number) | (widened if number < 0 else 0)
 
 
-def _no_names(token: Token) -> Value:
+def _no_names(token: Token, depth: int) -> Value:
     raise Wrong(token.column, f"{token.text} is not defined")
 
 
