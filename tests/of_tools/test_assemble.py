@@ -201,6 +201,7 @@ class AssembleTest(ToolTest):
             ("5 R1", "1:1: 5 begins no statement"),
             ("word", "1:1: word wants a value"),
             ("word 1,", "1:8: a number or a name is missing here"),
+            ('byte "a;b",  ; x', "1:12: a number or a name is missing here"),
             ("word 1, , 2", "1:9: a number or a name is missing here"),
             ("word 1 2", "1:8: 2 does not continue the expression"),
             ("word (1 + 2", "1:6: the parenthesis has no end"),

@@ -79,7 +79,7 @@ def statement_of(line: int, source: str) -> Statement:
         tokens = tokens[2:]
     if not tokens:
         return Statement(line, source, labels)
-    name, rest, end = tokens[0], tokens[1:], len(source.split(";")[0].rstrip()) + 1
+    name, rest, end = tokens[0], tokens[1:], tokens[-1].column + len(tokens[-1].text)
     if name.kind is not Kind.NAME:
         raise Wrong(name.column, f"{name.text} begins no statement")
     if rest and rest[0].is_mark("="):
