@@ -242,6 +242,7 @@ class AssembleTest(ToolTest):
             ("checkpoints", "1:1: checkpoints wants counts"),
             ("checkpoints 0", "1:13: the count 0 is not from 1 to 1,099,511,627,776"),
             ("every 5", "1:1: every wants an end: every N, LAST, or a line with until"),
+            ("every 0, 5", "1:7: the count 0 is not from 1 to 1,099,511,627,776"),
             ("every 1, 5000", "1:1: a session has at most 4,096 checkpoints"),
             ("until forever", "1:1: until wants stops or loops, and perhaps the most instructions to try"),
         ):

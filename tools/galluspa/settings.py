@@ -153,12 +153,10 @@ def _checkpoints(it: Assembly, made: Settings, statement: Statement) -> None:
 
 def _every(it: Assembly, made: Settings, statement: Statement) -> None:
     _once(made.every, statement)
-    made.every = statement
-    made.step = 1
     if not 1 <= len(statement.arguments) <= 2:
         raise Wrong(statement.name.column, "every wants a number of instructions, and perhaps the last count")
-    made.step, *last = [_bounded(it, statement, one, 1, COUNTS, "the count") for one in statement.arguments]
-    made.last = last[0] if last else 0
+    step, *last = [_bounded(it, statement, one, 1, COUNTS, "the count") for one in statement.arguments]
+    made.every, made.step, made.last = statement, step, last[0] if last else 0
 
 
 def _until(it: Assembly, made: Settings, statement: Statement) -> None:
