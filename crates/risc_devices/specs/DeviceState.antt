@@ -61,7 +61,8 @@ state_of_parts timer rate phase switches leds mouse serial keys = record {
   keys = keys;
 }
 
--- the parts that could be out of range in the words that encode them are in range (this project's own choice)
+-- the parts of devices whose types in `Devices::new` are wider than their ranges are in range. The others always are: the timer and
+-- the rate are 32-bit words there, and the LEDs and each key code are bytes (this project's own choice)
 pub record AreParts (rate phase switches mouse serial : ℕ) (keys : List ℕ) : Type 0 where
   pub phase_fits : IsPhase rate phase
   pub switches_fit : switches < 2 ^ 12

@@ -1,2 +1,3 @@
--- Definitions for private functions and fields. No public contract and no law mentions them, so none of them has to be believed.
+-- Definitions for the insides of types. No public contract and no law uses them. The view by which contracts see the devices passes
+-- through them; the contracts of the getters, which are public, say what it shows. So nobody has to believe these definitions.
 pub mod Shown

@@ -1,4 +1,6 @@
--- Definitions for private functions and fields. No public contract and no law mentions them, so none of them has to be believed.
+-- Definitions for private functions and for the insides of types. No public contract and no law uses them. The view by which contracts
+-- see a machine passes through some of them; the contracts of the getters, which are public, say what it shows. So nobody has to
+-- believe these definitions.
 pub mod Boards
 pub mod DecodedOps
 pub mod Due
@@ -7,5 +9,4 @@ pub mod Entries
 pub mod Frames
 pub mod Operands
 pub mod RunExits
-pub mod StoreLogs
 pub mod Destinations

@@ -35,8 +35,10 @@ mod status;
 mod store_log;
 
 pub use machine::Machine;
+pub use old_word::OldWord;
 pub use risc_model::{
     Cpu, Event, Flags, Inputs, MAX_COUNT, Unordered, idle_loop_law, lane_law, run_law, stop_law,
     stopped_law,
 };
 pub use run_exit::RunFault;
+pub use store_log::StoreLog;
