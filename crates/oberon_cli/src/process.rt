@@ -18,8 +18,9 @@ use std::rt::Env;
 use std::sync::Wait;
 use std::thread::Threads;
 
-/// Returns the arguments of the process, of which the first is the program's own name. No contract can say which these are, since
-/// the kit's `env::args` has none: `tests/library` runs the built program with the arguments of each command.
+/// Returns the arguments of the process. By convention the first is the program's name, whatever starts it; a process that is started
+/// with no arguments at all has none. No contract can say which these are, since the kit's `env::args` has none: `tests/library` runs
+/// the built program with the arguments of each command.
 pub fn process_words<H: AllocGlobal + Env>(rt: &H) -> Result<Vec<String>, Failure> {
     Ok(
         env::args(rt)
@@ -51,7 +52,8 @@ pub fn texts<'a>(alloc: Global, words: &'a [String]) -> Result<Vec<&'a str>, All
     Ok(texts)
 }
 
-/// Serves the arguments after the first, which is the program's own name, and returns the exit status.
+/// Serves the arguments after the first, whatever that is, and returns the exit status: the first is the program's name by convention.
+/// Without any argument it serves none, as if the name alone was there.
 pub fn run<'a, H: Threads + Wait + Sync, R: Source, W: Sink>(
     rt: &H,
     alloc: Global,

@@ -1,3 +1,4 @@
--- Definitions for private functions and fields. No public contract and no law mentions them, so none of them has to be believed.
+-- Definitions for contracts of private functions. No public contract, no law and no view of a type (`impl Model`) uses them, so nobody
+-- has to believe them.
 pub mod Decoded
 pub mod Tested

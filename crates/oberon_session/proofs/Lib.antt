@@ -1,5 +1,7 @@
 mod Mapped
 mod Shapes
+mod Taking
+mod Members
 mod Orders
 mod Lawful
 mod PartLemmas

@@ -1,40 +1,7 @@
--- The accessors of objects and arrays, and their definitions.
-use Rattle.std.proofs.Common.{◌≡◌, ◌==◌, ◌+◌, ◌<◌, ◌∙◌, ◌++◌, ℕ, zero, suc, List, [], ◌∷◌, Option, Some, None, arith, refl, ap, length, map, take, get_or, cond}
+-- What is read of each item of a list, an item at a time.
+use Rattle.std.proofs.Common.{◌≡◌, ◌+◌, ◌<◌, ◌++◌, ℕ, zero, suc, List, [], ◌∷◌, Option, Some, None, arith, refl, length, map, take, get_or}
 use Rattle.std.proofs.lemmas.List.{map_more}
-use Rattle.std.proofs.lemmas.Bool.{eq-eqb, ne_eqb}
-use Rattle.std.specs.Prelude.{String}
-use Rattle.std.specs.declared.alloc.Global.{Global}
-use Rattle.serde_json.specs.Data.{Data}
-use Rattle.serde_json.specs.Find.{as_array, as_object}
-use Rattle.serde_json.specs.View.{items_view, members_view, view}
-use Rattle.serde_json.specs.declared.value.Value.{Value}
-use Rattle.oberon_session.specs.Shape.{each, exactly, items_of, list_of, member_count}
-
-pub member_count-view : (members : List (String Global × Value)) → member_count (members_view members) ≡ length members
-member_count-view [] = refl
-member_count-view (m ∷ ms) = ap suc (member_count-view ms)
-
-pub list_of-view : (values : List Value) → list_of (items_view values) ≡ map view values
-list_of-view [] = refl
-list_of-view (v ∷ vs) = ap (λ l. view v ∷ l) (list_of-view vs)
-
-pub exactly-by : (count : ℕ) (json : Data) (members : List (String Global × Value)) → Some (members_view members) ≡ as_object json
-    → exactly count json ≡ cond (length members == count) (Some json) None
-exactly-by count json members is = rw (← is, member_count-view) refl
-
-pub exactly-held : (count : ℕ) (json : Data) (members : List (String Global × Value)) → Some (members_view members) ≡ as_object json → length members ≡ count
-    → exactly count json ≡ Some json
-exactly-held count json members is same = exactly-by count json members is ∙ rw (eq-eqb (length members) count same) refl
-
-pub exactly-other : (count : ℕ) (json : Data) (members : List (String Global × Value)) → Some (members_view members) ≡ as_object json → (length members ≡ count → ⊥)
-    → exactly count json ≡ None
-exactly-other count json members is other = exactly-by count json members is ∙ rw (ne_eqb (length members) count other) refl
-
-pub exactly-none : (count : ℕ) (json : Data) → None ≡ as_object json → exactly count json ≡ None
-exactly-none count json is = rw (← is) refl
-
-pub items-by : (json : Data) (values : List Value) → Some (items_view values) ≡ as_array json → items_of json ≡ Some (map view values)
-items-by json values is = rw (← is, list_of-view) refl
+use Rattle.oberon_session.specs.Shape.{each}
 
 module _ {A X : Type 0} (read : A → Option X) where
   each-more : (xs : List A) (x : A) (ys : List X) (y : X) → each read xs ≡ Some ys → read x ≡ Some y → each read (xs ++ x ∷ []) ≡ Some (ys ++ y ∷ [])

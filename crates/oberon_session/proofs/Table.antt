@@ -1,5 +1,5 @@
 -- The first broken rule of bytes, by what is known of them.
-use Rattle.std.proofs.Common.{◌≡◌, ◌↔◌, ◌<◌, ◌≤◌, ◌∙◌, ℕ, Bool, true, false, List, [], ◌∷◌, Option, Some, None, arith, ap, cond, length, refl, sym, take}
+use Rattle.std.proofs.Common.{◌≡◌, ◌<◌, ◌≤◌, ◌∙◌, ℕ, Bool, true, false, List, [], ◌∷◌, Option, Some, None, arith, ap, cond, length, refl, sym, take}
 use Rattle.std.proofs.lemmas.Bool.{cond-true, false_from_ne_true, le-leb, lt-leb}
 use Rattle.std.proofs.lemmas.List.{length-take}
 use Rattle.std.proofs.lemmas.List.Elements.{All-cons, All-nil}
@@ -19,7 +19,7 @@ use Rattle.oberon_session.specs.Rules.{draft_in, first_fault_of, in_digits, json
 use Rattle.oberon_session.specs.Session.{Breaks, Fits, IsSession}
 use Rattle.oberon_session.specs.SessionParts.{SessionParts}
 use Rattle.oberon_session.specs.Shape.{◌>>=◌}
-use Rattle.oberon_session.specs.inner.Tested.{BreaksIn, InOrder, InRange, IsJson, IsSessionIn}
+use Rattle.oberon_session.specs.inner.Tested.{BreaksDraft, BreaksIn, BreaksOf, InOrder, InRange, IsJson, IsSessionIn, IsSessionOf}
 use Rattle.oberon_session.specs.declared.fault.SessionFault.{SessionFault}
 use Rattle.oberon_session.specs.declared.fault.SessionFault.TheVariants.{Json, Shape, Range, Order, Hex, Memory}
 use Rattle.recording_limits.specs.declared.limits.TheConstants.{LONGEST_SESSION}
@@ -99,7 +99,7 @@ module _ (bytes : List ℕ) (fits : Fits bytes) (json : Data) (is : IsJson bytes
   on-draft : (draft : Draft) → draft_of json ≡ Some draft → first_fault_of bytes ≡ table-on draft
   on-draft draft shape = by-draft bytes fits json is (Some draft) shape
 
-  pub breaks-text : (fault : SessionFault) → BreaksIn json fault → Breaks bytes fault
+  breaks-text : (fault : SessionFault) → BreaksIn json fault → Breaks bytes fault
   breaks-text Json h = absurd h
   breaks-text Shape h = by-draft bytes fits json is None h
   breaks-text Range h = on-draft h.0 h.1 ∙ on-range h.0 h.2
@@ -107,26 +107,30 @@ module _ (bytes : List ℕ) (fits : Fits bytes) (json : Data) (is : IsJson bytes
   breaks-text Hex h = on-draft h.0 h.1 ∙ on-digits h.0 h.2 h.3 None h.4
   breaks-text Memory h = fits
 
-  pub session-text : (session : SessionParts) → IsSessionIn json session → IsSession bytes session
+  session-text : (session : SessionParts) → IsSessionIn json session → IsSession bytes session
   session-text session h =
       (on-draft h.0 h.1 ∙ on-digits h.0 h.2 h.3 (Some session.pages) h.4.pages, h.0, draft-is bytes fits json is h.0 h.1, h.4)
 
-module _ (bytes : List ℕ) (fits : Fits bytes) where
-  -- the fault of bytes that `serde_json` refuses
-  pub refused-text : (lacks : Type 0) (fault : SessionFault) → (fault ≡ Memory) ↔ lacks → (fault ≡ Json) ↔ (lacks → ⊥)
-      → ((lacks → ⊥) → IsUtf8 bytes → read bytes ≡ None) → Breaks bytes fault
-  refused-text lacks fault memory json none = go fault memory json
-    where
-      other : (own : SessionFault) → (own ≡ Memory → ⊥) → (own ≡ Json → ⊥) → (own ≡ Memory) ↔ lacks → (own ≡ Json) ↔ (lacks → ⊥) → ⊥
-      other own not-memory not-json memory json = not-json (json.1 (λ l. not-memory (memory.1 l)))
+-- from the rules of a draft to those of its text
+pub breaks-of : (text : List ℕ) (json : Data) (draft : Draft) → read text ≡ Some json → draft_of json ≡ Some draft → (fault : SessionFault) → BreaksDraft draft fault → BreaksOf text fault
+breaks-of text json draft is shape Json h = absurd h
+breaks-of text json draft is shape Shape h = absurd h
+breaks-of text json draft is shape Range h = (json, is, (draft, shape, h))
+breaks-of text json draft is shape Order h = (json, is, (draft, shape, h.0, h.1))
+breaks-of text json draft is shape Hex h = (json, is, (draft, shape, h.0, h.1, h.2))
+breaks-of text json draft is shape Memory h = tt
 
-      go : (own : SessionFault) → (own ≡ Memory) ↔ lacks → (own ≡ Json) ↔ (lacks → ⊥) → Breaks bytes own
-      go Json memory json = fault-json bytes fits (none (json.0 refl))
-      go Shape memory json = absurd (other Shape (λ e. cc) (λ e. cc) memory json)
-      go Range memory json = absurd (other Range (λ e. cc) (λ e. cc) memory json)
-      go Order memory json = absurd (other Order (λ e. cc) (λ e. cc) memory json)
-      go Hex memory json = absurd (other Hex (λ e. cc) (λ e. cc) memory json)
-      go Memory memory json = fits
+module _ (bytes : List ℕ) (fits : Fits bytes) (utf8 : IsUtf8 bytes) where
+  pub breaks-bytes : (fault : SessionFault) → BreaksOf bytes fault → Breaks bytes fault
+  breaks-bytes Json h = fault-json bytes fits (λ text. h)
+  breaks-bytes Shape h = breaks-text bytes fits h.0 (utf8, h.1) Shape h.2
+  breaks-bytes Range h = breaks-text bytes fits h.0 (utf8, h.1) Range h.2
+  breaks-bytes Order h = breaks-text bytes fits h.0 (utf8, h.1) Order h.2
+  breaks-bytes Hex h = breaks-text bytes fits h.0 (utf8, h.1) Hex h.2
+  breaks-bytes Memory h = fits
+
+  pub session-bytes : (session : SessionParts) → IsSessionOf bytes session → IsSession bytes session
+  session-bytes session h = session-text bytes fits h.0 (utf8, h.1) session h.2
 
 -- ---- bytes that break no rule
 

@@ -3,7 +3,7 @@ use Rattle.std.specs.Prelude.{◌==◌, ◌||◌, ℕ, List, [], ◌∷◌, leng
 use Rattle.std.specs.Str.{bytes_eq}
 use Rattle.serde_json.specs.Data.{Data}
 use Rattle.serde_json.specs.Find.{get}
-use Rattle.oberon_session.specs.Shape.{◌>>=◌, each, exactly, items_of, number_of, numbers_of, only_if, text_of}
+use Rattle.oberon_session.specs.Shape.{◌>>=◌, each, items_of, number_of, numbers_of, only, only_if, text_of}
 
 -- the numbers of the initial state
 pub record Start : Type 0 where
@@ -44,14 +44,16 @@ version_of json = do
 abbrev pub since_2 : ℕ → List ℕ → Data → Option ℕ
 since_2 version name json = if version == 1 then Some 0 else get name json >>= number_of
 
--- the number of members of the initial state
-abbrev pub start_members : ℕ → ℕ
-start_members version = if version == 1 then 4 else 6
+-- the names of the members of the initial state
+abbrev pub start_names : ℕ → List (List ℕ)
+start_names version =
+    if version == 1 then codes "R" ∷ codes "H" ∷ codes "PC" ∷ codes "flags" ∷ []
+    else codes "R" ∷ codes "H" ∷ codes "PC" ∷ codes "flags" ∷ codes "rate" ∷ codes "phase" ∷ []
 
 -- an object of exactly these members: R, an array of sixteen numbers; the numbers H, PC and flags; in version 2 the numbers rate and phase
 abbrev pub start_of : ℕ → Data → Option Start
 start_of version json = do
-  start ← exactly (start_members version) json
+  start ← only (start_names version) json
   h ← get (codes "H") start >>= number_of
   pc ← get (codes "PC") start >>= number_of
   flags ← get (codes "flags") start >>= number_of
@@ -61,10 +63,14 @@ start_of version json = do
   sixteen ← only_if (length registers == 16) registers
   Some (record { registers = sixteen; h = h; pc = pc; flags = flags; rate = rate; phase = phase })
 
--- an object of exactly two members: at, a number, and hex, a string
+-- the names of the members of a page
+abbrev pub page_names : List (List ℕ)
+page_names = codes "at" ∷ codes "hex" ∷ []
+
+-- an object of exactly these members: at, a number, and hex, a string
 abbrev pub page_of : Data → Option PageText
 page_of json = do
-  page ← exactly 2 json
+  page ← only page_names json
   at ← get (codes "at") page >>= number_of
   hex ← get (codes "hex") page >>= text_of
   Some (record { at = at; hex = hex })
@@ -106,10 +112,15 @@ pub record Members : Type 0 where
   pub inputs : Data
   pub checkpoints : Data
 
+-- the names of the members of a session
+abbrev pub session_names : List (List ℕ)
+session_names =
+    codes "format" ∷ codes "version" ∷ codes "start" ∷ codes "pages" ∷ codes "inputs" ∷ codes "checkpoints" ∷ []
+
 -- an object of exactly these members: format, which is oberon-session, version, start, pages, inputs and checkpoints
 abbrev pub members_of : Data → Option Members
 members_of json = do
-  session ← exactly 6 json
+  session ← only session_names json
   format ← get (codes "format") session >>= text_of
   named ← only_if (bytes_eq format (codes "oberon-session")) format
   version ← get (codes "version") session >>= version_of

@@ -1,5 +1,6 @@
 -- The parts of a JSON value that has to have a given shape.
-use Rattle.std.specs.Prelude.{◌==◌, ℕ, suc, List, [], ◌∷◌, Bool, true, false, Option, Some, None, if◌then◌else◌, option_map}
+use Rattle.std.specs.Prelude.{◌&&◌, ◌||◌, ℕ, List, [], ◌∷◌, Bool, true, false, Option, Some, None, if◌then◌else◌, option_map}
+use Rattle.std.specs.Str.{bytes_eq}
 use Rattle.serde_json.specs.Data.{Data, Items, no_items, item, Members, no_members, member}
 use Rattle.serde_json.specs.Find.{as_array, as_number, as_object, as_str, as_u64}
 
@@ -14,14 +15,19 @@ abbrev pub only_if : {A : Type 0} → Bool → A → Option A
 only_if true x = Some x
 only_if false x = None
 
--- the number of members of an object
-abbrev pub member_count : Members → ℕ
-member_count no_members = 0
-member_count (member name value rest) = suc (member_count rest)
+-- the name is one of these
+abbrev pub is_among : List (List ℕ) → List ℕ → Bool
+is_among [] name = false
+is_among (first ∷ names) name = bytes_eq name first || is_among names name
 
--- the value, if it is an object of so many members
-abbrev pub exactly : ℕ → Data → Option Data
-exactly count json = as_object json >>= λ members. if member_count members == count then Some json else None
+-- the name of each member is one of these
+abbrev pub are_among : List (List ℕ) → Members → Bool
+are_among names no_members = true
+are_among names (member name value rest) = is_among names name && are_among names rest
+
+-- the value, if it is an object with no members but those of these names
+abbrev pub only : List (List ℕ) → Data → Option Data
+only names json = as_object json >>= λ members. if are_among names members then Some json else None
 
 -- a whole number below 2 ^ 64
 abbrev pub number_of : Data → Option ℕ

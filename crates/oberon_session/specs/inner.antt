@@ -2,5 +2,8 @@
 -- view of a type passes through them, the contracts of its getters say what it shows.
 pub mod Progress
 pub mod Growing
-pub mod Tested
 pub mod Drafts
+pub mod Tested
+pub mod Taken
+pub mod Found
+pub mod FoundViews

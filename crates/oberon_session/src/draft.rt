@@ -2,8 +2,6 @@
 
 ghost use Rattle.std.specs.Prelude.{◌≡◌, length};
 
-use serde_json::Value;
-
 /// An input: its count, the number of its kind, and its value.
 #[derive(Clone, Copy)]
 pub struct InputDraft {
@@ -17,16 +15,6 @@ pub struct InputDraft {
 pub struct PageDraft<'a> {
     pub at: u64,
     pub hex: &'a str,
-}
-
-/// The members of a session: its version, and the values of the others. `format` is the same in every session.
-#[derive(Clone, Copy)]
-pub struct Members<'a> {
-    pub version: u64,
-    pub start: &'a Value,
-    pub pages: &'a Value,
-    pub inputs: &'a Value,
-    pub checkpoints: &'a Value,
 }
 
 /// The numbers of the initial state.

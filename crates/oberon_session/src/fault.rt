@@ -11,7 +11,7 @@ use thiserror::Error;
 /// The numbers, the names and the rules are this project's own choice.
 #[derive(Clone, Copy, Debug, PartialEq, Eq, Error)]
 pub enum SessionFault {
-    /// 1, `json`: `serde_json` does not accept the bytes.
+    /// 1, `json`: the bytes are no JSON, as `serde_json` defines it.
     #[error("the text is no JSON")]
     Json,
     /// 2, `shape`: a member, a type, the number of registers, or one of the fixed strings and numbers is wrong.

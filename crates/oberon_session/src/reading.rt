@@ -1,12 +1,10 @@
 //! Reads a session from its JSON.
 
 ghost use Rattle.std.specs.Prelude.{◌≡◌, ◌↔◌, ◌<◌, ◌^◌, IfOk, IfErr, IsTrue, length, slice_index};
-ghost use Rattle.serde_json.specs.Errors.{IsMemory};
-ghost use Rattle.serde_json.specs.View.{view};
 ghost use Rattle.risc_model.specs.MachineState.{cpu_state};
 ghost use Rattle.oberon_session.specs.inner.Drafts.{draft_view, start_view};
 ghost use Rattle.oberon_session.specs.Session.{Breaks, IsSession, Says, cpu_of};
-ghost use Rattle.oberon_session.specs.inner.Tested.{BreaksDraft, BreaksIn, InOrder, InRange, IsSessionIn, IsTested, StartFits};
+ghost use Rattle.oberon_session.specs.inner.Tested.{BreaksDraft, BreaksOf, InOrder, InRange, IsSessionOf, IsTested, StartFits};
 
 use crate::SessionFault;
 use crate::digits::placed_pages;
@@ -15,9 +13,9 @@ use crate::events::inputs_of;
 use crate::range::{is_in_range, is_rising};
 use crate::session::Session;
 use crate::shape::read_draft;
+use json::Scratch;
 use recording_limits::LONGEST_SESSION;
 use risc_model::{Cpu, Flags, Inputs};
-use serde_json::{Error, Value};
 use std::alloc::Global;
 
 /// Returns the session that the bytes encode, or the first rule that they break.
@@ -26,6 +24,8 @@ use std::alloc::Global;
 /// JSON has the shape of a session (`Shape`), and its numbers are in their ranges (`Range`); slots of pages and counts of checkpoints
 /// rise, and counts of inputs don't fall (`Order`); and pages are pairs of hexadecimal digits (`Hex`). If memory runs out, the answer
 /// is `Memory` instead, unless there are too many bytes.
+///
+/// No tree of JSON values is built. Beside the bytes it takes a buffer as long as they are, and the numbers of the session.
 pub fn read_session(alloc: Global, bytes: &[u8]) -> Result<Session, SessionFault>
     ensures ok { IfOk result (IsSession bytes.now) }
     ensures err { IfErr result (Breaks bytes.now) }
@@ -33,30 +33,19 @@ pub fn read_session(alloc: Global, bytes: &[u8]) -> Result<Session, SessionFault
     if bytes.len() > LONGEST_SESSION {
         return Err(SessionFault::Range);
     }
-    match Value::from_slice(alloc, bytes) {
-        Ok(value) => session_in(alloc, &value),
-        Err(refused) => Err(json_fault(&refused)),
+    match std::str::from_utf8(bytes) {
+        Ok(text) => session_in(alloc, text),
+        Err(_) => Err(SessionFault::Json),
     }
 }
 
-/// Returns the fault for an error of `serde_json`: `Memory` if memory ran out, otherwise `Json`.
-fn json_fault(refused: &Error) -> SessionFault
-    ensures memory { (result ≡ SessionFault.Memory) ↔ IsMemory refused.now }
-    ensures json { (result ≡ SessionFault.Json) ↔ (IsMemory refused.now → ⊥) }
+/// Returns the session that a text encodes, or the first rule that the text breaks.
+fn session_in(alloc: Global, text: &str) -> Result<Session, SessionFault>
+    ensures ok { IfOk result (IsSessionOf text.now) }
+    ensures err { IfErr result (BreaksOf text.now) }
 {
-    if refused.is_memory() {
-        SessionFault::Memory
-    } else {
-        SessionFault::Json
-    }
-}
-
-/// Returns the session of a JSON value, or the first rule that the value breaks.
-fn session_in(alloc: Global, value: &Value) -> Result<Session, SessionFault>
-    ensures ok { IfOk result (IsSessionIn (view value.now)) }
-    ensures err { IfErr result (BreaksIn (view value.now)) }
-{
-    let draft = read_draft(alloc, value)?;
+    let mut scratch = Scratch::new(alloc);
+    let draft = read_draft(alloc, text, &mut scratch)?;
     session_of(alloc, draft)
 }
 

@@ -1,159 +1,193 @@
-//! Reads a draft of a session from a JSON value of the right shape. Ranges and order are tested in `range` and `events`.
+//! Reads a draft of a session from JSON of the right shape. Ranges and order are tested in `range` and `events`.
 
-ghost use Rattle.std.specs.Prelude.{◌≡◌, map};
-ghost use Rattle.serde_json.specs.View.{view};
-ghost use Rattle.oberon_session.specs.inner.Drafts.{Gives, draft_view, input_view, members_view, page_view, start_view};
-ghost use Rattle.oberon_session.specs.Draft.{draft_of, input_of, inputs_of, kind_of, members_of, page_of, pages_of, since_2, start_members, start_of, version_of};
+ghost use Rattle.std.specs.Prelude.{◌≡◌, option_map};
+ghost use Rattle.json.specs.Lex.{tokens};
+ghost use Rattle.serde_json.specs.Data.{no_members};
+ghost use Rattle.serde_json.specs.Read.{read};
+ghost use Rattle.oberon_session.specs.Draft.{draft_of, version_of};
+ghost use Rattle.oberon_session.specs.inner.Drafts.{draft_view};
+ghost use Rattle.oberon_session.specs.inner.Found.{draft_in, is_format, session_found, with_session_member};
+ghost use Rattle.oberon_session.specs.inner.FoundViews.{session_found_view};
+ghost use Rattle.oberon_session.specs.inner.Taken.{GivesDraft, Takes, all_members, one_value};
 
 use crate::SessionFault;
-use crate::draft::{Draft, InputDraft, Members, PageDraft, StartDraft};
-use crate::json::{exactly, items, member, number, number_member, numbers, text, text_member};
-use serde_json::Value;
+use crate::draft::{Draft, InputDraft, PageDraft};
+use crate::head::{Head, take_head};
+use crate::input::inputs;
+use crate::list::numbers;
+use crate::page::pages;
+use crate::start::{StartMembers, start};
+use crate::value::{finish, next_key, number, pass, text};
+use json::{Reader, Scratch};
 use std::alloc::Global;
 
-/// Returns the draft of the session, or `Shape`.
-///
-/// All members are looked up before anything that owns memory is made: code that drops it at each later exit costs the prover more than
-/// everything else.
-pub fn read_draft<'a>(alloc: Global, value: &'a Value) -> Result<Draft<'a>, SessionFault>
-    ensures { Gives draft_view (draft_of (view value.now)) result }
-{
-    let members = members(value)?;
-    Ok(Draft {
-        start: start(alloc, members.start, members.version)?,
-        pages: pages(alloc, members.pages)?,
-        inputs: inputs(alloc, members.inputs)?,
-        checkpoints: numbers(alloc, members.checkpoints)?,
-    })
+/// How deep arrays and objects may nest.
+const MAX_DEPTH: usize = 127;
+
+/// What the members of a session say that have been read, and whether no other member was among them.
+#[derive(Drop)]
+pub struct SessionMembers<'a> {
+    /// Whether the member `format` is that of sessions.
+    pub named: bool,
+    pub version: Option<u64>,
+    pub start: Option<StartMembers>,
+    pub pages: Option<Vec<PageDraft<'a>>>,
+    pub inputs: Option<Vec<InputDraft>>,
+    pub checkpoints: Option<Vec<u64>>,
+    pub only: bool,
 }
 
-/// Returns the members of a session.
-fn members(value: &Value) -> Result<Members<'_>, SessionFault>
-    ensures { Gives members_view (members_of (view value.now)) result }
+/// Returns the draft of the session that a text encodes, or `Json` or `Shape`. Strings with escapes are written to `scratch`.
+pub fn read_draft<'a>(
+    alloc: Global,
+    text: &'a str,
+    scratch: &'a mut Scratch,
+) -> Result<Draft<'a>, SessionFault>
+    ensures { GivesDraft text.now result }
 {
-    let session = exactly(value, 6)?;
-    if text_member(session, "format")? != "oberon-session" {
-        return Err(SessionFault::Shape);
+    let mut reader = Reader::new(text, scratch)?;
+    let draft = session(alloc, &mut reader, MAX_DEPTH)?;
+    if reader.next().is_some() {
+        return Err(SessionFault::Json);
     }
-    Ok(Members {
-        version: version(member(session, "version")?)?,
-        start: member(session, "start")?,
-        pages: member(session, "pages")?,
-        inputs: member(session, "inputs")?,
-        checkpoints: member(session, "checkpoints")?,
-    })
-}
-
-/// Returns the version, 1 or 2.
-fn version(value: &Value) -> Result<u64, SessionFault>
-    ensures { Gives (λ n. n) (version_of (view value.now)) result }
-{
-    let version = number(value)?;
-    if version == 1 || version == 2 {
-        Ok(version)
-    } else {
-        Err(SessionFault::Shape)
+    match draft {
+        Some(draft) => Ok(draft),
+        None => Err(SessionFault::Shape),
     }
 }
 
-/// Returns the numbers of the initial state.
-fn start(alloc: Global, value: &Value, version: u64) -> Result<StartDraft, SessionFault>
-    ensures { Gives start_view (start_of version (view value.now)) result }
+/// Takes a value, and returns its draft if it has the shape of a session.
+fn session<'a>(
+    alloc: Global,
+    reader: &mut Reader<'a>,
+    depth: usize,
+) -> Result<Option<Draft<'a>>, SessionFault>
+    ensures { Takes (one_value depth reader.old) reader.new (λ json found. option_map draft_view found ≡ draft_of json) result }
 {
-    let start = exactly(value, start_members(version))?;
-    let h = number_member(start, "H")?;
-    let pc = number_member(start, "PC")?;
-    let flags = number_member(start, "flags")?;
-    let rate = since_2(version, "rate", start)?;
-    let phase = since_2(version, "phase", start)?;
-    let registers = numbers(alloc, member(start, "R")?)?;
-    if registers.len() != 16 {
-        return Err(SessionFault::Shape);
-    }
-    Ok(StartDraft {
-        registers,
-        h,
-        pc,
-        flags,
-        rate,
-        phase,
-    })
-}
-
-/// Returns the number of members of the initial state.
-fn start_members(version: u64) -> usize
-    ensures { result ≡ start_members version }
-{
-    if version == 1 { 4 } else { 6 }
-}
-
-/// Returns the number that version 2 has by this name. In version 1 it is 0.
-fn since_2(version: u64, name: &str, value: &Value) -> Result<u64, SessionFault>
-    ensures { Gives (λ n. n) (since_2 version name.now (view value.now)) result }
-{
-    if version == 1 {
-        return Ok(0);
-    }
-    number_member(value, name)
-}
-
-/// Returns the drafts of pages.
-fn pages<'a>(alloc: Global, value: &'a Value) -> Result<Vec<PageDraft<'a>>, SessionFault>
-    ensures { Gives (λ found. map page_view found.items) (pages_of (view value.now)) result }
-{
-    let mut pages = Vec::new(alloc);
-    for item in items(value)? {
-        pages.push(page(item)?)?;
-    }
-    Ok(pages)
-}
-
-/// Returns the draft of a page.
-fn page(value: &Value) -> Result<PageDraft<'_>, SessionFault>
-    ensures { Gives page_view (page_of (view value.now)) result }
-{
-    let page = exactly(value, 2)?;
-    Ok(PageDraft {
-        at: number_member(page, "at")?,
-        hex: text_member(page, "hex")?,
-    })
-}
-
-/// Returns the drafts of inputs.
-fn inputs(alloc: Global, value: &Value) -> Result<Vec<InputDraft>, SessionFault>
-    ensures { Gives (λ found. map input_view found.items) (inputs_of (view value.now)) result }
-{
-    let mut inputs = Vec::new(alloc);
-    for item in items(value)? {
-        inputs.push(input(item)?)?;
-    }
-    Ok(inputs)
-}
-
-/// Returns the draft of an input: an array of its count, the name of its kind, and its value.
-fn input(value: &Value) -> Result<InputDraft, SessionFault>
-    ensures { Gives input_view (input_of (view value.now)) result }
-{
-    match items(value)? {
-        [count, kind, value] => Ok(InputDraft {
-            count: number(count)?,
-            kind: kind_number(text(kind)?).ok_or(SessionFault::Shape)?,
-            value: number(value)?,
-        }),
-        _ => Err(SessionFault::Shape),
+    match take_head(reader, depth)? {
+        Head::Object(inside) => {
+            let mut found = SessionMembers::new();
+            found.take_all(alloc, reader, inside)?;
+            Ok(found.draft())
+        }
+        head => {
+            finish(reader, head)?;
+            Ok(None)
+        }
     }
 }
 
-/// Returns the number of the kind of input of this name.
-fn kind_number(name: &str) -> Option<u8>
-    ensures { result ≡ kind_of name.now }
+impl<'a> SessionMembers<'a> {
+    /// No members.
+    fn new() -> SessionMembers<'a>
+        ensures { session_found_view result ≡ session_found no_members }
+    {
+        SessionMembers {
+            named: false,
+            version: None,
+            start: None,
+            pages: None,
+            inputs: None,
+            checkpoints: None,
+            only: true,
+        }
+    }
+
+    /// Takes the members of an object, and its end.
+    fn take_all(
+        &mut self,
+        alloc: Global,
+        reader: &mut Reader<'a>,
+        depth: usize,
+    ) -> Result<(), SessionFault>
+        requires { session_found_view self.old ≡ session_found no_members }
+        ensures { Takes (all_members depth no_members reader.old) reader.new
+            (λ members _. session_found_view self.new ≡ session_found members) result }
+    {
+        'members: while let Some(name) = next_key(reader)? {
+            self.take(alloc, reader, name, depth)?;
+        }
+        Ok(())
+    }
+
+    /// Takes the value of a member.
+    fn take(
+        &mut self,
+        alloc: Global,
+        reader: &mut Reader<'a>,
+        name: &str,
+        depth: usize,
+    ) -> Result<(), SessionFault>
+        ensures { Takes (one_value depth reader.old) reader.new
+            (λ json _. session_found_view self.new ≡ with_session_member name.now json (session_found_view self.old)) result }
+    {
+        match name {
+            "format" => {
+                self.named = format(reader, depth)?;
+                Ok(())
+            }
+            "version" => {
+                self.version = version(reader, depth)?;
+                Ok(())
+            }
+            "start" => {
+                self.start = start(alloc, reader, depth)?;
+                Ok(())
+            }
+            "pages" => {
+                self.pages = pages(alloc, reader, depth)?;
+                Ok(())
+            }
+            "inputs" => {
+                self.inputs = inputs(alloc, reader, depth)?;
+                Ok(())
+            }
+            "checkpoints" => {
+                self.checkpoints = numbers(alloc, reader, depth)?;
+                Ok(())
+            }
+            _ => {
+                pass(reader, depth)?;
+                self.only = false;
+                Ok(())
+            }
+        }
+    }
+
+    /// Returns the draft that they say.
+    fn draft(self) -> Option<Draft<'a>>
+        ensures { option_map draft_view result ≡ draft_in (session_found_view self.entry) }
+    {
+        if !self.only || !self.named {
+            return None;
+        }
+        let version = self.version?;
+        let start = self.start?.draft(version)?;
+        Some(Draft {
+            start,
+            pages: self.pages?,
+            inputs: self.inputs?,
+            checkpoints: self.checkpoints?,
+        })
+    }
+}
+
+/// Takes a value, and reports whether it is the format of sessions.
+fn format(reader: &mut Reader<'_>, depth: usize) -> Result<bool, SessionFault>
+    ensures { Takes (one_value depth reader.old) reader.new (λ json found. found ≡ is_format json) result }
 {
-    match name {
-        "timer" => Some(1),
-        "switches" => Some(2),
-        "mouse" => Some(3),
-        "key" => Some(4),
-        "serial" => Some(5),
-        _ => None,
+    match text(reader, depth)? {
+        Some(format) => Ok(format == "oberon-session"),
+        None => Ok(false),
+    }
+}
+
+/// Takes a value, and returns it if it is a version, 1 or 2.
+fn version(reader: &mut Reader<'_>, depth: usize) -> Result<Option<u64>, SessionFault>
+    ensures { Takes (one_value depth reader.old) reader.new (λ json found. found ≡ version_of json) result }
+{
+    match number(reader, depth)? {
+        Some(version) if version == 1 || version == 2 => Ok(Some(version)),
+        _ => Ok(None),
     }
 }

@@ -14,7 +14,7 @@ const START: &str =
     "{\"format\":\"oberon-session\",\"version\":1,\"start\":{\"R\":[0,0,0,0,0,0,0,0,0,0,0,0,0,0,0,0],\"H\":0,\"PC\":0,\"flags\":0},";
 
 /// The rest of a session after `START`, and its first fault.
-const FAULTS_AFTER_START: [(&str, SessionFault); 30] = [
+const FAULTS_AFTER_START: [(&str, SessionFault); 38] = [
     // one rule broken
     (
         "\"pages\":[{\"at\":0,\"hex\":\"05000040\"}],\"inputs\":[],\"checkpoints\":[100]",
@@ -133,6 +133,40 @@ const FAULTS_AFTER_START: [(&str, SessionFault); 30] = [
     (
         "\"pages\":[{\"at\":0,\"hex\":\"0\"}],\"inputs\":[],\"checkpoints\":[2,1]}",
         SessionFault::Order,
+    ),
+    // a wrong shape, and what comes after it
+    (
+        "\"pages\":[],\"inputs\":[{\"\":0},{\"\":0}],\"checkpoints\":[]}",
+        SessionFault::Shape,
+    ),
+    (
+        "\"pages\":[],\"inputs\":[{\"\":0},{\"\":0},],\"checkpoints\":[]}",
+        SessionFault::Json,
+    ),
+    (
+        "\"pages\":[{\"at\":[[{}]],\"hex\":{\"at\":1e400}}],\"inputs\":[],\"checkpoints\":[]}",
+        SessionFault::Json,
+    ),
+    (
+        "\"pages\":[],\"inputs\":[[1,\"key\",0,[2,{\"three\":null}]]],\"checkpoints\":[]}",
+        SessionFault::Shape,
+    ),
+    (
+        "\"pages\":[],\"inputs\":[],\"checkpoints\":[]}1",
+        SessionFault::Json,
+    ),
+    // a member twice: its last value counts
+    (
+        "\"pages\":[],\"inputs\":[{\"\":0}],\"inputs\":[],\"checkpoints\":[0]}",
+        SessionFault::Range,
+    ),
+    (
+        "\"pages\":[{\"at\":\"\",\"hex\":\"0\",\"at\":0}],\"inputs\":[],\"checkpoints\":[]}",
+        SessionFault::Hex,
+    ),
+    (
+        "\"pages\":[],\"inputs\":[],\"inputs\":{},\"checkpoints\":[0]}",
+        SessionFault::Shape,
     ),
 ];
 

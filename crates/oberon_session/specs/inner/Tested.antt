@@ -141,3 +141,15 @@ IsEventOf input event = MatchOption event (InputFits input → ⊥) (λ e. (numb
 -- unless memory ran out, an input is out of its range
 abbrev pub BreaksRanges : List InputNumbers → SessionFault → Type 0
 BreaksRanges inputs broken = broken ≢ fault.Memory → (broken ≡ fault.Range) × (All InputFits inputs → ⊥)
+
+-- ---- a text in UTF-8
+
+-- the text breaks no rule, and encodes this session
+abbrev pub IsSessionOf : List ℕ → SessionParts → Type 0
+IsSessionOf text session = (json : Data) × (read text ≡ Some json) × IsSessionIn json session
+
+-- this is the first rule that the text breaks
+abbrev pub BreaksOf : List ℕ → SessionFault → Type 0
+BreaksOf text fault.Json = read text ≡ None
+BreaksOf text fault.Memory = ⊤
+BreaksOf text own = (json : Data) × (read text ≡ Some json) × BreaksIn json own

@@ -1,0 +1,12 @@
+use Rattle.std.proofs.Common.{◌≡◌, List, length, option_map}
+use Rattle.serde_json.specs.Data.{Data}
+use Rattle.oberon_session.specs.Shape.{each, number_of}
+use Rattle.oberon_session.proofs.Taking.{HasTaken}
+use Rattle.oberon_session.proofs.list.numbers_inside.Given as goal
+
+abbrev pub invariant-items : goal.invariant-items
+invariant-items l =
+    (taken : List Data) × HasTaken l.depth l.initial.reader taken l.reader × (option_map (λ v. v.items) l.found ≡ each number_of taken)
+
+abbrev pub decreases-items : goal.decreases-items
+decreases-items l = length l.reader

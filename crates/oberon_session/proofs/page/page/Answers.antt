@@ -1,0 +1,27 @@
+use Rattle.std.proofs.Common.{◌∙◌, ap, sym}
+use Rattle.std.proofs.lemmas.Result.{err_from_is_err_and}
+use Rattle.oberon_session.specs.inner.Found.{page_in}
+use Rattle.oberon_session.specs.declared.head.Head.TheVariants as head
+use Rattle.oberon_session.specs.inner.Taken.{IsAfterHead}
+use Rattle.oberon_session.proofs.Members.{no-page, page-of}
+use Rattle.oberon_session.proofs.Taking.{not-object, object-read, object-refused}
+use Rattle.oberon_session.proofs.page.page.Goals as goal
+
+pub returns-in_err-members-in-Object : goal.returns-in_err-members-in-Object
+returns-in_err-members-in-Object c =
+    let at : IsAfterHead c.args.depth c.args.reader.now c.take_head.new.reader (head.Object c.in-Object.inside) = rw c.in-Object.is at c.in_ok-head.ensures.ok in
+    let from = err_from_is_err_and c.from_residual-in_err-members-in-Object.result c.from_residual-in_err-members-in-Object.ensures.1 in
+    rw (from.1, from.2) (λ no.
+    let wrong = c.in_err-members-in-Object.ensures no in
+    (wrong.0, object-refused _ _ _ _ at.0 at.1 wrong.1))
+
+pub returns-in_ok-members-in-Object : goal.returns-in_ok-members-in-Object
+returns-in_ok-members-in-Object c =
+    let at : IsAfterHead c.args.depth c.args.reader.now c.take_head.new.reader (head.Object c.in-Object.inside) = rw c.in-Object.is at c.in_ok-head.ensures.ok in
+    let all = c.in_ok-members-in-Object.ensures in
+    (_, object-read _ _ _ _ _ _ at.0 at.1 all.1, c.page.ensures ∙ ap page_in all.2 ∙ sym (page-of all.0))
+
+pub returns-in_ok-finish-in_default : goal.returns-in_ok-finish-in_default
+returns-in_ok-finish-in_default c =
+    let one = c.in_ok-finish-in_default.ensures c.args.depth c.args.reader.now c.in_ok-head.ensures.ok in
+    (one.0, one.1, no-page one.0 (not-object one.0 _ one.2 c.in_default.not-Object))
