@@ -1,0 +1,59 @@
+-- The conditions that a search looks for, each on one step of a run.
+use Rattle.std.specs.Prelude.{ℕ, ◌≡◌, ◌≢◌, ◌<◌, List, Bool, true, false, length, map, slice_index, IsSome, Option, Some}
+use Rattle.risc_core.specs.Flags.{flags_number}
+use Rattle.risc_devices.specs.Input.{kind_of}
+use Rattle.risc_model.specs.declared.event.Event.{Event}
+use Rattle.risc_model.specs.InputOrder.{count_at}
+use Rattle.risc_model.specs.MachineState.{CpuState}
+use Rattle.risc_search.specs.declared.access.Access.{Access}
+use Rattle.risc_search.specs.declared.condition.Condition.{Condition}
+use Rattle.risc_search.specs.declared.condition.Condition.TheVariants.{Counter, Store, Change, Load, Becomes, Sends, SendsByte, Takes, Stops}
+use Rattle.risc_search.specs.declared.register.Register.{Register}
+use Rattle.risc_search.specs.declared.register.Register.TheVariants.{Numbered, Auxiliary, Flags}
+use Rattle.risc_search.specs.declared.span.Span.{Span}
+use Rattle.risc_search.specs.Access.{next_access}
+use Rattle.risc_search.specs.Changes.{Differ}
+use Rattle.risc_search.specs.Span.{IsIn, Meets}
+use Rattle.risc_search.specs.Step.{Step}
+
+-- the value of a register. The flags are one number: N is 8, Z 4, C 2, V 1
+abbrev pub register_value : Register → CpuState → ℕ
+register_value (Numbered number) cpu = slice_index cpu.r number
+register_value Auxiliary cpu = cpu.h
+register_value Flags cpu = flags_number cpu.flags
+
+-- an instruction accesses a byte in the range: it stores to it, or loads it
+pub record Accesses (stores : Bool) (bytes : Span) (accessed : Option Access) : Type 0 where
+  pub access : Access
+  pub is : accessed ≡ Some access
+  pub direction : access.stores ≡ stores
+  pub meets : Meets bytes access.first access.count
+
+-- the register is not the value before, and is the value after
+pub record BecomesValue (value before after : ℕ) : Type 0 where
+  pub was_not : before ≢ value
+  pub is : after ≡ value
+
+-- the kind of the input at an index
+abbrev pub kind_at : List Event → ℕ → ℕ
+kind_at es index = slice_index (map (λ e. kind_of e.input) es) index
+
+-- an input of the kind has the count n
+pub record HasInput (kind : ℕ) (es : List Event) (n : ℕ) : Type 0 where
+  pub index : ℕ
+  pub inside : index < length es
+  pub count : count_at es index ≡ n
+  pub kind_is : kind_at es index ≡ kind
+
+-- a condition holds at a step
+abbrev pub Holds : Condition → List Event → Step → Type 0
+Holds (Counter words) es step = (step.before.cpu.stop ≡ 0) × IsIn words step.before.cpu.pc
+Holds (Store bytes) es step = Accesses true bytes (next_access step.before.cpu step.before.words)
+Holds (Change bytes mask) es step = Differ bytes mask step.before.words step.after.words
+Holds (Load bytes) es step = Accesses false bytes (next_access step.before.cpu step.before.words)
+Holds (Becomes register value) es step =
+    BecomesValue value (register_value register step.before.cpu) (register_value register step.after.cpu)
+Holds Sends es step = IsSome step.sent
+Holds (SendsByte byte) es step = step.sent ≡ Some byte
+Holds (Takes kind) es step = (step.before.cpu.stop ≡ 0) × HasInput kind es step.count
+Holds Stops es step = (step.before.cpu.stop ≡ 0) × (step.after.cpu.stop ≢ 0)

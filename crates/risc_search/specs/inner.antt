@@ -1,0 +1,4 @@
+-- What private functions here promise each other: the parts of a step, and how far a search is. No public contract mentions them.
+pub mod Due
+pub mod Observed
+pub mod Idle

@@ -1,0 +1,109 @@
+-- What a search knows of a step, before its instruction and after it.
+use Rattle.std.specs.Prelude.{ℕ, ◌≡◌, ◌≢◌, ◌<◌, ◌+◌, ◌*◌, ◌/◌, ◌^◌, ◌↔◌, ◌&&◌, nat_lt, Bool, true, false, List, length, slice_index, slice_index_or, slice_set, Option, None, Some, IfSome, IsSome, IsTrue, MatchOption, ⊤, if◌then◌else◌}
+use Rattle.risc_core.specs.Word.{bit}
+use Rattle.risc_model.specs.declared.event.Event.{Event}
+use Rattle.risc_model.specs.MachineState.{CpuState, State}
+use Rattle.risc_search.specs.declared.access.Access.{Access}
+use Rattle.risc_search.specs.declared.before.Before.{Before}
+use Rattle.risc_search.specs.declared.condition.Condition.{Condition}
+use Rattle.risc_search.specs.declared.condition.Condition.TheVariants.{Counter, Store, Change, Load, Becomes, Sends, SendsByte, Takes, Stops}
+use Rattle.risc_search.specs.declared.stored_word.StoredWord.{StoredWord}
+use Rattle.risc_search.specs.declared.span.Span.{Span}
+use Rattle.risc_search.specs.Access.{next_access}
+use Rattle.risc_search.specs.Condition.{Accesses, HasInput, register_value}
+use Rattle.risc_search.specs.Search.{IsMet, NoneHolds}
+use Rattle.risc_search.specs.Span.{IsIn}
+use Rattle.risc_search.specs.Step.{Step}
+use Rattle.risc_search.specs.inner.Due.{HasKind}
+
+-- the number of the word of RAM that an access stores to
+abbrev pub word_stored : Option Access → Option ℕ
+word_stored None = None
+word_stored (Some access) = if access.stores && nat_lt access.first (2 ^ 20) then Some (access.first / 4) else None
+
+-- the next instruction's access to memory, and the word that it stores to
+pub record IsBefore (before : Before) (s : State) : Type 0 where
+  pub access : before.access ≡ next_access s.cpu s.words
+  pub old : IfSome (word_stored before.access) (λ number. slice_index s.words number ≡ before.old)
+
+-- all words are the same
+abbrev pub AreSame : List ℕ → List ℕ → Type 0
+AreSame before after = (w : ℕ) → slice_index after w ≡ slice_index before w
+
+-- all words are the same, but for this one
+pub record IsOnlyChange (before after : List ℕ) (stored : StoredWord) : Type 0 where
+  pub old : slice_index before stored.number ≡ stored.old
+  pub new : slice_index after stored.number ≡ stored.new
+  pub others : (w : ℕ) → w ≢ stored.number → slice_index after w ≡ slice_index before w
+
+-- the words before and after an instruction that stores to this word of RAM, if any
+abbrev pub IsChange : List ℕ → List ℕ → Option StoredWord → Type 0
+IsChange before after stored = MatchOption stored (AreSame before after) (IsOnlyChange before after)
+
+-- no word changes but the one that an access stores to
+abbrev pub HasStoredAlone : Option Access → List ℕ → List ℕ → Type 0
+HasStoredAlone access before after = (w : ℕ) → word_stored access ≢ Some w → slice_index after w ≡ slice_index before w
+
+-- the words before and after an instruction that stores to the word of RAM with this number, if any
+abbrev pub HasStored : Option ℕ → List ℕ → List ℕ → Type 0
+HasStored None before after = after ≡ before
+HasStored (Some number) before after = (value : ℕ) × (after ≡ slice_set before number value)
+
+-- a bit of the word differs, is named by the mask, and is in a byte in the range
+pub record DiffersAt (bytes : Span) (mask : ℕ) (word : StoredWord) (place : ℕ) : Type 0 where
+  pub named : bit mask place ≡ true
+  pub byte : IsIn bytes (4 * word.number + place / 8)
+  pub differs : bit word.old place ≢ bit word.new place
+
+-- one of its bits is so
+pub record Differs (bytes : Span) (mask : ℕ) (word : StoredWord) : Type 0 where
+  pub place : ℕ
+  pub inside : place < 32
+  pub at : DiffersAt bytes mask word place
+
+-- a condition is armed: by what is known before the instruction, it may hold
+abbrev pub IsArmed : Condition → CpuState → Option Access → List Event → Type 0
+IsArmed (Counter words) cpu access taken = (cpu.stop ≡ 0) × IsIn words cpu.pc
+IsArmed (Store bytes) cpu access taken = Accesses true bytes access
+IsArmed (Change bytes mask) cpu access taken = IsSome (word_stored access)
+IsArmed (Load bytes) cpu access taken = Accesses false bytes access
+IsArmed (Becomes register value) cpu access taken = register_value register cpu ≢ value
+IsArmed Sends cpu access taken = ⊤
+IsArmed (SendsByte byte) cpu access taken = ⊤
+IsArmed (Takes kind) cpu access taken = (cpu.stop ≡ 0) × HasKind kind taken
+IsArmed Stops cpu access taken = cpu.stop ≡ 0
+
+-- an armed condition is met: by what is known after the instruction, it holds
+abbrev pub IsMetAfter : Condition → CpuState → Option StoredWord → Option ℕ → Type 0
+IsMetAfter (Counter words) cpu stored sent = ⊤
+IsMetAfter (Store bytes) cpu stored sent = ⊤
+IsMetAfter (Change bytes mask) cpu stored sent = MatchOption stored ⊥ (Differs bytes mask)
+IsMetAfter (Load bytes) cpu stored sent = ⊤
+IsMetAfter (Becomes register value) cpu stored sent = register_value register cpu ≡ value
+IsMetAfter Sends cpu stored sent = IsSome sent
+IsMetAfter (SendsByte byte) cpu stored sent = sent ≡ Some byte
+IsMetAfter (Takes kind) cpu stored sent = ⊤
+IsMetAfter Stops cpu stored sent = cpu.stop ≢ 0
+
+-- which conditions of a list are armed
+abbrev pub AreArmed : List Condition → CpuState → Option Access → List Event → List Bool → Type 0
+AreArmed conditions cpu access taken armed =
+    (k : ℕ) (d : Condition) → k < length conditions → IsTrue (slice_index_or armed k false) ↔ IsArmed (slice_index_or conditions k d) cpu access taken
+
+-- a condition of the list is armed and met
+abbrev pub IsMetAt : List Condition → List Bool → CpuState → Option StoredWord → Option ℕ → ℕ → Type 0
+IsMetAt conditions armed cpu stored sent k =
+    (d : Condition) → IsTrue (slice_index_or armed k false) × IsMetAfter (slice_index_or conditions k d) cpu stored sent
+
+-- the parts of a step
+pub record IsObserved (access : Option Access) (taken : List Event) (cpu : CpuState) (stored : Option StoredWord) (sent : Option ℕ) (es : List Event) (step : Step) : Type 0 where
+  pub access_is : access ≡ next_access step.before.cpu step.before.words
+  pub taken_is : (kind : ℕ) → HasKind kind taken ↔ HasInput kind es step.count
+  pub cpu_is : cpu ≡ step.after.cpu
+  pub change : IsChange step.before.words step.after.words stored
+  pub sent_is : sent ≡ step.sent
+  pub there : IsSome stored → IsSome (word_stored access)
+
+-- the first condition of a list that holds at a step, or that none does
+abbrev pub IsAnswer : List Condition → List Event → Step → Option ℕ → Type 0
+IsAnswer conditions es step met = MatchOption met (NoneHolds conditions es step) (IsMet conditions es step)

@@ -1,0 +1,73 @@
+//! The bytes that an instruction loads or stores.
+ghost use Rattle.std.specs.Prelude.{◌≡◌};
+ghost use Rattle.risc_core.specs.Place.{address_of};
+ghost use Rattle.risc_model.specs.MachineState.{cpu_state};
+ghost use Rattle.risc_search.specs.Access.{access_at, next_access};
+
+use risc_core::{Instr, Place, decode, place};
+use risc_model::Cpu;
+use risc_pages::Memory;
+
+/// The number of words of RAM.
+const RAM_WORDS: u32 = 1 << 18;
+
+/// The address of the first device word.
+const DEVICES: u32 = 0xFF_FFC0;
+
+/// The bytes that an instruction loads or stores: one, or the four of a word.
+#[derive(Clone, Copy, Debug, PartialEq, Eq)]
+pub struct Access {
+    /// Whether the instruction stores them. If not, it loads them.
+    pub stores: bool,
+    /// The address of the first byte, below 2^24.
+    pub first: u32,
+    /// The number of bytes: 1 or 4.
+    pub count: u32,
+}
+
+/// Returns the access to an address: of the base and the offset.
+#[inline(always)]
+#[tactic(auto, unfolding(crate::specs::Access::access_to))]
+fn access_at(stores: bool, byte: bool, base: u32, off: i32) -> Option<Access>
+    ensures { result ≡ access_at stores byte (address_of base off) }
+{
+    let (place, lane) = place(base, off);
+    let base = match place {
+        Place::Ram(number) => 4 * number,
+        Place::Device(number) => DEVICES + 4 * number as u32,
+        Place::Nowhere => return None,
+    };
+    if byte {
+        let first = base + lane as u32;
+        Some(Access {
+            stores,
+            first,
+            count: 1,
+        })
+    } else {
+        Some(Access {
+            stores,
+            first: base,
+            count: 4,
+        })
+    }
+}
+
+/// Returns what the next instruction of a machine with this processor and memory accesses.
+#[inline(always)]
+#[tactic(auto, unfolding(crate::specs::Access::next_access, crate::specs::Access::accessed))]
+pub(crate) fn next_access(cpu: &Cpu, memory: &Memory<'_>) -> Option<Access>
+    ensures { result ≡ next_access (cpu_state cpu.now) memory.now.words }
+{
+    if cpu.stop != 0 || cpu.pc >= RAM_WORDS {
+        return None;
+    }
+    match decode(memory.read(cpu.pc)) {
+        Instr::Load { byte, b, off, .. } => access_at(false, byte, cpu.r[b as usize], off),
+        Instr::Store { byte, b, off, .. } => access_at(true, byte, cpu.r[b as usize], off),
+        Instr::Reg { .. } => None,
+        Instr::Imm { .. } => None,
+        Instr::BranchReg { .. } => None,
+        Instr::BranchOff { .. } => None,
+    }
+}

@@ -1,0 +1,29 @@
+//! The conditions that a search looks for. `meeting` tests them.
+
+use crate::register::Register;
+use crate::span::Span;
+
+/// What holds at a count n of a run. The instruction of count n is the one that the machine does after it took the inputs of this
+/// count.
+#[derive(Clone, Copy, Debug, PartialEq, Eq)]
+pub enum Condition {
+    /// The machine runs at count n, and its program counter, a word number, is in the range: a breakpoint.
+    Counter(Span),
+    /// The instruction stores to one of these bytes, of RAM or of the device words, whatever the value.
+    Store(Span),
+    /// A bit of one of these bytes of RAM differs after the instruction, and the mask names it. Bit i of the mask names bit i of
+    /// each word.
+    Change(Span, u32),
+    /// The instruction loads one of these bytes, of RAM or of the device words.
+    Load(Span),
+    /// The register is not this value before the instruction, and is after it.
+    Becomes(Register, u32),
+    /// The instruction sends a byte.
+    Sends,
+    /// The instruction sends this byte.
+    SendsByte(u8),
+    /// The machine runs at count n, and takes an input of the kind with this number, from 1 to 5.
+    Takes(u8),
+    /// The instruction stops the machine.
+    Stops,
+}
