@@ -26,7 +26,7 @@ enum {
     GALLUSPA_LONGEST = 118310056 /* bytes of the longest recording. Of a longer file, pass the first GALLUSPA_LONGEST + 1 bytes */
 };
 
-/* What galluspa_claim, galluspa_advance, galluspa_begin and galluspa_extend return. */
+/* What galluspa_claim, galluspa_advance, galluspa_find, galluspa_begin and galluspa_extend return. */
 enum {
     GALLUSPA_DONE = 0,
     GALLUSPA_OUT_OF_RANGE = 1,         /* a number is out of its range, a length is wrong, or inputs are out of order */
@@ -38,7 +38,8 @@ enum {
     GALLUSPA_TOO_MANY_CHECKPOINTS = 7, /* .. more than 4,097 checkpoints */
     GALLUSPA_TOO_MUCH_OUTPUT = 8,      /* .. more than 1,048,576 bytes sent */
     GALLUSPA_TOO_MANY_PAGES = 9,       /* .. more than 65,536 pages */
-    GALLUSPA_PENDING_INPUTS = 10       /* the recording has inputs at or after its last checkpoint */
+    GALLUSPA_PENDING_INPUTS = 10,      /* the recording has inputs at or after its last checkpoint */
+    GALLUSPA_NOT_FOUND = 11            /* of galluspa_find alone: no condition holds at any of the counts */
 };
 
 /* The state of a machine without its memory: 136 bytes. The fields are those of a checkpoint in a recording. A function that writes
@@ -98,6 +99,59 @@ uint8_t galluspa_claim(const uint8_t *text, size_t text_len, uint32_t at, gallus
  * 65,536 bytes: the run stops as soon as there is no room for what the machine has sent. */
 uint8_t galluspa_advance(galluspa_state *state, uint32_t *words, size_t words_len, const galluspa_input *inputs, size_t inputs_len,
                          uint64_t to, uint8_t *sent, size_t sent_len, size_t *sent_count);
+
+/* What holds at a count n of a run. The instruction of count n is the one that the machine does once it has taken the inputs of
+ * this count. Device words have addresses, too: they are the highest 64 bytes below 2^24. An access to a word accesses its four
+ * bytes. */
+enum {
+    GALLUSPA_COUNTER = 1,   /* the machine runs, and its program counter is in the range, of word numbers: end at most 2^22 */
+    GALLUSPA_STORE = 2,     /* the instruction stores to a byte in the range, of addresses, whatever the value: end at most 2^24 */
+    GALLUSPA_CHANGE = 3,    /* it changes a bit of a byte of RAM in the range, and value, a mask, names the bit: bit i of the mask
+                             * names bit i of each word; end at most 2^20 */
+    GALLUSPA_LOAD = 4,      /* the instruction loads a byte in the range, of addresses: end at most 2^24 */
+    GALLUSPA_BECOMES = 5,   /* a register is not value before the instruction, and is value after it. from is the register: 0 to 15
+                             * for R0 to R15, 16 for H, 17 for the flags, whose value is below 16 */
+    GALLUSPA_SENDS = 6,     /* the instruction sends a byte */
+    GALLUSPA_SENDS_BYTE = 7, /* it sends this byte: value is below 256 */
+    GALLUSPA_TAKES = 8,     /* the machine runs, and takes an input of this kind: value is 1 to 5, as in galluspa_input */
+    GALLUSPA_STOPS = 9      /* the instruction stops the machine */
+};
+
+/* A condition: 16 bytes. Fields that its kind does not name are not read. */
+typedef struct {
+    uint32_t kind;      /* which condition */
+    uint32_t from;      /* the first number of the range, or the register */
+    uint32_t end;       /* the number after the last of the range: above from */
+    uint32_t value;     /* the mask, the value of the register, the byte, or the kind of input */
+} galluspa_condition;
+
+/* A count at which a condition holds: 16 bytes. */
+typedef struct {
+    uint64_t count;     /* the count */
+    uint64_t condition; /* the index of the first condition of the list that holds at it */
+} galluspa_hit;
+
+/* What galluspa_find looks for. */
+enum {
+    GALLUSPA_FIRST = 0, /* the first count */
+    GALLUSPA_LAST = 1   /* the last count */
+};
+
+/* Finds when a condition holds: the first count, or the last, from the count of a state up to but not including the count to, at
+ * which one of these conditions, of which there are at most 64, holds in the run that galluspa_advance would do with these inputs.
+ * words_len is GALLUSPA_WORDS, and wanted GALLUSPA_FIRST or GALLUSPA_LAST. The state stays as it is: advance it to the count of the
+ * hit to see the machine there.
+ *
+ * Returns GALLUSPA_DONE, and writes the hit; GALLUSPA_NOT_FOUND; or GALLUSPA_OUT_OF_RANGE or GALLUSPA_OUT_OF_MEMORY. Unless it is
+ * GALLUSPA_DONE, nothing is written. All numbers are tested before anything is allocated, so GALLUSPA_OUT_OF_MEMORY means that they
+ * are in their ranges.
+ *
+ * A call does some 20 to 40 million steps a second, and far more where the machine waits, since it passes over the iterations of an
+ * idle loop. Cut a long range into calls of some millions of steps each, and advance the state between them. A call copies the
+ * memory, and holds at most some 2.3 MB and 16 bytes for each input. */
+uint8_t galluspa_find(const galluspa_state *state, const uint32_t *words, size_t words_len, const galluspa_input *inputs,
+                      size_t inputs_len, uint64_t to, const galluspa_condition *conditions, size_t conditions_len, uint32_t wanted,
+                      galluspa_hit *hit);
 
 /* Begins a recording: writes the recording that has no inputs, and checkpoint 0 alone, which claims this state, to out, and its
  * length to *out_count. words_len is GALLUSPA_WORDS. The state's count is 0, since a recording counts from its initial state.

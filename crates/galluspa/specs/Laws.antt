@@ -12,7 +12,7 @@ use Rattle.oberon_format.specs.Text.{Text}
 use Rattle.oberon_session.specs.Extended.{last_count}
 use Rattle.galluspa.specs.declared.raw.RawInput.{RawInput}
 use Rattle.galluspa.specs.declared.raw.RawState.{RawState}
-use Rattle.galluspa.specs.declared.refusal.TheConstants.{DONE, NO_CHECKPOINT, NO_RECORDING, NO_ROOM, OUT_OF_MEMORY, OUT_OF_RANGE, PENDING_INPUTS, TOO_MANY_CHECKPOINTS, TOO_MANY_INPUTS, TOO_MANY_PAGES, TOO_MUCH_OUTPUT}
+use Rattle.galluspa.specs.declared.refusal.TheConstants.{DONE, NO_CHECKPOINT, NO_RECORDING, NO_ROOM, NOT_FOUND, OUT_OF_MEMORY, OUT_OF_RANGE, PENDING_INPUTS, TOO_MANY_CHECKPOINTS, TOO_MANY_INPUTS, TOO_MANY_PAGES, TOO_MUCH_OUTPUT}
 use Rattle.galluspa.specs.declared.words.TheConstants.{WORDS}
 use Rattle.galluspa.specs.Advance.{HasRun}
 use Rattle.galluspa.specs.Extend.{IsBeginning, IsExtension}
@@ -74,4 +74,5 @@ pub record HasCodes : Type 0 where
   pub too_much_output : TOO_MUCH_OUTPUT ≡ 8
   pub too_many_pages : TOO_MANY_PAGES ≡ 9
   pub pending_inputs : PENDING_INPUTS ≡ 10
+  pub not_found : NOT_FOUND ≡ 11
   pub words : WORDS ≡ 262144

@@ -6,5 +6,6 @@ pub mod Claim
 pub mod Record
 pub mod Migrate
 pub mod Extend
+pub mod Find
 pub mod Laws
 pub mod inner

@@ -34,6 +34,9 @@ pub const TOO_MANY_PAGES: u8 = 9;
 /// The recording has inputs at or after its last checkpoint.
 pub const PENDING_INPUTS: u8 = 10;
 
+/// No condition of a search holds at any of its counts.
+pub const NOT_FOUND: u8 = 11;
+
 /// Why a machine was not advanced.
 #[derive(Clone, Copy)]
 pub enum Refusal {

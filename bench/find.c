@@ -1,0 +1,55 @@
+/* find FILE STEPS TURNS: prints how many million steps a second galluspa_find does from the first state of a recording, without its
+ * inputs, with conditions that never hold: a word that the program counter never comes to; a word that is never stored to as well;
+ * and a value that R11 never becomes as well. The best of so many turns, by the processor's time. */
+#include "galluspa.h"
+#include <stdio.h>
+#include <stdlib.h>
+#include <time.h>
+
+static uint8_t text[GALLUSPA_LONGEST + 1];
+static uint32_t words[GALLUSPA_WORDS];
+static galluspa_state state;
+
+static double seconds(void) {
+    struct timespec now;
+    clock_gettime(CLOCK_PROCESS_CPUTIME_ID, &now);
+    return (double)now.tv_sec + 1e-9 * (double)now.tv_nsec;
+}
+
+/* The seconds of one search with the first of the conditions. */
+static double search(uint64_t steps, size_t conditions) {
+    static const galluspa_condition never[] = {
+        {.kind = GALLUSPA_COUNTER, .from = 0x3FFFFF, .end = 0x400000},
+        {.kind = GALLUSPA_STORE, .from = 0xFFF00, .end = 0xFFF04},
+        {.kind = GALLUSPA_BECOMES, .from = 11, .value = 0x12345678},
+    };
+    static const galluspa_input none; /* no pointer may be null */
+    galluspa_hit hit;
+    double start = seconds();
+    uint8_t answer = galluspa_find(&state, words, GALLUSPA_WORDS, &none, 0, state.count + steps, never, conditions, GALLUSPA_FIRST, &hit);
+    if (answer != GALLUSPA_NOT_FOUND) {
+        fprintf(stderr, "the search answers %u\n", answer);
+        exit(3);
+    }
+    return seconds() - start;
+}
+
+int main(int argc, char **argv) {
+    if (argc != 4) return 4;
+    FILE *file = fopen(argv[1], "rb");
+    if (!file) { perror(argv[1]); return 3; }
+    size_t length = fread(text, 1, sizeof text, file);
+    fclose(file);
+    if (galluspa_claim(text, length, 0, &state, words, GALLUSPA_WORDS)) return 2;
+    uint64_t steps = strtoull(argv[2], NULL, 10);
+    for (size_t conditions = 1; conditions <= 3; conditions++) {
+        double best = 1e9;
+        for (int turn = atoi(argv[3]); turn > 0; turn--) {
+            double took = search(steps, conditions);
+            if (took < best) best = took;
+        }
+        printf(" %8.1f", (double)steps / best / 1e6);
+    }
+    printf("\n");
+    return 0;
+}
