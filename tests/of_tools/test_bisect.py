@@ -105,7 +105,7 @@ class BisectTest(ToolTest):
         for file in ("it.json", "it.orsr"):
             ran = self.bisect(-1, file=file)
             self.assertEqual((ran.errors, ran.status), ("", 0))
-            self.assertTrue(ran.output.startswith(f"the same at {FIRST + 100}, and at each of the 14 counts".encode()))
+            self.assertTrue(ran.output.startswith(f"the same at {FIRST + 100}, and at each of the 15 counts".encode()))
 
     def test_each_mistake_is_found_to_the_instruction(self) -> None:
         with ThreadPoolExecutor(4) as pool:
@@ -120,7 +120,7 @@ class BisectTest(ToolTest):
     def test_shows_progress_on_a_terminal(self) -> None:
         command = [self.built / "-1/state", self.built / "it.orsr", "{count}", self.folder / "memory.bin"]
         told = on_terminal("bisect", self.built / "it.json", "--to", 8, "--", *command)
-        self.assertIn(b"run 5: the same at 4, looking at 8\r\x1b[K\r", told)
+        self.assertIn(b"run 9: the same at 7, looking at 8\r\x1b[K\r", told)
 
     def test_what_differs_is_told(self) -> None:
         lines = self.bisect(5, "--steps", 1).output.decode().splitlines()
@@ -142,16 +142,58 @@ echo "${{shown%, \\"memory\\"*}}, \\"memory_sha256\\": \\"$digest\\"}}"
         self.assertIn(f"differs after instruction {FIRST + 8}: ", ran.output.decode())
         self.assertIn("memory  SHA-256 ", ran.output.decode())
 
-    def test_each_count_can_be_looked_at(self) -> None:
-        """A difference that is gone again at each count that is looked at is found with --every."""
-        file = self.file("rejoin.json", json.dumps(session([0x45000001, 0x45000001, JUMP], [8])))
-        command = self.file("other", '#!/bin/sh\nr=1; [ $1 -eq 0 ] && r=0; [ $1 -eq 3 ] && r=9\n'
+    def wrong_at(self, count: int) -> Path:
+        """A command that shows a wrong R5 at one count alone, of a program that sets it to 1."""
+        command = self.file("other", f'#!/bin/sh\nr=1; [ $1 -eq 0 ] && r=0; [ $1 -eq {count} ] && r=9\n'
                             'echo "{\\"R\\": [0,0,0,0,0,$r,0,0,0,0,0,0,0,0,0,0]}"\n')
         command.chmod(0o755)
-        self.assertEqual(tool("bisect", file, "--", command, "{count}").status, 0)
-        ran = tool("bisect", file, "--every", 1, "--", command, "{count}")
-        self.assertEqual(ran.status, 1)
-        self.assertTrue(ran.output.startswith(b"differs after instruction 2: the same at 2, not at 3"))
+        return command
+
+    def test_each_count_of_a_short_run_is_looked_at(self) -> None:
+        """A difference that is gone again an instruction later is found in a short run, and in a longer one with
+        --every or after an input."""
+        program = [0x45000001, 0x45000001, JUMP]
+        short, long = (self.file(f"{last}.json", json.dumps(session(program, [last]))) for last in (8, 1001))
+        ran = tool("bisect", short, "--", self.wrong_at(3), "{count}")
+        self.assertTrue(ran.output.startswith(b"differs after instruction 2: the same at 2, not at 3, found by 4 runs"), ran)
+        self.assertEqual(tool("bisect", long, "--", self.wrong_at(3), "{count}").status, 0)
+        ran = tool("bisect", long, "--every", 3, "--", self.wrong_at(3), "{count}")
+        self.assertTrue(ran.output.startswith(b"differs after instruction 2: the same at 2, not at 3"), ran)
+
+    def test_the_count_after_each_input_is_looked_at(self) -> None:
+        program, inputs = [0x45000001, 0x45000001, JUMP], [(at, "mouse", at) for at in (7, 600, 600, 700)]
+        long = self.file("long.json", json.dumps(session(program, [5000], inputs)))
+        ran = tool("bisect", long, "--", self.wrong_at(601), "{count}")
+        self.assertTrue(ran.output.startswith(b"differs after instruction 600: the same at 600, not at 601"), ran)
+        ran = tool("bisect", long, "--", self.wrong_at(602), "{count}")
+        self.assertTrue(ran.output.startswith(b"the same at 5000, and at each of the 17 counts that were looked at\n"), ran)
+
+    def test_of_many_inputs_some_are_looked_at(self) -> None:
+        inputs = [(at, "mouse", at & 1) for at in range(1, 3002)]
+        many = self.file("many.json", json.dumps(session([0x45000001, JUMP], [5000], inputs)))
+        ran = tool("bisect", many, "--", self.wrong_at(0), "{count}")
+        self.assert_refused(ran, "they differ at count 0 already, in R5")
+        ran = tool("bisect", many, "--", self.wrong_at(5001), "{count}")
+        self.assertIn(b"; 751 of 3,001 counts after inputs are among them\n", ran.output)
+        self.assertEqual(ran.status, 0)
+
+    def test_what_the_run_does_not_exercise_is_told(self) -> None:
+        short = self.file("short.json", json.dumps(session([0x45000001, 0x45000001, JUMP], [8])))
+        ran = tool("bisect", short, "--", self.wrong_at(9), "{count}")
+        self.assertEqual(ran.output.decode().splitlines(), [
+            "the same at 8, and at each of the 9 counts that were looked at",
+            "none of the 8 instructions is one of these:",
+            "operations: LSL, ASR, ROR, AND, ANN, IOR, XOR, ADD, SUB, MUL, DIV, FAD, FSB, FML, FDV",
+            "branches: BMI, BEQ, BCS, BVS, BLS, BLT, BLE, BPL, BNE, BCC, BVC, BHI, BGE, BGT, BNO",
+            "memory: LDR, LDB, STR, STB",
+            "the recordings of examples/suite exercise them all (docs/suites.md says how to run an emulator on them)",
+        ])
+
+    def test_of_a_long_run_some_instructions_are_looked_at(self) -> None:
+        """The program of the mistakes, which does some of its instructions once, and then jumps to itself."""
+        ran = self.bisect(-1, "--to", 100_000)
+        lines = ran.output.decode().splitlines()
+        self.assertEqual((ran.status, lines[1]), (0, "none of the 100,000 instructions, of which 2,048 were looked at, is one of these:"))
 
     def test_refuses_bad_input(self) -> None:
         session_file, say = self.built / "it.json", ("sh", "-c")
@@ -175,9 +217,10 @@ echo "${{shown%, \\"memory\\"*}}, \\"memory_sha256\\": \\"$digest\\"}}"
         ):
             self.assert_refused(tool("bisect", session_file, "--", *say, f"{printed} # {{count}}"), told)
         self.assert_refused(tool("bisect", session_file, "--seconds", 1, "--", *say, "sleep 9 # {count}"), "no answer in 1 s")
+        self.assert_refused(tool("bisect", session_file, "--", "yes", "{count}"), "yes 0: it prints more than 16,777,216 bytes")
 
     def test_the_examples_have_the_same_states(self) -> None:
         recorded = self.file("keys.orsr", record((EXAMPLES / "keys.json").read_bytes()))
         command = [self.built / "-1/state", recorded, "{count}", self.folder / "memory.bin"]
         ran = tool("bisect", EXAMPLES / "keys.json", "--every", 10, "--", *command)
-        self.assertEqual(ran.output, b"the same at 100, and at each of the 11 counts that were looked at\n")
+        self.assertTrue(ran.output.startswith(b"the same at 100, and at each of the 11 counts that were looked at\n"), ran)

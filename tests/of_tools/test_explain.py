@@ -6,6 +6,7 @@ import json
 import os
 import re
 import struct
+import time
 import tracemalloc
 from dataclasses import replace
 
@@ -78,6 +79,13 @@ class ExplainTest(ToolTest):
             "R0 had the claimed value at 41 of the counts 0 to 143: last at 41, 2 before.",
         ])
 
+    def test_twenty_thousand_instructions_take_seconds(self) -> None:
+        text = self.claiming(record(session((0x40080001, 0xE7FFFFFE), [60000])), 1, "R0=20007")
+        start = time.monotonic()
+        lines = self.explained(text, "--steps", 20000)
+        self.assertLess(time.monotonic() - start, 10)
+        self.assertEqual(lines[-1], "R0 had the claimed value at 2 of the counts 40000 to 62000: last at 40014, 19,986 before.")
+
     def test_memory_is_told_word_by_word(self) -> None:
         made = bytearray(record(session(WORDS, [60])))
         first = 24 + (recording.read(bytes(made)).checkpoints[1].table[0] - 1) * 1024 + 400
@@ -116,8 +124,7 @@ class ExplainTest(ToolTest):
         self.assertEqual(lines[0], "false checkpoint 2 at 8000000 part page 955")
         self.assertIn("The screen: 2 dots differ, at x 576 to 577 and y 219, counted from the left and from below.", lines)
         self.assertTrue(any("++" in line and "--" in line.split()[-1] for line in lines))
-        self.assertTrue(any(line.startswith("None of the 20 instructions before count 8000000 wrote Mem[0EECC8]. This one")
-                            for line in lines))
+        self.assertIn("None of the 20 instructions before count 8000000 wrote Mem[0EECC8]. The last one before them that wrote it:", lines)
         self.assertTrue(any("  4838732      41  A6D00000  STR R6, R13, 0" in line for line in lines))
         ran = tool("report", self.file("false.orsr", bytes(made)))
         self.assertEqual((ran.errors, ran.status), ("", 1))
@@ -127,6 +134,23 @@ class ExplainTest(ToolTest):
             self.assertEqual([picture.getpixel((x, 767 - 219)) for x in (576, 577)], [color] * 2)
             colors = {shown: many for many, shown in picture.convert("RGB").getcolors()}
             self.assertEqual((colors[color], colors.get(other)), (2, None))
+
+    def test_what_wrote_a_part_long_before_is_told(self) -> None:
+        """R5 := 7 twice, the LEDs, a store and a byte that is sent; then R0 counts. A key and a byte come meanwhile."""
+        words = (0x5100FFC0, 0x45000007, 0x45000007, 0xA5100004, 0xA5200190, 0xA5200190, 0xA5100008, 0x40080001, 0xE7FFFFFE)
+        told = session(words, [30_000, 60_000], [(1000, "key", 65), (2000, "serial", 66), (3000, "switches", 5)])
+        made = record({**told, "version": 2, "start": {**told["start"], "rate": 25_000, "phase": 0}})
+        for claimed, part, did, count in (
+            ("R5=9", "R5", "changed", 1), ("H=9", "H", "changed", None), ("LEDs=9", "LEDs", "wrote", 3), ("serial=9", "serial", "wrote", 2000),
+            ("switches=9", "switches", "wrote", 3000), ("mouse=9", "mouse", "wrote", None), ("timer=9", "timer", "", 24_999), ("rate=25001", "rate", "changed", None),
+        ):
+            lines = self.explained(self.claiming(made, 1, claimed), "--steps", 9)
+            none = f"None of the 9 instructions before count 30000 wrote {part}."
+            last = f"The last one before them that {did} it:" if did else "This one before them, found by bisection, set it to what it is there:"
+            self.assertIn(f"{none} Since checkpoint 0 none {did} it." if count is None else f"{none} {last}", lines)
+            self.assertEqual([line.split()[0] for line in lines[6:-2] if "input" not in line], [str(count)] if count else [], part)
+        lines = self.explained(self.claiming(made, 2, "R5=9"), "--steps", 9)
+        self.assertIn("None of the 9 instructions before count 60000 wrote R5. Since checkpoint 1 none changed it.", lines)
 
     def test_the_report_does_without_a_library(self) -> None:
         command = [TOP / "tools/report", self.file("false.orsr", rejoining(9))]

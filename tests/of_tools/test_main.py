@@ -44,6 +44,14 @@ class MainTest(ToolTest):
         ran = tool("main", "record", path)
         self.assertEqual((ran.output, ran.status), (b"session refused 2 shape\n", 2))
         self.assertTrue(ran.errors.startswith("main: the session lacks version\nmain: rule   the session has exactly "))
+        for name, text, told in (
+            ("it.asm", (EXAMPLES / "keys.asm").read_bytes(), "main: a source: tools/main assemble "),
+            ("it.orsr", STORED, f"main: a recording already: tools/main {self.folder / 'it.orsr'} checks it"),
+            ("it.bin", bytes(40), "main: if it is a memory image, tools/main session --memory "),
+        ):
+            ran = tool("main", "record", self.file(name, text))
+            self.assertEqual((ran.output, ran.status), (b"session refused 1 json\n", 2))
+            self.assertIn(told, ran.errors)
         ran = tool("main", "check", "--workers", 99, FACE)
         self.assertEqual((ran.output, ran.status), (b"words refused\n", 4))
         self.assertEqual(ran.errors, "main: oberon_replay refuses the arguments check --workers 99: tools/main check --help\n")
@@ -77,7 +85,10 @@ class MainTest(ToolTest):
 
     def test_refuses_bad_input(self) -> None:
         self.assert_refused(tool("main", "none"), "none: neither a file nor a command")
-        self.assert_refused(tool("main", "record", FACE, FACE), "record takes one file, and 2 are named")
+        to_output = f"what it makes goes to standard output: tools/main record {FACE} > NAME"
+        self.assert_refused(tool("main", "record", FACE, FACE), f"record takes one file, and 2 are named; {to_output}")
+        self.assert_refused(tool("main", "record", FACE, "-o", FACE), f"record takes one file, and 2 are named; {to_output}")
+        self.assert_refused(tool("main", "screen", "--at", 1, FACE, "--output"), "screen takes one file; what it makes")
         self.assert_refused(tool("main", "check", self.folder), "Is a directory")
         ran = tool("main", FACE, self.folder / "none")
         self.assertEqual((ran.status, ran.output.decode()), (2, f"{FACE}: accepted 4 checkpoints 20000000 steps\n"))

@@ -3,6 +3,7 @@
 import json
 import os
 import pty
+import resource
 import signal
 import subprocess
 import tempfile
@@ -37,7 +38,8 @@ class OutputTest(ToolTest):
         self.file("suite/a.orsr", STORED)
         return [
             ["claim", FACE, "--at", 1, "--set", "R5=9"], ["coverage", self.folder / "suite"], ["explain", FACE],
-            ["join", FACE, piece], ["listing", FACE], ["main", FACE], ["main", "--version"], ["recording-of", live],
+            ["diff", FACE, FACE], ["film", FACE], ["join", FACE, piece], ["listing", FACE], ["main", FACE], ["main", "--version"],
+            ["output", self.file("hello.orsr", record((EXAMPLES / "hello.json").read_bytes()))], ["recording-of", live],
             ["report", FACE], ["report", "--help"], ["session", "--of", FACE], ["slice", FACE, "--from", 1, "--to", 2],
             ["suite", self.folder / "suite"],
         ]
@@ -89,8 +91,9 @@ class NamesTest(ToolTest):
             ["main", path, path], ["recording-of", path], ["report", path], ["report", "--text", path], ["session", "--of", path],
             ["session", "--memory", path, "--set", HOSTILE, "--every", 1, "--until", 1], ["slice", path, "--from", 1, "--to", 9],
             ["suite", path], ["coverage", path], ["suite", self.folder], ["coverage", self.folder],
-            ["trace", path, "--until", HOSTILE], ["bisect", path, "--", HOSTILE, "{count}"],
-            ["package", "--into", path / "none", "--library", path],
+            ["trace", path, "--until", HOSTILE], ["find", path, HOSTILE], ["find", path, "R5=9"], ["bisect", path, "--", HOSTILE, "{count}"],
+            ["package", "--into", path / "none", "--library", path], ["diff", path, path], ["diff", path, FACE], ["film", path, "-o", path.with_suffix(".png")],
+            ["output", path, "--at", 9], ["film", path, "-o", path / "none"],
         ]
         self.assert_shown(commands)
         self.file(HOSTILE, b"{")
@@ -196,6 +199,45 @@ class SizeTest(ToolTest):
             ran = tool(*words)
             self.assertIn(told, ran.output.decode() + ran.errors)
             self.assertLess(time.monotonic() - start, 20)
+
+
+class SessionCostTest(ToolTest):
+    """What the longest sessions cost `record` before it refuses them: so many times their bytes of memory, with the program
+    itself, and so many seconds of a processor."""
+
+    LONGEST, MEMORY, SECONDS = 67_108_864, 12, 4
+    START = b'{"format":"oberon-session","version":1,"start":{"R":[%s],"H":0,"PC":0,"flags":0},"pages":[],' % b",".join([b"0"] * 16)
+
+    def longest(self, first: bytes, item: bytes, last: bytes) -> bytes:
+        """The longest session with as many of an item as fit."""
+        begin = self.START + first
+        times = (self.LONGEST - len(begin) - len(item) - len(last)) // (len(item) + 1)
+        return begin + (item + b",") * times + item + last
+
+    def refused(self, text: bytes) -> tuple[str, float]:
+        """What the program says of a session, in that memory, and how long it takes."""
+        limit = self.MEMORY * self.LONGEST
+        before = resource.getrusage(resource.RUSAGE_CHILDREN)
+        ran = run([PROGRAM, "record"], text, preexec_fn=lambda: resource.setrlimit(resource.RLIMIT_AS, (limit, limit)))
+        after = resource.getrusage(resource.RUSAGE_CHILDREN)
+        return ran.output.decode(), after.ru_utime + after.ru_stime - before.ru_utime - before.ru_stime
+
+    def test_a_session_that_is_none_costs_little(self) -> None:
+        end = b'],"checkpoints":[]}'
+        for first, item, last, line in (
+            (b'"inputs":[', b'{"":0}', end, "2 shape"),
+            (b'"inputs":[', b"[]", end, "2 shape"),
+            (b'"inputs":[', b"[" * 120 + b"]" * 120, end, "2 shape"),
+            (b'"inputs":[{', b'"":0', b"}" + end, "2 shape"),
+            (b'"inputs":[', rb'"\u0041"', end, "2 shape"),
+            (b'"inputs":[', b'{"":0}', b"", "1 json"),
+            (b'"inputs":[', b'[0,"key",0]', end, "3 range"),
+            (b'"inputs":[],"checkpoints":[', b"1", b"]}", "3 range"),
+        ):
+            with self.subTest(item):
+                said, took = self.refused(self.longest(first, item, last))
+                self.assertEqual(said, f"session refused {line}\n")
+                self.assertLess(took, self.SECONDS)
 
 
 class TimeTest(ToolTest):

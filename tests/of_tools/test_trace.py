@@ -3,11 +3,14 @@
 import json
 import random
 import time
+from dataclasses import replace
 
 from galluspa import recording
-from galluspa.library import SENT_KEPT, Library, Sent
-from galluspa.tracing import Run, Step
-from samples import EXAMPLES, JUMP, STORED, ToolTest, on_terminal, record, rejoining, session, tool
+from galluspa.library import MOST_STEPS, SENT_KEPT, Library, Sent
+from galluspa.limits import Limit, TimeIsUp
+from galluspa.recording import Event, page_of
+from galluspa.tracing import FIRST_ONES, Run, Step
+from samples import EXAMPLES, JUMP, STORED, ToolTest, claim, encoded, on_terminal, record, rejoining, session, tool
 
 # R1 := FF0000H and R1 := 65280 - 1 down to 0 in a loop of two, then a division by 0, which stops.
 COUNTING = (0x6100000F, 0x41190001, 0xE93FFFFE, 0x600B0000)
@@ -20,6 +23,12 @@ def run_of(text: bytes) -> Run:
     """The run of a true recording."""
     read = recording.read(text)
     return Run(Library.find(None), text, read, range(len(read.checkpoints)))
+
+
+def plain(step: Step) -> Step:
+    """An instruction without what tells how it was had: where its states were read, and their tables."""
+    before, after = (replace(it, start=0, table=None) for it in (step.before, step.after))
+    return replace(step, before=before, after=after, changed=tuple(step.changed), inputs=tuple(step.inputs))
 
 
 def steps_of(text: bytes, number: int) -> list[Step]:
@@ -79,8 +88,8 @@ class TraceTest(ToolTest):
     def test_finds_the_first_that_brings_something_about(self) -> None:
         made = record(session(SENDING, [40]))
         for condition, count in (
-            (["sent"], 23), (["write", "0x193"], 24), (["write", "400"], 24), (["R2=8"], 4), (["4"], 21), (["PC=4"], 21),
-            (["flags=Z"], 20), (["R0=0x41"], 22),
+            (["sent"], 23), (["store", "0x193"], 24), (["write", "400"], 24), (["R2=8"], 4), (["4"], 22), (["PC=4"], 22),
+            (["flags=Z"], 20), (["R0=0x41"], 22), (["stop", "R0=0x41", "sent"], 22),
         ):
             lines = self.lines(made, "--steps", 2, "--until", *condition)
             self.assertEqual([int(line.split()[0]) for line in lines], [count - 1, count], condition)
@@ -88,13 +97,19 @@ class TraceTest(ToolTest):
         self.assertEqual((ran.output, ran.status), (b"", 1))
         self.assertEqual(ran.errors, "trace: stop does not come about from 0 to 40\n")
 
+    def test_the_way_to_the_beginning_shows_progress(self) -> None:
+        recorded = self.file("it.orsr", record(session((0x40080001, 0xE7FFFFFE), [1 << 26])))
+        told = on_terminal("trace", recorded, "--from", 60_000_000, "--steps", 1)
+        self.assertIn(b"the recording is checked\r", told)
+        self.assertRegex(told, rb"at \d\d?,\d{3},\d{3} of 60,000,000\r\x1b\[K\r$")
+
     def test_shows_progress_on_a_terminal(self) -> None:
         recorded = self.file("it.orsr", record(session(COUNTING, [3_000_000])))
-        self.assertIn(b"at 1,048,576 of 3,000,000\r", on_terminal("trace", recorded, "--until", "stop"))
-        told = on_terminal("trace", recorded, "--until", "R1=1", "--to", 300)
-        self.assertIn(b"at 256 of 300\r\x1b[K\r", told)
+        self.assertIn(b"searched 524,288 of 3,000,000\r", on_terminal("trace", recorded, "--until", "stop"))
+        told = on_terminal("trace", recorded, "--until", "R5=1", "--to", 300)
+        self.assertIn(b"searched 300 of 300\r\x1b[K\r", told)
 
-    def test_a_stop_after_millions_is_found_by_bisection(self) -> None:
+    def test_a_stop_after_millions_is_found(self) -> None:
         made = record(session(COUNTING, [3_000_000]))
         lines = self.lines(made, "--until", "stop", "--steps", 1)
         self.assertEqual(lines[0].split()[:4], [str(STOPS_AFTER), "3", "600B0000", "DIV'"])
@@ -140,14 +155,102 @@ class TraceTest(ToolTest):
         self.assert_refused(tool("trace", stored, "--from", 6, "--to", 5), "--from 6 is after")
         self.assert_refused(tool("trace", stored, "--at", 2), "no checkpoint 2")
         self.assert_refused(tool("trace", stored, "--at", 1), "count 0 is before checkpoint 1, at 100")
-        for words in (["write"], ["R16=1"], ["R1="], ["x"], ["sent", "1"], ["PC=0x100000000"]):
-            self.assert_refused(tool("trace", stored, "--until", *words), f"--until {' '.join(words)}")
+        self.assert_refused(tool("trace", stored, "--from", 101), "--from 101 is after the last checkpoint, which is at 100")
+        self.assert_refused(tool("trace", stored, "--from", (1 << 40) + 1), "'1099511627777' is no whole number from 0 to ")
+        for words, told in ((["write"], "write: want a PLACE"), (["R16=1"], "R16: want PC=N"), (["R1="], "R1: want"), (["x"], "x: want"),
+                            (["sent", "1", "R1"], "R1: want"), (["write", "1", "mask"], "mask: want"), (["PC=0x400000"], "PC 0x400000: a PC is below"),
+                            (["flags=16"], "flags can have no bit but those of F ")):
+            self.assert_refused(tool("trace", stored, "--until", *words), told)
 
     def test_refuses_what_is_no_library(self) -> None:
         stored = self.file("stored.orsr", STORED)
         self.assert_refused(tool("trace", stored, "--library", self.folder / "none"), "no library at")
         self.assert_refused(tool("trace", stored, "--library", stored), "stored.orsr: no library of Galluspa")
         self.assert_refused(tool("trace", stored, "--library", "/lib/x86_64-linux-gnu/libc.so.6"), "no library of Galluspa")
+
+
+class AtOnceTest(ToolTest):
+    """The instructions that are had by many at once are those that are had one by one."""
+
+    def assert_alike(self, text: bytes, number: int) -> list[Step]:
+        """Compares both from the first state of a recording on, and gives them back."""
+        run = run_of(text)
+        run.true = range(1)
+        one, other = run.machine(0), run.machine(0)
+        slow, fast = list(run._one_by_one(one, number)), list(run.steps(other, number))
+        self.assertEqual([plain(step) for step in fast], [plain(step) for step in slow])
+        self.assertEqual((bytes(other.state), other.memory()), (bytes(one.state), one.memory()))
+        return fast
+
+    def test_they_are_of_a_program_that_counts_and_sends(self) -> None:
+        loop = (0x5100FFC8, 0x40080001, 0xA0100000, 0xA01FFFFC, 0xA0200190, 0x8F1FFFF8, 0xE7FFFFFA)
+        inputs = [(at, kind, at % 256) for at, kind in zip(range(3, 3000, 7), ("mouse", "key", "switches", "timer") * 107)]
+        told = session(loop, [1], inputs)
+        told |= {"version": 2, "start": {**told["start"], "rate": 13, "phase": 5}}
+        steps = self.assert_alike(record(told), 6000)
+        self.assertEqual((len(steps), sum(bool(step.after.output) for step in steps)), (6000, 1000))
+        self.assertEqual({len(step.before.keys) for step in steps} >= {1, 16}, True)
+
+    def test_they_are_from_any_state_of_the_devices(self) -> None:
+        """Also from one that no session can say: a byte of the serial line that was read already."""
+        loop = page_of(0x5100FFC0, *[0xEF000000] * 200, 0x82100010, 0x83100008, 0x84100018, 0x8510001C, 0xA5100004, 0xE7FFFFFA)
+        for serial in (0, 0x42, 0x142, 0x100):
+            first = claim(0, rate=9, phase=8, timer=77, switches=0xABC, leds=0x5A, mouse=0x07001002, serial=serial, keys=b"\0abc")
+            steps = self.assert_alike(encoded(2, [loop], [first, replace(first, count=1)], [Event(100, 5, 9), Event(300, 4, 8)]), 500)
+            leds = [step.after.leds for step in steps]
+            self.assertEqual((set(leds[:204]), set(leds[205:])), ({0x5A}, {0, 8, 0x61, 0x62, 0x63}))
+
+    def test_they_end_where_the_machine_stops(self) -> None:
+        for words in ((*[0xEF000000] * 240, 0x000C0000), (*[0xEF000000] * 64, 0x600B0000), (0x40080001,) * 240 + (0x6F000020, 0xA1F00000)):
+            jump = (0x5F00FFFF, 0x4FF10010, 0xC700000F)
+            for program in (words, words[:-1] + jump):
+                steps = self.assert_alike(record(session(program, [9])), 5000)
+                self.assertGreater(len(steps), FIRST_ONES)
+                self.assertEqual([step.after.stop != 0 for step in steps], [False] * (len(steps) - 1) + [True])
+
+    def test_they_are_of_random_programs(self) -> None:
+        source = random.Random(3)
+        for _ in range(4):
+            words = [word for word in (self.word(source) for _ in range(400)) if word >> 31 or word >> 16 & 15 < 11][:250]
+            steps = self.assert_alike(record({**session(words, [1]), "version": 2, "start": {
+                "R": [source.getrandbits(18) for _ in range(16)], "H": 0, "PC": 0, "flags": 0, "rate": 3, "phase": 0}}), 900)
+            self.assertGreater(len(steps), FIRST_ONES)
+
+    def word(self, source: random.Random) -> int:
+        """An operation, or a load or a store near the address in R15, which nothing writes."""
+        word = source.choice((0, 0x40000000, 0x80000000, 0xA0000000)) | source.getrandbits(28) & 0xF7F70FFF
+        return word | 0xF00000 if word >> 31 else word
+
+    def test_where_the_time_is_over_the_machine_is_at_the_last(self) -> None:
+        run = run_of(record(session((0x40080001, 0xE7FFFFFE), [100_000])))
+        machine, last = run.machine(0), None
+        run.library = replace(run.library, limit=Limit(1.5))
+        with self.assertRaises(TimeIsUp):
+            for step in run.steps(machine, 1 << 30):
+                last = step
+        self.assertEqual((machine.count, machine.state.r[0]), (last.after.count, last.after.registers[0]))
+        self.assertGreater(machine.count, FIRST_ONES)
+
+    def test_a_search_goes_faster(self) -> None:
+        counting = self.file("it.orsr", record(session((0x40080001, 0xE7FFFFFE), [100_000])))
+        start = time.monotonic()
+        lines = tool("trace", counting, "--until", "R0=15000", "--steps", "2").output.decode().splitlines()
+        self.assertEqual([int(line.split()[0]) for line in lines], [29_997, 29_998])
+        self.assertLess(time.monotonic() - start, 15)
+
+
+class SliceTest(ToolTest):
+    """A call of the library takes a part of a second, whatever the machine did before."""
+
+    def test_a_loop_that_follows_a_long_wait_is_cut_into_slices(self) -> None:
+        """The machine waits for a key, for long, and then counts. The seconds are those of the processor."""
+        words = (0x5100FFC8, 0x82100010, 0x42210003, 0xE8FFFFFD, 0x40080001, 0xE7FFFFFE)
+        run, ends = run_of(record(session(words, [1], [(1 << 31, "key", 65)]))), []
+        machine = run.machine(0)
+        run.advance(machine, (1 << 31) + (1 << 26), lambda count: ends.append((count, time.process_time())))
+        slices = [(later - sooner, seconds - before) for (sooner, before), (later, seconds) in zip(ends, ends[1:])]
+        self.assertLessEqual(max(steps for steps, _ in slices), MOST_STEPS)
+        self.assertLess(sorted(seconds for _, seconds in slices)[-2], 0.25)
 
 
 class LongRunTest(ToolTest):

@@ -55,6 +55,11 @@ def stop(number: int) -> None:
         raise _signalled
 
 
+def is_ending() -> bool:
+    """Whether a signal ends the tool. A thread that works for long asks this now and then."""
+    return _signalled is not None
+
+
 @contextlib.contextmanager
 def _shielded() -> Iterator[None]:
     """What an exception must not break in the main thread: to begin a program, and to wait for threads."""

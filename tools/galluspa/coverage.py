@@ -68,6 +68,8 @@ TABLES = [
           ["divisor 0", "divisor 0, with u", "divisor below 0", "divisor below 0, with u", "fetch, by going on",
            "fetch, by a branch", *(f"address, by {move}" for move in MOVES)], ["stopped"]),
 ]
+# The tables whose rows are instructions.
+INSTRUCTIONS = ("operations", "memory", "branches")
 CELLS = [cell for table in TABLES for cell in table.cells()]
 
 
@@ -92,6 +94,16 @@ class Coverage:
     def missing(self, table: Table) -> list[Cell]:
         """The cells of a table that were not seen."""
         return [cell for cell in table.cells() if not self.times[cell]]
+
+
+def unexercised(seen: Coverage) -> Iterator[tuple[str, list[str]]]:
+    """The operations, the loads and stores, and the branches that were seen in no form, with the names of their
+    tables."""
+    rows = {(table, row) for (table, row, _), times in seen.times.items() if times}
+    for table in TABLES:
+        missing = [row for row in table.rows if (table.name, row) not in rows]
+        if missing and table.name in INSTRUCTIONS:
+            yield table.name, missing
 
 
 def _cells(step: Step, previous: Step | None) -> Iterator[Cell]:

@@ -8,6 +8,8 @@ from collections.abc import Iterable, Iterator
 from dataclasses import dataclass, field, replace
 
 from galluspa import states
+from galluspa.conditions import REGISTER_NUMBERS, writing
+from galluspa.finding import Search
 from galluspa.library import Machine, Sent
 from galluspa.limits import TimeIsUp
 from galluspa.program import Program
@@ -17,6 +19,8 @@ from galluspa.tracing import Run, Step, WordChange, differing, lines, with_progr
 Part = str | int
 Value = int | list[int] | Sent
 WRITERS = 5
+# Parts for which the library has no condition.
+NOT_SOUGHT = ("PC", "timer", "rate", "phase")
 WORDS_SHOWN = 64
 BYTES_SHOWN = 48
 HEAD, ROW_BYTES, ROWS = 12, 128, 768
@@ -37,7 +41,7 @@ class Difference:
 class Around:
     """The instructions around the false checkpoint that were looked at one by one, from a count up to another: the last
     of those before it that wrote a part, and the counts at which the part had the claimed value; also the earlier
-    checkpoints that claim it, an instruction that set the part before them all, and why not all was looked at."""
+    checkpoints that claim it, the last instruction before them all that set the part, and why not all was looked at."""
 
     first: int
     last: int
@@ -229,7 +233,7 @@ def _around(
             matching += [step.after.count] * (now == claimed)
             if is_written and step.before.count < count:
                 writers = [*writers[1 - WRITERS :], step]
-        if not writers and value_at(part, before, Sent()) != value:
+        if not writers:
             setting = _setting(run, before, first, part, value)
     except TimeIsUp as over:
         unread = f"{over}: not all was looked at (--limit)"
@@ -244,7 +248,16 @@ def _claims(read: Recording, at: int, part: Part, value: Value) -> bool:
     return part != "out" and states.values(checkpoint)[part] == value
 
 
-def _setting(run: Run, machine: Machine, to: int, part: Part, value: Value) -> Step:
+def _setting(run: Run, machine: Machine, to: int, part: Part, value: Value) -> Step | None:
+    """The last instruction before a count that set a part to the value that it has there; None where none did."""
+    condition = writing(part, value)
+    if condition and machine.count < to:
+        hit = Search(run, [condition], machine.count, to).last()
+        return hit.step if hit else None
+    return _changing(run, machine, to, part, value) if value_at(part, machine, Sent()) != value else None
+
+
+def _changing(run: Run, machine: Machine, to: int, part: Part, value: Value) -> Step:
     """An instruction after which a part has a value that it has at a later count, and before which it has another
     one."""
     sent = Sent()
@@ -267,9 +280,12 @@ def writers_summary(it: FalseClaim) -> str:
     none = f"None of the {end - it.around.first:,} instructions before count {end} wrote {it.focus}."
     if it.around.unread:
         return none
-    if it.around.setting:
+    is_changed = it.focus in (*REGISTER_NUMBERS, *NOT_SOUGHT)
+    if not it.around.setting:
+        return f"{none} Since checkpoint {it.number - 1} none {'changed' if is_changed else 'wrote'} it."
+    if it.focus in NOT_SOUGHT:
         return f"{none} This one before them, found by bisection, set it to what it is there:"
-    return f"{none} At their start it was what it was at checkpoint {it.number - 1}."
+    return f"{none} The last one before them that {'changed' if is_changed else 'wrote'} it:"
 
 
 def counts_summary(it: FalseClaim) -> str:

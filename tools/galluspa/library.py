@@ -6,7 +6,7 @@ import os
 import time
 from array import array
 from bisect import bisect_left
-from collections.abc import Sequence
+from collections.abc import Callable, Sequence
 from dataclasses import dataclass
 from pathlib import Path
 
@@ -20,9 +20,10 @@ VARIABLE = "GALLUSPA_LIBRARY"
 BUILT = [TOP / folder / NAME for folder in ("lib", "crates/galluspa/out", "out/lib")]
 INSTALLED = TOP.parent.parent / "lib"
 WORDS = PLACES * WORDS_IN_PAGE
-# A run goes in slices of about so many seconds, so that a signal and the limit of time are heeded between them.
+# A run goes in slices of about so many seconds, so that a signal and the limit of time are heeded between them. None
+# has more than so many steps: what follows a long wait would else have a slice of many seconds.
 SLICE_SECONDS = 0.1
-FIRST_STEPS = 1 << 20
+FIRST_STEPS, MOST_STEPS = 1 << 20, 1 << 24
 WHOLE_RUN = 1 << 40
 SENT_AT_ONCE = 1 << 20
 # How many of the bytes that a run sends are kept: more than a recording may claim.
@@ -35,6 +36,9 @@ REFUSALS = {
     4: "the bytes are no recording",
     5: "the recording has no such checkpoint",
 }
+NOT_FOUND = 11
+# Which count a search is for.
+FIRST, LAST = 0, 1
 
 Words = ctypes.c_uint32 * WORDS
 
@@ -56,6 +60,18 @@ class RawInput(ctypes.Structure):
     """An input and its count, as include/galluspa.h lays them out."""
 
     _fields_ = [("count", ctypes.c_uint64), ("kind", ctypes.c_uint32), ("value", ctypes.c_uint32)]
+
+
+class RawCondition(ctypes.Structure):
+    """A condition of a search, as include/galluspa.h lays it out."""
+
+    _fields_ = [(name, ctypes.c_uint32) for name in ("kind", "first", "end", "value")]
+
+
+class RawHit(ctypes.Structure):
+    """A count at which a condition holds, and its index, as include/galluspa.h lays them out."""
+
+    _fields_ = [("count", ctypes.c_uint64), ("condition", ctypes.c_uint64)]
 
 
 @dataclass(frozen=True)
@@ -130,6 +146,10 @@ def _refusal(what: str, code: int) -> Refused:
     return (Failed if code == NO_MEMORY else Refused)(f"{what}: {REFUSALS.get(code, f'it answers {code}')}")
 
 
+def ignore(count: int) -> None:
+    """Hears nothing of a run."""
+
+
 @dataclass(frozen=True)
 class Library:
     """The shared library, loaded from a path, and the time in which its runs have to end, if any."""
@@ -159,7 +179,9 @@ class Library:
     def _load(path: str, limit: Limit | None) -> "Library":
         try:
             calls = ctypes.CDLL(path)
-            calls.galluspa_claim.restype = calls.galluspa_advance.restype = ctypes.c_uint8
+            for call in (calls.galluspa_claim, calls.galluspa_advance, calls.galluspa_find):
+                call.restype = ctypes.c_uint8
+            calls.galluspa_record.restype = ctypes.c_size_t
         except (OSError, AttributeError) as error:
             raise Refused(f"{path}: no library of Galluspa: {error}") from error
         return Library(path, calls, limit)
@@ -175,10 +197,26 @@ class Library:
             raise _refusal(f"checkpoint {at} is not read", code)
         return machine
 
-    def advance(self, machine: Machine, inputs: Inputs, to: int) -> Sent:
+    def record(self, session: bytes) -> bytes:
+        """The recording of a session, which has to be a lawful one."""
+        status, room = ctypes.c_uint8(), len(session)
+        while True:
+            out = ctypes.create_string_buffer(room)
+            length = self.calls.galluspa_record(
+                session, ctypes.c_size_t(len(session)), out, ctypes.c_size_t(room), ctypes.byref(status))
+            if not length:
+                raise _refusal("the machine is not recorded", NO_MEMORY)
+            if length <= room:
+                break
+            room = length
+        if status.value:
+            raise Refused(f"the machine is not recorded: {out.raw[:length].decode('ascii', 'replace').strip()}")
+        return out.raw[:length]
+
+    def advance(self, machine: Machine, inputs: Inputs, to: int, heard: Callable[[int], None] = ignore) -> Sent:
         """Runs a machine up to a count, with those of the inputs that are due, and gives what it sends. A run that the
-        limit of time ends leaves the machine at a count before."""
-        sent, steps, most = Sent(), FIRST_STEPS, WHOLE_RUN
+        limit of time ends leaves the machine at a count before. The count after each slice but the last is heard."""
+        sent, steps, most = Sent(), FIRST_STEPS, MOST_STEPS
         while machine.count < to:
             if self.limit:
                 self.limit.left()
@@ -188,8 +226,27 @@ class Library:
                 steps = most = (end - machine.count) // 2
                 continue
             sent += more
-            steps = min(most, _steps_after(machine, steps, time.monotonic() - start))
+            if machine.count < to:
+                heard(machine.count)
+            steps = steps_after(machine, steps, most, time.monotonic() - start)
         return sent
+
+    def search(
+        self, machine: Machine, inputs: Inputs, to: int, conditions: ctypes.Array, wanted: int
+    ) -> tuple[int, int] | None:
+        """The first or the last count, from a machine's up to another, at which one of these conditions holds, and the
+        index of the first that does; None where none holds. One call takes all of this: so give it a slice."""
+        due, hit = inputs.raw(machine.count, to), RawHit()
+        code = self.calls.galluspa_find(
+            ctypes.byref(machine.state), machine.words, ctypes.c_size_t(WORDS), due, ctypes.c_size_t(len(due)),
+            ctypes.c_uint64(to), conditions, ctypes.c_size_t(len(conditions)), ctypes.c_uint32(wanted),
+            ctypes.byref(hit),
+        )
+        if code == NOT_FOUND:
+            return None
+        if code:
+            raise _refusal(f"nothing is searched from {machine.count} to {to}", code)
+        return hit.count, hit.condition
 
     def _slice(self, machine: Machine, inputs: Inputs, to: int) -> Sent | None:
         """Runs a machine up to a count; None where it sends more than there is room for, and then it stays as it is."""
@@ -206,11 +263,11 @@ class Library:
         return Sent(ctypes.string_at(room, length.value), length.value)
 
 
-def _steps_after(machine: Machine, steps: int, seconds: float) -> int:
+def steps_after(machine: Machine, steps: int, most: int, seconds: float) -> int:
     """How many steps the next slice has, after one of so many that took so long. Once a machine has stopped it does
     nothing, however many they are."""
     if machine.state.stop:
         return WHOLE_RUN
     if seconds > 2 * SLICE_SECONDS:
         return max(steps // 2, 1)
-    return 2 * steps if seconds < SLICE_SECONDS / 2 else steps
+    return min(2 * steps, most) if seconds < SLICE_SECONDS / 2 else steps

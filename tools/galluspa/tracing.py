@@ -4,19 +4,28 @@ A trace begins at the last checkpoint at or before a count that is known to be t
 segment.
 """
 
+import os
 from collections.abc import Callable, Iterable, Iterator, Sequence
-from dataclasses import dataclass
+from copy import copy
+from dataclasses import dataclass, replace
+from pathlib import Path
 
-from galluspa import states
-from galluspa.command import Refused, progress
+from galluspa import recording, states
+from galluspa.command import Refused, progress, read_file
 from galluspa.instructions import address, instruction, is_branch, is_store, written
-from galluspa.library import WORDS, Inputs, Library, Machine, Sent
-from galluspa.program import Answer
-from galluspa.recording import Checkpoint, Event, Recording
+from galluspa.library import WORDS, Inputs, Library, Machine, Sent, ignore
+from galluspa.program import REFUSED, Answer, Program
+from galluspa.recording import NO_TABLE, Checkpoint, Event, Recording
+from galluspa.sessions import CHECKPOINTS, session_from
 
-AT_ONCE = 1 << 20
 COMPARED_AT_ONCE = 4096
 OFTEN = 256
+# So many instructions are had one by one, before the next ones are had by many at once.
+FIRST_ONES = 64
+LEDS_AT = 0xFFFFC4
+# What is done side by side is done by so many workers, unless something else is asked for.
+MOST_WORKERS = 64
+WORKERS = min(os.cpu_count() or 1, MOST_WORKERS)
 
 
 @dataclass(frozen=True)
@@ -75,6 +84,23 @@ def differing(old: bytes, new: bytes) -> Iterator[WordChange]:
                 yield WordChange(block + 4 * at, was, now)
 
 
+def _stored_word(word: int | None, before: Checkpoint) -> int | None:
+    """The number of the word of memory that an instruction may change, which is the one that it stores to; None if it
+    stores to none."""
+    place = address(word, before.registers) if word is not None and is_store(word) else None
+    return None if place is None or place >= 4 * WORDS else place // 4
+
+
+def _changed_word(place: int, old: int, new: int) -> Sequence[WordChange]:
+    """The change of a word by its number, if it is one."""
+    return () if old == new else (WordChange(4 * place, old, new),)
+
+
+def _sets_leds(word: int | None, before: Checkpoint) -> bool:
+    """Whether an instruction stores to the LEDs."""
+    return word is not None and is_store(word) and address(word, before.registers) & ~3 == LEDS_AT
+
+
 class Run:
     """The machine of a lawful recording at any count, and its instructions one by one."""
 
@@ -92,46 +118,95 @@ class Run:
         names."""
         return Run(library, text, read, range(answer.false_claim[0] if answer.false_claim else len(read.checkpoints)))
 
+    @staticmethod
+    def checked(library: Library, program: Program, path: Path) -> "Run":
+        """The run of the recording in a file, from those of its checkpoints that a check by all processors finds
+        true."""
+        text = read_file(path)
+        progress("the recording is checked")
+        answer = program.check(text, WORKERS)
+        progress("")
+        if answer.status == REFUSED:
+            raise Refused(f"{path}: {answer.line}")
+        return Run.of_answer(library, text, recording.read(text), answer)
+
+    def with_library(self, library: Library) -> "Run":
+        """The same run, on another library."""
+        run = copy(self)
+        run.library = library
+        return run
+
     def machine(self, count: int) -> Machine:
         """The machine at a count."""
         start = next((number for number in reversed(self.true) if self.counts[number] <= count), None)
         if start is None:
             raise Refused(f"count {count} is before checkpoint {self.true[0]}, at {self.counts[self.true[0]]}")
         machine = self.library.claim(self.text, start)
-        self.advance(machine, count)
+        self.advance(machine, count, lambda now: progress(f"at {now:,} of {count:,}"))
+        progress("")
         return machine
 
-    def advance(self, machine: Machine, to: int) -> Sent:
-        """Runs a machine up to a count, and gives what it sends."""
-        return self.library.advance(machine, self.inputs, to)
+    def advance(self, machine: Machine, to: int, heard: Callable[[int], None] = ignore) -> Sent:
+        """Runs a machine up to a count, and gives what it sends. On a long way the counts that it comes to are
+        heard."""
+        return self.library.advance(machine, self.inputs, to, heard)
 
     def steps(self, machine: Machine, to: int) -> Iterator[Step]:
-        """The instructions from a machine's count up to another, each as it is done; one that stops is the last."""
-        before, memory = machine.seen(), machine.memory()
+        """The instructions from a machine's count up to another; one that stops is the last. The machine that is given
+        goes on: until all are given perhaps less far than they are, and then to the last of them, also where the time
+        is over first."""
+        yield from self._one_by_one(machine, min(to, machine.count + FIRST_ONES))
+        number = FIRST_ONES
+        while machine.count < to and not machine.state.stop:
+            number = min(2 * number, CHECKPOINTS, to - machine.count)
+            recorded = self._recorded(machine, machine.count + number)
+            if recorded is None:
+                yield from self._one_by_one(machine, machine.count + number)
+                continue
+            end = machine.count
+            for step in recorded:
+                end = step.after.count
+                yield step
+            replace(self.library, limit=None).advance(machine, self.inputs, end)
+
+    def _one_by_one(self, machine: Machine, to: int) -> Iterator[Step]:
+        """The same, by a call of the library for each."""
+        before = machine.seen()
         while before.count < to and not before.stop:
             word = machine.words[before.pc] if before.pc < WORDS else None
+            place = _stored_word(word, before)
+            old = None if place is None else machine.words[place]
             sent = self.advance(machine, before.count + 1).first
-            after, old, memory = machine.seen(sent), memory, machine.memory()
-            changed = [] if memory == old else list(differing(old, memory))
+            after = machine.seen(sent)
+            changed = () if old is None else _changed_word(place, old, machine.words[place])
             yield Step(before, after, self.inputs.of(before.count, after.count), word, changed)
             before = after
 
-    def last_before(self, machine: Machine, to: int, has_come: Callable[[Machine, Sent], bool]) -> int | None:
-        """The count before whose instruction something has not come and after which it has; None where it has not come
-        at a count. It has to be something that stays once it has come, given the machine and what it sent meanwhile. A
-        machine that has stopped brings about nothing more. The machine that is given goes on as far as is looked."""
-        last, before = None, machine
-        while last is None and machine.count < to and not machine.state.stop:
-            progress(f"at {machine.count:,} of {to:,}")
-            before = machine.copy()
-            if has_come(machine, self.advance(machine, min(machine.count + AT_ONCE, to))):
-                last = machine.count
-        progress("")
-        while last is not None and last - before.count > 1:
-            later = before.copy()
-            sent = self.advance(later, (before.count + last) // 2)
-            before, last = (before, later.count) if has_come(later, sent) else (later, last)
-        return None if last is None else before.count
+    def _recorded(self, machine: Machine, to: int) -> Iterator[Step] | None:
+        """The same, by a call of the library that records a session of them, with a checkpoint after each; None where
+        no session begins as the machine is. It takes far less time for each, and some for the call."""
+        inputs = self.inputs.of(machine.count, to)
+        session = session_from(machine.seen(), machine.memory(), inputs, to - machine.count)
+        if session is None:
+            return None
+        if self.library.limit:
+            self.library.limit.left()
+        return self._recorded_steps(machine.seen(), recording.read(self.library.record(session.text().encode())))
+
+    def _recorded_steps(self, before: Checkpoint, read: Recording) -> Iterator[Step]:
+        """The instructions of a recording with a checkpoint after each, from a state on. The LEDs, which a session
+        cannot say, are what they were until an instruction sets them."""
+        first, leds = before.count, before.leds
+        for claimed, after in zip(read.checkpoints, read.checkpoints[1:]):
+            if before.stop:
+                return
+            word = read.word(claimed, before.pc) if before.pc < WORDS else None
+            place = _stored_word(word, before)
+            changed = () if place is None else _changed_word(place, *(read.word(it, place) for it in (claimed, after)))
+            leds = after.leds if _sets_leds(word, before) and not after.stop else leds
+            after = replace(after, count=first + after.count, leds=leds, table=NO_TABLE, start=0)
+            yield Step(before, after, self.inputs.of(before.count, after.count), word, changed)
+            before = after
 
 
 def with_progress(steps: Iterable[Step], to: int) -> Iterator[Step]:
