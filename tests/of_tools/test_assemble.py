@@ -1,17 +1,23 @@
 """tools/assemble: the notation of the listing both ways, the language, its mistakes, its page, and the sources of the examples."""
 
+import io
 import json
+import os
 import random
+import re
 import struct
 from collections.abc import Iterator
+
+from PIL import Image
 
 from galluspa import recording
 from galluspa.assembly import assembled
 from galluspa.instructions import instruction
 from galluspa.mnemonics import BRANCHES, MNEMONICS, source_of, word_of
+from galluspa.others import FALSE_FRIENDS, HERE
 from galluspa.settings import set_checkpoints, settings_of
 from galluspa.tokens import Wrong
-from samples import EXAMPLES, TOP, Ran, ToolTest, record, run, session, tool
+from samples import EXAMPLES, PROGRAM, TOP, Ran, ToolTest, record, run, session, tool
 
 HELLO = """; Sends a text.
         MOV R1, SERIAL
@@ -159,11 +165,40 @@ class AssembleTest(ToolTest):
             ("FAD R0, R0, R0\nuntil stops, 1", [1]),
         ):
             self.assertEqual(json.loads(self.assemble(source).output)["checkpoints"], counts, source)
-        self.assert_refused(self.assemble("B -1\nuntil stops, 1000"), "does not stop within 1,000 instructions")
-        self.assert_refused(self.assemble("FAD R0, R0, R0\nuntil loops"), "enters no loop: it stops at count 1")
-        self.assert_refused(self.assemble("ADD R0, R0, 1\nB -2\nuntil loops, 90"), "does not enter a loop")
+        no_loop, float_stop = "the machine enters no loop: it stops at count", "with stop 1, float: there is no floating point"
+        for source, told in (
+            ("B -1\n until stops, 1000", "2:2: the machine does not stop within 1,000 instructions; a jump to itself is a loop, "
+             "and no stop"),
+            ("FAD R0, R0, R0\nuntil loops", f"2:1: {no_loop} 1, at word 0, {float_stop}"),
+            ("BNO 0\nDIV R0, R0, R0\nuntil loops", f"3:1: {no_loop} 2, at word 1, with stop 2, divisor: the divisor is below 1"),
+            ("until loops\nMOV R0, 5", f"1:1: {no_loop} 262,145, at word 262,144, with stop 3, fetch: it ran past the end of "
+             "the program, or branched out of the memory; end it with a jump to itself"),
+            ("until loops\nMOV R1, -68\nLDR R0, R1, 0", f"1:1: {no_loop} 2, at word 1, with stop 4, address: the address is no "
+             "memory and no device"),
+            ("ADD R0, R0, 1\nB -2\nuntil loops, 90", "3:1: the machine does not enter a loop that it never leaves within 90 "
+             "instructions"),
+        ):
+            self.assert_wrong(source, told)
         ran = self.assemble("ADD R0, R0, 1\nB -2\nuntil loops", "--limit", 1)
         self.assertEqual((ran.errors, ran.output, ran.status), ("assemble: no answer in 1 s\n", b"", 3))
+
+    def test_notes_what_is_lawful_and_may_surprise(self) -> None:
+        last, key = "the last checkpoint is at 5, and ends the run", "input 5, key, 1\n"
+        none = "note: no checkpoint, so a recording runs no instruction: add every, until or checkpoints"
+        for source, told in (
+            ("a: B a", [f"1:1: {none}"]), ("a: B a\ninput 5, key, 1", [f"1:1: {none}"]),
+            (f"a: B a\n{key}checkpoints 5", [f"2:1: note: this input never comes: {last}"]),
+            (f"a: B a\n input 4, key, 1\n{key} {key} input 6, key, 'a'\ncheckpoints 1, 5",
+             [f"3:1: note: this input and 2 after it never come: {last}"]),
+            (f"a: B a\n{key}checkpoints 6", []), ("a: B a\nuntil loops", []),
+        ):
+            ran = self.assemble(source)
+            self.assertEqual(ran.errors.splitlines(), [f"{self.folder / 'it.asm'}:{one}" for one in told], source)
+            self.assertEqual(ran.status, 0)
+            record(ran.output)
+            self.assertEqual(self.assemble(source, "--words").errors, "")
+        read = recording.read(record(self.assemble(f"a: B a\n{key}checkpoints 5").output))
+        self.assertEqual(read.checkpoints[-1].keys, b"", "an input at the last count has not come")
 
     def test_the_session_tool_finds_the_same_ends(self) -> None:
         image = self.folder / "it.bin"
@@ -183,15 +218,25 @@ class AssembleTest(ToolTest):
 
     def test_each_mistake_is_told_at_its_place(self) -> None:
         for line, told in (
-            ("MOV R1, 70000", "1:9: the immediate operand 70,000 is not from -65,536 to 65,535"),
+            ("MOV R1, 70000", "1:9: the immediate operand 70,000 is not from -65,536 to 65,535: write MOV' R1, 1 and then "
+             "IOR R1, R1, 4464"),
+            ("MOV R1, -70000", "1:9: the immediate operand -70,000 is not from -65,536 to 65,535: write MOV' R1, 65534 and "
+             "then IOR R1, R1, 61072"),
+            ("MOV R1, display", "1:9: the immediate operand 950,016 is not from -65,536 to 65,535: write MOV' R1, display / "
+             "10000H and then IOR R1, R1, display % 10000H"),
+            ("ADD R1, R1, 70000", "1:13: the immediate operand 70,000 is not from -65,536 to 65,535: MOV' and then IOR bring "
+             "it into a register"),
+            ("MOV R1, 100000000H", "1:9: the immediate operand 4,294,967,296 is not from -65,536 to 65,535"),
             ("MOV' R1, -1", "1:10: the upper half -1 is not from 0 to 65,535"),
             ("LDR R1, R2, 524288", "1:13: the offset 524,288 is not from -524,288 to 524,287"),
             ("B 2097152", "1:3: the offset 2,097,152 is not from -2,097,152 to 2,097,151"),
             ("B $ + 1", "1:3: the target 1H is no multiple of 4"),
             ("MOV R16, 3", "1:5: R16 is not defined"),
             ("MOV 5, 3", "1:5: 5 is no register from R0 to R15"),
-            ("ADD R1, R2", "1:1: ADD has 2 operands; it wants 3"),
-            ("B", "1:1: B has 0 operands; it wants 1"),
+            ("ADD R1, R2", "1:1: ADD needs 3 operands and has 2: ADD R0, R1, 2"),
+            ("MOV' R1", "1:1: MOV' needs 2 operands and has 1: MOV' R0, 5"),
+            ("ldb R1, R2", "1:1: ldb needs 3 operands and has 2: ldb R1, R2, 4"),
+            ("B", "1:1: B needs 1 operand and has none: B LABEL"),
             ("MOV' R0, R1", "1:10: MOV' has H, NZCV or a number, and no register"),
             ("ADD R0, R1, H", "1:13: H is an operand of MOV' alone"),
             ("B H", "1:3: H is no number"),
@@ -211,18 +256,53 @@ class AssembleTest(ToolTest):
             ("word 99999999999 * 99999999999", "1:18: the result is 2^64 or more"),
             ("word 999999999999999999999", "1:6: 99999999999999999999 is no number: write it as 31, 0x1F or 1FH"),
             ("word 12G", "1:6: 12G is no number: write it as 31, 0x1F or 1FH"),
+            ("word 0b101", "1:6: 0b101 is no number: there are no binary ones: write 5"),
+            ("word 1 + $FF", "1:10: $FF is no number: write it as 0xFF"),
+            ("word %101", "1:6: % is no number and no name: there are no binary numbers; write 5"),
+            ("word %x", "1:6: % is no number and no name"),
+            ("MOV R0, =text", "1:9: = is no number and no name: write text without it, as an operand of MOV"),
+            ("MOV R0, FFH", "1:9: FFH is not defined: a number that ends with H begins with a digit, 0FFH"),
+            ("B LR", "1:3: LR is not defined: R15 has the way back after BL"),
+            ("MOV sp, 5", "1:5: sp is not defined: there is no stack; any register may be its pointer"),
+            ("MOV R0, PC", "1:9: PC is not defined: no register has it; $ is the address here, and branches set it"),
+            ("wait: B Wait", "1:9: Wait is not defined: did you mean wait?"),
+            ("wait: B wiat", "1:9: wiat is not defined: did you mean wait?"),
+            ("wait: B wat", "1:9: wat is not defined: did you mean wait?"),
+            ("wait: B waits", "1:9: waits is not defined: did you mean wait?"),
+            ("wait: B want", "1:9: want is not defined: did you mean wait?"),
+            ("wait: B wants", "1:9: wants is not defined"), ("ab: B ac", "1:7: ac is not defined"),
+            ("MOV R1, SERAIL", "1:9: SERAIL is not defined: did you mean SERIAL?"),
             ("word " + "(" * 51 + "1" + ")" * 51, "1:56: signs, parentheses and constants are nested deeper than 50"),
             ("byte 256", "1:6: 256 is no byte from -128 to 255"),
             ("string 5", "1:8: string wants a text in quotation marks; byte takes numbers"),
             ('byte "abc', "1:6: a string without its end"),
-            ("word 'ab'", "1:6: a character without its end"),
+            ("word 'ab'", "1:6: a character is one sign between apostrophes, such as 'A'"),
+            ('MOV R0, "a"', "1:9: \"a\" is no number and no name: write 'a'"),
+            ('MOV R0, "ab"', '1:9: "ab" is no number and no name'),
+            ("LDR R0, R1, R2", "1:13: R2 is a register, and the offset is a number: ADD the two first"),
+            ("X EQU 5", "1:1: X is no instruction and no directive: write X = VALUE"),
+            ("LSLS R0, R0, 1", "1:1: LSLS is no instruction and no directive: write the name without its last letter: each "
+             "operation sets flags and takes a number"),
             ("byte 'é'", "1:7: 'é' is no ASCII character: write its bytes as \\xHH"),
             ('byte "a\\q"', "1:8: \\q is no escape: they are \\n \\r \\t \\0 \\\\ \\\" \\' and \\xHH"),
-            ("word 1 @ 2", "1:8: '@' begins no name, number, string or mark"),
+            ("word 1 @ 2", "1:8: '@' begins no name, number, string or sign: a comment begins with a semicolon"),
+            ("word 1 ! 2", "1:8: '!' begins no name, number, string or sign"),
+            ("MOV R0, #5", "1:9: '#' begins no name, number, string or sign: a number is written without it, and a "
+             "comment begins with a semicolon"),
+            ("LDR R0, [R1]", "1:9: '[' begins no name, number, string or sign: an address is a register and an "
+             "offset, as in LDR R1, R2, 4"),
+            (".word 5", "1:1: '.' begins no name, number, string or sign: a directive has no dot, and there are no "
+             "sections"),
+            ("MOV R0, R1 // c", "1:12: a comment begins with a semicolon"), ("/* c */", "1:1: a comment begins with a semicolon"),
+            ("cmp r0, r1", "1:1: cmp is no instruction and no directive: write SUB, AND or XOR into a register that "
+             "is free, and then a branch"),
+            ("strne R0, R1, 0", "1:1: strne is no instruction and no directive: write a branch over it, such as BNE LABEL: "
+             "branches alone have conditions"),
+            ("JMP 5", "1:1: JMP is no instruction and no directive: write B LABEL"),
             ("a: a = 5", "1:1: a constant has no label"),
             ("R1: B -1", "1:1: R1 is the name of a register"),
             ("key = 5", "1:1: key is the name of a device"),
-            ("x' = 5", "1:1: x' has a mark, which a name has not"),
+            ("x' = 5", "1:1: x' has an apostrophe, which no name has"),
             ("x = x + 1", "1:5: the value of x depends on itself"),
             ("origin 1048576", "1:8: the origin 1,048,576 is no byte address from 0 to 1,048,575"),
             ("origin", "1:1: origin wants one value"),
@@ -238,7 +318,7 @@ class AssembleTest(ToolTest):
             ("input 5, pen, 3", "1:10: pen is none of timer, switches, mouse, key, serial"),
             ("input 3, key, 300", "1:15: the value for key 300 is not from 0 to 255"),
             ("input 3, mouse, 800H", "1:17: 800H has bits outside the mask 073FF3FFH of the mouse"),
-            ('input 3, timer, "a"', '1:17: "a" is no number and no name'),
+            ('input 3, timer, "a"', '1:17: "a" is no number and no name: write \'a\''),
             ("checkpoints", "1:1: checkpoints wants counts"),
             ("checkpoints 0", "1:13: the count 0 is not from 1 to 1,099,511,627,776"),
             ("every 5", "1:1: every wants an end: every N, LAST, or a line with until"),
@@ -251,11 +331,19 @@ class AssembleTest(ToolTest):
             set_checkpoints(it, made, None)
             self.assertEqual([f"{one.line}:{one.column}: {one.text}" for one in it.problems], [told], line)
 
+    def test_what_is_written_in_place_of_other_names_can_be_written(self) -> None:
+        """Each name of another assembler is unknown here, and each instruction that is offered is one."""
+        for name, here in HERE.items():
+            self.assert_wrong(f"{name} R1", f"1:1: {name} is no instruction and no directive: write {here}")
+        offered = {word for here in HERE.values() for word in re.findall(r"\b[A-Z]{2,}'?(?![A-Z])", here)}
+        self.assertEqual(offered - MNEMONICS - {"LABEL", "OFFSET", "ADDRESS", "NAME", "VALUE"}, set())
+        self.assertLess({name for names, _ in FALSE_FRIENDS for name in names.split()}, MNEMONICS)
+
     def test_all_mistakes_are_told_in_one_run(self) -> None:
         self.assert_wrong(
-            "a: MOV R1, 70000\na: B b\nword 1 2\n@\n", "1:12: the immediate operand 70,000 is not from -65,536 to 65,535",
+            "a: LDR R1, R2, 524288\na: B b\nword 1 2\n@\n", "1:16: the offset 524,288 is not from -524,288 to 524,287",
             "2:1: a is defined in line 1 already", "2:6: b is not defined", "3:8: 2 does not continue the expression",
-            "4:1: '@' begins no name, number, string or mark")
+            "4:1: '@' begins no name, number, string or sign: a comment begins with a semicolon")
         self.assert_wrong("input 5, key, 1\ninput 4, key, 1", "2:7: the count 4 is not from 5 to 1,099,511,627,776")
         self.assert_wrong("until stops\nuntil loops", "2:1: until is in line 1 already")
         self.assert_wrong("word x\nword x\nx = y\n", "3:5: y is not defined")
@@ -294,7 +382,10 @@ class ExamplesTest(ToolTest):
         self.assertEqual([it.with_suffix(".json") for it in sources], sorted(EXAMPLES.glob("*.json")))
         for source in sources:
             made = tool("assemble", source)
-            self.assertEqual((made.output, made.errors), (source.with_suffix(".json").read_bytes(), ""), source.name)
+            self.assertEqual(made.output, source.with_suffix(".json").read_bytes(), source.name)
+            # The one without checkpoints is for the live page.
+            told = r".*: note: no checkpoint, .*\n" if source.name == "draw.asm" else ""
+            self.assertRegex(made.errors, rf"^{told}$")
 
 
 class PageTest(ToolTest):
@@ -305,10 +396,65 @@ class PageTest(ToolTest):
             self.assertRegex(page, rf"\| `{name}'? ")
         self.assertLessEqual(max(len(line) for line in page.splitlines() if not line.startswith("|")), 132)
 
+    def program(self, number: int) -> str:
+        """The source of a program that the page has."""
+        return (TOP / "docs/assembler.md").read_text().split("```text\n")[number].split("```")[0]
+
+    def recorded(self, source: str) -> bytes:
+        """The recording of a source, which has no mistake."""
+        ran = tool("assemble", self.file("it.asm", source))
+        self.assertEqual((ran.errors, ran.status), ("", 0))
+        return record(ran.output)
+
     def test_its_program_is_recorded(self) -> None:
-        source = (TOP / "docs/assembler.md").read_text().split("```text\n")[1].split("```")[0]
-        made = record(tool("assemble", self.file("it.asm", source)).output)
+        made = self.recorded(self.program(1))
         self.assertTrue(made.endswith(b"Hello, world\n"))
         self.assertEqual(run([TOP / "tools/session", "--of", self.file("it.orsr", made)]).status, 0)
+
+    def test_its_commands_lead_to_the_verdict(self) -> None:
+        for part in ("tools", "crates"):
+            (self.folder / part).symlink_to(TOP / part)
+        self.file("hello.asm", self.program(1))
+        script = (TOP / "docs/assembler.md").read_text().split("```sh\n")[1].split("```")[0]
+        ran = run(["bash", "-ec", script], cwd=self.folder, env={**os.environ, "PYTHONDONTWRITEBYTECODE": "1"})
+        self.assertEqual((ran.errors, ran.status), ("", 0))
+        said = re.search(r"the verdict line: (.*)", script)[1]
+        self.assertEqual(ran.output.decode().splitlines()[:2], [said, "Hello, world"])
+        drawn = Image.open(self.folder / "hello.png").convert("1")
+        screen = run([PROGRAM, "screen", "--at", 3], (self.folder / "hello.orsr").read_bytes()).output
+        self.assertEqual(drawn.tobytes(), Image.open(io.BytesIO(screen)).tobytes())
+
+    def test_its_program_takes_a_key_and_sets_a_dot(self) -> None:
+        source = self.program(2)
+        for at in (0, 2, 100):
+            made = self.recorded(source.replace("input 100", f"input {at}"))
+            self.assertTrue(made.endswith(b"k"), f"a key at {at} is sent")
+            screen = Image.open(io.BytesIO(run([PROGRAM, "screen", "--at", 1], made).output)).convert("1")
+            dots = [at for at, dot in enumerate(screen.getdata()) if not dot]
+            self.assertEqual(dots, [1024 * (767 - 100) + 330])
+        waits = recording.read(self.recorded(re.sub(r"^ *input .*\n", "", source, flags=re.MULTILINE)))
+        said = re.search(r"the last checkpoint of the session, (\d+), is", (TOP / "docs/assembler.md").read_text())[1]
+        self.assertEqual(waits.checkpoints[-1].count, int(said))
+
+    def test_a_borrow_is_c_as_it_says(self) -> None:
+        for mnemonic, one, other, is_taken in (
+            ("BCS", 3, 5, True), ("BCC", 3, 5, False), ("BCS", 5, 3, False), ("BCC", 5, 3, True), ("BCC", 4, 4, True),
+            ("BCS", 4, -1, True), ("BCS", -1, 4, False),
+        ):
+            made = self.recorded(f"MOV R1, {one}\nMOV R3, {other}\nSUB R2, R1, R3\n{mnemonic} yes\nno: B no\n"
+                                 "yes: MOV R0, 1\nB no\nuntil loops")
+            taken = recording.read(made).checkpoints[-1].registers[0]
+            self.assertEqual(taken, int(is_taken), f"{mnemonic} after {one} - {other}")
+
+        for flags, left in (("C", 6), ("NZV", 7)):
+            made = self.recorded(f"set flags = {flags}\nset R1 = 9\nSUB' R0, R1, 2\ncheckpoints 1")
+            self.assertEqual(recording.read(made).checkpoints[-1].registers[0], left, "SUB' subtracts C itself")
+
+    def test_what_is_advised_for_32_bits_is_the_number(self) -> None:
+        for number in (70000, -70000, 1 << 31, -(1 << 31), (1 << 32) - 1):
+            it = assembled(f"MOV R4, {number}")
+            upper, lower = re.search(r"write (MOV' R4, \d+) and then (IOR R4, R4, \d+)", it.problems[0].text).groups()
+            made = self.recorded(f"{upper}\n{lower}\ncheckpoints 2")
+            self.assertEqual(recording.read(made).checkpoints[-1].registers[4], number & 0xFFFFFFFF)
 
 

@@ -19,12 +19,12 @@ LINKING = [
     TOP / "README.md", *sorted(TOP.glob("*/README.md")), EXAMPLES / "suite/README.md", *sorted(TOP.glob("docs/*.md")),
     *sorted(TOP.glob("docs/lessons/*.md")), *CRATES,
 ]
-CONSOLE = re.compile(r"^```console\n(.*?)^```$", re.DOTALL | re.MULTILINE)
+CONSOLE = re.compile(r"^( *)```console\n(.*?)^\1```$", re.DOTALL | re.MULTILINE)
 TABLE = re.compile(r"^<!-- (tools/listing .*) -->\n((?:\|.*\n)+)", re.MULTILINE)
 QUOTED = re.compile(r"^```text\n(.*?)^```$", re.DOTALL | re.MULTILINE)
 SOURCE = re.compile(r"`((?:src|specs)/[\w./]+)`")
 LINK = re.compile(r"\]\(([^)#:]+)(?:#[^)]*)?\)")
-PARTS = ("tools", "examples", "crates", "docs", "bench")
+PARTS = ("tools", "examples", "crates", "docs", "bench", "include")
 
 
 @dataclass(frozen=True)
@@ -42,8 +42,8 @@ class Command:
 
 def commands_of(document: str) -> Iterator[Command]:
     """The commands that a document shows, in their order."""
-    for block in CONSOLE.findall(document):
-        for part in re.split(r"^\$ ", block, flags=re.MULTILINE)[1:]:
+    for indent, block in CONSOLE.findall(document):
+        for part in re.split(r"^\$ ", re.sub(f"^{indent}", "", block, flags=re.MULTILINE), flags=re.MULTILINE)[1:]:
             line, _, output = part.partition("\n")
             yield Command(line, "\n" + output.rstrip("\n") + "\n" * bool(output.strip()))
 

@@ -4,6 +4,7 @@ Each thing that is wrong is a problem of its own, so that one run finds all of t
 """
 
 import contextlib
+import re
 import struct
 from collections.abc import Iterator, Sequence
 from dataclasses import dataclass, field
@@ -11,6 +12,7 @@ from dataclasses import dataclass, field
 from galluspa.assembler import DEVICES, KEY, MOUSE, SERIAL, STATUS, SWITCHES, TIMER
 from galluspa.expressions import Value, deeper, evaluate
 from galluspa.mnemonics import REGISTER, SPECIALS, encoded, operand_of
+from galluspa.others import REGISTERS, are_alike
 from galluspa.recording import DISPLAY_START
 from galluspa.sessions import MEMORY_BYTES
 from galluspa.statements import (
@@ -28,7 +30,8 @@ BUILT_IN = {
     "DISPLAY": DISPLAY_START,
 }
 
-
+# A number that another assembler may read.
+HEXADECIMAL = re.compile(r"[A-Fa-f][0-9A-Fa-f]*[Hh]")
 # With how many bits the offsets of branches may be written.
 NARROW, WIDE = 22, 24
 
@@ -93,7 +96,16 @@ class Assembly:
             return Value(BUILT_IN[name.upper()])
         if REGISTER.fullmatch(name) or name.upper() in SPECIALS:
             raise Wrong(token.column, f"{name} is a register, where a number is wanted")
-        raise Wrong(token.column, f"{name} is not defined" + (" above" if name in self.lines else ""))
+        raise Wrong(token.column, f"{name} is not defined{' above' if name in self.lines else self._advice(name)}")
+
+    def _advice(self, name: str) -> str:
+        """What may be meant by a name that is not defined."""
+        if register := REGISTERS.get(name.upper()):
+            return f": {register}"
+        if HEXADECIMAL.fullmatch(name):
+            return f": a number that ends with H begins with a digit, 0{name}"
+        meant = next((other for other in (*self.lines, *BUILT_IN) if are_alike(name, other)), "")
+        return f": did you mean {meant}?" if meant else ""
 
     def _constant(self, token: Token, depth: int) -> Value:
         name = token.text
@@ -162,7 +174,7 @@ def _define(it: Assembly, line: int, name: Token) -> None:
         what = "device" if text.upper() in BUILT_IN else "register"
         raise Wrong(name.column, f"{text} is the name of a {what}")
     if text.endswith("'"):
-        raise Wrong(name.column, f"{text} has a mark, which a name has not")
+        raise Wrong(name.column, f"{text} has an apostrophe, which no name has")
     if text in it.lines:
         raise Wrong(name.column, f"{text} is defined in line {it.lines[text]} already")
     it.lines[text] = line

@@ -59,7 +59,7 @@ class Parser(argparse.ArgumentParser):
         raise Refused(f"{message} (see --help)")
 
     def format_help(self) -> str:
-        return as_installed(super().format_help()) if IS_INSTALLED else super().format_help()
+        return in_package(super().format_help())
 
     def add_program_option(self) -> None:
         """Adds the option that names the program to ask."""
@@ -93,6 +93,11 @@ def installed_name(script: str) -> str:
 def as_installed(text: str) -> str:
     """A text with the installed names of the tools that it names."""
     return re.sub(r"\btools/([a-z][a-z-]*)", lambda found: installed_name(found[1]), text)
+
+
+def in_package(text: str) -> str:
+    """A text with the names that tools have where these are: those of the repository, or of a package."""
+    return as_installed(text) if IS_INSTALLED else text
 
 
 def whole_number(least: int, most: int) -> Callable[[str], int]:

@@ -4,6 +4,7 @@ import argparse
 from collections.abc import Sequence
 from dataclasses import replace
 
+from galluspa import recording
 from galluspa.assembler import DEVICES, TIMER
 from galluspa.command import Refused
 from galluspa.instructions import address, is_store
@@ -18,7 +19,18 @@ GROWTH = 8
 # How many instructions are done at most, if it is not said.
 MOST = 1 << 30
 STOPS, LOOPS = ENDS = ("stops", "loops")
+# What to do about a stop, by its number.
+ADVICE = {
+    1: "there is no floating point",
+    2: "the divisor is below 1",
+    3: "it ran past the end of the program, or branched out of the memory; end it with a jump to itself",
+    4: "the address is no memory and no device",
+}
 TIMER_ADDRESS = (DEVICES + TIMER) & 0xFFFFFF
+
+
+class NoEnd(Refused):
+    """A run that does not end as it is to end."""
 
 
 class Run:
@@ -124,6 +136,9 @@ def end_of(asked: argparse.Namespace, session: Session, end: str, most: int) -> 
     if count is not None:
         return max(count, 1)
     if end == LOOPS and (stopped := run.stop(most)):
-        raise Refused(f"the machine enters no loop: it stops at count {stopped:,}")
-    what = "stop" if end == STOPS else "enter a loop that it never leaves"
-    raise Refused(f"the machine does not {what} within {most:,} instructions")
+        state = run.at(stopped).state
+        raise NoEnd(f"the machine enters no loop: it stops at count {stopped:,}, at word {state.pc:,}, with stop "
+                    f"{state.stop}, {recording.STOPS[state.stop]}: {ADVICE[state.stop]}")
+    if end == STOPS:
+        raise NoEnd(f"the machine does not stop within {most:,} instructions; a jump to itself is a loop, and no stop")
+    raise NoEnd(f"the machine does not enter a loop that it never leaves within {most:,} instructions")

@@ -68,7 +68,18 @@ class _Reader:
             return Value(self.here, True)
         if token.kind is Kind.MARK and token.text in "-+(":
             return self.nested(token)
-        raise Wrong(token.column, f"{token.text} is no number and no name")
+        raise Wrong(token.column, f"{token.text} is no number and no name{self.advice(token)}")
+
+    def advice(self, token: Token) -> str:
+        """What to write in place of a token that begins no number, if it begins one in another assembler."""
+        after = self.tokens[self.at].text if self.at < len(self.tokens) else ""
+        if token.is_mark("%") and after and set(after) <= {"0", "1"}:
+            return f": there are no binary numbers; write {int(after, 2)}"
+        if token.kind is Kind.STRING and len(token.content) == 1:
+            return f": write '{token.text[1:-1]}'"
+        if token.is_mark("="):
+            return f": write {after or 'a name'} without it, as an operand of MOV"
+        return ""
 
     def nested(self, token: Token) -> Value:
         """What follows a sign or an opening parenthesis."""

@@ -50,9 +50,13 @@ def encoded(name: Token, operands: Sequence[Operand], here: int, is_narrow: bool
     return _memory(name, operands) if mnemonic in MEMORY else _operation(name, operands)
 
 
-def _expect(name: Token, operands: Sequence[Operand], number: int) -> None:
+def _expect(name: Token, operands: Sequence[Operand], form: str) -> None:
+    """Sees that there are as many operands as in a form, which the message shows."""
+    number = form.count(",") + 1
     if len(operands) != number:
-        raise Wrong(name.column, f"{name.text} has {len(operands)} operands; it wants {number}")
+        noun = "operand" if number == 1 else "operands"
+        raise Wrong(name.column, f"{name.text} needs {number} {noun} and has {len(operands) or 'none'}: "
+                                 f"{name.text} {form}")
 
 
 def _register(operand: Operand) -> int:
@@ -61,19 +65,19 @@ def _register(operand: Operand) -> int:
     return operand.register
 
 
-def _number(operand: Operand, least: int, most: int, what: str) -> int:
+def _number(operand: Operand, least: int, most: int, what: str, advice: str = "") -> int:
     if operand.value is None:
         raise Wrong(operand.column, f"{operand.text} is no number")
     number = operand.value.number
     if not least <= number <= most:
-        raise Wrong(operand.column, f"{what} {number:,} is not from {least:,} to {most:,}")
+        raise Wrong(operand.column, f"{what} {number:,} is not from {least:,} to {most:,}{advice}")
     return number
 
 
 def _operation(name: Token, operands: Sequence[Operand]) -> int:
     mnemonic = name.text.upper()
     op, u = OPERATIONS.index(mnemonic.rstrip("'")), U if mnemonic.endswith("'") else 0
-    _expect(name, operands, 2 if op == MOV else 3)
+    _expect(name, operands, "R0, 5" if op == MOV else "R0, R1, 2")
     a, b = _register(operands[0]), 0 if op == MOV else _register(operands[1])
     last = operands[-1]
     if last.register is not None:
@@ -86,19 +90,35 @@ def _operation(name: Token, operands: Sequence[Operand]) -> int:
         return u | SPECIALS[last.special] | reg(op, a, b, 0)
     if op == MOV and u:
         return u | imm(op, a, b, _number(last, 0, 0xFFFF, "the upper half"))
-    return u | imm(op, a, b, _number(last, -0x10000, 0xFFFF, "the immediate operand"))
+    return u | imm(op, a, b, _number(last, -0x10000, 0xFFFF, "the immediate operand", _halves(op, a, last)))
+
+
+def _halves(op: int, a: int, operand: Operand) -> str:
+    """How a number that is no immediate operand comes into a register, if it has 32 bits."""
+    number = operand.value.number if operand.value else 0
+    if not -1 << 31 <= number < 1 << 32:
+        return ""
+    if op != MOV:
+        return ": MOV' and then IOR bring it into a register"
+    is_name = operand.text.isidentifier() and number >= 0
+    halves = (f"{operand.text} {sign} 10000H" for sign in "/%") if is_name else divmod(number & 0xFFFFFFFF, 0x10000)
+    upper, lower = halves
+    return f": write MOV' R{a}, {upper} and then IOR R{a}, R{a}, {lower}"
 
 
 def _memory(name: Token, operands: Sequence[Operand]) -> int:
-    _expect(name, operands, 3)
+    _expect(name, operands, "R1, R2, 4")
+    last = operands[2]
+    if last.register is not None:
+        raise Wrong(last.column, f"{last.text} is a register, and the offset is a number: ADD the two first")
     form, byte = MEMORY[name.text.upper()]
     a, b = (_register(operand) for operand in operands[:2])
-    return byte | form(a, b, _number(operands[2], -0x80000, 0x7FFFF, "the offset"))
+    return byte | form(a, b, _number(last, -0x80000, 0x7FFFF, "the offset"))
 
 
 def _branch(name: Token, operands: Sequence[Operand], here: int, widened: int) -> int:
     """A branch to a register's address, by a number of words, or to a place."""
-    _expect(name, operands, 1)
+    _expect(name, operands, "LABEL")
     (condition, link), target = BRANCHES[name.text.upper()], operands[0]
     if target.register is not None:
         return link | branch_register(condition, target.register)

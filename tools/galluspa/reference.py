@@ -7,6 +7,7 @@ from pathlib import Path
 from galluspa.assembly import BUILT_IN
 from galluspa.instructions import instruction
 from galluspa.mnemonics import BRANCHES, word_of
+from galluspa.others import FALSE_FRIENDS, ROWS
 
 EXAMPLES = (
     "MOV R0, 5", "MOV R1, -56", "MOV R3, R4", "MOV' R13, 14", "MOV' R3, H", "MOV' R3, NZCV", "LSL R0, R1, 3",
@@ -22,13 +23,18 @@ DEVICES = {
     "MOUSE": "the mouse, and whether a key waits", "KEY": "the oldest key", "DISPLAY": "the display's lowest line",
 }
 
+STOP = "[stop 1](machine.md#stops-own-choice)"
+
 TEXT = Path(__file__).parent / "reference.md.in"
 
 
 def reference() -> str:
     """The page."""
     text = TEXT.read_text(encoding="utf-8")
-    return text.replace("@DEVICES@", "\n".join(_devices())).replace("@INSTRUCTIONS@", "\n".join(_instructions()))
+    tables = {"@DEVICES@": _devices(), "@INSTRUCTIONS@": _instructions(), "@OTHERS@": _others()}
+    for name, rows in tables.items():
+        text = text.replace(name, "\n".join(rows))
+    return text
 
 
 def _devices() -> Iterator[str]:
@@ -36,8 +42,14 @@ def _devices() -> Iterator[str]:
         yield f"| `{name}` | {value if value < 0 else f'{value:X}H'} | {DEVICES[name]} |"
 
 
+def _others() -> Iterator[str]:
+    for names, here in (*FALSE_FRIENDS, *ROWS):
+        yield f"| {', '.join(f'`{name}`' for name in names.split())} | {here} |"
+
+
 def _instructions() -> Iterator[str]:
     """A row for each example, at word 100."""
     for example in EXAMPLES:
         word = word_of(example)
-        yield f"| `{example}` | `{word:08X}` | {instruction(word, 100).meaning} |"
+        meaning = instruction(word, 100).meaning
+        yield f"| `{example}` | `{word:08X}` | {STOP if meaning == 'stop 1' else meaning} |"

@@ -3,11 +3,12 @@
 import csv
 import io
 import json
-from dataclasses import dataclass, field
+from collections.abc import Sequence
+from dataclasses import dataclass, field, replace
 from pathlib import Path
 
 from galluspa.command import Refused, number, read_file
-from galluspa.recording import FLAGS, KINDS, PAGE_BYTES, PLACES, Event, Recording
+from galluspa.recording import FLAGS, KINDS, PAGE_BYTES, PLACES, Checkpoint, Event, Recording
 from galluspa.states import REGISTERS
 
 MEMORY_BYTES = PLACES * PAGE_BYTES
@@ -15,6 +16,7 @@ COUNTS = 1 << 40
 INPUTS = 1_000_000
 CHECKPOINTS = 4096
 MOUSE = 0x073FF3FF
+RECEIVED = 1 << 8
 KIND_NUMBERS = {name: kind for kind, name in KINDS.items()}
 MOST = {"timer": 0xFFFFFFFF, "switches": 0xFFF, "mouse": MOUSE, "key": 0xFF, "serial": 0xFF}
 
@@ -90,26 +92,33 @@ def of_recording(name: str, read: Recording) -> Session:
     )
 
 
+def session_from(state: Checkpoint, memory: bytes, inputs: Sequence[Event], number: int) -> Session | None:
+    """The session that goes on from a state and a memory, with the inputs from its count on, and has a checkpoint after
+    each of so many instructions; its counts begin at 0. Devices get their values by inputs before the first
+    instruction. The LEDs are left out. None where a session cannot say the state: the serial line has a byte that was
+    read already, the machine has stopped, or there are too many inputs."""
+    if state.stop or 0 < state.serial < RECEIVED:
+        return None
+    devices = {"timer": state.timer, "switches": state.switches, "mouse": state.mouse}
+    first = [(KIND_NUMBERS[name], value) for name, value in devices.items() if value]
+    first += [(KIND_NUMBERS["key"], key) for key in state.keys]
+    first += [(KIND_NUMBERS["serial"], state.serial - RECEIVED)] if state.serial else []
+    later = [replace(event, count=event.count - state.count) for event in inputs]
+    if len(first) + len(later) > INPUTS:
+        return None
+    return Session(
+        registers=list(state.registers), h=state.h, pc=state.pc, flags=state.flags, rate=state.rate, phase=state.phase,
+        memory=memory, inputs=[*(Event(0, kind, value) for kind, value in first), *later],
+        checkpoints=list(range(1, number + 1)),
+    )
+
+
 def image_at(name: str, image: bytes, address: int) -> bytes:
     """A memory that begins with zeros and has an image from a byte address on."""
     if address + len(image) > MEMORY_BYTES:
         raise Refused(
             f"{name}: {len(image):,} bytes from {address:X} on go beyond the memory of {MEMORY_BYTES:,} bytes")
     return bytes(address) + image
-
-
-def odd_counter(session: Session, address: int) -> str:
-    """What is odd about where a session's program counter points, if an image from a byte address on is all of its
-    memory; or nothing."""
-    at, first, end = 4 * session.pc, address, len(session.memory)
-    if at >= MEMORY_BYTES:
-        return f"PC is {session.pc:,}, beyond the memory of {MEMORY_BYTES // 4:,} words: the machine stops at once"
-    if not first <= at < end:
-        return (f"PC is {session.pc:,} (it counts words), which is byte {at:X}, outside the image of the bytes "
-                f"{first:X} to {end - 1:X} (hexadecimal)")
-    if not any(session.memory[at : at + 4]):
-        return f"PC is {session.pc:,} (it counts words), which is byte {at:X} (hexadecimal), and the word there is 0"
-    return ""
 
 
 def set_register(session: Session, assignment: str) -> None:

@@ -1,10 +1,10 @@
 """Makes the session of an assembled source: registers, rate, inputs, and the counts of its checkpoints."""
 
-from collections.abc import Callable
+from collections.abc import Callable, Iterator
 from dataclasses import dataclass, field
 
 from galluspa import endings
-from galluspa.assembly import Assembly, only
+from galluspa.assembly import Assembly, Problem, only
 from galluspa.mnemonics import REGISTER
 from galluspa.recording import FLAGS, Event
 from galluspa.sessions import CHECKPOINTS as MOST_CHECKPOINTS
@@ -21,7 +21,7 @@ WORD = 0xFFFFFFFF
 @dataclass
 class Settings:
     """What a source says of its session: the session without its checkpoints, their counts as far as they are listed,
-    and how the rest of them are found."""
+    how the rest of them are found, and the count of each line with an input."""
 
     session: Session = field(default_factory=Session)
     counts: set[int] = field(default_factory=set)
@@ -29,6 +29,7 @@ class Settings:
     step: int = 0
     last: int = 0
     until: Statement | None = None
+    inputs: list[tuple[int, Statement]] = field(default_factory=list)
     end: str = ""
     most: int = endings.MOST
 
@@ -59,6 +60,20 @@ def set_checkpoints(it: Assembly, settings: Settings, end: int | None) -> None:
         with it.keeping(statement.line):
             raise Wrong(statement.name.column, f"a session has at most {MOST_CHECKPOINTS:,} checkpoints")
     settings.session.checkpoints = sorted(counts)
+
+
+def notes_of(settings: Settings) -> Iterator[Problem]:
+    """What is lawful in a session with its checkpoints, and may surprise: that it has none, or that inputs come too
+    late for the last of them."""
+    counts = settings.session.checkpoints
+    if not counts:
+        yield Problem(1, 1, "note: no checkpoint, so a recording runs no instruction: add every, until or checkpoints")
+        return
+    late = [statement for count, statement in settings.inputs if count >= counts[-1]]
+    if late:
+        which = f"this input and {len(late) - 1:,} after it never come" if len(late) > 1 else "this input never comes"
+        text = f"note: {which}: the last checkpoint is at {counts[-1]:,}, and ends the run"
+        yield Problem(late[0].line, late[0].name.column, text)
 
 
 def _check(it: Assembly, made: Settings) -> None:
@@ -132,6 +147,7 @@ def _input(it: Assembly, made: Settings, statement: Statement) -> None:
     count, kind, value = statement.arguments
     least = made.session.inputs[-1].count if made.session.inputs else 0
     at = _bounded(it, statement, count, least, COUNTS, "the count")
+    made.inputs.append((at, statement))
     name = kind.text.lower()
     if name not in KIND_NUMBERS:
         raise Wrong(kind.column, f"{kind.text} is none of {', '.join(MOST)}")

@@ -4,6 +4,7 @@ from collections.abc import Sequence
 from dataclasses import dataclass
 
 from galluspa.mnemonics import MNEMONICS
+from galluspa.others import here_of
 from galluspa.tokens import Kind, Token, Wrong, tokens_of
 
 CONSTANT, INSTRUCTION, ORIGIN, OFFSETS = "=", "instruction", "origin", "offsets"
@@ -86,15 +87,19 @@ def statement_of(line: int, source: str) -> Statement:
         if labels:
             raise Wrong(labels[0].column, "a constant has no label")
         return Statement(line, source, [], name, CONSTANT, [Argument(rest[1:], end)])
-    return Statement(line, source, labels, name, _what(name), _arguments(rest, end))
+    return Statement(line, source, labels, name, _what(name, rest), _arguments(rest, end))
 
 
-def _what(name: Token) -> str:
+def _what(name: Token, rest: Sequence[Token]) -> str:
     if name.text.upper() in MNEMONICS:
         return INSTRUCTION
     if name.text.lower() in DIRECTIVES:
         return name.text.lower()
-    raise Wrong(name.column, f"{name.text} is no instruction and no directive; a label ends with a colon")
+    here = here_of(name.text.upper())
+    if not here and rest and rest[0].text.upper() == "EQU":
+        here = f"{name.text} = VALUE"
+    advice = f": write {here}" if here else "; a label ends with a colon"
+    raise Wrong(name.column, f"{name.text} is no instruction and no directive{advice}")
 
 
 def _arguments(tokens: Sequence[Token], end: int) -> list[Argument]:

@@ -4,12 +4,16 @@ import re
 from dataclasses import dataclass
 from enum import Enum, auto
 
+from galluspa.others import SIGNS
+
 DIGITS = 20
 ESCAPES = {"n": 10, "r": 13, "t": 9, "0": 0, "\\": 92, '"': 34, "'": 39}
 PATTERN = re.compile(
     r"""(?P<space>[ \t\r\f]+)|(?P<comment>;.*)|(?P<name>[A-Za-z_][A-Za-z0-9_]*'?)|(?P<number>[0-9][0-9A-Za-z_]*)"""
     r"""|(?P<character>'(?:\\.[0-9A-Fa-f]{0,2}|[^'\\])')|(?P<string>"(?:[^"\\]|\\.)*")|(?P<mark>[:,=+\-*/%()$])""",
 )
+# A hexadecimal number as other assemblers write it: no expression has $, the address here, and digits after it.
+DOLLAR = re.compile(r"\$(?P<digits>[0-9A-Fa-f]+)\b")
 NUMBER = re.compile(r"0[xX](?P<prefixed>[0-9A-Fa-f]+)|(?P<suffixed>[0-9][0-9A-Fa-f]*)[hH]|(?P<decimal>[0-9]+)")
 SIGN = re.compile(r"\\x([0-9A-Fa-f]{2})|\\(.)|(.)", re.DOTALL)
 
@@ -51,6 +55,10 @@ def tokens_of(line: str) -> list[Token]:
     tokens, at = [], 0
     while at < len(line):
         found = PATTERN.match(line, at)
+        if line.startswith(("//", "/*"), at):
+            raise Wrong(at + 1, "a comment begins with a semicolon")
+        if dollar := DOLLAR.match(line, at):
+            raise Wrong(at + 1, f"{dollar[0][:DIGITS]} is no number: write it as 0x{dollar['digits'][:DIGITS]}")
         if not found:
             raise Wrong(at + 1, _unknown(line[at]))
         if found.lastgroup not in ("space", "comment"):
@@ -60,10 +68,12 @@ def tokens_of(line: str) -> list[Token]:
 
 
 def _unknown(sign: str) -> str:
-    if sign in "\"'":
-        what = "string" if sign == '"' else "character"
-        return f"a {what} without its end"
-    return f"{sign!r} begins no name, number, string or mark"
+    if sign == '"':
+        return "a string without its end"
+    if sign == "'":
+        return "a character is one sign between apostrophes, such as 'A'"
+    advice = f": {SIGNS[sign]}" if sign in SIGNS else ""
+    return f"{sign!r} begins no name, number, string or sign{advice}"
 
 
 def _token(group: str, text: str, column: int) -> Token:
@@ -82,7 +92,9 @@ def _token(group: str, text: str, column: int) -> Token:
 def _number(text: str, column: int) -> int:
     found = NUMBER.fullmatch(text)
     if not found or len(text) > DIGITS:
-        raise Wrong(column, f"{text[:DIGITS]} is no number: write it as 31, 0x1F or 1FH")
+        binary = re.fullmatch(r"0[bB]([01]+)", text[:DIGITS])
+        advice = f"there are no binary ones: write {int(binary[1], 2)}" if binary else "write it as 31, 0x1F or 1FH"
+        raise Wrong(column, f"{text[:DIGITS]} is no number: {advice}")
     return int(found["decimal"]) if found["decimal"] else int(found["prefixed"] or found["suffixed"], 16)
 
 
