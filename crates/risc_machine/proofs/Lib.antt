@@ -17,3 +17,4 @@ pub mod EntryLemmas
 pub mod PlacedLemmas
 pub mod DecodedLemmas
 pub mod WrittenLemmas
+pub mod WatchLemmas

@@ -1,4 +1,5 @@
--- When the machine may fail to allocate. What its steps and runs are is in `risc_model`.
+-- When the machine may fail to allocate, and what logs and watches are of it. What its steps and runs are is in `risc_model`.
 pub mod Allocation
 pub mod StoreLogs
+pub mod Watches
 pub mod inner

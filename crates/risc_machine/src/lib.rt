@@ -33,6 +33,7 @@ mod sink;
 mod slow_step;
 mod status;
 mod store_log;
+mod watch;
 
 pub use machine::Machine;
 pub use old_word::OldWord;
@@ -42,3 +43,4 @@ pub use risc_model::{
 };
 pub use run_exit::RunFault;
 pub use store_log::StoreLog;
+pub use watch::Watch;
