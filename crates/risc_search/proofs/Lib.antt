@@ -4,3 +4,4 @@ pub mod ConditionLemmas
 pub mod StepLemmas
 pub mod SearchLemmas
 pub mod IdleLemmas
+pub mod ConcernLemmas

@@ -80,7 +80,7 @@ load-same (Ram word) lane byte a s = refl
 load-same (Device word) lane byte a s = refl
 load-same Nowhere lane byte a s = refl
 
-performs-there : (i : Instr) (s : State) → HasStored (word_stored (accessed i s.cpu)) s.words (perform i s).0.words
+performs-there : (i : Instr) (s : State) → HasStored (word_stored (accessed i s.cpu.r)) s.words (perform i s).0.words
 unfolding perform accessed
 performs-there (Reg op u v a b c) s = stored-nothing None s.words s.words refl
 performs-there (Imm op u v a b im) s = stored-nothing None s.words s.words refl
@@ -97,9 +97,9 @@ counted-words : (o : State × Option ℕ) → (counted o).0.words ≡ o.0.words
 unfolding counted
 counted-words o = counted-if (nat_eq o.0.cpu.stop 0) o (ticked o.0.devices)
 
-there-if : (runs inside : Bool) (i : Instr) (s : State) (stopped : State × Option ℕ) → stopped.0.words ≡ s.words → HasStored (word_stored (cond (runs && inside) (accessed i s.cpu) None)) s.words (cond runs (counted (cond inside (perform i s) stopped)) (s, None)).0.words
+there-if : (runs inside : Bool) (i : Instr) (s : State) (stopped : State × Option ℕ) → stopped.0.words ≡ s.words → HasStored (word_stored (cond (runs && inside) (accessed i s.cpu.r) None)) s.words (cond runs (counted (cond inside (perform i s) stopped)) (s, None)).0.words
 there-if true true i s stopped same =
-    let P : List ℕ → Type 0 = λ (ws : List ℕ). HasStored (word_stored (accessed i s.cpu)) s.words ws in
+    let P : List ℕ → Type 0 = λ (ws : List ℕ). HasStored (word_stored (accessed i s.cpu.r)) s.words ws in
     subst P (sym (counted-words (perform i s))) (performs-there i s)
 there-if true false i s stopped same = counted-words stopped ∙ same
 there-if false inside i s stopped same = refl

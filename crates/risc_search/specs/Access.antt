@@ -27,16 +27,16 @@ access_to stores byte Nowhere lane = None
 abbrev pub access_at : Bool → Bool → ℕ → Option Access
 access_at stores byte address = access_to stores byte (place_of address) (lane_of address)
 
--- what an instruction accesses
-unfoldable pub accessed : Instr → CpuState → Option Access
-accessed (Reg op u v a b c) cpu = None
-accessed (Imm op u v a b im) cpu = None
-accessed (Load byte a b off) cpu = access_at false byte (address_of (slice_index cpu.r b) off)
-accessed (Store byte a b off) cpu = access_at true byte (address_of (slice_index cpu.r b) off)
-accessed (BranchReg cond link c) cpu = None
-accessed (BranchOff cond link off) cpu = None
+-- what an instruction accesses, by the registers before it
+unfoldable pub accessed : Instr → List ℕ → Option Access
+accessed (Reg op u v a b c) r = None
+accessed (Imm op u v a b im) r = None
+accessed (Load byte a b off) r = access_at false byte (address_of (slice_index r b) off)
+accessed (Store byte a b off) r = access_at true byte (address_of (slice_index r b) off)
+accessed (BranchReg cond link c) r = None
+accessed (BranchOff cond link off) r = None
 
 -- what the next instruction accesses; a stopped machine does none, and beyond RAM none is fetched
 unfoldable pub next_access : CpuState → List ℕ → Option Access
 next_access cpu words =
-    if cpu.stop == 0 && nat_lt cpu.pc (2 ^ 18) then accessed (instruction_of (slice_index words cpu.pc)) cpu else None
+    if cpu.stop == 0 && nat_lt cpu.pc (2 ^ 18) then accessed (instruction_of (slice_index words cpu.pc)) cpu.r else None

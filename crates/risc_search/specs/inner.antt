@@ -2,3 +2,4 @@
 pub mod Due
 pub mod Observed
 pub mod Idle
+pub mod Concerns

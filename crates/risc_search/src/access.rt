@@ -2,7 +2,8 @@
 ghost use Rattle.std.specs.Prelude.{◌≡◌};
 ghost use Rattle.risc_core.specs.Place.{address_of};
 ghost use Rattle.risc_model.specs.MachineState.{cpu_state};
-ghost use Rattle.risc_search.specs.Access.{access_at, next_access};
+ghost use Rattle.risc_core.specs.Instruction.{HasFields};
+ghost use Rattle.risc_search.specs.Access.{access_at, accessed, next_access};
 
 use risc_core::{Instr, Place, decode, place};
 use risc_model::Cpu;
@@ -53,21 +54,31 @@ fn access_at(stores: bool, byte: bool, base: u32, off: i32) -> Option<Access>
     }
 }
 
+/// Returns what an instruction accesses, by the registers before it.
+#[inline(always)]
+#[tactic(auto, unfolding(crate::specs::Access::accessed))]
+pub(crate) fn accessed(instruction: Instr, registers: &[u32; 16]) -> Option<Access>
+    requires { HasFields instruction }
+    ensures { result ≡ accessed instruction registers.now }
+{
+    match instruction {
+        Instr::Load { byte, b, off, .. } => access_at(false, byte, registers[b as usize], off),
+        Instr::Store { byte, b, off, .. } => access_at(true, byte, registers[b as usize], off),
+        Instr::Reg { .. } => None,
+        Instr::Imm { .. } => None,
+        Instr::BranchReg { .. } => None,
+        Instr::BranchOff { .. } => None,
+    }
+}
+
 /// Returns what the next instruction of a machine with this processor and memory accesses.
 #[inline(always)]
-#[tactic(auto, unfolding(crate::specs::Access::next_access, crate::specs::Access::accessed))]
+#[tactic(auto, unfolding(crate::specs::Access::next_access))]
 pub(crate) fn next_access(cpu: &Cpu, memory: &Memory<'_>) -> Option<Access>
     ensures { result ≡ next_access (cpu_state cpu.now) memory.now.words }
 {
     if cpu.stop != 0 || cpu.pc >= RAM_WORDS {
         return None;
     }
-    match decode(memory.read(cpu.pc)) {
-        Instr::Load { byte, b, off, .. } => access_at(false, byte, cpu.r[b as usize], off),
-        Instr::Store { byte, b, off, .. } => access_at(true, byte, cpu.r[b as usize], off),
-        Instr::Reg { .. } => None,
-        Instr::Imm { .. } => None,
-        Instr::BranchReg { .. } => None,
-        Instr::BranchOff { .. } => None,
-    }
+    accessed(decode(memory.read(cpu.pc)), &cpu.r)
 }

@@ -8,6 +8,7 @@
 mod access;
 mod before;
 mod bits;
+mod concerns;
 mod condition;
 mod due;
 mod hit;

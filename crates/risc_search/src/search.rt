@@ -5,11 +5,13 @@ ghost use Rattle.risc_model.specs.Exec.{exec};
 ghost use Rattle.risc_model.specs.Replay.{feed, run_of};
 ghost use Rattle.risc_search.specs.Search.{IsFirst, IsLast};
 ghost use Rattle.risc_search.specs.Step.{step_from};
+ghost use Rattle.risc_search.specs.inner.Concerns.{CoverAll};
 ghost use Rattle.risc_search.specs.inner.Due.{IsQuiet};
 ghost use Rattle.risc_search.specs.inner.Idle.{HasPassed};
 ghost use Rattle.risc_search.specs.inner.Observed.{IsAnswer, IsBefore};
 
 use crate::before::Before;
+use crate::concerns::Concerns;
 use crate::condition::Condition;
 use crate::due::{due_after, inputs_at, next_due};
 use crate::hit::Hit;
@@ -38,6 +40,7 @@ pub(crate) struct Search<'s> {
     alloc: Global,
     pub(crate) inputs: &'s Inputs,
     pub(crate) conditions: &'s [Condition],
+    concerns: Concerns,
     wanted: Wanted,
 }
 
@@ -131,7 +134,8 @@ impl Search<'_> {
         Ok(first_met(self.conditions, armed, machine.cpu(), stored, sent))
     }
 
-    /// Goes on from a count that is before that of the next input, or at it: by one step, or by more if the machine is in an idle loop.
+    /// Goes on from a count that is before that of the next input, or at it: by the instructions that concern no condition, by one step, or
+    /// by more if the machine is in an idle loop.
     #[inline(always)]
     fn advance(
         &self,
@@ -144,6 +148,7 @@ impl Search<'_> {
         requires quiet { IsQuiet self.now.inputs.now at due }
         requires due { at ≤ due }
         requires below { at < 2 ^ 64 - 1 }
+        requires concerns { CoverAll self.now.concerns self.now.conditions.now }
         requires armed { length self.now.conditions.now ≤ length armed.old }
         ensures armed { length armed.new ≡ length armed.old }
         ensures further { IfOk result (λ passed. at < passed.at) }
@@ -165,6 +170,14 @@ impl Search<'_> {
             pace.looked(passed.at, passed.period);
             return Ok(passed);
         }
+        let steps = machine.run_unwatched(&self.concerns, pace.room(at, due));
+        if steps > 0 {
+            return Ok(Passed {
+                at: at + steps,
+                met: None,
+                period: 0,
+            });
+        }
         let met = self.step_quietly(machine, at, armed)?;
         Ok(Passed {
             at: at + 1,
@@ -177,6 +190,7 @@ impl Search<'_> {
     fn run(&self, machine: &mut Machine<'_>, from: u64, to: u64) -> Result<Option<Hit>, AllocError>
         requires forward { from ≤ to }
         requires few { length self.now.conditions.now ≤ MAX_CONDITIONS }
+        requires concerns { CoverAll self.now.concerns self.now.conditions.now }
         ensures first { self.now.wanted ≡ Wanted.First → IfOk result (IsFirst self.now.conditions.now self.now.inputs.now from to machine.old.state) }
         ensures last { self.now.wanted ≡ Wanted.Last → IfOk result (IsLast self.now.conditions.now self.now.inputs.now from to machine.old.state) }
         ensures cause { OnErr result (MayFail machine.new) }
@@ -226,6 +240,7 @@ pub fn find_first(
         alloc,
         inputs,
         conditions,
+        concerns: Concerns::of(conditions),
         wanted: Wanted::First,
     };
     search.run(machine, from, to)
@@ -252,6 +267,7 @@ pub fn find_last(
         alloc,
         inputs,
         conditions,
+        concerns: Concerns::of(conditions),
         wanted: Wanted::Last,
     };
     search.run(machine, from, to)
