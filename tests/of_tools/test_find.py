@@ -11,7 +11,7 @@ from unittest import mock
 
 from galluspa import finding, recording
 from galluspa.command import Refused
-from galluspa.conditions import conditions_of
+from galluspa.conditions import BECOMES, SENDS, conditions_of
 from galluspa.finding import KEPT, Search
 from galluspa.instructions import address, is_store
 from galluspa.library import Library
@@ -138,6 +138,10 @@ class ConditionsTest(ToolTest):
             ran = tool("find", made, "change", *dot.split())
             self.assertEqual((ran.output.split()[:1], ran.status), ([str(count).encode()], 0) if count else ([], 1), dot)
         self.assertEqual(tool("find", made, "store", "dot", "33,1").status, 0)
+
+    def test_the_register_h_may_follow_a_byte_that_is_sent(self) -> None:
+        for words in (["sent", "H=5"], ["sent", "H", "5"], ["sent H = 5"], ["sent", "h=-5"]):
+            self.assertEqual([it.raws[0].kind for it in conditions_of(words)], [SENDS, BECOMES], words)
 
     def test_there_are_no_more_than_the_library_takes(self) -> None:
         conditions_of(["sent"] * 64)
@@ -305,14 +309,14 @@ class FindTest(ToolTest):
             (["--from", 101], "--from 101 is after the last checkpoint, which is at 100"), (["--to", 101], "--to 101 is after the last checkpoint, which is at 100"),
             (["--from", 5, "--to", 5], "no count is from 5 up to but not including 5"), (["--from", 100], "no count is from 100 up to but not including 100"),
             (["--from", 6, "--to", 5], "no count is from 6"), (["--most", 5], "--most is for --all"), (["--last", "--all"], "not allowed with"),
-            (["-j", 0], "'0' is no whole number from 1 to 64"), (["-j", 65], "'65' is no whole number"), (["--library", "none"], "no library at none"),
+            (["-j", 0], "'0' is not a whole number from 1 to 64"), (["-j", 65], "'65' is not a whole number"), (["--library", "none"], "no library at none"),
         ):
             self.assert_refused(tool("find", stored, "stop", *words), told)
         for words, told in REFUSED:
             self.assert_refused(tool("find", stored, *words.split()), told)
 
 
-PROGRAMS_NAME = ("no number, and names of a program are not known here: tools/assemble FILE --words has the number of each word, a quarter of "
+PROGRAMS_NAME = ("not a number, and names of a program are not known here: tools/assemble FILE --words has the number of each word, a quarter of "
                  "its address")
 # Conditions that are none, and what is told of them.
 REFUSED: Sequence[tuple[str, str]] = (
@@ -321,9 +325,11 @@ REFUSED: Sequence[tuple[str, str]] = (
     ("store", "store: want a PLACE: an address or FIRST-LAST, a device such as KEY, page N, or dot X,Y; a number is decimal"), ("change", "change: want a PLACE"),
     ("PC=", "PC: want a number"), ("PC=5-", "PC 5-: want a number"), ("5-x", "5-x: want PC=N"), ("store E7F00", "store E7F00: write 0xE7F00: numbers are decimal, or have 0x in front"),
     ("load 0FFFFDCH", "load 0FFFFDCH: write 0xFFFFDC: numbers"), ("load $FFDC", "load $FFDC: write 0xFFDC: numbers"), ("PC=1fH", "PC 1fH: write 0x1f"),
-    ("PC=handle", f"PC handle: handle is {PROGRAMS_NAME}"), ("store handle", f"store handle: handle is {PROGRAMS_NAME}"), ("PC=KEY", "KEY is no number, and"),
+    ("PC=handle", f"PC handle: handle is {PROGRAMS_NAME}"), ("store handle", f"store handle: handle is {PROGRAMS_NAME}"), ("PC=KEY", "KEY is not a number, and"),
     ("load -65", "load -65: want a PLACE"), ("load -0", "load -0: want a PLACE"), ("change KEY", "change KEY: an address is below 100000 (hexadecimal)"),
     ("sent k", "sent k: want a byte as its number, which is 107"), ("sent 'k'", "sent 'k': want a byte as its number, which is 107"),
+    ("sent H", "sent H: want a byte as its number, which is 72, or H=VALUE for the register"), ("sent h stop", "sent h: want a byte as its number, which is 104, or h=VALUE"),
+    ("sent H=x", "sent H: want a byte as its number, which is 72, or H=VALUE"), ("sent 'H' 5", "sent 'H': want a byte as its number, which is 72"),
     ("store page x", "store page x: want a number"), ("sent stop R1", "R1: want a number"),
     ("input pen", "input pen: want input alone, or with one of timer, switches, mouse, key, serial"), ("input stop pen", "pen: want PC=N"),
     ("PC=4194304", "PC 4194304: a PC is below 4,194,304 (400000 hexadecimal)"),

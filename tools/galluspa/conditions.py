@@ -68,7 +68,7 @@ class Raw:
     value: int = 0
 
 
-# What writes the parts of a state that are no registers.
+# What writes the parts of a state that are not registers.
 WRITTEN = {
     "out": (Raw(SENDS),),
     "stop": (Raw(STOPS),),
@@ -115,6 +115,12 @@ class _Words:
     def next(self) -> str:
         """The word that comes next; none where all are read."""
         return self._left[0] if self._left else ""
+
+    @property
+    def is_assignment(self) -> bool:
+        """Whether a NAME comes next, with a number as its VALUE."""
+        value = self._left[1] if len(self._left) > 1 else ""
+        return self.next.lower() in STARTS and number(value.removeprefix("-")) is not None
 
     def take(self) -> str:
         """Reads the word that comes next."""
@@ -223,8 +229,8 @@ def _hint(text: str) -> str:
         return f"write 0x{(found[1] or found[2]).lstrip('0') or '0'}: numbers are decimal, or have 0x in front"
     if LABEL.fullmatch(text):
         tool = in_package("tools/assemble")
-        return (f"{text} is no number, and names of a program are not known here: {tool} FILE --words has the number "
-                "of each word, a quarter of its address")
+        return (f"{text} is not a number, and names of a program are not known here: {tool} FILE --words has the "
+                "number of each word, a quarter of its address")
     return ""
 
 
@@ -283,11 +289,13 @@ def _takes(words: _Words) -> tuple[Raw, ...]:
 
 
 def _sends(words: _Words) -> Raw:
-    """That a byte is sent: any, or the one that the next word says."""
+    """That a byte is sent: any, or the one that the next word says. The letter H may begin the next condition, H=VALUE,
+    or be meant as a character."""
     value, character = number(words.next), words.next.strip("'")
-    if value is None and len(character) == 1 and character.lower() not in STARTS:
+    if value is None and len(character) == 1 and not words.is_assignment:
+        register = f", or {words.next}=VALUE for the register" if words.next.lower() in STARTS else ""
         words.take()
-        raise ValueError(f"want a byte as its number, which is {ord(character)}")
+        raise ValueError(f"want a byte as its number, which is {ord(character)}{register}")
     if value is None:
         return Raw(SENDS)
     if words.take() and value > 0xFF:
