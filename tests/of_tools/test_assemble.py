@@ -173,8 +173,8 @@ class AssembleTest(ToolTest):
             ("BNO 0\nDIV R0, R0, R0\nuntil loops", f"3:1: {no_loop} 2, at word 1, with stop 2, divisor: the divisor is below 1"),
             ("until loops\nMOV R0, 5", f"1:1: {no_loop} 262,145, at word 262,144, with stop 3, fetch: it ran past the end of "
              "the program, or branched out of the memory; end it with a jump to itself"),
-            ("until loops\nMOV R1, -68\nLDR R0, R1, 0", f"1:1: {no_loop} 2, at word 1, with stop 4, address: the address is no "
-             "memory and no device"),
+            ("until loops\nMOV R1, -68\nLDR R0, R1, 0", f"1:1: {no_loop} 2, at word 1, with stop 4, address: the address is "
+             "neither memory nor a device"),
             ("ADD R0, R0, 1\nB -2\nuntil loops, 90", "3:1: the machine does not enter a loop that it never leaves within 90 "
              "instructions"),
         ):
@@ -230,19 +230,25 @@ class AssembleTest(ToolTest):
             ("MOV' R1, -1", "1:10: the upper half -1 is not from 0 to 65,535"),
             ("LDR R1, R2, 524288", "1:13: the offset 524,288 is not from -524,288 to 524,287"),
             ("B 2097152", "1:3: the offset 2,097,152 is not from -2,097,152 to 2,097,151"),
-            ("B $ + 1", "1:3: the target 1H is no multiple of 4"),
+            ("B $ + 1", "1:3: the target 1H is not a multiple of 4"),
             ("MOV R16, 3", "1:5: R16 is not defined"),
-            ("MOV 5, 3", "1:5: 5 is no register from R0 to R15"),
+            ("MOV 5, 3", "1:5: 5 is not a register from R0 to R15"),
             ("ADD R1, R2", "1:1: ADD needs 3 operands and has 2: ADD R0, R1, 2"),
             ("MOV' R1", "1:1: MOV' needs 2 operands and has 1: MOV' R0, 5"),
             ("ldb R1, R2", "1:1: ldb needs 3 operands and has 2: ldb R1, R2, 4"),
             ("B", "1:1: B needs 1 operand and has none: B LABEL"),
             ("MOV' R0, R1", "1:10: MOV' has H, NZCV or a number, and no register"),
             ("ADD R0, R1, H", "1:13: H is an operand of MOV' alone"),
-            ("B H", "1:3: H is no number"),
+            ("B H", "1:3: H is not a number"),
             ("B nowhere", "1:3: nowhere is not defined"),
             ("word 2 + R1", "1:10: R1 is a register, where a number is wanted"),
-            ("FOO R1", "1:1: FOO is no instruction and no directive; a label ends with a colon"),
+            ("FOO R1", "1:1: FOO is neither an instruction nor a directive; a label ends with a colon"),
+            ("MVO R0, 5", "1:1: MVO is neither an instruction nor a directive: did you mean MOV?"),
+            ("addd R0, R0, 5", "1:1: addd is neither an instruction nor a directive: did you mean ADD?"),
+            ("LDX' R0, R1, 0", "1:1: LDX' is neither an instruction nor a directive; a label ends with a colon"),
+            ("BLLLT 5", "1:1: BLLLT is neither an instruction nor a directive: did you mean BLLT?"),
+            ("orgin 5", "1:1: orgin is neither an instruction nor a directive: did you mean origin?"),
+            ("end", "1:1: end is neither an instruction nor a directive; a label ends with a colon"),
             ("5 R1", "1:1: 5 begins no statement"),
             ("word", "1:1: word wants a value"),
             ("word 1,", "1:8: a number or a name is missing here"),
@@ -250,17 +256,17 @@ class AssembleTest(ToolTest):
             ("word 1, , 2", "1:9: a number or a name is missing here"),
             ("word 1 2", "1:8: 2 does not continue the expression"),
             ("word (1 + 2", "1:6: the parenthesis has no end"),
-            ("word )", "1:6: ) is no number and no name"),
+            ("word )", "1:6: ) is neither a number nor a name"),
             ("word 5 / 0", "1:8: a division by 0"),
-            ("word 4294967296", "1:6: 4,294,967,296 is no word from -2,147,483,648 to 4,294,967,295"),
+            ("word 4294967296", "1:6: 4,294,967,296 is not a word from -2,147,483,648 to 4,294,967,295"),
             ("word 99999999999 * 99999999999", "1:18: the result is 2^64 or more"),
-            ("word 999999999999999999999", "1:6: 99999999999999999999 is no number: write it as 31, 0x1F or 1FH"),
-            ("word 12G", "1:6: 12G is no number: write it as 31, 0x1F or 1FH"),
-            ("word 0b101", "1:6: 0b101 is no number: there are no binary ones: write 5"),
-            ("word 1 + $FF", "1:10: $FF is no number: write it as 0xFF"),
-            ("word %101", "1:6: % is no number and no name: there are no binary numbers; write 5"),
-            ("word %x", "1:6: % is no number and no name"),
-            ("MOV R0, =text", "1:9: = is no number and no name: write text without it, as an operand of MOV"),
+            ("word 999999999999999999999", "1:6: 99999999999999999999 is not a number: write it as 31, 0x1F or 1FH"),
+            ("word 12G", "1:6: 12G is not a number: write it as 31, 0x1F or 1FH"),
+            ("word 0b101", "1:6: 0b101 is not a number: there are no binary ones: write 5"),
+            ("word 1 + $FF", "1:10: $FF is not a number: write it as 0xFF"),
+            ("word %101", "1:6: % is neither a number nor a name: there are no binary numbers; write 5"),
+            ("word %x", "1:6: % is neither a number nor a name"),
+            ("MOV R0, =text", "1:9: = is neither a number nor a name: write text without it, as an operand of MOV"),
             ("MOV R0, FFH", "1:9: FFH is not defined: a number that ends with H begins with a digit, 0FFH"),
             ("B LR", "1:3: LR is not defined: R15 has the way back after BL"),
             ("MOV sp, 5", "1:5: sp is not defined: there is no stack; any register may be its pointer"),
@@ -273,18 +279,18 @@ class AssembleTest(ToolTest):
             ("wait: B wants", "1:9: wants is not defined"), ("ab: B ac", "1:7: ac is not defined"),
             ("MOV R1, SERAIL", "1:9: SERAIL is not defined: did you mean SERIAL?"),
             ("word " + "(" * 51 + "1" + ")" * 51, "1:56: signs, parentheses and constants are nested deeper than 50"),
-            ("byte 256", "1:6: 256 is no byte from -128 to 255"),
+            ("byte 256", "1:6: 256 is not a byte from -128 to 255"),
             ("string 5", "1:8: string wants a text in quotation marks; byte takes numbers"),
             ('byte "abc', "1:6: a string without its end"),
             ("word 'ab'", "1:6: a character is one sign between apostrophes, such as 'A'"),
-            ('MOV R0, "a"', "1:9: \"a\" is no number and no name: write 'a'"),
-            ('MOV R0, "ab"', '1:9: "ab" is no number and no name'),
+            ('MOV R0, "a"', "1:9: \"a\" is neither a number nor a name: write 'a'"),
+            ('MOV R0, "ab"', '1:9: "ab" is neither a number nor a name'),
             ("LDR R0, R1, R2", "1:13: R2 is a register, and the offset is a number: ADD the two first"),
-            ("X EQU 5", "1:1: X is no instruction and no directive: write X = VALUE"),
-            ("LSLS R0, R0, 1", "1:1: LSLS is no instruction and no directive: write the name without its last letter: each "
+            ("X EQU 5", "1:1: X is neither an instruction nor a directive: write X = VALUE"),
+            ("LSLS R0, R0, 1", "1:1: LSLS is neither an instruction nor a directive: write the name without its last letter: each "
              "operation sets flags and takes a number"),
-            ("byte 'é'", "1:7: 'é' is no ASCII character: write its bytes as \\xHH"),
-            ('byte "a\\q"', "1:8: \\q is no escape: they are \\n \\r \\t \\0 \\\\ \\\" \\' and \\xHH"),
+            ("byte 'é'", "1:7: 'é' is not an ASCII character: write its bytes as \\xHH"),
+            ('byte "a\\q"', "1:8: \\q is not an escape: they are \\n \\r \\t \\0 \\\\ \\\" \\' and \\xHH"),
             ("word 1 @ 2", "1:8: '@' begins no name, number, string or sign: a comment begins with a semicolon"),
             ("word 1 ! 2", "1:8: '!' begins no name, number, string or sign"),
             ("MOV R0, #5", "1:9: '#' begins no name, number, string or sign: a number is written without it, and a "
@@ -294,20 +300,20 @@ class AssembleTest(ToolTest):
             (".word 5", "1:1: '.' begins no name, number, string or sign: a directive has no dot, and there are no "
              "sections"),
             ("MOV R0, R1 // c", "1:12: a comment begins with a semicolon"), ("/* c */", "1:1: a comment begins with a semicolon"),
-            ("cmp r0, r1", "1:1: cmp is no instruction and no directive: write SUB, AND or XOR into a register that "
+            ("cmp r0, r1", "1:1: cmp is neither an instruction nor a directive: write SUB, AND or XOR into a register that "
              "is free, and then a branch"),
-            ("strne R0, R1, 0", "1:1: strne is no instruction and no directive: write a branch over it, such as BNE LABEL: "
+            ("strne R0, R1, 0", "1:1: strne is neither an instruction nor a directive: write a branch over it, such as BNE LABEL: "
              "branches alone have conditions"),
-            ("JMP 5", "1:1: JMP is no instruction and no directive: write B LABEL"),
+            ("JMP 5", "1:1: JMP is neither an instruction nor a directive: write B LABEL"),
             ("a: a = 5", "1:1: a constant has no label"),
             ("R1: B -1", "1:1: R1 is the name of a register"),
             ("key = 5", "1:1: key is the name of a device"),
             ("x' = 5", "1:1: x' has an apostrophe, which no name has"),
             ("x = x + 1", "1:5: the value of x depends on itself"),
-            ("origin 1048576", "1:8: the origin 1,048,576 is no byte address from 0 to 1,048,575"),
+            ("origin 1048576", "1:8: the origin 1,048,576 is not a byte address from 0 to 1,048,575"),
             ("origin", "1:1: origin wants one value"),
             ("offsets 23", "1:9: offsets have 22 or 24 bits"),
-            ("start 2", "1:7: the start 2H is no multiple of 4"),
+            ("start 2", "1:7: the start 2H is not a multiple of 4"),
             ("start 4194304", "1:7: the byte address 4,194,304 is not from 0 to 1,048,575"),
             ("set R17 = 5", "1:5: R17 is none of R0 to R15, H and flags"),
             ("set R1", "1:5: set wants a register or flags, an equals sign and a value"),
@@ -318,7 +324,7 @@ class AssembleTest(ToolTest):
             ("input 5, pen, 3", "1:10: pen is none of timer, switches, mouse, key, serial"),
             ("input 3, key, 300", "1:15: the value for key 300 is not from 0 to 255"),
             ("input 3, mouse, 800H", "1:17: 800H has bits outside the mask 073FF3FFH of the mouse"),
-            ('input 3, timer, "a"', '1:17: "a" is no number and no name: write \'a\''),
+            ('input 3, timer, "a"', '1:17: "a" is neither a number nor a name: write \'a\''),
             ("checkpoints", "1:1: checkpoints wants counts"),
             ("checkpoints 0", "1:13: the count 0 is not from 1 to 1,099,511,627,776"),
             ("every 5", "1:1: every wants an end: every N, LAST, or a line with until"),
@@ -334,7 +340,7 @@ class AssembleTest(ToolTest):
     def test_what_is_written_in_place_of_other_names_can_be_written(self) -> None:
         """Each name of another assembler is unknown here, and each instruction that is offered is one."""
         for name, here in HERE.items():
-            self.assert_wrong(f"{name} R1", f"1:1: {name} is no instruction and no directive: write {here}")
+            self.assert_wrong(f"{name} R1", f"1:1: {name} is neither an instruction nor a directive: write {here}")
         offered = {word for here in HERE.values() for word in re.findall(r"\b[A-Z]{2,}'?(?![A-Z])", here)}
         self.assertEqual(offered - MNEMONICS - {"LABEL", "OFFSET", "ADDRESS", "NAME", "VALUE"}, set())
         self.assertLess({name for names, _ in FALSE_FRIENDS for name in names.split()}, MNEMONICS)

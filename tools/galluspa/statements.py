@@ -4,7 +4,7 @@ from collections.abc import Sequence
 from dataclasses import dataclass
 
 from galluspa.mnemonics import MNEMONICS
-from galluspa.others import here_of
+from galluspa.others import are_alike, here_of
 from galluspa.tokens import Kind, Token, Wrong, tokens_of
 
 CONSTANT, INSTRUCTION, ORIGIN, OFFSETS = "=", "instruction", "origin", "offsets"
@@ -13,6 +13,8 @@ START, SET, RATE, PHASE, INPUT, CHECKPOINTS, EVERY, UNTIL = SETTINGS = (
     "start", "set", "rate", "phase", "input", "checkpoints", "every", "until",
 )
 DIRECTIVES = frozenset((ORIGIN, OFFSETS, WORD, BYTE, STRING, *SETTINGS))
+# What a statement may be meant to begin with, in the order in which it is suggested.
+_FIRST_WORDS = (*sorted(MNEMONICS), *sorted(DIRECTIVES))
 
 
 @dataclass(frozen=True)
@@ -98,8 +100,9 @@ def _what(name: Token, rest: Sequence[Token]) -> str:
     here = here_of(name.text.upper())
     if not here and rest and rest[0].text.upper() == "EQU":
         here = f"{name.text} = VALUE"
-    advice = f": write {here}" if here else "; a label ends with a colon"
-    raise Wrong(name.column, f"{name.text} is no instruction and no directive{advice}")
+    meant = next((other for other in _FIRST_WORDS if rest and are_alike(name.text, other)), "")
+    advice = f": write {here}" if here else f": did you mean {meant}?" if meant else "; a label ends with a colon"
+    raise Wrong(name.column, f"{name.text} is neither an instruction nor a directive{advice}")
 
 
 def _arguments(tokens: Sequence[Token], end: int) -> list[Argument]:
