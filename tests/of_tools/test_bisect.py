@@ -208,11 +208,11 @@ echo "${{shown%, \\"memory\\"*}}, \\"memory_sha256\\": \\"$digest\\"}}"
         self.assert_refused(tool("bisect", none, "--", "echo", "{count}"), "no checkpoint, so want --to")
         self.assert_refused(tool("bisect", session_file, "--", self.folder / "none", "{count}"), "No such file")
         for told, printed in (
-            ("it ended with status 3", "exit 3"), ("is no JSON", "echo {"), ("is no object", "echo []"), ("is no object", "echo 1"),
-            ("'X' is none of", 'echo "{\\"X\\": 1}"'), ("H is no whole number", 'echo "{\\"H\\": -1}"'),
-            ("R is no list of 16 numbers", 'echo "{\\"R\\": [1]}"'), ("out is no text", 'echo "{\\"out\\": \\"abc\\"}"'),
+            ("it ended with status 3", "exit 3"), ("is not JSON", "echo {"), ("is not an object", "echo []"), ("is not an object", "echo 1"),
+            ("'X' is none of", 'echo "{\\"X\\": 1}"'), ("H is not a whole number", 'echo "{\\"H\\": -1}"'),
+            ("R is not a list of 16 numbers", 'echo "{\\"R\\": [1]}"'), ("out is not text", 'echo "{\\"out\\": \\"abc\\"}"'),
             ("memory is a file that is not read", 'echo "{\\"memory\\": \\"/none\\"}"'),
-            ("memory_sha256 is no SHA-256", 'echo "{\\"memory_sha256\\": \\"ab\\"}"'),
+            ("memory_sha256 is not a SHA-256", 'echo "{\\"memory_sha256\\": \\"ab\\"}"'),
             ("they differ at count 0 already, in H, PC", 'echo "{\\"PC\\": 1, \\"H\\": 3}"'),
         ):
             self.assert_refused(tool("bisect", session_file, "--", *say, f"{printed} # {{count}}"), told)

@@ -67,7 +67,7 @@ class CoverageTest(ToolTest):
     def test_refuses_bad_input(self) -> None:
         self.assert_refused(tool("coverage"), "SUITE")
         self.assert_refused(tool("coverage", self.folder), "no recording")
-        self.assert_refused(tool("coverage", SUITE, "--steps", 0), "'0' is no whole number")
+        self.assert_refused(tool("coverage", SUITE, "--steps", 0), "'0' is not a whole number")
 
     def test_the_page(self) -> None:
         self.file("suite/it.orsr", STORED)

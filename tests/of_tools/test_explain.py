@@ -247,7 +247,7 @@ class ExplainTest(ToolTest):
         self.assert_refused(tool("explain", self.folder / "none"), "No such file")
         stored = self.file("false.orsr", rejoining(9))
         self.assert_refused(tool("explain", stored, "--library", self.folder / "none"), "no library at")
-        self.assert_refused(tool("explain", stored, "--steps", 0), "'0' is no whole number")
+        self.assert_refused(tool("explain", stored, "--steps", 0), "'0' is not a whole number")
 
 
 WHOLE = session([JUMP], [5, 9], [(1, "key", 65), (3, "mouse", 7)])
@@ -266,7 +266,7 @@ def changed(*path: str | int, to: object) -> bytes:
 # Sessions that are refused, each with the number of its fault and with what is told of it.
 REFUSED = (
     (b"{", 1, "line 1, column 2 is wrong"),
-    (b'{"a": "\xff"}', 1, "byte 7 is ff, which is no UTF-8"),
+    (b'{"a": "\xff"}', 1, "byte 7 is ff, which is not UTF-8"),
     (b'{"a": NaN}', 1, "a number or a constant that is wrong"),
     (b'{"a":' + b"[" * 200, 1, "line 1, column 132 nests more than 127 deep"),
     (json.dumps(WHOLE)[:-1].encode() + b",}", 1, "is wrong"),

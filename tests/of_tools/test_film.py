@@ -104,7 +104,7 @@ class FilmTest(ToolTest):
         self.assert_refused(tool("film", self.file("short.orsr", STORED[:-1])), "refused 1 short at byte 9503")
         self.assert_refused(tool("film", stored, "--every", 101), "--every 101: the recording has 100 instructions")
         self.assert_refused(tool("film", stored, "--every", 5, "--checkpoints"), "not allowed with")
-        self.assert_refused(tool("film", stored, "--ms", 70000), "'70000' is no whole number")
+        self.assert_refused(tool("film", stored, "--ms", 70000), "'70000' is not a whole number")
         self.assert_refused(tool("film", stored, "-o", self.folder / "none/it.png"), "No such file or directory")
         ran = tool("film", stored, "-o", "/dev/full")
         self.assertEqual((ran.errors, ran.status), ("film: /dev/full: No space left on device\n", 3))

@@ -109,4 +109,4 @@ class ListingTest(ToolTest):
         self.assert_refused(tool("listing", self.file("short.orsr", STORED[:-1])), "refused 1 short at byte 9503")
         stored = self.file("stored.orsr", STORED)
         self.assert_refused(tool("listing", stored, "--at", 2), "no checkpoint 2")
-        self.assert_refused(tool("listing", stored, "--words", "many"), "'many' is no whole number")
+        self.assert_refused(tool("listing", stored, "--words", "many"), "'many' is not a whole number")

@@ -43,4 +43,4 @@ class OutputTest(ToolTest):
         self.assert_refused(tool("output", self.folder / "none"), "No such file")
         self.assert_refused(tool("output", self.file("short.orsr", STORED[:-1])), "refused 1 short at byte 9503")
         self.assert_refused(tool("output", stored, "--at", 2), "no checkpoint 2")
-        self.assert_refused(tool("output", stored, "--at", 0), "'0' is no whole number from 1 to 4,096")
+        self.assert_refused(tool("output", stored, "--at", 0), "'0' is not a whole number from 1 to 4,096")

@@ -120,7 +120,7 @@ class SessionTest(ToolTest):
         self.assert_refused(tool("session", "--memory", image, *every, "--checkpoints", "1"), "either")
         self.assert_refused(tool("session", "--memory", image, "--every", 1, "--until", 5000), "5,000 checkpoints")
         self.assert_refused(tool("session", "--memory", image, "--every", 9, "--until", 5), "0 checkpoints")
-        self.assert_refused(tool("session", "--memory", image, "--checkpoints", "5,5"), "'5' is no count from 6")
+        self.assert_refused(tool("session", "--memory", image, "--checkpoints", "5,5"), "'5' is not a count from 6")
         self.assert_refused(tool("session", "--memory", image, "--checkpoints", "5,x"), "'x'")
         self.assert_refused(tool("session", "--memory", image, "--at", "0xFFFFF", *every), "go beyond the memory")
         self.assert_refused(tool("session", "--memory", self.folder / "none", *every), "No such file")
@@ -135,11 +135,11 @@ class SessionTest(ToolTest):
     def test_refuses_bad_inputs(self) -> None:
         for line, told in (
             ("1,key", "three cells"),
-            ("1,key,256", "'256' is no value for key"),
+            ("1,key,256", "'256' is not a value for key"),
             ("1,mouse,0x800", "mask"),
             ("1,pen,1", "'pen' is none of timer"),
-            ("x,key,1", "'x' is no count"),
-            ("4,key,1", "'4' is no count from 5"),
+            ("x,key,1", "'x' is not a count"),
+            ("4,key,1", "'4' is not a count from 5"),
             ("0x10000000001,key,1", "no count"),
         ):
             inputs = self.file("inputs.csv", f"count,kind,value\n5,key,1\n{line}\n" if line[0] == "4" else f"{line}\n")

@@ -18,7 +18,7 @@ from samples import (
 )
 
 FACE = EXAMPLES / "face.orsr"
-# A name that is no UTF-8, has a line feed that begins a line of TAP, a directive, and a sequence that clears a terminal.
+# A name that is not UTF-8, has a line feed that begins a line of TAP, a directive, and a sequence that clears a terminal.
 HOSTILE = os.fsdecode(b"\xff\nok 2 - b # SKIP \x1b[2J\\.orsr")
 SHOWN = r"\xff\nok 2 - b # SKIP \x1b[2J\.orsr"
 IN_TAP = r"\\xff\\nok 2 - b \# SKIP \\x1b[2J\\.orsr"
@@ -80,7 +80,7 @@ class OutputTest(ToolTest):
         self.addCleanup(os.close, reader)
         with open(terminal, "wb") as shown:
             ran = self.ended(["slice", FACE, "--from", 1, "--to", 2], shown)
-        self.assertEqual((ran.status, ran.errors), (2, "slice: what is printed is no text: send it into a file, with > FILE\n"))
+        self.assertEqual((ran.status, ran.errors), (2, "slice: what is printed is not text: send it into a file, with > FILE\n"))
 
 
 class NamesTest(ToolTest):

@@ -71,7 +71,7 @@ class SuiteTest(SuitesTest):
         self.assert_refused(tool("suite"), "FOLDER")
         self.assert_refused(tool("suite", self.folder / "none"), "not a folder")
         self.assert_refused(tool("suite", self.folder), "no recording")
-        self.assert_refused(tool("suite", self.folder, "-j", 0), "'0' is no whole number from 1")
+        self.assert_refused(tool("suite", self.folder, "-j", 0), "'0' is not a whole number from 1")
         self.file("a.orsr", STORED)
         self.assert_refused(tool("suite", self.folder, "--program", self.folder / "none"), "no program at")
 

@@ -156,7 +156,7 @@ class TraceTest(ToolTest):
         self.assert_refused(tool("trace", stored, "--at", 2), "no checkpoint 2")
         self.assert_refused(tool("trace", stored, "--at", 1), "count 0 is before checkpoint 1, at 100")
         self.assert_refused(tool("trace", stored, "--from", 101), "--from 101 is after the last checkpoint, which is at 100")
-        self.assert_refused(tool("trace", stored, "--from", (1 << 40) + 1), "'1099511627777' is no whole number from 0 to ")
+        self.assert_refused(tool("trace", stored, "--from", (1 << 40) + 1), "'1099511627777' is not a whole number from 0 to ")
         for words, told in ((["write"], "write: want a PLACE"), (["R16=1"], "R16: want PC=N"), (["R1="], "R1: want"), (["x"], "x: want"),
                             (["sent", "1", "R1"], "R1: want"), (["write", "1", "mask"], "mask: want"), (["PC=0x400000"], "PC 0x400000: a PC is below"),
                             (["flags=16"], "flags can have no bit but those of F ")):

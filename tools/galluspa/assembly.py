@@ -191,7 +191,7 @@ def _region_of(it: Assembly, statement: Statement) -> Region:
     argument = only(statement)
     start = it.value(argument, it.regions[-1].end).number
     if not 0 <= start < MEMORY_BYTES:
-        raise Wrong(argument.column, f"the origin {start:,} is no byte address from 0 to {MEMORY_BYTES - 1:,}")
+        raise Wrong(argument.column, f"the origin {start:,} is not a byte address from 0 to {MEMORY_BYTES - 1:,}")
     return Region(statement.line, statement.name.column, start, start)
 
 
@@ -255,7 +255,7 @@ def _packed(it: Assembly, argument: Argument, here: int, size: int) -> bytes:
     number = it.value(argument, here).number
     if not -end // 2 <= number < end:
         what = "word" if size == 4 else "byte"
-        raise Wrong(argument.column, f"{number:,} is no {what} from {-end // 2:,} to {end - 1:,}")
+        raise Wrong(argument.column, f"{number:,} is not a {what} from {-end // 2:,} to {end - 1:,}")
     return (number % end).to_bytes(size, "little")
 
 

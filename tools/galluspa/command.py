@@ -106,7 +106,7 @@ def whole_number(least: int, most: int) -> Callable[[str], int]:
     def read(text: str) -> int:
         value = number(text)
         if value is None or not least <= value <= most:
-            raise argparse.ArgumentTypeError(f"{text!r} is no whole number from {least:,} to {most:,}")
+            raise argparse.ArgumentTypeError(f"{text!r} is not a whole number from {least:,} to {most:,}")
         return value
 
     return read
@@ -200,9 +200,9 @@ def _failing(path: str | Path) -> Iterator[None]:
 
 
 def write_bytes(content: bytes) -> None:
-    """Prints bytes that are no text: into a file or a pipe, and on no terminal, which they might control."""
+    """Prints bytes that are not text: into a file or a pipe, and on no terminal, which they might control."""
     if sys.stdout.isatty():
-        raise Refused("what is printed is no text: send it into a file, with > FILE")
+        raise Refused("what is printed is not text: send it into a file, with > FILE")
     sys.stdout.buffer.write(content)
 
 

@@ -67,14 +67,14 @@ class Emulator:
         try:
             shown = json.loads(ended.output)
         except (ValueError, RecursionError) as error:
-            raise Refused(f"{command}: what it prints is no JSON") from error
+            raise Refused(f"{command}: what it prints is not JSON") from error
         return _shown(command, shown)
 
 
 def _shown(command: str, shown: object) -> Shown:
     """What an object shows; refused where a member is none, or has another type."""
     if not isinstance(shown, dict) or not shown:
-        raise Refused(f"{command}: what it prints is no object with the parts of a state")
+        raise Refused(f"{command}: what it prints is not an object with the parts of a state")
     readers: dict[str, Callable[[object], object]] = {
         **dict.fromkeys(states.WORDS, _number), "R": _numbers(16, 16), "keys": _numbers(0, 16), "out": _bytes,
         "memory": _file, "memory_sha256": _digest,
@@ -94,14 +94,14 @@ def _shown(command: str, shown: object) -> Shown:
 
 def _number(value: object) -> int:
     if type(value) is not int or not 0 <= value < 1 << 32:
-        raise ValueError("no whole number from 0 to 2^32 - 1")
+        raise ValueError("not a whole number from 0 to 2^32 - 1")
     return value
 
 
 def _numbers(least: int, most: int) -> Callable[[object], list[int]]:
     def read(value: object) -> list[int]:
         if not isinstance(value, list) or not least <= len(value) <= most:
-            raise ValueError(f"no list of {least} numbers" if least == most else f"no list of at most {most} numbers")
+            raise ValueError(f"not a list of {'' if least == most else 'at most '}{most} numbers")
         return [_number(it) for it in value]
 
     return read
@@ -109,19 +109,19 @@ def _numbers(least: int, most: int) -> Callable[[object], list[int]]:
 
 def _bytes(value: object) -> bytes:
     if not isinstance(value, str) or len(value) % 2 or not re.fullmatch("[0-9A-Fa-f]*", value):
-        raise ValueError("no text of hexadecimal digits, two for each byte")
+        raise ValueError("not text of hexadecimal digits, two for each byte")
     return bytes.fromhex(value)
 
 
 def _digest(value: object) -> str:
     if not isinstance(value, str) or not re.fullmatch("[0-9A-Fa-f]{64}", value):
-        raise ValueError("no SHA-256 in hexadecimal digits")
+        raise ValueError("not a SHA-256 in hexadecimal digits")
     return value.lower()
 
 
 def _file(value: object) -> bytes:
     if not isinstance(value, str):
-        raise ValueError("no name of a file")
+        raise ValueError("not the name of a file")
     try:
         content = read_file(Path(value), MEMORY_BYTES + 1)
     except Refused as refusal:

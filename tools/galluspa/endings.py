@@ -24,7 +24,7 @@ ADVICE = {
     1: "there is no floating point",
     2: "the divisor is below 1",
     3: "it ran past the end of the program, or branched out of the memory; end it with a jump to itself",
-    4: "the address is no memory and no device",
+    4: "the address is neither memory nor a device",
 }
 TIMER_ADDRESS = (DEVICES + TIMER) & 0xFFFFFF
 

@@ -3,8 +3,8 @@ shows it."""
 
 
 def printable(text: str) -> str:
-    """A text in one line, in which all that is no sign to be seen is a backslash with what stands for it, as in \\n;
-    of a name that is no UTF-8 each such byte, as in \\xff."""
+    """A text in one line, in which all that cannot be seen is a backslash with what stands for it, as in \\n;
+    of a name that is not UTF-8 each such byte, as in \\xff."""
     return "".join(sign if sign.isprintable() else _escape(sign) for sign in text)
 
 

@@ -68,7 +68,7 @@ class _Reader:
             return Value(self.here, True)
         if token.kind is Kind.MARK and token.text in "-+(":
             return self.nested(token)
-        raise Wrong(token.column, f"{token.text} is no number and no name{self.advice(token)}")
+        raise Wrong(token.column, f"{token.text} is neither a number nor a name{self.advice(token)}")
 
     def advice(self, token: Token) -> str:
         """What to write in place of a token that begins no number, if it begins one in another assembler."""

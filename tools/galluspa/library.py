@@ -33,7 +33,7 @@ REFUSALS = {
     1: "a number is out of its range",
     NO_ROOM: "more is sent than there is room for",
     NO_MEMORY: "no memory",
-    4: "the bytes are no recording",
+    4: "the bytes are not a recording",
     5: "the recording has no such checkpoint",
 }
 NOT_FOUND = 11

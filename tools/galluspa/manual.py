@@ -52,7 +52,7 @@ def _summary(script: ModuleType) -> str:
 
 
 def _script(path: Path) -> ModuleType:
-    """The module of a file that is no part of a package."""
+    """The module of a file that is not part of a package."""
     loader = SourceFileLoader(f"tool_{path.name}", str(path))
     module = module_from_spec(spec_from_loader(loader.name, loader))
     loader.exec_module(module)

@@ -61,13 +61,13 @@ def _expect(name: Token, operands: Sequence[Operand], form: str) -> None:
 
 def _register(operand: Operand) -> int:
     if operand.register is None:
-        raise Wrong(operand.column, f"{operand.text} is no register from R0 to R15")
+        raise Wrong(operand.column, f"{operand.text} is not a register from R0 to R15")
     return operand.register
 
 
 def _number(operand: Operand, least: int, most: int, what: str, advice: str = "") -> int:
     if operand.value is None:
-        raise Wrong(operand.column, f"{operand.text} is no number")
+        raise Wrong(operand.column, f"{operand.text} is not a number")
     number = operand.value.number
     if not least <= number <= most:
         raise Wrong(operand.column, f"{what} {number:,} is not from {least:,} to {most:,}{advice}")
@@ -94,7 +94,7 @@ def _operation(name: Token, operands: Sequence[Operand]) -> int:
 
 
 def _halves(op: int, a: int, operand: Operand) -> str:
-    """How a number that is no immediate operand comes into a register, if it has 32 bits."""
+    """How a number that is not an immediate operand comes into a register, if it has 32 bits."""
     number = operand.value.number if operand.value else 0
     if not -1 << 31 <= number < 1 << 32:
         return ""
@@ -124,7 +124,7 @@ def _branch(name: Token, operands: Sequence[Operand], here: int, widened: int) -
         return link | branch_register(condition, target.register)
     if target.value and target.value.is_place:
         if target.value.number % 4:
-            raise Wrong(target.column, f"the target {target.value.number:X}H is no multiple of 4")
+            raise Wrong(target.column, f"the target {target.value.number:X}H is not a multiple of 4")
         offset = Value(target.value.number // 4 - here // 4 - 1)
         target = Operand(target.text, target.column, value=offset)
     number = _number(target, -0x200000, 0x1FFFFF, "the offset")

@@ -106,7 +106,7 @@ class Program:
         return Answer(ended.output, ended.status)
 
     def _ask(self, *words: str, given: bytes | BinaryIO) -> Answer:
-        """The same, refused if it is no answer about the input."""
+        """The same, refused if it is not an answer about the input."""
         answer = self.answer(words, given)
         if answer.status not in (ACCEPTED, FALSE, REFUSED):
             said = answer.line if len(answer.output) < 100 else "a part of its answer"

@@ -135,7 +135,7 @@ def read(text: bytes) -> Recording:
     try:
         return _read(text)
     except (struct.error, IndexError, ValueError) as error:
-        raise Refused("the text is no lawful recording") from error
+        raise Refused("the bytes are not a valid recording") from error
 
 
 def _read(text: bytes) -> Recording:

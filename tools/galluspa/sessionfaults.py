@@ -90,7 +90,7 @@ def parsed(text: bytes) -> object:
             return Broken(f"{_where(signs, deep)}", f"nests more than {DEEPEST} deep", rule)
         return json.loads(signs, parse_int=_number, parse_constant=_constant)
     except UnicodeDecodeError as error:
-        return Broken(f"byte {error.start}", f"is {text[error.start]:02x}, which is no UTF-8 there", rule)
+        return Broken(f"byte {error.start}", f"is {text[error.start]:02x}, which is not UTF-8 there", rule)
     except json.JSONDecodeError as error:
         return Broken(f"line {error.lineno}, column {error.colno}", f"is wrong: {error.msg}", rule)
     except (ValueError, RecursionError) as error:

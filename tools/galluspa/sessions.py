@@ -131,7 +131,7 @@ def set_register(session: Session, assignment: str) -> None:
     if not is_set or name not in (*REGISTERS, "H", "PC", "flags", "rate", "phase"):
         raise Refused(f"--set {assignment}: want R0 to R15, H, PC, flags, rate or phase, an equals sign and a value")
     if value is None or value > most:
-        raise Refused(f"--set {assignment}: {written!r} is no whole number from 0 to {most:,}")
+        raise Refused(f"--set {assignment}: {written!r} is not a whole number from 0 to {most:,}")
     if name in REGISTERS:
         session.registers[REGISTERS.index(name)] = value
     else:
@@ -166,10 +166,10 @@ def _input(where: str, cells: list[str], least: int) -> Event:
         raise Refused(f"{where}: want three cells: count, kind, value")
     count, kind, value = number(cells[0]), cells[1].lower(), number(cells[2])
     if count is None or not least <= count <= COUNTS:
-        raise Refused(f"{where}: {cells[0]!r} is no count from {least:,}, that of the input before, to {COUNTS:,}")
+        raise Refused(f"{where}: {cells[0]!r} is not a count from {least:,}, that of the input before, to {COUNTS:,}")
     if kind not in KIND_NUMBERS:
         raise Refused(f"{where}: {cells[1]!r} is none of {', '.join(MOST)}")
     if value is None or value > MOST[kind] or kind == "mouse" and value & ~MOUSE:
-        raise Refused(f"{where}: {cells[2]!r} is no value for {kind}: 0 to {MOST[kind]:X} (hexadecimal)"
+        raise Refused(f"{where}: {cells[2]!r} is not a value for {kind}: 0 to {MOST[kind]:X} (hexadecimal)"
                       + (", and no bit but of this mask" if kind == "mouse" else ""))
     return Event(count, KIND_NUMBERS[kind], value)

@@ -103,7 +103,7 @@ def _start(it: Assembly, made: Settings, statement: Statement) -> None:
     argument = only(statement)
     at = _bounded(it, statement, argument, 0, MEMORY_BYTES - 1, "the byte address")
     if at % 4:
-        raise Wrong(argument.column, f"the start {at:X}H is no multiple of 4")
+        raise Wrong(argument.column, f"the start {at:X}H is not a multiple of 4")
     made.session.pc = at // 4
 
 

@@ -22,7 +22,7 @@ MEMORY_WORDS = recording.PLACES * recording.WORDS_IN_PAGE
 @dataclass(frozen=True)
 class Step:
     """One instruction: the state before the inputs of its count, these inputs, its word, and the state after it. There
-    is no word where the program counter is outside memory."""
+    is no word if the program counter is outside memory."""
 
     before: Checkpoint
     inputs: list[Event]

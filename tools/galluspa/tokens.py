@@ -58,7 +58,7 @@ def tokens_of(line: str) -> list[Token]:
         if line.startswith(("//", "/*"), at):
             raise Wrong(at + 1, "a comment begins with a semicolon")
         if dollar := DOLLAR.match(line, at):
-            raise Wrong(at + 1, f"{dollar[0][:DIGITS]} is no number: write it as 0x{dollar['digits'][:DIGITS]}")
+            raise Wrong(at + 1, f"{dollar[0][:DIGITS]} is not a number: write it as 0x{dollar['digits'][:DIGITS]}")
         if not found:
             raise Wrong(at + 1, _unknown(line[at]))
         if found.lastgroup not in ("space", "comment"):
@@ -94,19 +94,19 @@ def _number(text: str, column: int) -> int:
     if not found or len(text) > DIGITS:
         binary = re.fullmatch(r"0[bB]([01]+)", text[:DIGITS])
         advice = f"there are no binary ones: write {int(binary[1], 2)}" if binary else "write it as 31, 0x1F or 1FH"
-        raise Wrong(column, f"{text[:DIGITS]} is no number: {advice}")
+        raise Wrong(column, f"{text[:DIGITS]} is not a number: {advice}")
     return int(found["decimal"]) if found["decimal"] else int(found["prefixed"] or found["suffixed"], 16)
 
 
 def _content(text: str, column: int) -> bytes:
-    """The bytes of a string; what is no ASCII is written by its number."""
+    """The bytes of a string; what is not ASCII is written by its number."""
     content = bytearray()
     for found in SIGN.finditer(text):
         hexadecimal, escaped, plain = found.groups()
         where = column + found.start()
         if plain and not plain.isascii():
-            raise Wrong(where, f"{plain!r} is no ASCII character: write its bytes as \\xHH")
+            raise Wrong(where, f"{plain!r} is not an ASCII character: write its bytes as \\xHH")
         if escaped and escaped not in ESCAPES:
-            raise Wrong(where, f"\\{escaped} is no escape: they are \\n \\r \\t \\0 \\\\ \\\" \\' and \\xHH")
+            raise Wrong(where, f"\\{escaped} is not an escape: they are \\n \\r \\t \\0 \\\\ \\\" \\' and \\xHH")
         content.append(int(hexadecimal, 16) if hexadecimal else ESCAPES[escaped] if escaped else ord(plain))
     return bytes(content)
