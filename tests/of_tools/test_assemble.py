@@ -17,7 +17,7 @@ from galluspa.mnemonics import BRANCHES, MNEMONICS, source_of, word_of
 from galluspa.others import FALSE_FRIENDS, HERE
 from galluspa.settings import set_checkpoints, settings_of
 from galluspa.tokens import Wrong
-from samples import EXAMPLES, PROGRAM, TOP, Ran, ToolTest, record, run, session, tool
+from of_tools.samples import EXAMPLES, PROGRAM, TOP, Ran, ToolTest, record, run, session, tool
 
 HELLO = """; Sends a text.
         MOV R1, SERIAL

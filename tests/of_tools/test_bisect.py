@@ -8,7 +8,7 @@ from concurrent.futures import ThreadPoolExecutor
 from dataclasses import dataclass
 from pathlib import Path
 
-from samples import EXAMPLES, JUMP, TOP, Ran, ToolTest, on_terminal, record, session, tool
+from of_tools.samples import EXAMPLES, JUMP, TOP, Ran, ToolTest, on_terminal, record, session, tool
 
 # A loop of 1,000 rounds; after it each instruction is done once, and what it leaves is never overwritten.
 ROUNDS = 1000

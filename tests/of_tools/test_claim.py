@@ -1,6 +1,6 @@
 """tools/claim: false recordings made from true ones."""
 
-from samples import JUMP, PROGRAM, STORED, ToolTest, record, rejoining, run, session, tool
+from of_tools.samples import JUMP, PROGRAM, STORED, ToolTest, record, rejoining, run, session, tool
 
 
 class ClaimTest(ToolTest):

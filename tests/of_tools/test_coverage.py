@@ -2,10 +2,10 @@
 
 import subprocess
 
-import browser
 from galluspa.coverage import CELLS
 from galluspa.recording import page_of
-from samples import EXAMPLES, JUMP, STORED, TOP, ToolTest, claim, encoded, record, run, session, tool
+from of_tools import browser
+from of_tools.samples import EXAMPLES, JUMP, STORED, TOP, ToolTest, claim, encoded, record, run, session, tool
 
 SUITE = EXAMPLES / "suite"
 # A mistake in bench/machine.h, and the recordings that show it.

@@ -4,7 +4,7 @@ import json
 from pathlib import Path
 
 from galluspa.recording import Event, page_of
-from samples import EXAMPLES, JUMP, STORED, Ran, ToolTest, claim, encoded, in_register, record, session, tool
+from of_tools.samples import EXAMPLES, JUMP, STORED, Ran, ToolTest, claim, encoded, in_register, record, session, tool
 
 WORDS = page_of(0x45000001, 0xE7FFFFFE)
 

@@ -10,7 +10,7 @@ from pathlib import Path
 
 from PIL import Image
 
-from samples import EXAMPLES, PROGRAM, TOP, ToolTest, run, tool
+from of_tools.samples import EXAMPLES, PROGRAM, TOP, ToolTest, run, tool
 
 GUIDES = ("recording-your-system", "suites", "debugging")
 SHOWING = [*sorted((TOP / "docs/lessons").glob("*.md")), *(TOP / f"docs/{name}.md" for name in GUIDES)]

@@ -6,7 +6,7 @@ import tempfile
 from pathlib import Path
 
 from galluspa import recording
-from samples import EXAMPLES, PROGRAM, TOP, Ran, ToolTest, run, tool
+from of_tools.samples import EXAMPLES, PROGRAM, TOP, Ran, ToolTest, run, tool
 
 NAMES = ("emulator", "emulator-recorded")
 LIBRARY = next((path for path in (TOP / "crates/galluspa/out/libgalluspa.a", TOP / "out/lib/libgalluspa.a") if path.exists()), None)

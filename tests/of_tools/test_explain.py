@@ -21,7 +21,7 @@ from galluspa.pictures import LIGHT_RED, RED
 from galluspa.program import Program
 from galluspa.sessionfaults import explain_session, explained
 from galluspa.tracing import Run
-from samples import EXAMPLES, JUMP, PROGRAM, STORED, TOP, ToolTest, record, rejoining, run, session, status_of, tool
+from of_tools.samples import EXAMPLES, JUMP, PROGRAM, STORED, TOP, ToolTest, record, rejoining, run, session, status_of, tool
 
 CHANGE = re.compile(r"^\| ((?:byte \d+ is [0-9a-f]{2}(?:, )?)+)[^|]*\| `(refused [^`]+)` \|$", re.MULTILINE)
 SIDE = re.compile(rb'src="data:image/png;base64,([^"]+)" [^>]*data-side=')

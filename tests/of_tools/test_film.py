@@ -8,7 +8,7 @@ from pathlib import Path
 from PIL import Image
 
 from galluspa.film import BYTES, HEAD, HEIGHT, ROW, Film
-from samples import EXAMPLES, JUMP, PROGRAM, STORED, TOOLS, ToolTest, record, rejoining, run, session, tool
+from of_tools.samples import EXAMPLES, JUMP, PROGRAM, STORED, TOOLS, ToolTest, record, rejoining, run, session, tool
 
 FACE = EXAMPLES / "face.orsr"
 # Fills the display with words that it counts, and begins again.

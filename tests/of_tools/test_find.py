@@ -17,7 +17,7 @@ from galluspa.instructions import address, is_store
 from galluspa.library import Library
 from galluspa.limits import TimeIsUp
 from galluspa.tracing import Run, Step
-from samples import EXAMPLES, JUMP, STORED, TOOLS, ToolTest, claim, encoded, on_terminal, record, rejoining, session, tool
+from of_tools.samples import EXAMPLES, JUMP, STORED, TOOLS, ToolTest, claim, encoded, on_terminal, record, rejoining, session, tool
 
 FACE = EXAMPLES / "face.orsr"
 # R1 := -56; R2 := 10; R2 := R2 - 1 until it is 0; R0 := 65 is sent and stored at 400; a jump to itself.

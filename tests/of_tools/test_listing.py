@@ -4,7 +4,7 @@ import re
 from collections.abc import Iterator
 
 from galluspa.instructions import instruction
-from samples import EXAMPLES, JUMP, STORED, ToolTest, record, session, tool
+from of_tools.samples import EXAMPLES, JUMP, STORED, ToolTest, record, session, tool
 
 SECTION = re.compile(r"^## `(\w+)\.json`", re.MULTILINE)
 ROW = re.compile(r"^\| ([\d, to]+) \| ((?:`[0-9A-F]{8}` ?)+)\| (.*) \|$", re.MULTILINE)

@@ -5,7 +5,7 @@ import os
 import pty
 import subprocess
 
-from samples import EXAMPLES, PROGRAM, STORED, TOOLS, ToolTest, rejoining, run, session, tool
+from of_tools.samples import EXAMPLES, PROGRAM, STORED, TOOLS, ToolTest, rejoining, run, session, tool
 
 FACE = EXAMPLES / "face.orsr"
 

@@ -5,7 +5,7 @@ import pty
 import subprocess
 
 from galluspa.recording import page_of
-from samples import EXAMPLES, JUMP, STORED, TOOLS, ToolTest, claim, encoded, record, tool
+from of_tools.samples import EXAMPLES, JUMP, STORED, TOOLS, ToolTest, claim, encoded, record, tool
 
 
 class OutputTest(ToolTest):

@@ -10,7 +10,7 @@ from pathlib import Path
 from galluspa.command import Refused
 from galluspa.manual import page, tools_of
 from galluspa.packages import library_folder
-from samples import EXAMPLES, STORED, TOOLS, Ran, ToolTest, run, tool
+from of_tools.samples import EXAMPLES, STORED, TOOLS, Ran, ToolTest, run, tool
 
 
 LINK = re.compile(r"\]\(([^)#:]+)(?:#[^)]*)?\)")

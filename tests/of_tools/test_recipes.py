@@ -13,8 +13,8 @@ import subprocess
 import time
 from pathlib import Path
 
-from debian import install
-from samples import EXAMPLES, PROGRAM, STORED, TOP, Ran, ToolTest, record, rejoining, run, tool
+from of_tools.debian import install
+from of_tools.samples import EXAMPLES, PROGRAM, STORED, TOP, Ran, ToolTest, record, rejoining, run, tool
 
 ACCOUNTS = {"one.example": "galluspa-one", "two.example": "galluspa-two"}
 COMMANDS = {"sshd": "openssh-server", "rsync": "rsync", "munged": "munge", "slurmctld": "slurmctld", "slurmd": "slurmd",

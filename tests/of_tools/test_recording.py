@@ -8,7 +8,7 @@ from dataclasses import replace
 from galluspa import recording
 from galluspa.command import Refused
 from galluspa.recording import PLACES, STATE_WORDS, Checkpoint, Event, page_of, table_of
-from samples import EXAMPLES, PROGRAM, STORED, claim, encoded, in_register, record, run, session
+from of_tools.samples import EXAMPLES, PROGRAM, STORED, claim, encoded, in_register, record, run, session
 
 # A recording with a value of its own in each field, and its bytes by version, written by hand from docs/formats.md.
 POOL = [page_of(0x40000005), bytes(1020) + bytes([1, 2, 3, 4])]

@@ -4,7 +4,7 @@ import base64
 import gzip
 from pathlib import Path
 
-from samples import EXAMPLES, STORED, ToolTest, rejoining, tool
+from of_tools.samples import EXAMPLES, STORED, ToolTest, rejoining, tool
 
 
 class RecordingOfTest(ToolTest):

@@ -15,13 +15,13 @@ from unittest import mock
 
 from PIL import Image
 
-import browser
 from galluspa import pictures
 from galluspa.limits import Limit
 from galluspa.page import Report
 from galluspa.program import Program
 from galluspa.recording import Event, page_of
-from samples import (
+from of_tools import browser
+from of_tools.samples import (
     EXAMPLES, JUMP, PROGRAM, STORED, ToolTest, claim, encoded, record, rejoining, run, session, status_of, tool,
 )
 

@@ -4,7 +4,7 @@ import json
 import struct
 
 from galluspa.recording import page_of
-from samples import EXAMPLES, JUMP, PROGRAM, STORED, ToolTest, claim, encoded, record, run, session, tool
+from of_tools.samples import EXAMPLES, JUMP, PROGRAM, STORED, ToolTest, claim, encoded, record, run, session, tool
 
 # R1 := -56; R0 := the byte at 1024 in memory; it is sent; then a jump to itself.
 PROGRAM_WORDS = (0x5100FFC8, 0x90200000, 0xA0100000, JUMP)

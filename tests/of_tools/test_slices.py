@@ -4,7 +4,7 @@ from itertools import pairwise
 from pathlib import Path
 
 from galluspa import recording
-from samples import EXAMPLES, JUMP, PROGRAM, Ran, ToolTest, claim, encoded, record, rejoining, run, session, tool
+from of_tools.samples import EXAMPLES, JUMP, PROGRAM, Ran, ToolTest, claim, encoded, record, rejoining, run, session, tool
 
 FACE = EXAMPLES / "face.orsr"
 

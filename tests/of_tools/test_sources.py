@@ -4,7 +4,7 @@ import os
 from collections.abc import Iterator
 from pathlib import Path
 
-from samples import TOOLS, TOP, ToolTest, run
+from of_tools.samples import TOOLS, TOP, ToolTest, run
 
 COLUMNS = 120
 NOT_SOURCES = {"out", "__pycache__"}

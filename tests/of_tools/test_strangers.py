@@ -13,7 +13,7 @@ from pathlib import Path
 from xml.etree import ElementTree
 
 from galluspa.recording import page_of
-from samples import (
+from of_tools.samples import (
     EXAMPLES, JUMP, PROGRAM, STORED, TOOLS, Ran, ToolTest, claim, encoded, on_terminal, record, rejoining, run, session, tool,
 )
 

@@ -10,7 +10,7 @@ from xml.etree import ElementTree
 from PIL import Image
 
 import browser
-from samples import EXAMPLES, PROGRAM, STORED, TOOLS, TOP, ToolTest, on_terminal, rejoining, run, tool
+from of_tools.samples import EXAMPLES, PROGRAM, STORED, TOOLS, TOP, ToolTest, on_terminal, rejoining, run, tool
 
 
 class SuitesTest(ToolTest):

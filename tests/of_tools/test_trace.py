@@ -10,7 +10,7 @@ from galluspa.library import MOST_STEPS, SENT_KEPT, Library, Sent
 from galluspa.limits import Limit, TimeIsUp
 from galluspa.recording import Event, page_of
 from galluspa.tracing import FIRST_ONES, Run, Step
-from samples import EXAMPLES, JUMP, STORED, ToolTest, claim, encoded, on_terminal, record, rejoining, session, tool
+from of_tools.samples import EXAMPLES, JUMP, STORED, ToolTest, claim, encoded, on_terminal, record, rejoining, session, tool
 
 # R1 := FF0000H and R1 := 65280 - 1 down to 0 in a loop of two, then a division by 0, which stops.
 COUNTING = (0x6100000F, 0x41190001, 0xE93FFFFE, 0x600B0000)
