@@ -1,0 +1,174 @@
+/* Refuses each request for memory of each function of the library in turn. tests/library builds it with malloc, realloc and free wrapped. */
+#define _GNU_SOURCE
+#include "galluspa.h"
+#include <malloc.h>
+#include <sys/mman.h>
+#include <stdio.h>
+#include <stdlib.h>
+#include <string.h>
+
+void *__real_malloc(size_t size);
+void *__real_realloc(void *old, size_t size);
+void __real_free(void *old);
+static unsigned long calls, refused;
+static size_t held, most;
+
+static void hold(size_t size) { if ((held += size) > most) most = held; }
+static size_t size_of(void *block) { return block ? malloc_usable_size(block) : 0; }
+
+void *__wrap_malloc(size_t size) {
+    void *block = ++calls == refused ? NULL : __real_malloc(size);
+    hold(size_of(block));
+    return block;
+}
+
+/* While a block moves, the old one and the new one are held. */
+void *__wrap_realloc(void *old, size_t size) {
+    if (++calls == refused) return NULL;
+    size_t before = size_of(old);
+    hold(size);
+    void *block = __real_realloc(old, size);
+    held -= size;
+    if (block) held += size_of(block) - before;
+    return block;
+}
+
+void __wrap_free(void *old) {
+    held -= size_of(old);
+    __real_free(old);
+}
+
+static uint8_t text[1 << 20], session[1 << 16], began[1 << 20], own[1 << 20], out[1 << 20], sent[64];
+static uint32_t first_words[GALLUSPA_WORDS], later_words[GALLUSPA_WORDS], words[GALLUSPA_WORDS];
+static galluspa_state first, later, state;
+static size_t began_len;
+static galluspa_input keys[] = {{3, 4, 65}, {4, 4, 66}, {5, 4, 67}, {6, 4, 68}, {7, 4, 69}};
+static const galluspa_condition asked[] = {{GALLUSPA_STOPS, 0, 0, 0}, {GALLUSPA_TAKES, 0, 0, 4}};
+static galluspa_hit hit;
+
+static size_t read_all(const char *name, uint8_t *to, size_t room) {
+    FILE *file = fopen(name, "rb");
+    if (!file) exit(9);
+    size_t length = fread(to, 1, room, file);
+    fclose(file);
+    return length;
+}
+
+/* What comes of a call whose answer is its own: 0 if no request was refused, 3 if one was that a run does without, since it runs on
+ * slowly where there is no memory to keep what it decoded, and 2 in a call that runs no machine. */
+static int own_answer(int which, unsigned long made) {
+    if (made < refused) return 0;
+    return which == 0 || which == 1 || which == 4 || which == 7 ? 3 : 2;
+}
+
+/* Calls a function once with request `refused` refused: its own answer as above, 1 out of memory, 2 wrong. */
+static int answers(int which, size_t text_len, size_t session_len, size_t own_len) {
+    uint8_t status = 77;
+    size_t result = 0, count = 77;
+    memset(out, 0, sizeof out);
+    state = first;
+    memcpy(words, first_words, sizeof words);
+    hit.count = 77;
+    calls = 0;
+    if (which == 0) result = galluspa_check(text, text_len, out, sizeof out, &status);
+    if (which == 1) result = galluspa_record(session, session_len, out, sizeof out, &status);
+    if (which == 2) result = galluspa_migrate(text, text_len, out, sizeof out, &status);
+    if (which == 3) result = galluspa_claim(text, text_len, 1, &state, words, GALLUSPA_WORDS) + 1;
+    if (which == 4) result = galluspa_advance(&state, words, GALLUSPA_WORDS, keys, 5, 90, sent, sizeof sent, &count) + 1;
+    if (which == 7) result = galluspa_find(&first, first_words, GALLUSPA_WORDS, keys, 5, 90, asked, 2, GALLUSPA_LAST, &hit) + 1;
+    if (which == 5) result = galluspa_begin(&first, first_words, GALLUSPA_WORDS, out, sizeof out, &count) + 1;
+    if (which == 6) result = galluspa_extend(began, began_len, keys, 5, &later, later_words, GALLUSPA_WORDS, sent, 3, out, sizeof out, &count) + 1;
+    unsigned long made = calls;
+    calls = 1UL << 40;
+    if (which == 7) {
+        if (result == 1) return hit.count == 7 && hit.condition == 1 ? own_answer(which, made) : 2;
+        return result == 4 && hit.count == 77 && made >= refused ? 1 : 2;
+    }
+    if (which > 4) {
+        if (result == 1) return count == own_len && !memcmp(out, own, own_len) ? own_answer(which, made) : 2;
+        return result == 4 && count == 77 && out[0] == 0 && made >= refused ? 1 : 2;
+    }
+    if (which > 2) {
+        if (result == 1) return state.count == (which == 3 ? 30 : 90) ? own_answer(which, made) : 2;
+        int same = !memcmp(&state, &first, sizeof state) && !memcmp(words, first_words, sizeof words) && count == 77;
+        return result == 4 && same && made >= refused ? 1 : 2;
+    }
+    if (result == own_len) return memcmp(out, own, own_len) ? 2 : own_answer(which, made);
+    return result == 0 && status == 77 && out[0] == 0 && made >= refused ? 1 : 2;
+}
+
+/* A fault that can be known without memory is answered so, though no request is granted. */
+static int faults(size_t text_len, size_t own_len) {
+    size_t count = 77;
+    galluspa_input fall[] = {{5, 4, 65}, {4, 4, 65}}, none[] = {{5, 6, 65}};
+    for (refused = 1; refused < 3; refused++) {
+        calls = 0;
+        if (galluspa_claim(text, text_len - 1, 0, &state, words, GALLUSPA_WORDS) != GALLUSPA_NO_RECORDING) return 1;
+        if (galluspa_extend(began, began_len - 1, keys, 5, &later, later_words, GALLUSPA_WORDS, sent, 3, own, own_len, &count) != GALLUSPA_NO_RECORDING) return 2;
+        if (galluspa_extend(began, began_len, fall, 2, &later, later_words, GALLUSPA_WORDS, sent, 3, own, own_len, &count) != GALLUSPA_OUT_OF_RANGE) return 3;
+        if (galluspa_advance(&state, words, GALLUSPA_WORDS, none, 1, 90, sent, 0, &count) != GALLUSPA_OUT_OF_RANGE) return 4;
+        if (calls || count != 77) return 5;
+    }
+    return 0;
+}
+
+/* A machine that sends without end is stopped where there is no room, and little is held until then. Returns the most that was held. */
+static size_t hostile(size_t room, uint64_t to, uint8_t wanted) {
+    static galluspa_state sends;
+    size_t count = 77;
+    sends = first;
+    words[0] = 0xA00FFFC8, words[1] = 0xE7FFFFFE;
+    refused = held = most = 0;
+    if (galluspa_advance(&sends, words, GALLUSPA_WORDS, keys, 0, to, own, room, &count) != wanted) return 0;
+    if (wanted ? count != 77 : count != to / 2) return 0;
+    return held || most > 2300000 + 3 * (room + 65536) ? 0 : most;
+}
+
+/* More bytes than a recording may send are refused before they are copied. Returns the most that was held, or 0. */
+static size_t hostile_sent(size_t length) {
+    size_t count = 77;
+    uint8_t *bytes = mmap(NULL, length, PROT_READ, MAP_PRIVATE | MAP_ANONYMOUS | MAP_NORESERVE, -1, 0);
+    if (bytes == MAP_FAILED) return 0;
+    refused = held = most = 0;
+    uint8_t code = galluspa_extend(began, began_len, keys, 5, &later, later_words, GALLUSPA_WORDS, bytes, length, out, sizeof out, &count);
+    munmap(bytes, length);
+    return code != GALLUSPA_TOO_MUCH_OUTPUT || count != 77 || held || most > 4000000 ? 0 : most;
+}
+
+int main(int argc, char **argv) {
+    static const char *name[] = {"check", "record", "migrate", "claim", "advance", "begin", "extend", "find"};
+    if (argc < 3) return 9;
+    size_t text_len = read_all(argv[1], text, sizeof text), session_len = read_all(argv[2], session, sizeof session);
+    if (galluspa_claim(text, text_len, 0, &first, first_words, GALLUSPA_WORDS)) return 9;
+    if (galluspa_begin(&first, first_words, GALLUSPA_WORDS, began, sizeof began, &began_len)) return 9;
+    later = first;
+    later.count = 90;
+    memcpy(later_words, first_words, sizeof words);
+    later_words[70000] = 1;
+    for (int which = 0; which < 8; which++) {
+        uint8_t status = 77;
+        size_t own_len = 0;
+        if (which == 0) own_len = galluspa_check(text, text_len, own, sizeof own, &status);
+        if (which == 1) own_len = galluspa_record(session, session_len, own, sizeof own, &status);
+        if (which == 2) own_len = galluspa_migrate(text, text_len, own, sizeof own, &status);
+        if (which == 5 && galluspa_begin(&first, first_words, GALLUSPA_WORDS, own, sizeof own, &own_len)) return 9;
+        if (which == 6 && galluspa_extend(began, began_len, keys, 5, &later, later_words, GALLUSPA_WORDS, sent, 3, own, sizeof own, &own_len)) return 9;
+        int spared = 0;
+        for (refused = 1;; refused++) {
+            int answer = answers(which, text_len, session_len, own_len);
+            spared += answer == 3;
+            if (answer == 2) { printf("%s: wrong with request %lu refused\n", name[which], refused); return 1; }
+            if (answer == 0) break;
+        }
+        printf("%s%s %lu", which ? ", " : "", name[which], refused - 1);
+        if (spared) printf(" (%d spared)", spared);
+        if (refused == 1 || spared > 2) return 1;
+    }
+    int fault = faults(text_len, sizeof own);
+    if (fault) { printf(": fault %d told as want of memory\n", fault); return 1; }
+    size_t none = hostile(0, 100000000, GALLUSPA_NO_ROOM), some = hostile(1000, 1ULL << 62, GALLUSPA_NO_ROOM);
+    size_t all = hostile(sizeof own, sizeof own, GALLUSPA_DONE);
+    size_t much = hostile_sent((size_t)1 << 32);
+    printf("; held %zu, %zu, %zu and %zu bytes\n", none, some, all, much);
+    return none && some && all && much ? 0 : 1;
+}
