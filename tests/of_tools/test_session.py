@@ -140,7 +140,7 @@ class SessionTest(ToolTest):
             ("1,pen,1", "'pen' is none of timer"),
             ("x,key,1", "'x' is not a count"),
             ("4,key,1", "'4' is not a count from 5"),
-            ("0x10000000001,key,1", "no count"),
+            ("0x10000000001,key,1", "not a count"),
         ):
             inputs = self.file("inputs.csv", f"count,kind,value\n5,key,1\n{line}\n" if line[0] == "4" else f"{line}\n")
             ran = tool("session", "--memory", self.image(), "--every", 1, "--until", 1, "--inputs", inputs)

@@ -9,7 +9,7 @@ from xml.etree import ElementTree
 
 from PIL import Image
 
-import browser
+from of_tools import browser
 from of_tools.samples import EXAMPLES, PROGRAM, STORED, TOOLS, TOP, ToolTest, on_terminal, rejoining, run, tool
 
 
