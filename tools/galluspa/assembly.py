@@ -213,7 +213,9 @@ def only(statement: Statement) -> Argument:
 def _find_overlaps(it: Assembly) -> None:
     """Finds regions that fill what another fills that begins before them or with them."""
     regions = sorted((one for one in it.regions if one.end > one.start), key=lambda one: (one.start, one.line))
-    furthest = regions[0] if regions else None
+    if not regions:
+        return
+    furthest = regions[0]
     for region in regions[1:]:
         if region.start < furthest.end:
             first, second = sorted((furthest, region), key=lambda one: one.line)

@@ -9,14 +9,15 @@ import threading
 from collections.abc import Callable, Iterable, Iterator, Sequence
 from dataclasses import dataclass
 from pathlib import Path
-from typing import BinaryIO, TypeVar
+from typing import IO, BinaryIO, TypeVar, cast
 
 from galluspa.limits import Limit
 
 AT_ONCE = 1 << 20
 # No wait is longer: a signal that comes just before a wait begins does not end it, and is heeded after it.
 WAIT_SECONDS = 0.2
-T, U = TypeVar("T"), TypeVar("U")
+T = TypeVar("T")
+U = TypeVar("U")
 
 
 class TooLong(Exception):
@@ -31,7 +32,7 @@ class Signalled(BaseException):
         self.status = 128 + number
 
 
-_running: set[subprocess.Popen] = set()
+_running: set[subprocess.Popen[bytes]] = set()
 _signalled: Signalled | None = None
 _is_shielded = False
 
@@ -117,7 +118,7 @@ def in_parallel(jobs: int, function: Callable[[T], U], items: Iterable[T]) -> It
             pool.shutdown(cancel_futures=True)
 
 
-def _begun(command: Sequence[str | Path], source: int | BinaryIO) -> subprocess.Popen:
+def _begun(command: Sequence[str | Path], source: int | BinaryIO) -> subprocess.Popen[bytes]:
     """Begins a program, and notes that it runs."""
     with _shielded():
         # A group of its own, so that what it has begun ends with it, too.
@@ -129,44 +130,44 @@ def _begun(command: Sequence[str | Path], source: int | BinaryIO) -> subprocess.
     return child
 
 
-def _kill(child: subprocess.Popen) -> None:
+def _kill(child: subprocess.Popen[bytes]) -> None:
     if child.returncode is None:
         with contextlib.suppress(ProcessLookupError, PermissionError):
             os.killpg(child.pid, signal.SIGKILL)
 
 
-def _status(child: subprocess.Popen, limit: Limit | None) -> int:
+def _status(child: subprocess.Popen[bytes], limit: Limit | None) -> int:
     """The status of a program that prints nothing more, once it has ended."""
     while True:
         with contextlib.suppress(subprocess.TimeoutExpired):
             return child.wait(min(WAIT_SECONDS, limit.left()) if limit else WAIT_SECONDS)
 
 
-def _exchanged(child: subprocess.Popen, given: bytes, limit: Limit | None, most: int) -> bytes:
+def _exchanged(child: subprocess.Popen[bytes], given: bytes, limit: Limit | None, most: int) -> bytes:
     """What a program prints, while it is given bytes."""
-    output, left = bytearray(), memoryview(given)
+    output, left, printed = bytearray(), memoryview(given), cast(IO[bytes], child.stdout)
     with selectors.DefaultSelector() as ready:
-        ready.register(child.stdout, selectors.EVENT_READ)
+        ready.register(printed, selectors.EVENT_READ)
         if child.stdin:
             os.set_blocking(child.stdin.fileno(), False)
             ready.register(child.stdin, selectors.EVENT_WRITE)
         while ready.get_map():
             for key, _ in ready.select(min(WAIT_SECONDS, limit.left()) if limit else WAIT_SECONDS):
-                if key.fileobj is child.stdin:
+                if child.stdin and key.fileobj is child.stdin:
                     left = left[_written(child.stdin, left) :]
                     if not left:
                         ready.unregister(child.stdin)
                         child.stdin.close()
-                elif part := os.read(child.stdout.fileno(), AT_ONCE):
+                elif part := os.read(printed.fileno(), AT_ONCE):
                     output += part
                 else:
-                    ready.unregister(child.stdout)
+                    ready.unregister(printed)
             if len(output) > most:
                 raise TooLong
     return bytes(output)
 
 
-def _written(pipe: BinaryIO, content: memoryview) -> int:
+def _written(pipe: IO[bytes], content: memoryview) -> int:
     """How many bytes are out of the way once a pipe took what it could: all of them where nobody reads any more."""
     try:
         return os.write(pipe.fileno(), content[:AT_ONCE]) if content else 0

@@ -4,6 +4,7 @@ import argparse
 import contextlib
 import errno
 import importlib
+import io
 import os
 import re
 import signal
@@ -11,7 +12,7 @@ import sys
 from collections.abc import Callable, Iterator, Sequence
 from pathlib import Path
 from types import FrameType, ModuleType
-from typing import NoReturn
+from typing import NoReturn, TextIO
 
 from galluspa import children
 from galluspa.escapes import printable
@@ -226,7 +227,7 @@ def run(main: Callable[[Sequence[str]], int]) -> NoReturn:
         progress("")
         status = signalled.status
     except SystemExit as asked_for_help:
-        status = asked_for_help.code or OK
+        status = asked_for_help.code if isinstance(asked_for_help.code, int) else OK
     except (Failed, TimeIsUp) as failure:
         complain(str(failure))
         status = FAILED
@@ -259,9 +260,15 @@ def _open_streams() -> None:
     sys.stderr = sys.stderr or open(2, "w", closefd=False)
     sys.stdout = sys.stdout or open(1, "w", closefd=False)
     for stream in (sys.stdout, sys.stderr):
-        stream.reconfigure(errors="backslashreplace")
+        escape_unwritable(stream)
     if is_closed:
         raise Failed(f"standard output: {os.strerror(errno.EBADF)}")
+
+
+def escape_unwritable(stream: TextIO, encoding: str | None = None) -> None:
+    """Has a stream escape what its encoding cannot write; and sets that encoding, if one is given."""
+    if isinstance(stream, io.TextIOWrapper):
+        stream.reconfigure(encoding=encoding, errors="backslashreplace")
 
 
 def _flushed(status: int) -> int:

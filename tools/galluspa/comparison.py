@@ -8,7 +8,7 @@ from galluspa.recording import DISPLAY_END, DISPLAY_START, PAGE_BYTES, PLACES, C
 from galluspa.tracing import differing
 
 # What is shown of a part in each of two recordings: its name, and both values.
-Row = tuple[str, str, str]
+Row = tuple[str, ...]
 NONE = "none"
 # The bytes sent that are shown from the first one on that differs.
 BYTES_SHOWN = 8

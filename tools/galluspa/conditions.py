@@ -133,14 +133,14 @@ def writing(part: str | int, value: object) -> Condition | None:
     a register, where it becomes this value. None of a part for which the library has no such condition."""
     if isinstance(part, int):
         return Condition(f"store {part:#x}", (Raw(STORE, part, part + 4),))
-    if part in REGISTER_NUMBERS:
+    if part in REGISTER_NUMBERS and isinstance(value, int):
         return Condition(f"{part}={value}", (Raw(BECOMES, REGISTER_NUMBERS[part], value=value),))
     return Condition(f"{part} is written", WRITTEN[part]) if part in WRITTEN else None
 
 
 def conditions_of(words: Sequence[str]) -> list[Condition]:
     """The conditions that the words of a command line say; refused where they say none, or too many."""
-    left, conditions = _Words(words), []
+    left, conditions = _Words(words), list[Condition]()
     while left or not conditions:
         left.taken = []
         conditions.append(_condition(left))
@@ -268,12 +268,12 @@ def _dot(text: str) -> _Place:
 def _change(words: _Words) -> Raw:
     """That a place is changed, or those bits of its words that a mask has."""
     place = _place(words, has_devices=False)
-    mask = place.mask
-    if words.next == "mask":
-        words.take()
-        mask = number(words.take())
-        if mask is None or not 0 < mask <= WORD:
-            raise ValueError("want a mask from 1 to FFFFFFFF (hexadecimal)")
+    if words.next != "mask":
+        return Raw(CHANGE, place.first, place.end, place.mask)
+    words.take()
+    mask = number(words.take())
+    if mask is None or not 0 < mask <= WORD:
+        raise ValueError("want a mask from 1 to FFFFFFFF (hexadecimal)")
     return Raw(CHANGE, place.first, place.end, mask)
 
 

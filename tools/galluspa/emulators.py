@@ -7,6 +7,7 @@ import shlex
 from collections.abc import Callable, Sequence
 from dataclasses import dataclass
 from pathlib import Path
+from typing import Any
 
 from galluspa import children, states
 from galluspa.command import Refused, read_file
@@ -79,7 +80,7 @@ def _shown(command: str, shown: object) -> Shown:
         **dict.fromkeys(states.WORDS, _number), "R": _numbers(16, 16), "keys": _numbers(0, 16), "out": _bytes,
         "memory": _file, "memory_sha256": _digest,
     }
-    read: dict[str, object] = {}
+    read: dict[str, Any] = {}
     for name, value in shown.items():
         if name not in readers:
             raise Refused(f"{command}: {name!r} is none of {', '.join(readers)}")

@@ -4,7 +4,7 @@ part.
 The library says what the machine has, and the program draws the screens.
 """
 
-from collections.abc import Iterable, Iterator
+from collections.abc import Iterable, Iterator, Sequence
 from dataclasses import dataclass, field, replace
 
 from galluspa import states
@@ -85,7 +85,7 @@ class Screens:
         return (f"{many:,} {'dot differs' if many == 1 else 'dots differ'}, at {_span('x', left, right)} "
                 f"and {_span('y', ROWS - 1 - bottom, ROWS - 1 - top)}, counted from the left and from below")
 
-    def rows(self) -> Iterator[tuple[str, str]]:
+    def rows(self) -> Iterator[tuple[str, ...]]:
         """The dots around those that differ, row by row from the top, claimed and the machine's: # and . for those that
         are alike, + and - for those that differ, where the dot is set and where it is not."""
         left, right, top, bottom = self.box()
@@ -132,7 +132,8 @@ class FalseClaim:
         at = next((at for at, (one, other) in pairs if one != other), min(claimed.length, defined.length))
         summary = (f"claimed are {claimed.length:,} bytes, the machine sent {defined.length:,}; "
                    f"they differ from byte {at:,} on")
-        return summary, *([*states.hexdump(sent.first[at : at + BYTES_SHOWN], at)] or ["no byte"] for sent in self.sent)
+        dumps = ([*states.hexdump(sent.first[at : at + BYTES_SHOWN], at)] or ["no byte"] for sent in self.sent)
+        return summary, next(dumps), next(dumps)
 
 
 def explain_false(run: Run, program: Program, read: Recording, claim: tuple[int, str], steps: int) -> FalseClaim:
@@ -185,7 +186,7 @@ def along(part: Part, value: Value, steps: Iterable[Step]) -> Iterator[tuple[Ste
         if isinstance(part, int):
             value = next((word.new for word in step.changed if word.address == part), value)
             yield step, value, step.stored_at == part
-        elif part == "out":
+        elif isinstance(value, Sent):
             value += Sent(step.after.output, len(step.after.output))
             yield step, value, bool(step.after.output)
         else:
@@ -227,7 +228,7 @@ def _around(
     part, value, claimed = sought.part, sought.value, sought.claimed
     first, count = near.count, read.checkpoints[number].count
     earlier = [at for at in range(number) if _claims(read, at, part, claimed)]
-    matching, writers, setting = [first] * (value == claimed), [], None
+    matching, writers, setting = [first] * (value == claimed), list[Step](), None
     try:
         for step, now, is_written in along(part, value, with_progress(run.steps(near, last), last)):
             matching += [step.after.count] * (now == claimed)
@@ -310,7 +311,7 @@ def instructions_of(it: FalseClaim) -> Iterator[str]:
         yield from lines(step)
 
 
-def table(rows: Iterable[tuple[str, str, str]]) -> Iterator[str]:
+def table(rows: Iterable[Sequence[str]]) -> Iterator[str]:
     """Rows of a name, what is claimed, and what the machine has, in columns."""
     kept = list(rows)
     name, claimed = (max(len(row[column]) for row in kept) for column in (0, 1))

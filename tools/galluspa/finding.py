@@ -4,9 +4,10 @@ A search goes through the segments between checkpoints that are known to be true
 each in slices of a part of a second.
 """
 
+import ctypes
 import threading
 import time
-from collections.abc import Callable, Iterable, Iterator, Sequence
+from collections.abc import Callable, Generator, Iterable, Iterator, Sequence
 from dataclasses import dataclass, replace
 from functools import partial
 from itertools import pairwise
@@ -69,9 +70,9 @@ class _Watch(Limit):
         return self._limit.left() if self._limit else float("inf")
 
 
-def _array(raws: Sequence[Raw]) -> RawCondition:
+def _array(raws: Sequence[Raw]) -> ctypes.Array[RawCondition]:
     """Conditions as the library takes them."""
-    return (RawCondition * len(raws))(*((it.kind, it.first, it.end, it.value) for it in raws))
+    return (RawCondition * len(raws))(*(RawCondition(it.kind, it.first, it.end, it.value) for it in raws))
 
 
 class Search:
@@ -131,20 +132,26 @@ class Search:
         """The first hits, so many at most, in the order of their counts."""
         if most > KEPT:
             self._jobs = 1
-        kept = _Kept if self._jobs > 1 else iter
-        found = self._each(lambda segment, run: kept(self._hits_of(segment, run, most)), self._segments)
+
+        def hits_of(segment: _Segment, run: Run) -> Iterable[Hit]:
+            hits = self._hits_of(segment, run, most)
+            if self._jobs > 1:
+                return _Kept(hits)
+            return hits
+
+        found = self._each(hits_of, self._segments)
         try:
             yield from (hit for _, hit in zip(range(most), (hit for hits in found for hit in hits)))
         finally:
             self._end(found)
 
-    def _end(self, found: Iterator[object]) -> None:
+    def _end(self, found: Generator[object, None, None]) -> None:
         """Ends what still searches, and takes the line of progress away."""
         self._is_over.set()
         found.close()
         progress("")
 
-    def _each(self, function: Callable[[_Segment, Run], T], segments: Iterable[_Segment]) -> Iterator[T]:
+    def _each(self, function: Callable[[_Segment, Run], T], segments: Iterable[_Segment]) -> Generator[T, None, None]:
         """What a function of a segment and a run gives for each segment, in their order."""
         if self._jobs <= 1:
             yield from (function(segment, self._run) for segment in segments)
@@ -192,14 +199,14 @@ class Search:
 
     def _last_in(self, run: Run, machine: Machine, to: int, tell: Callable[[int], None]) -> Hit | None:
         """The last hit from a machine's count up to another."""
-        found, near = None, None
+        found: tuple[tuple[int, Condition], Machine] | None = None
         for start, end in self._slices(run, machine, to, tell):
             if later := self._found(run, start, end, LAST):
-                found, near = later, start.copy()
+                found = later, start.copy()
             run.advance(start, end)
         if not found:
             return None
-        count, condition = found
+        (count, condition), near = found
         run.advance(near, count)
         return Hit(next(run.steps(near, count + 1)), condition)
 

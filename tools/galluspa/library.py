@@ -126,7 +126,7 @@ class Inputs:
     def __init__(self, events: Sequence[Event]) -> None:
         self._events = events
         self._counts = [event.count for event in events]
-        self._raw = (RawInput * len(events))(*((event.count, event.kind, event.value) for event in events))
+        self._raw = (RawInput * len(events))(*(RawInput(event.count, event.kind, event.value) for event in events))
 
     def of(self, first: int, end: int) -> Sequence[Event]:
         """The inputs of the counts from one up to another."""

@@ -5,10 +5,11 @@ import re
 import textwrap
 from collections.abc import Iterator
 from dataclasses import dataclass
-from importlib.machinery import SourceFileLoader
+from importlib.machinery import ModuleSpec, SourceFileLoader
 from importlib.util import module_from_spec, spec_from_loader
 from pathlib import Path
 from types import ModuleType
+from typing import cast
 
 from galluspa.command import MAIN, Parser, as_installed, installed_name
 
@@ -48,13 +49,13 @@ def tools_of(folder: Path) -> list[Tool]:
 
 def _summary(script: ModuleType) -> str:
     """The first paragraph of a script's own comment."""
-    return " ".join(script.__doc__.split("\n\n")[0].split())
+    return " ".join((script.__doc__ or "").split("\n\n")[0].split())
 
 
 def _script(path: Path) -> ModuleType:
     """The module of a file that is not part of a package."""
     loader = SourceFileLoader(f"tool_{path.name}", str(path))
-    module = module_from_spec(spec_from_loader(loader.name, loader))
+    module = module_from_spec(cast(ModuleSpec, spec_from_loader(loader.name, loader)))
     loader.exec_module(module)
     return module
 
@@ -67,12 +68,12 @@ def page(tool: Tool, date: str) -> str:
         f".Nd {_escaped(about[0].lower() + about[1:])}",
         ".Sh SYNOPSIS", ".Nm", *(f".Op {_flags(it)}" for it in tool.options),
         *(f".Ar {_metavar(it)}{' ..' * bool(it.nargs)}" for it in tool.operands),
-        ".Sh DESCRIPTION", *_description(tool.parser.description), ".Bl -tag -width Ds",
+        ".Sh DESCRIPTION", *_description(tool.parser.description or ""), ".Bl -tag -width Ds",
     ]
     for it in [*tool.operands, *tool.options]:
         if it.help:
             lines += [f".It {_flags(it) if it.option_strings else 'Ar ' + _metavar(it)}", *_prose(_sentence(it.help))]
-    example = as_installed(tool.parser.epilog.split("\n", 1)[1].strip())
+    example = as_installed((tool.parser.epilog or "").split("\n", 1)[1].strip())
     statuses = ((f".It {number}", _sentence(it)) for number, it in {**tool.parser.statuses, **SIGNALS}.items())
     return "\n".join([
         *lines, ".El", ".Sh EXIT STATUS", ".Bl -tag -width Ds",

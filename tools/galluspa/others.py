@@ -79,7 +79,7 @@ SIGNS = {
 def here_of(name: str) -> str:
     """What is written here for a name of another assembler, in capital letters; nothing, if nothing is known."""
     alike = "ADDEQ" if CONDITIONAL.fullmatch(name) else "ADDS" if SETTING.fullmatch(name) else ""
-    return HERE.get(name) or HERE.get(alike, "")
+    return HERE.get(name, HERE.get(alike, ""))
 
 
 def are_alike(name: str, other: str) -> bool:

@@ -10,6 +10,7 @@ import tarfile
 from collections.abc import Iterator
 from dataclasses import dataclass
 from pathlib import Path
+from typing import IO, cast
 
 from galluspa.command import Refused, read_file
 from galluspa.manual import Tool, completion, page, tools_of
@@ -152,7 +153,7 @@ def tarball(files: list[File], folder: str, when: int) -> bytes:
     out = io.BytesIO()
     with (
         gzip.GzipFile(fileobj=out, mode="wb", mtime=0) as packed,
-        tarfile.open(fileobj=packed, mode="w", format=tarfile.GNU_FORMAT) as tar,
+        tarfile.open(fileobj=cast(IO[bytes], packed), mode="w", format=tarfile.GNU_FORMAT) as tar,
     ):
         for it in sorted(files, key=lambda file: file.path):
             info = tarfile.TarInfo(f"{folder}/{it.path}")

@@ -94,6 +94,13 @@ class Report:
         return Report(printable(name), text, program, answer, read, library)
 
     @property
+    def _read(self) -> Recording:
+        """The recording, of a text that is not refused."""
+        if self.recording is None:
+            raise ValueError(self.answer.line)
+        return self.recording
+
+    @property
     def false(self) -> FalseClaim | None:
         """What is false about a false recording; None of any other, and where there is no library or no time."""
         return self._explained[0]
@@ -113,9 +120,9 @@ class Report:
             if self.library:
                 raise
             return None, ""
-        run = Run.of_answer(library, self.text, self.recording, self.answer)
+        run = Run.of_answer(library, self.text, self._read, self.answer)
         try:
-            return explain_false(run, self.program, self.recording, self.answer.false_claim, STEPS), ""
+            return explain_false(run, self.program, self._read, self.answer.false_claim, STEPS), ""
         except TimeIsUp as over:
             return None, f"What the machine has was not found: {over}."
 
@@ -161,7 +168,7 @@ class Report:
         if not self.recording:
             return
         before = None
-        for number, checkpoint in enumerate(self.recording.checkpoints):
+        for number, checkpoint in enumerate(self._read.checkpoints):
             yield f"checkpoint {number} at {checkpoint.count}"
             parts = self._parts(checkpoint, before)
             shown = [f"{part.name} {part.text}" for part in parts if self._is_shown(part, before)]
@@ -178,11 +185,11 @@ class Report:
         return part.is_changed if before else not is_blank
 
     def _parts(self, checkpoint: Checkpoint, before: Checkpoint | None) -> list[Part]:
-        return [*states.registers(checkpoint, before), *states.others(checkpoint, before, self.recording.version)]
+        return [*states.registers(checkpoint, before), *states.others(checkpoint, before, self._read.version)]
 
     def _shown(self, drawn: Screens) -> Iterator[Shown]:
         before = None
-        for number, checkpoint in enumerate(self.recording.checkpoints):
+        for number, checkpoint in enumerate(self._read.checkpoints):
             yield self._shown_of(number, checkpoint, before, drawn)
             before = checkpoint
 
@@ -192,24 +199,24 @@ class Report:
             count=checkpoint.count,
             steps=checkpoint.count - before.count if before else 0,
             registers=states.registers(checkpoint, before),
-            others=states.others(checkpoint, before, self.recording.version),
+            others=states.others(checkpoint, before, self._read.version),
             next=self._next(checkpoint),
             places=self._places(checkpoint, before),
             sent=len(checkpoint.output),
             output=states.text(checkpoint.output),
             alike=drawn.first[number],
-            picture=base64.b64encode(drawn.full.get(number) or drawn.small.get(number, b"")).decode(),
+            picture=base64.b64encode(drawn.full.get(number, drawn.small.get(number, b""))).decode(),
             is_small=number in drawn.small,
         )
 
     def _places(self, checkpoint: Checkpoint, before: Checkpoint | None) -> str:
-        return states.ranges(self.recording.changed_places(before, checkpoint)) if before else ""
+        return states.ranges(self._read.changed_places(before, checkpoint)) if before else ""
 
     def _next(self, checkpoint: Checkpoint) -> str:
         """The instruction that a running machine does next."""
         if checkpoint.stop or checkpoint.pc >= PLACES * WORDS_IN_PAGE:
             return ""
-        word = self.recording.word(checkpoint, checkpoint.pc)
+        word = self._read.word(checkpoint, checkpoint.pc)
         decoded = instruction(word, checkpoint.pc)
         return f"{checkpoint.pc}  {word:08X}  {decoded.mnemonic}   {decoded.meaning}"
 
@@ -223,10 +230,10 @@ class Report:
         if not self.answer.false_claim:
             return []
         number, name = self.answer.false_claim
-        checkpoint = self.recording.checkpoints[number]
+        checkpoint = self._read.checkpoints[number]
         if name.startswith("page "):
             place = int(name.removeprefix("page "))
-            return list(states.hexdump(self.recording.page(checkpoint.table[place]), place * PAGE_BYTES))
+            return list(states.hexdump(self._read.page(checkpoint.table[place]), place * PAGE_BYTES))
         if name == "out":
             return list(states.hexdump(checkpoint.output, 0)) or ["no byte"]
         return [part.text for part in self._parts(checkpoint, None) if part.name == name]
@@ -241,7 +248,7 @@ class Report:
         return [(name, base64.b64encode(content).decode()) for name, content in zip(("claimed", "the machine"), drawn)]
 
     def _inputs(self) -> Iterator[str]:
-        events = iter(self.recording.events)
+        events = iter(self._read.events)
         while block := list(islice(events, INPUTS_IN_BLOCK)):
             yield "\n".join(f"{taken.count:>13,}  {states.event(taken)}" for taken in block)
 

@@ -78,12 +78,23 @@ def read_run(path: str) -> Run:
 
 
 def _kept(sha256: object, expected: object, answered: object, seconds: object) -> Kept:
-    texts = (sha256, expected, answered)
-    if not all(isinstance(it, str) and len(it) <= LONGEST for it in texts) or type(seconds) not in (int, float):
+    return Kept(_text(sha256), _text(expected), _text(answered), _seconds(seconds))
+
+
+def _text(value: object) -> str:
+    """A text of a kept run, as it can be shown."""
+    if not isinstance(value, str) or len(value) > LONGEST:
         raise TypeError
-    if not 0 <= seconds <= MOST_SECONDS or math.isnan(seconds):
+    return printable(value)
+
+
+def _seconds(value: object) -> float:
+    """A time of a kept run."""
+    if isinstance(value, bool) or not isinstance(value, int | float):
+        raise TypeError
+    if not 0 <= value <= MOST_SECONDS or math.isnan(value):
         raise ValueError
-    return Kept(*map(printable, texts), float(seconds))
+    return float(value)
 
 
 def changes(before: Run, after: Run) -> list[Change]:

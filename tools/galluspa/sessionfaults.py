@@ -8,7 +8,7 @@ import json
 import re
 from collections.abc import Iterator, Sequence
 from dataclasses import dataclass
-from typing import NoReturn
+from typing import Any, NoReturn
 
 from galluspa.escapes import printable
 from galluspa.program import ACCEPTED, Answer
@@ -78,8 +78,9 @@ def explained(text: bytes, fault: int) -> Broken:
     return next(rules[fault](session), whole) if fault in rules else whole
 
 
-def parsed(text: bytes) -> object:
-    """What a session is as JSON, or why it is none: numbers that no session has are floats, as to the program."""
+def parsed(text: bytes) -> Any:
+    """What a session is as JSON, of any shape, or why it is none: numbers that no session has are floats, as to the
+    program."""
     for sign, (most, name) in SIGNS.items():
         if (number := text.count(sign.encode())) > most:
             return Broken("the session", f"has {number:,} {name}", f"a session has at most {most:,} {name}")
@@ -134,7 +135,7 @@ def _typed(member: str, value: object, kind: type, name: str) -> Iterator[Broken
         yield Broken(member, _shown(value), f"it is {name}")
 
 
-def _members(member: str, value: object, names: Sequence[str]) -> Iterator[Broken]:
+def _members(member: str, value: Any, names: Sequence[str]) -> Iterator[Broken]:
     """An object that has not exactly these members."""
     yield from _typed(member, value, dict, "an object")
     rule = f"{member} has exactly the members {', '.join(names)}"
@@ -142,13 +143,13 @@ def _members(member: str, value: object, names: Sequence[str]) -> Iterator[Broke
     yield from (Broken(member, f"has {json.dumps(name):.60}", rule) for name in value if name not in names)
 
 
-def _numbers(member: str, values: object, what: str) -> Iterator[Broken]:
+def _numbers(member: str, values: Any, what: str) -> Iterator[Broken]:
     yield from _typed(member, values, list, f"an array of {what}")
     rule = "a number is whole, from 0 to 2^64 - 1, and written without a point or an exponent"
     yield from (Broken(f"{member}[{at}]", _shown(it), rule) for at, it in enumerate(values) if not _is_number(it))
 
 
-def _shape(session: object) -> Iterator[Broken]:
+def _shape(session: Any) -> Iterator[Broken]:
     yield from _members("the session", session, MEMBERS)
     if session["format"] != "oberon-session":
         yield Broken("format", _shown(session["format"]), 'format is "oberon-session"')
@@ -172,7 +173,7 @@ def _shape(session: object) -> Iterator[Broken]:
     yield from _numbers("checkpoints", session["checkpoints"], "numbers")
 
 
-def _event(member: str, event: object) -> Iterator[Broken]:
+def _event(member: str, event: Any) -> Iterator[Broken]:
     if type(event) is not list or len(event) != 3:
         yield Broken(member, _shown(event), "an input is an array [count, kind, value]")
     yield from _typed(f"{member}[0]", event[0], int, "a count, a whole number")
@@ -191,7 +192,7 @@ def _at_most(member: str, values: Sequence[object], most: int) -> Iterator[Broke
         yield Broken(member, f"has {len(values):,} items", f"there are at most {most:,}")
 
 
-def _ranges(session: dict) -> Iterator[Broken]:
+def _ranges(session: dict[str, Any]) -> Iterator[Broken]:
     start = session["start"]
     for name, value in zip(REGISTERS, start["R"]):
         yield from _up_to(f"start.R[{name[1:]}]", value, WORD)
@@ -216,7 +217,7 @@ def _ranges(session: dict) -> Iterator[Broken]:
         yield from _up_to(f"checkpoints[{at}]", count, COUNTS, 1)
 
 
-def _order(session: dict) -> Iterator[Broken]:
+def _order(session: dict[str, Any]) -> Iterator[Broken]:
     rows: list[tuple[str, list[int], bool, str]] = [
         ("pages[{}].at", [page["at"] for page in session["pages"]], True, "page slots rise"),
         ("inputs[{}][0]", [event[0] for event in session["inputs"]], False, "counts of inputs do not fall"),
@@ -228,7 +229,7 @@ def _order(session: dict) -> Iterator[Broken]:
                 yield Broken(member.format(at), f"is {value}, after {before}", rule)
 
 
-def _hex(session: dict) -> Iterator[Broken]:
+def _hex(session: dict[str, Any]) -> Iterator[Broken]:
     for at, page in enumerate(session["pages"]):
         if len(page["hex"]) % 2 or not re.fullmatch("[0-9A-Fa-f]*", page["hex"]):
             wrong = re.search("[^0-9A-Fa-f]", page["hex"])

@@ -38,13 +38,13 @@ class Argument:
 @dataclass
 class Statement:
     """What a line says: its number, its labels, what is done with which arguments, the byte address where it lies, and
-    whether offsets are written with 22 bits there. A line of labels alone has no name. A constant's name is that of
-    the constant."""
+    whether offsets are written with 22 bits there. A line of labels alone has an empty name. A constant's name is that
+    of the constant."""
 
     line: int
     source: str
     labels: list[Token]
-    name: Token | None = None
+    name: Token = Token(Kind.NAME, "", 1)
     does: str = ""
     arguments: Sequence[Argument] = ()
     here: int = 0

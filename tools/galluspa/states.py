@@ -37,12 +37,12 @@ def values(checkpoint: Checkpoint) -> dict[str, int | list[int]]:
 
 def value(name: str, number: int | list[int]) -> str:
     """A part of a state, by its name and its number or numbers, as it is written."""
+    if isinstance(number, list):
+        return " ".join(f"{key:02X}" for key in number) or "none"
     if name in ("PC", "timer", "rate", "phase"):
         return f"{number}"
     if name == "flags" and number < 16:
         return flags(number)
-    if name == "keys":
-        return " ".join(f"{key:02X}" for key in number) or "none"
     return STOPS[number] if name == "stop" and number < len(STOPS) else f"{number:08X}"
 
 

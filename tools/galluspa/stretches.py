@@ -55,10 +55,10 @@ def found(read: Recording, first: int, last: int, line: str) -> Found | None:
         is_whole = (int(accepted[1]), int(accepted[2])) == (last - first, read.checkpoints[last].count - begin)
         return Found(first, last) if is_whole else None
     match = _FALSE.fullmatch(line)
-    false = first + int(match[1]) if match else 0
-    if not first < false <= last or read.checkpoints[false].count - begin != int(match[2]):
+    if not match or match[3] not in PARTS:
         return None
-    if match[3] not in PARTS:
+    false = first + int(match[1])
+    if not first < false <= last or read.checkpoints[false].count - begin != int(match[2]):
         return None
     return Found(first, last, false, match[3])
 
@@ -68,7 +68,8 @@ def joined(read: Recording, lines: Iterable[Found]) -> Found:
     looked at."""
     lines = list(lines)
     last = len(read.checkpoints) - 1
-    least = min((it for it in lines if it.false is not None), key=lambda it: it.false, default=Found(0, last))
+    false = {it.false: it for it in reversed(lines) if it.false is not None}
+    least = false[min(false)] if false else Found(0, last)
     looked_at = set[int]().union(*(range(it.first + 1, it.last + 1) for it in lines))
     for number in range(1, (last if least.false is None else least.false) + 1):
         if number not in looked_at:

@@ -52,7 +52,7 @@ class Token:
 
 def tokens_of(line: str) -> list[Token]:
     """The tokens of a line, without its comment."""
-    tokens, at = [], 0
+    tokens, at = list[Token](), 0
     while at < len(line):
         found = PATTERN.match(line, at)
         if line.startswith(("//", "/*"), at):
@@ -62,7 +62,7 @@ def tokens_of(line: str) -> list[Token]:
         if not found:
             raise Wrong(at + 1, _unknown(line[at]))
         if found.lastgroup not in ("space", "comment"):
-            tokens.append(_token(found.lastgroup, found[0], at + 1))
+            tokens.append(_token(found.lastgroup or "", found[0], at + 1))
         at = found.end()
     return tokens
 

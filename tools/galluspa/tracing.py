@@ -60,9 +60,8 @@ class Step:
     def stored_at(self) -> int | None:
         """The address of the word that the instruction stores to, whether or not it changes; None if it stores
         nothing."""
-        if self.word is None or self.after.stop or not is_store(self.word):
-            return None
-        return address(self.word, self.before.registers) & ~3
+        at = None if self.after.stop else _stored_to(self.word, self.before)
+        return None if at is None else at & ~3
 
     @property
     def written(self) -> frozenset[str]:
@@ -84,11 +83,16 @@ def differing(old: bytes, new: bytes) -> Iterator[WordChange]:
                 yield WordChange(block + 4 * at, was, now)
 
 
+def _stored_to(word: int | None, before: Checkpoint) -> int | None:
+    """The byte address that an instruction stores to; None if it stores nothing."""
+    return address(word, before.registers) if word is not None and is_store(word) else None
+
+
 def _stored_word(word: int | None, before: Checkpoint) -> int | None:
     """The number of the word of memory that an instruction may change, which is the one that it stores to; None if it
     stores to none."""
-    place = address(word, before.registers) if word is not None and is_store(word) else None
-    return None if place is None or place >= 4 * WORDS else place // 4
+    at = _stored_to(word, before)
+    return None if at is None or at >= 4 * WORDS else at // 4
 
 
 def _changed_word(place: int, old: int, new: int) -> Sequence[WordChange]:
@@ -98,7 +102,8 @@ def _changed_word(place: int, old: int, new: int) -> Sequence[WordChange]:
 
 def _sets_leds(word: int | None, before: Checkpoint) -> bool:
     """Whether an instruction stores to the LEDs."""
-    return word is not None and is_store(word) and address(word, before.registers) & ~3 == LEDS_AT
+    at = _stored_to(word, before)
+    return at is not None and at & ~3 == LEDS_AT
 
 
 class Run:
@@ -178,7 +183,7 @@ class Run:
             old = None if place is None else machine.words[place]
             sent = self.advance(machine, before.count + 1).first
             after = machine.seen(sent)
-            changed = () if old is None else _changed_word(place, old, machine.words[place])
+            changed = () if place is None or old is None else _changed_word(place, old, machine.words[place])
             yield Step(before, after, self.inputs.of(before.count, after.count), word, changed)
             before = after
 
