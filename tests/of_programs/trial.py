@@ -99,7 +99,7 @@ def _checks(witnesses: Witnesses, case: Case, files: Mapping[str, Path]) -> Iter
     for name, path in files.items():
         for workers in WORKERS:
             with path.open("rb") as file:
-                words = [witnesses.program, "check", "--workers", str(workers)]
+                words = [str(witnesses.program), "check", "--workers", str(workers)]
                 ran = subprocess.run(words, stdin=file, stdout=subprocess.PIPE, check=False)
             line = ran.stdout.decode("ascii", "replace").rstrip("\n")
             yield from _of_line(case, line, f"check --workers {workers} of the recording with {name}")

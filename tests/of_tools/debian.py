@@ -11,7 +11,10 @@ LOCK = "/run/lock/galluspa-tests"
 def install(packages: Iterable[str]) -> bool:
     """Installs packages, once no other test installs any. Returns whether that succeeded."""
     environment = {**os.environ, "DEBIAN_FRONTEND": "noninteractive"}
-    quiet = {"stdin": subprocess.DEVNULL, "stdout": subprocess.DEVNULL, "env": environment}
+    nowhere = subprocess.DEVNULL
     steps = (["update"], ["install", "-y", "--no-install-recommends", *packages])
-    ran = [subprocess.run(["flock", LOCK, "apt-get", "-qq", *step], **quiet).returncode for step in steps]
-    return not ran[-1]
+    ran = [
+        subprocess.run(["flock", LOCK, "apt-get", "-qq", *step], stdin=nowhere, stdout=nowhere, env=environment, check=False)
+        for step in steps
+    ]
+    return not ran[-1].returncode

@@ -11,6 +11,7 @@ import unittest
 from collections.abc import Iterable, Mapping, Sequence
 from dataclasses import dataclass
 from pathlib import Path
+from typing import Any
 
 from galluspa.recording import Checkpoint, Event, Recording, page_of, table_of, write
 
@@ -32,7 +33,7 @@ class Ran:
     status: int
 
 
-def run(command: Sequence[object], text: bytes = b"", **options: object) -> Ran:
+def run(command: Sequence[object], text: bytes = b"", **options: Any) -> Ran:
     """Runs a command with a text as its standard input."""
     ran = subprocess.run([str(word) for word in command], input=text, capture_output=True, check=False, **options)
     return Ran(ran.stdout, ran.stderr.decode(), ran.returncode)
@@ -79,7 +80,7 @@ def session(words: Iterable[int], checkpoints: Iterable[int], inputs: Iterable[t
     }
 
 
-def claim(count: int, pages: Mapping[int, int] | None = None, **parts: object) -> Checkpoint:
+def claim(count: int, pages: Mapping[int, int] | None = None, **parts: Any) -> Checkpoint:
     """A checkpoint with these parts, and with the first page of the pool at place 0 if no other pages are given."""
     return Checkpoint(count, table=table_of({0: 1} if pages is None else pages), **parts)
 

@@ -1,13 +1,16 @@
-"""The Python of this repository, with and without a suffix: pyflakes finds nothing in it, and no line of tools/ is too long."""
+"""The Python of this repository, with and without a suffix: pyflakes and mypy find nothing in it, and no line of tools/ is too long."""
 
 import os
 from collections.abc import Iterator
 from pathlib import Path
 
-from of_tools.samples import TOOLS, TOP, ToolTest, run
+from of_tools.samples import TOOLS, TOP, Ran, ToolTest, run
 
 COLUMNS = 120
 NOT_SOURCES = {"out", "__pycache__"}
+# What mypy looks at: not at the tests of the page, the examples, and the modules of tests here, which are not typed throughout.
+TYPED = ("tools", "tests", "bench", "docs")
+NOT_TYPED = ("tests/page", "tests/of_page/*", "tests/of_tools/test_*", "tests/of_tools/browser.py")
 
 
 def sources(top: Path) -> Iterator[Path]:
@@ -42,6 +45,28 @@ class SourcesTest(ToolTest):
         self.file("text", "import sys\n")
         ran = run(["pyflakes3", *sources(self.folder)])
         self.assertEqual((len(ran.output.splitlines()), ran.status), (3, 1))
+
+    def typed(self, paths: Iterator[Path]) -> Ran:
+        """What mypy finds in these files. It takes a script, which has no suffix, for a module by a link that has one."""
+        links, modules = self.folder / "links", []
+        links.mkdir()
+        for path in paths:
+            if not path.suffix:
+                link = links / f"{'_'.join(path.parts[-2:]).replace('-', '_')}.py"
+                link.symlink_to(path)
+                path = link
+            modules.append(path)
+        return run(["mypy", "--config-file", TOP / "pyproject.toml", "--cache-dir", self.folder / "cache", *modules], cwd=TOP)
+
+    def test_mypy_finds_nothing(self) -> None:
+        found = (path for name in TYPED for path in sources(TOP / name))
+        ran = self.typed(path for path in found if not any(path.relative_to(TOP).match(it) for it in NOT_TYPED))
+        self.assertEqual((ran.output.decode().splitlines()[:-1], ran.errors, ran.status), ([], "", 0))
+
+    def test_mypy_finds_what_is_wrong(self) -> None:
+        script = self.file("tools/script", "#!/usr/bin/python3\ndef one() -> int:\n    return 'one'\n")
+        ran = self.typed(iter([script, self.file("tools/module.py", "def two():\n    return 2\n")]))
+        self.assertIn(b"Found 2 errors in 2 files", ran.output)
 
     def test_lines_of_tools_are_no_longer_than_a_screen(self) -> None:
         for path in sources(TOOLS):
