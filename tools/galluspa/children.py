@@ -79,8 +79,8 @@ def _shielded() -> Iterator[None]:
 
 
 def output_of(command: Sequence[str | Path], given: bytes | BinaryIO = b"", *, limit: Limit | None, most: int) -> Ended:
-    """Runs a program over these bytes, or over a file, as its standard input. Refuses, and kills it, where the time is
-    over first, or where it prints more bytes than so many. Raises OSError where it can't be begun."""
+    """Runs a program over these bytes, or over a file, as its standard input. Refuses, and kills it, if the time is
+    over first, or if it prints more bytes than so many. Raises OSError if it can't be begun."""
     if limit:
         limit.left()
     with _begun(command, subprocess.PIPE if isinstance(given, bytes) else given) as child:
@@ -168,7 +168,7 @@ def _exchanged(child: subprocess.Popen[bytes], given: bytes, limit: Limit | None
 
 
 def _written(pipe: IO[bytes], content: memoryview) -> int:
-    """How many bytes are out of the way once a pipe took what it could: all of them where nobody reads any more."""
+    """How many bytes are out of the way once a pipe took what it could: all of them if nobody reads any more."""
     try:
         return os.write(pipe.fileno(), content[:AT_ONCE]) if content else 0
     except BlockingIOError:

@@ -114,7 +114,7 @@ def whole_number(least: int, most: int) -> Callable[[str], int]:
 
 
 def number(text: str) -> int | None:
-    """The whole number that a text writes, decimal or hexadecimal with 0x in front; None where it writes none."""
+    """The whole number that a text writes, decimal or hexadecimal with 0x in front; None if it writes none."""
     digits = text.strip().lower()
     hexadecimal = digits.startswith("0x")
     digits = digits[2:] if hexadecimal else digits
@@ -140,7 +140,7 @@ def _why(error: OSError | ValueError) -> str:
 
 
 def progress(message: str, is_last: bool = False) -> None:
-    """Renews the line of progress on standard error, where there is a terminal to see it; no text takes it away."""
+    """Renews the line of progress on standard error, if there is a terminal to see it; no text takes it away."""
     if sys.stderr.isatty():
         print(f"\033[K{printable(message)}", end="\n" if is_last else "\r", file=sys.stderr, flush=True)
 
@@ -149,7 +149,7 @@ def complain(message: str) -> None:
     """Prints a line on standard error, after the name of the tool."""
     progress("")
     name = Path(sys.argv[0]).name
-    # Where standard error can't be written either, nobody can be told: the exit status still says that it failed.
+    # If standard error can't be written either, nobody can be told: the exit status still says that it failed.
     with contextlib.suppress(OSError):
         print(f"{installed_name(name) if IS_INSTALLED else printable(name)}: {printable(message)}", file=sys.stderr,
               flush=True)
@@ -208,7 +208,7 @@ def write_bytes(content: bytes) -> None:
 
 
 def with_libraries(name: str) -> ModuleType:
-    """A module that stands on libraries: imported only where it is wanted, so that all else does without them."""
+    """A module that stands on libraries: imported only if it is wanted, so that all else does without them."""
     try:
         return importlib.import_module(name)
     except ModuleNotFoundError as error:
@@ -216,8 +216,8 @@ def with_libraries(name: str) -> ModuleType:
 
 
 def run(main: Callable[[Sequence[str]], int]) -> NoReturn:
-    """Runs a tool over the words behind its name, and ends with its status: after one line with 2, where something is
-    refused, and with 3, where something fails; with 130 or 143, where a signal ends it."""
+    """Runs a tool over the words behind its name, and ends with its status: after one line with 2, if something is
+    refused, and with 3, if something fails; with 130 or 143, if a signal ends it."""
     for number in SIGNALS:
         signal.signal(number, _end)
     try:
@@ -272,7 +272,7 @@ def escape_unwritable(stream: TextIO, encoding: str | None = None) -> None:
 
 
 def _flushed(status: int) -> int:
-    """The status, once all that was printed is written; that of a failure where it is not."""
+    """The status, once all that was printed is written; that of a failure if it is not."""
     try:
         sys.stdout.flush()
         return status

@@ -15,7 +15,7 @@ BYTES_SHOWN = 8
 
 
 def rows_of(one: Recording, other: Recording) -> Iterator[Row]:
-    """The first input in which they differ; and the first checkpoint, with the first of its parts. None where they
+    """The first input in which they differ; and the first checkpoint, with the first of its parts. None if they
     differ in nothing."""
     inputs = enumerate(zip_longest(one.events, other.events))
     for at, (a, b) in islice((it for it in inputs if it[1][0] != it[1][1]), 1):

@@ -113,7 +113,7 @@ class _Words:
 
     @property
     def next(self) -> str:
-        """The word that comes next; none where all are read."""
+        """The word that comes next; none if all are read."""
         return self._left[0] if self._left else ""
 
     @property
@@ -130,7 +130,7 @@ class _Words:
 
 def writing(part: str | int, value: object) -> Condition | None:
     """That a word of memory, by its address, or a part of a state is written: a word and a device, whatever the value;
-    a register, where it becomes this value. None of a part for which the library has no such condition."""
+    a register, if it becomes this value. None of a part for which the library has no such condition."""
     if isinstance(part, int):
         return Condition(f"store {part:#x}", (Raw(STORE, part, part + 4),))
     if part in REGISTER_NUMBERS and isinstance(value, int):
@@ -139,7 +139,7 @@ def writing(part: str | int, value: object) -> Condition | None:
 
 
 def conditions_of(words: Sequence[str]) -> list[Condition]:
-    """The conditions that the words of a command line say; refused where they say none, or too many."""
+    """The conditions that the words of a command line say; refused if they say none, or too many."""
     left, conditions = _Words(words), list[Condition]()
     while left or not conditions:
         left.taken = []
@@ -210,7 +210,7 @@ def _value(name: str, text: str) -> int:
 
 def _range(text: str, what: str, end: int, wanted: str = WANTED_NUMBER) -> tuple[int, int]:
     """The numbers that N or N-M says, from one up to another that is not one of them. They are below an end. What is
-    wanted is told where it says none. An address may be a name."""
+    wanted is said if it says none. An address may be a name."""
     names = NAMED if end == ADDRESSES else {}
     first, dash, last = text.partition("-")
     one, other = (names.get(it.upper(), number(it)) for it in (first, last if dash else first))

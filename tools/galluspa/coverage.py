@@ -17,7 +17,7 @@ Cell = tuple[str, str, str]
 
 @dataclass(frozen=True)
 class Table:
-    """Things to exercise: the name of the table, what it tells, its rows and columns, and the cells that can't be."""
+    """Things to exercise: the name of the table, what it says, its rows and columns, and the cells that can't be."""
 
     name: str
     about: str
@@ -140,7 +140,7 @@ def _timer(step: Step) -> Iterator[Cell]:
 
 
 def _fetch(step: Step, previous: Step | None) -> Iterator[Cell]:
-    """How the program counter left memory, where the instruction before was looked at."""
+    """How the program counter left memory, if the instruction before was looked at."""
     if previous and previous.word is not None and previous.after.count == step.before.count:
         is_going_on = step.before.pc == previous.before.pc + 1
         yield "stops", "fetch, by going on" if is_going_on else "fetch, by a branch", "stopped"

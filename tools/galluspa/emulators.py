@@ -73,7 +73,7 @@ class Emulator:
 
 
 def _shown(command: str, shown: object) -> Shown:
-    """What an object shows; refused where a member is none, or has another type."""
+    """What an object shows; refused if a member is none, or has another type."""
     if not isinstance(shown, dict) or not shown:
         raise Refused(f"{command}: what it prints is not an object with the parts of a state")
     readers: dict[str, Callable[[object], object]] = {

@@ -250,7 +250,7 @@ def _claims(read: Recording, at: int, part: Part, value: Value) -> bool:
 
 
 def _setting(run: Run, machine: Machine, to: int, part: Part, value: Value) -> Step | None:
-    """The last instruction before a count that set a part to the value that it has there; None where none did."""
+    """The last instruction before a count that set a part to the value that it has there; None if none did."""
     condition = writing(part, value)
     if condition and machine.count < to:
         hit = Search(run, [condition], machine.count, to).last()

@@ -21,7 +21,7 @@ RANGES = {1: (0xFFFFFFFF, "any word"), 2: (4095, "below 4,096"), 3: (MOUSE, "ins
 
 @dataclass(frozen=True)
 class Fault:
-    """The field that breaks a rule: what it is, where, its bytes (none where the text ends before it), and the rule."""
+    """The field that breaks a rule: what it is, where, its bytes (none if the text ends before it), and the rule."""
 
     field: str
     at: int
@@ -29,7 +29,7 @@ class Fault:
     rule: str
 
     def plain(self) -> Iterator[str]:
-        """The lines that tell it."""
+        """The lines that say it."""
         yield f"{self.field}, at byte {self.at}"
         if self.content:
             shown = self.content[:32].hex(" ") + (" .." if len(self.content) > 32 else "")
@@ -64,7 +64,7 @@ def _fault(text: bytes, field: Field, where: str = "") -> Fault:
 
 
 def _first_broken(text: bytes, fields: Sequence[Field]) -> Field:
-    """The first field whose number breaks its rule; the first of all where none does."""
+    """The first field whose number breaks its rule; the first of all if none does."""
     broken = (it for it in fields if not it.keeps(_number(text, it.at, it.size)))
     return next(broken, fields[0])
 
@@ -172,7 +172,7 @@ def _fields(text: bytes, claim: _Claim) -> Iterator[Field]:
                 _up_to(0 if is_first else LONGEST_OUTPUT - claim.sent))
     if _number(text, 4) == 2:
         rate = _number(text, claim.start + OFFSETS["rate"])
-        yield field("phase", "phase", 4, f"phase is below the rate, {rate}, or 0 where that is 0",
+        yield field("phase", "phase", 4, f"phase is below the rate, {rate}, or 0 if that is 0",
                     _up_to(max(rate, 1) - 1))
         yield field("the number of changes", "change_count", 4, "there are at most 1,024 changes", _up_to(PLACES))
 

@@ -26,7 +26,7 @@ FIRST_STEPS, MOST_STEPS = 1 << 19, 1 << 22
 BLOCK_STEPS = 1 << 24
 # The last hit is sought from the end of a segment backward: in so many steps, then in four times as many before them.
 LAST_STEPS, GROWTH = 1 << 22, 4
-# So many hits are kept of each segment that is searched beside others; where more are wanted, it is one at a time.
+# So many hits are kept of each segment that is searched beside others; if more are wanted, it is one at a time.
 KEPT = 10_000
 T = TypeVar("T")
 
@@ -113,7 +113,7 @@ class Search:
         return next((count for segment, count in pairs if count > segment.first), self.first_count)
 
     def why_not_later(self) -> str:
-        """What is told where nothing is found, of a machine that does nothing more."""
+        """What is said if nothing is found, of a machine that does nothing more."""
         return ": the machine has stopped" if self._has_stopped else ""
 
     def first(self) -> Hit | None:
@@ -214,7 +214,8 @@ class Search:
         self, run: Run, machine: Machine, to: int, tell: Callable[[int], None]
     ) -> Iterator[tuple[Machine, int]]:
         """The slices of a run up to a count in which something may be found: a machine, which has to be advanced
-        meanwhile, and the count to which. How far they come is told. A machine that has stopped does nothing more."""
+        meanwhile, and the count to which. `tell` gets how far they come. A machine that has stopped does nothing
+        more."""
         steps, searched = FIRST_STEPS, machine.count
         while machine.count < to and not machine.state.stop:
             if self._is_seen_outside and machine.count >= searched:
@@ -293,7 +294,7 @@ def _starts(first: int, end: int) -> list[int]:
 
 
 class _Kept:
-    """Hits that were found in a thread, where nobody goes through them until they are handed over. Where the time was
+    """Hits that were found in a thread, where nobody goes through them until they are handed over. If the time was
     over first, that comes after them."""
 
     def __init__(self, found: Iterable[Hit]) -> None:

@@ -32,7 +32,7 @@ def instruction(word: int, at: int) -> Instruction:
 
 
 def written(word: int) -> frozenset[str]:
-    """The registers and flags that an instruction writes unless it stops; those of a branch it writes where it is
+    """The registers and flags that an instruction writes unless it stops; those of a branch it writes if it is
     taken."""
     if is_branch(word):
         return frozenset(("R15", "flags") if _bit(word, 28) else ())

@@ -235,7 +235,7 @@ class Library:
         self, machine: Machine, inputs: Inputs, to: int, conditions: ctypes.Array, wanted: int
     ) -> tuple[int, int] | None:
         """The first or the last count, from a machine's up to another, at which one of these conditions holds, and the
-        index of the first that does; None where none holds. One call takes all of this: so give it a slice."""
+        index of the first that does; None if none holds. One call takes all of this: so give it a slice."""
         due, hit = inputs.raw(machine.count, to), RawHit()
         code = self.calls.galluspa_find(
             ctypes.byref(machine.state), machine.words, ctypes.c_size_t(WORDS), due, ctypes.c_size_t(len(due)),
@@ -249,7 +249,7 @@ class Library:
         return hit.count, hit.condition
 
     def _slice(self, machine: Machine, inputs: Inputs, to: int) -> Sent | None:
-        """Runs a machine up to a count; None where it sends more than there is room for, and then it stays as it is."""
+        """Runs a machine up to a count; None if it sends more than there is room for, and then it stays as it is."""
         room = ctypes.create_string_buffer(max(min(to - machine.count, SENT_AT_ONCE), 1))
         due, length = inputs.raw(machine.count, to), ctypes.c_size_t()
         code = self.calls.galluspa_advance(

@@ -20,7 +20,7 @@ class Limit:
         return time.monotonic() >= self._end
 
     def left(self) -> float:
-        """The seconds that are left; refused where none are."""
+        """The seconds that are left; refused if none are."""
         left = self._end - time.monotonic()
         if left <= 0:
             raise TimeIsUp(self.answer)

@@ -9,8 +9,8 @@ from collections.abc import Iterator, Sequence
 from galluspa.instructions import ALWAYS, is_branch
 from galluspa.sessions import MEMORY_BYTES, Session
 
-# So many words from one on are looked at. Code is where most of them are as compilers and assemblers write
-# instructions, and it is none where few are.
+# So many words from one on are looked at. They are code if most of them are as compilers and assemblers write
+# instructions, and none if few are.
 LOOKED_AT = 64
 MOST, FEW = 0.9, 0.6
 

@@ -129,7 +129,7 @@ def _multiarch() -> str:
 
 
 def commands_of(program: Program) -> dict[str, list[str]]:
-    """The commands of the program and the options of each, as its help tells them."""
+    """The commands of the program and the options of each, as its help has them."""
 
     def help_of(*arguments: str) -> str:
         ran = subprocess.run([program.path, *arguments, "--help"], stdout=subprocess.PIPE, check=False)

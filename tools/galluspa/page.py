@@ -34,8 +34,8 @@ BYTES_AROUND = 128
 
 @dataclass(frozen=True)
 class Shown:
-    """A checkpoint as the page shows it; the picture is base64, and empty where the screen is that of an earlier
-    one, or where a page has no room for it."""
+    """A checkpoint as the page shows it; the picture is base64, and empty if the screen is that of an earlier
+    one, or if a page has no room for it."""
 
     number: int
     count: int
@@ -84,7 +84,7 @@ class Report:
 
     @staticmethod
     def of(program: Program, name: str, text: bytes, library: str | None = None) -> "Report":
-        """The report on a text, after the program has judged it, or had no time to; the library, where it is found,
+        """The report on a text, after the program has judged it, or had no time to; the library, if it is found,
         says what is false."""
         try:
             answer = program.check(text, min(os.cpu_count() or 1, 64))
@@ -102,7 +102,7 @@ class Report:
 
     @property
     def false(self) -> FalseClaim | None:
-        """What is false about a false recording; None of any other, and where there is no library or no time."""
+        """What is false about a false recording; None of any other, and if there is no library or no time."""
         return self._explained[0]
 
     @property
@@ -155,7 +155,7 @@ class Report:
         )
 
     def plain(self) -> Iterator[str]:
-        """The lines of a text that tells the line, the first state, and what changed at each checkpoint."""
+        """The lines of a text that says the line, the first state, and what changed at each checkpoint."""
         yield self.answer.line
         if fault := self._fault():
             yield from fault.explanation
@@ -266,7 +266,7 @@ class Report:
 
 
 def _lawful(program: Program, text: bytes) -> Recording | None:
-    """The recording of a text, which takes little time even if its check does not; None where it is refused."""
+    """The recording of a text, which takes little time even if its check does not; None if it is refused."""
     try:
         return recording.lawful(replace(program, limit=None), "", text)
     except Refused:

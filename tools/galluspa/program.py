@@ -40,19 +40,19 @@ class Answer:
 
     @cached_property
     def false_claim(self) -> tuple[int, str] | None:
-        """The first false checkpoint and its first false part, where the line names them."""
+        """The first false checkpoint and its first false part, if the line names them."""
         match = _FALSE_LINE.fullmatch(self.line) if self.status == FALSE else None
         return (int(match[1]), match[2]) if match else None
 
     @cached_property
     def fault(self) -> tuple[int, int] | None:
-        """The number of a recording's first fault and its byte, where the line names them."""
+        """The number of a recording's first fault and its byte, if the line names them."""
         match = _REFUSED_LINE.fullmatch(self.line) if self.status == REFUSED else None
         return (int(match[1]), int(match[2])) if match else None
 
     @cached_property
     def session_fault(self) -> int | None:
-        """The number of a session's first fault, where the line names it."""
+        """The number of a session's first fault, if the line names it."""
         match = _SESSION_LINE.fullmatch(self.line) if self.status == REFUSED else None
         return int(match[1]) if match else None
 

@@ -123,7 +123,7 @@ class Recording:
 
 
 def lawful(program: Program, name: str, text: bytes) -> Recording:
-    """The recording of a text that the program finds lawful; its line is the refusal where it doesn't."""
+    """The recording of a text that the program finds lawful; its line is the refusal if it doesn't."""
     answer = program.screen(text, 0)
     if answer.status == REFUSED:
         raise Refused(f"{name}: {answer.line}")

@@ -36,7 +36,7 @@ Run = dict[str, Kept]
 
 @dataclass(frozen=True)
 class Change:
-    """What is another since an earlier run: its kind, the recording's name, and the words that tell it."""
+    """What is another since an earlier run: its kind, the recording's name, and the words that say it."""
 
     kind: str
     name: str

@@ -43,7 +43,7 @@ class Broken:
     rule: str
 
     def plain(self) -> Iterator[str]:
-        """The lines that tell it."""
+        """The lines that say it."""
         yield printable(f"{self.member} {self.found}")
         yield f"rule   {self.rule}"
 

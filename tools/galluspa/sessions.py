@@ -66,7 +66,7 @@ def _rows(items: list[str], in_row: int) -> str:
 
 
 def of_recording(name: str, read: Recording) -> Session:
-    """The session of a recording's first state, inputs and counts; refused where no session can say that state."""
+    """The session of a recording's first state, inputs and counts; refused if no session can say that state."""
     first, *later = read.checkpoints
     inexpressible = [
         what
@@ -95,7 +95,7 @@ def of_recording(name: str, read: Recording) -> Session:
 def session_from(state: Checkpoint, memory: bytes, inputs: Sequence[Event], number: int) -> Session | None:
     """The session that goes on from a state and a memory, with the inputs from its count on, and has a checkpoint after
     each of so many instructions; its counts begin at 0. Devices get their values by inputs before the first
-    instruction. The LEDs are left out. None where a session cannot say the state: the serial line has a byte that was
+    instruction. The LEDs are left out. None if a session cannot say the state: the serial line has a byte that was
     read already, the machine has stopped, or there are too many inputs."""
     if state.stop or 0 < state.serial < RECEIVED:
         return None
@@ -139,9 +139,9 @@ def set_register(session: Session, assignment: str) -> None:
 
 
 def check_phase(session: Session) -> None:
-    """Refuses a phase that isn't below the rate, or not 0 where the rate is 0."""
+    """Refuses a phase that isn't below the rate, or not 0 if the rate is 0."""
     if session.phase >= max(session.rate, 1):
-        raise Refused(f"phase {session.phase:,} is not below the rate {session.rate:,}, or 0 where that is 0")
+        raise Refused(f"phase {session.phase:,} is not below the rate {session.rate:,}, or 0 if that is 0")
 
 
 def inputs_of(path: Path) -> list[Event]:

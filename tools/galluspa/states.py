@@ -54,7 +54,7 @@ def registers(checkpoint: Checkpoint, before: Checkpoint | None) -> list[Part]:
 
 
 def others(checkpoint: Checkpoint, before: Checkpoint | None, version: int) -> list[Part]:
-    """H, PC, the flags, the stop and the devices; rate and phase where the version has them."""
+    """H, PC, the flags, the stop and the devices; rate and phase if the version has them."""
     olds = dict(_others(before or checkpoint))
     return [
         Part(name, text, text != olds[name])

@@ -40,7 +40,7 @@ def _renumbered(claim: Checkpoint, numbers: dict[int, int]) -> array:
 @dataclass(frozen=True)
 class Found:
     """What the line of a stretch says: the first false checkpoint by its number in the whole recording and its first
-    false part; or neither, where all were found true."""
+    false part; or neither, if all were found true."""
 
     first: int
     last: int
@@ -49,7 +49,7 @@ class Found:
 
 
 def found(read: Recording, first: int, last: int, line: str) -> Found | None:
-    """What a line says of the stretch between two checkpoints; None where it can't be the line of that stretch."""
+    """What a line says of the stretch between two checkpoints; None if it can't be the line of that stretch."""
     begin = read.checkpoints[first].count
     if accepted := _ACCEPTED.fullmatch(line):
         is_whole = (int(accepted[1]), int(accepted[2])) == (last - first, read.checkpoints[last].count - begin)

@@ -17,7 +17,7 @@ from galluspa.suites import Case, Outcome
 
 @dataclass(frozen=True)
 class Shown:
-    """A recording as the page shows it; the picture is base64, and empty where there is no screen."""
+    """A recording as the page shows it; the picture is base64, and empty if there is no screen."""
 
     name: str
     expected: str
@@ -58,7 +58,7 @@ def _shown(program: Program, outcomes: Sequence[Outcome], jobs: int, changes: li
 
 
 def thumbnail(program: Program, case: Case) -> bytes:
-    """The last screen of a recording, small, as PNG; empty where the program shows none."""
+    """The last screen of a recording, small, as PNG; empty if the program shows none."""
     try:
         read = recording.lawful(program, case.name, case.content())
         drawn = program.screen(display_alone(read, read.checkpoints[-1]), 0)

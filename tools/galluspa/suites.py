@@ -30,7 +30,7 @@ class Case:
 
     @property
     def file(self) -> Path:
-        """The path, where a file is there and no pipe, which nobody might write to."""
+        """The path, if a file is there and not a pipe, which nobody might write to."""
         if self.path.exists() and not self.path.is_file():
             raise Refused(f"{self.name}: not a file")
         return self.path
@@ -109,7 +109,7 @@ def outcomes_of(program: Program, cases: Sequence[Case], jobs: int, workers: int
 
 
 def tap(number: int, outcome: Outcome) -> str:
-    """The lines of TAP that tell an outcome."""
+    """The lines of TAP that report an outcome."""
     name = for_tap(outcome.case.name)
     if outcome.is_ok:
         return f"ok {number} - {name}: {for_tap(outcome.answered)}"

@@ -46,7 +46,7 @@ class WordChange:
 class Step:
     """An instruction that was done: its word, the inputs before it, and the machine before and after it.
 
-    The state after it has the byte that it sent as its output. The word is None where the program counter is outside
+    The state after it has the byte that it sent as its output. The word is None if the program counter is outside
     memory.
     """
 
@@ -158,7 +158,7 @@ class Run:
 
     def steps(self, machine: Machine, to: int) -> Iterator[Step]:
         """The instructions from a machine's count up to another; one that stops is the last. The machine that is given
-        goes on: until all are given perhaps less far than they are, and then to the last of them, also where the time
+        goes on: until all are given perhaps less far than they are, and then to the last of them, also if the time
         is over first."""
         yield from self._one_by_one(machine, min(to, machine.count + FIRST_ONES))
         number = FIRST_ONES
@@ -188,7 +188,7 @@ class Run:
             before = after
 
     def _recorded(self, machine: Machine, to: int) -> Iterator[Step] | None:
-        """The same, by a call of the library that records a session of them, with a checkpoint after each; None where
+        """The same, by a call of the library that records a session of them, with a checkpoint after each; None if
         no session begins as the machine is. It takes far less time for each, and some for the call."""
         inputs = self.inputs.of(machine.count, to)
         session = session_from(machine.seen(), machine.memory(), inputs, to - machine.count)

@@ -21,7 +21,7 @@ def of_commit(when: int) -> str:
 
 
 def last_commit() -> int:
-    """When the last commit was made, in seconds; now, where there is no repository."""
+    """When the last commit was made, in seconds; now, if there is no repository."""
     command = ["git", "-C", str(TOP), "log", "-1", "--format=%ct"]
     try:
         printed = subprocess.run(command, stdout=subprocess.PIPE, stderr=subprocess.DEVNULL, check=False).stdout.strip()
