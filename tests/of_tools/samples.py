@@ -4,6 +4,7 @@ import contextlib
 import json
 import os
 import pty
+import re
 import struct
 import subprocess
 import tempfile
@@ -101,6 +102,13 @@ def rejoining(claimed: int) -> bytes:
 def status_of(text: bytes) -> int:
     """The exit status of the program for a recording's text: 0, 1 or 2."""
     return run([PROGRAM], text).status
+
+
+def group(pattern: str, text: str) -> str:
+    """What the first group of a pattern has, which is somewhere in a text; a dot stands for line feeds, too."""
+    found = re.search(pattern, text, re.DOTALL | re.MULTILINE)
+    assert found, pattern
+    return found[1]
 
 
 def in_register(at: int, value: int) -> tuple[int, ...]:

@@ -17,7 +17,7 @@ from galluspa.mnemonics import BRANCHES, MNEMONICS, source_of, word_of
 from galluspa.others import FALSE_FRIENDS, HERE
 from galluspa.settings import set_checkpoints, settings_of
 from galluspa.tokens import Wrong
-from of_tools.samples import EXAMPLES, PROGRAM, TOP, Ran, ToolTest, record, run, session, tool
+from of_tools.samples import EXAMPLES, PROGRAM, TOP, Ran, ToolTest, group, record, run, session, tool
 
 HELLO = """; Sends a text.
         MOV R1, SERIAL
@@ -185,13 +185,14 @@ class AssembleTest(ToolTest):
     def test_notes_what_is_lawful_and_may_surprise(self) -> None:
         last, key = "the last checkpoint is at 5, and ends the run", "input 5, key, 1\n"
         none = "note: no checkpoint, so a recording runs no instruction: add every, until or checkpoints"
-        for source, told in (
+        rows: list[tuple[str, list[str]]] = [
             ("a: B a", [f"1:1: {none}"]), ("a: B a\ninput 5, key, 1", [f"1:1: {none}"]),
             (f"a: B a\n{key}checkpoints 5", [f"2:1: note: this input never comes: {last}"]),
             (f"a: B a\n input 4, key, 1\n{key} {key} input 6, key, 'a'\ncheckpoints 1, 5",
              [f"3:1: note: this input and 2 after it never come: {last}"]),
             (f"a: B a\n{key}checkpoints 6", []), ("a: B a\nuntil loops", []),
-        ):
+        ]
+        for source, told in rows:
             ran = self.assemble(source)
             self.assertEqual(ran.errors.splitlines(), [f"{self.folder / 'it.asm'}:{one}" for one in told], source)
             self.assertEqual(ran.status, 0)
@@ -203,9 +204,10 @@ class AssembleTest(ToolTest):
     def test_the_session_tool_finds_the_same_ends(self) -> None:
         image = self.folder / "it.bin"
         self.assemble(HELLO, "--image", image)
-        for words, counts in ((["--until-loops"], [69]), (["--until-loops", "--every", 30], [30, 60, 69]),
-                              (["--until-loops", "--every", 69], [69]), (["--until-loops", "--most", 69], [69])):
-            self.assertEqual(json.loads(tool("session", "--memory", image, *words).output)["checkpoints"], counts)
+        for words, counts in (("--until-loops", [69]), ("--until-loops --every 30", [30, 60, 69]),
+                              ("--until-loops --every 69", [69]), ("--until-loops --most 69", [69])):
+            ran = tool("session", "--memory", image, *words.split())
+            self.assertEqual(json.loads(ran.output)["checkpoints"], counts)
         stops = self.file("stops.bin", struct.pack("<2I", 0x40000005, 0x000C0000))
         self.assertEqual(json.loads(tool("session", "--memory", stops, "--until-stops").output)["checkpoints"], [2])
         self.assert_refused(tool("session", "--memory", image, "--until-stops", "--most", 500), "within 500 instructions")
@@ -424,7 +426,7 @@ class PageTest(ToolTest):
         script = (TOP / "docs/assembler.md").read_text().split("```sh\n")[1].split("```")[0]
         ran = run(["bash", "-ec", script], cwd=self.folder, env={**os.environ, "PYTHONDONTWRITEBYTECODE": "1"})
         self.assertEqual((ran.errors, ran.status), ("", 0))
-        said = re.search(r"the verdict line: (.*)", script)[1]
+        said = group(r"the verdict line: ([^\n]*)", script)
         self.assertEqual(ran.output.decode().splitlines()[:2], [said, "Hello, world"])
         drawn = Image.open(self.folder / "hello.png").convert("1")
         screen = run([PROGRAM, "screen", "--at", 3], (self.folder / "hello.orsr").read_bytes()).output
@@ -439,7 +441,7 @@ class PageTest(ToolTest):
             dots = [at for at, dot in enumerate(screen.getdata()) if not dot]
             self.assertEqual(dots, [1024 * (767 - 100) + 330])
         waits = recording.read(self.recorded(re.sub(r"^ *input .*\n", "", source, flags=re.MULTILINE)))
-        said = re.search(r"the last checkpoint of the session, (\d+), is", (TOP / "docs/assembler.md").read_text())[1]
+        said = group(r"the last checkpoint of the session, (\d+), is", (TOP / "docs/assembler.md").read_text())
         self.assertEqual(waits.checkpoints[-1].count, int(said))
 
     def test_a_borrow_is_c_as_it_says(self) -> None:
@@ -459,7 +461,8 @@ class PageTest(ToolTest):
     def test_what_is_advised_for_32_bits_is_the_number(self) -> None:
         for number in (70000, -70000, 1 << 31, -(1 << 31), (1 << 32) - 1):
             it = assembled(f"MOV R4, {number}")
-            upper, lower = re.search(r"write (MOV' R4, \d+) and then (IOR R4, R4, \d+)", it.problems[0].text).groups()
+            upper = group(r"write (MOV' R4, \d+) and then", it.problems[0].text)
+            lower = group(r"and then (IOR R4, R4, \d+)", it.problems[0].text)
             made = self.recorded(f"{upper}\n{lower}\ncheckpoints 2")
             self.assertEqual(recording.read(made).checkpoints[-1].registers[4], number & 0xFFFFFFFF)
 

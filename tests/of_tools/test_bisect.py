@@ -82,6 +82,8 @@ def compile_state(folder: Path, mistake: Mistake | None) -> None:
 
 
 class BisectTest(ToolTest):
+    built: Path
+
     @classmethod
     def setUpClass(cls) -> None:
         cls.built = Path(cls.enterClassContext(tempfile.TemporaryDirectory()))

@@ -2,6 +2,7 @@
 
 import json
 from pathlib import Path
+from typing import Any
 
 from galluspa.recording import Event, page_of
 from of_tools.samples import EXAMPLES, JUMP, STORED, Ran, ToolTest, claim, encoded, in_register, record, session, tool
@@ -51,7 +52,7 @@ class DiffTest(ToolTest):
         self.assertEqual([row[0] for row in rows], ["input 1", "checkpoint 1", "mouse"])
 
     def test_the_first_part_that_differs(self) -> None:
-        same = {"registers": in_register(3, 7), "keys": b"ab", "output": b"Hello, world"}
+        same: dict[str, Any] = {"registers": in_register(3, 7), "keys": b"ab", "output": b"Hello, world"}
         pool = [WORDS, page_of(1, 2, 3), page_of(1, 2, 4)]
         pages = {0: 1, 7: 2}
 

@@ -6,7 +6,7 @@ import tempfile
 from pathlib import Path
 
 from galluspa import recording
-from of_tools.samples import EXAMPLES, PROGRAM, TOP, Ran, ToolTest, run, tool
+from of_tools.samples import EXAMPLES, PROGRAM, TOP, Ran, ToolTest, group, run, tool
 
 NAMES = ("emulator", "emulator-recorded")
 LIBRARY = next((path for path in (TOP / "crates/galluspa/out/libgalluspa.a", TOP / "out/lib/libgalluspa.a") if path.exists()), None)
@@ -18,12 +18,15 @@ def compiled(folder: Path, name: str) -> Path:
     program = folder / name
     library = [LIBRARY] if "recorded" in name else []
     flags = ["-O2", "-Wall", "-Wextra", "-Werror", "-Wno-unused-function", "-Wno-unused-result"]
-    command = ["cc", *flags, f"-I{TOP}/bench", f"-I{TOP}/include", EXAMPLES / f"c/{name}.c", *library, "-o", program]
+    command = [str(it) for it in ("cc", *flags, f"-I{TOP}/bench", f"-I{TOP}/include", EXAMPLES / f"c/{name}.c", *library, "-o", program)]
     subprocess.run(command, check=True)
     return program
 
 
 class EmulatorTest(ToolTest):
+    plain: Path
+    recorded: Path
+
     @classmethod
     def setUpClass(cls) -> None:
         folder = Path(cls.enterClassContext(tempfile.TemporaryDirectory()))
@@ -44,7 +47,7 @@ class EmulatorTest(ToolTest):
 
     def test_the_document_has_the_patch(self) -> None:
         document = (TOP / "docs/recording-your-system.md").read_text()
-        shown = re.search(r"^\$ diff -U 1 [^\n]*\n(@@.*?)^```$", document, re.DOTALL | re.MULTILINE)[1]
+        shown = group(r"^\$ diff -U 1 [^\n]*\n(@@.*?)^```$", document)
         ran = run(["diff", "-U", 1, *(EXAMPLES / f"c/{name}.c" for name in NAMES)])
         self.assertEqual(shown, ran.output.decode().split("\n", 2)[2])
         self.assertLess(len(re.findall(r"^[+-]", shown, re.MULTILINE)), 70)

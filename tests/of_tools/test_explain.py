@@ -9,6 +9,7 @@ import struct
 import time
 import tracemalloc
 from dataclasses import replace
+from typing import Any
 
 from PIL import Image
 
@@ -132,7 +133,8 @@ class ExplainTest(ToolTest):
         pictures = [Image.open(io.BytesIO(base64.b64decode(it))) for it in SIDE.findall(ran.output)]
         for picture, color, other in zip(pictures, (RED, LIGHT_RED), (LIGHT_RED, RED), strict=True):
             self.assertEqual([picture.getpixel((x, 767 - 219)) for x in (576, 577)], [color] * 2)
-            colors = {shown: many for many, shown in picture.convert("RGB").getcolors()}
+            counted: Any = picture.convert("RGB").getcolors()
+            colors = {shown: many for many, shown in counted}
             self.assertEqual((colors[color], colors.get(other)), (2, None))
 
     def test_what_wrote_a_part_long_before_is_told(self) -> None:
@@ -172,10 +174,12 @@ class ExplainTest(ToolTest):
         read, program = recording.read(text), Program.find(None)
         answer = program.check(text)
 
+        false = answer.false_claim or self.fail("it is not false")
+
         def explained(slices: int) -> FalseClaim:
             """What is explained in the time for so many slices of the machine's run."""
             run = Run.of_answer(replace(Library.find(None), limit=Ending(slices)), text, read, answer)
-            return explain_false(run, program, read, answer.false_claim, 1000)
+            return explain_false(run, program, read, false, 1000)
 
         lines = list(plain(explained(30)))
         self.assertIn("R0  00000005  00000006", lines)

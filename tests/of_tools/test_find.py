@@ -34,8 +34,7 @@ def run_of(text: bytes, true: range | None = None) -> Run:
 
 def accessed(step: Step) -> tuple[range, bool]:
     """The bytes that an instruction loads or stores, and whether it stores them."""
-    at = None if step.word is None or step.after.stop else address(step.word, step.before.registers)
-    if at is None:
+    if step.word is None or step.after.stop or (at := address(step.word, step.before.registers)) is None:
         return range(0), False
     is_byte = step.word >> 28 & 1
     return range(at if is_byte else at & ~3, at + 1 if is_byte else (at & ~3) + 4), is_store(step.word)
@@ -65,7 +64,7 @@ def takes(*kinds: int) -> Callable[[Step], bool]:
     return lambda step: any(event.kind in kinds for event in step.inputs)
 
 
-def becomes(part: Callable[[object], int], value: int) -> Callable[[Step], bool]:
+def becomes(part: Callable[[recording.Checkpoint], int], value: int) -> Callable[[Step], bool]:
     """Whether a part becomes a value."""
     return lambda step: part(step.before) != value == part(step.after)
 
@@ -195,24 +194,24 @@ class FindTest(ToolTest):
     def test_segments_are_searched_side_by_side(self) -> None:
         counts = [*range(1_000_000, 12_000_001, 1_000_000)]
         made = self.file("it.orsr", record(session(COUNTING, counts)))
-        for words in (["R0=1234567"], ["--last", "R0=1234567"], ["--last", "store", 400], ["store", 400, "--from", 11_999_990]):
-            one, more = (self.found(made, *words, "-j", jobs) for jobs in (1, 4))
+        for words in ("R0=1234567", "--last R0=1234567", "--last store 400", "store 400 --from 11999990"):
+            one, more = (self.found(made, *words.split(), "-j", jobs) for jobs in (1, 4))
             self.assertEqual((one, len(one)), (more, 1))
         self.assertEqual(self.found(made, "--last", "store", 400)[0].split()[0], "11999998")
 
     def test_the_run_is_the_machines_where_a_claim_is_false(self) -> None:
         false = tool("claim", FACE, "--at", 2, "--set", "R0=5").output
         made = self.file("false.orsr", false)
-        for words in (["PC=41", "--from", 12_000_000], ["--last", "store", "0xE7F00-0xFFEFF"]):
-            self.assertEqual(self.found(made, *words), self.found(FACE, *words))
+        for words in ("PC=41 --from 12000000", "--last store 0xE7F00-0xFFEFF"):
+            self.assertEqual(self.found(made, *words.split()), self.found(FACE, *words.split()))
         self.assertEqual(tool("find", self.file("it.orsr", rejoining(9)), "R5=9").status, 1)
 
     def test_what_is_found_in_a_long_wait(self) -> None:
         """A byte that is sent after a wait of billions, and a machine that waits for longer."""
         waits = (0x5100FFC8, 0x82100010, 0x42210003, 0xE8FFFFFD, 0x80100014, 0xA0100000, JUMP)
         made = self.file("it.orsr", record(session(waits, [1 << 32], [(1 << 31, "key", 65)])))
-        for words in (["sent"], ["sent", 65], ["--last", "input"], ["PC=5", "--from", 1 << 31]):
-            count = int(self.found(made, *words)[0].split()[0])
+        for words in ("sent", "sent 65", "--last input", f"PC=5 --from {1 << 31}"):
+            count = int(self.found(made, *words.split())[0].split()[0])
             self.assertTrue(1 << 31 <= count < (1 << 31) + 9, words)
         self.assertEqual(tool("find", made, "stop", "sent", 66).status, 1)
 
@@ -231,11 +230,11 @@ class FindTest(ToolTest):
 
     def test_what_there_is_no_time_for_is_told(self) -> None:
         for words, told in (
-            (["R5=9"], r"R5=9 does not come about from 0 to \d+"), (["--last", "R5=9", "-j", 1], "nothing is searched yet"),
-            (["--last", "R5=9", "-j", 4], "nothing is searched yet"), (["--all", "R0=9", "--to", 1 << 33], r"the search came to \d{7,}"),
-            (["--all", "R0=9", "-j", 4], r"the search came to \d{7,}"),
+            ("R5=9", r"R5=9 does not come about from 0 to \d+"), ("--last R5=9 -j 1", "nothing is searched yet"),
+            ("--last R5=9 -j 4", "nothing is searched yet"), (f"--all R0=9 --to {1 << 33}", r"the search came to \d{7,}"),
+            ("--all R0=9 -j 4", r"the search came to \d{7,}"),
         ):
-            ran = tool("find", *self.endless(), *words, "--limit", 2)
+            ran = tool("find", *self.endless(), *words.split(), "--limit", 2)
             self.assertRegex(ran.errors, rf"^find: no answer in 2 s: {told}\n$")
             self.assertEqual((ran.status, [line.split()[0] for line in ran.output.splitlines()]), (3, [b"24"] if "--all" in words else []))
 
@@ -257,7 +256,7 @@ class FindTest(ToolTest):
     def test_a_signal_ends_it_at_once(self) -> None:
         for jobs in (1, 4):
             for number, status in ((signal.SIGINT, 130), (signal.SIGTERM, 143)):
-                command = [TOOLS / "find", *self.endless(), "R5=9", "-j", str(jobs)]
+                command = [str(it) for it in (TOOLS / "find", *self.endless(), "R5=9", "-j", jobs)]
                 begun = subprocess.Popen(command, stdout=subprocess.PIPE, stderr=subprocess.PIPE)
                 time.sleep(1.5)
                 begun.send_signal(number)
@@ -306,12 +305,12 @@ class FindTest(ToolTest):
         self.assert_refused(tool("find", self.folder / "none", "stop"), "No such file")
         self.assert_refused(tool("find", self.file("short.orsr", STORED[:-1]), "stop"), "refused 1 short at byte 9503")
         for words, told in (
-            (["--from", 101], "--from 101 is after the last checkpoint, which is at 100"), (["--to", 101], "--to 101 is after the last checkpoint, which is at 100"),
-            (["--from", 5, "--to", 5], "no count is from 5 up to but not including 5"), (["--from", 100], "no count is from 100 up to but not including 100"),
-            (["--from", 6, "--to", 5], "no count is from 6"), (["--most", 5], "--most is for --all"), (["--last", "--all"], "not allowed with"),
-            (["-j", 0], "'0' is not a whole number from 1 to 64"), (["-j", 65], "'65' is not a whole number"), (["--library", "none"], "no library at none"),
+            ("--from 101", "--from 101 is after the last checkpoint, which is at 100"), ("--to 101", "--to 101 is after the last checkpoint, which is at 100"),
+            ("--from 5 --to 5", "no count is from 5 up to but not including 5"), ("--from 100", "no count is from 100 up to but not including 100"),
+            ("--from 6 --to 5", "no count is from 6"), ("--most 5", "--most is for --all"), ("--last --all", "not allowed with"),
+            ("-j 0", "'0' is not a whole number from 1 to 64"), ("-j 65", "'65' is not a whole number"), ("--library none", "no library at none"),
         ):
-            self.assert_refused(tool("find", stored, "stop", *words), told)
+            self.assert_refused(tool("find", stored, "stop", *words.split()), told)
         for words, told in REFUSED:
             self.assert_refused(tool("find", stored, *words.split()), told)
 

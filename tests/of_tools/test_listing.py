@@ -30,8 +30,8 @@ class ListingTest(ToolTest):
         self.assertGreaterEqual(len(rows), 40)
         listed = {}
         for name in {row[0] for row in rows}:
-            lines = tool("listing", EXAMPLES / f"{name}.json", "--words", 64).output.decode().splitlines()
-            listed[name] = [line.split(maxsplit=2) for line in lines]
+            printed = tool("listing", EXAMPLES / f"{name}.json", "--words", 64).output.decode().splitlines()
+            listed[name] = [line.split(maxsplit=2) for line in printed]
         checked = 0
         for name, numbers, words, meaning in rows:
             lines = [listed[name][number] for number in numbers]

@@ -59,7 +59,7 @@ class MainTest(ToolTest):
     def test_the_commands_are_those_of_the_program(self) -> None:
         keys, stored = EXAMPLES / "keys.json", self.file("stored.orsr", STORED)
         for words, path in (
-            (["record"], keys), (["screen", "--at", 1], stored), (["screen", "--at", 9], stored), (["migrate"], stored),
+            (["record"], keys), (["screen", "--at", "1"], stored), (["screen", "--at", "9"], stored), (["migrate"], stored),
         ):
             alone = run([PROGRAM, *words], path.read_bytes())
             for ran in (tool("main", *words, path), run([TOOLS / "main", *words], path.read_bytes())):
@@ -96,5 +96,5 @@ class MainTest(ToolTest):
         reader, terminal = pty.openpty()
         self.addCleanup(os.close, reader)
         self.addCleanup(os.close, terminal)
-        ran = subprocess.run([TOOLS / "main", "check"], stdin=terminal, capture_output=True, check=False)
-        self.assertEqual((ran.returncode, ran.stderr), (2, b"main: check: want a file (see tools/main check --help)\n"))
+        alone = subprocess.run([TOOLS / "main", "check"], stdin=terminal, capture_output=True, check=False)
+        self.assertEqual((alone.returncode, alone.stderr), (2, b"main: check: want a file (see tools/main check --help)\n"))

@@ -48,6 +48,10 @@ class WordsTest(ToolTest):
 
 @unittest.skipUnless(is_built(), "the library is not built: run examples/c/install out first")
 class PackageTest(ToolTest):
+    deb: Path
+    tarball: Path
+    sums: Path
+
     @classmethod
     def setUpClass(cls) -> None:
         made = cls.enterClassContext(tempfile.TemporaryDirectory())
@@ -111,8 +115,9 @@ class PackageTest(ToolTest):
         self.assertEqual(run(["cc", f"-I{prefix}/include", source, library / "libgalluspa.a", "-o", program]).errors, "")
         face = EXAMPLES / "face.orsr"
         line = f"{face}: accepted 4 checkpoints 20000000 steps\n".encode()
-        for words in ([program], ["python3", shared / "examples/c/check.py", library / "libgalluspa.so"]):
-            ran = run([*words, face])
+        commands: list[list[object]] = [[program], ["python3", shared / "examples/c/check.py", library / "libgalluspa.so"]]
+        for command in commands:
+            ran = run([*command, face])
             self.assertEqual((ran.output, ran.status), (line, 0))
         for name in ("oberon_replay", "galluspa-suite", "galluspa-slice"):
             self.assertTrue((prefix / f"share/man/man1/{name}.1.gz").is_file())

@@ -6,28 +6,28 @@ and files. If a package cannot be installed, the test is skipped and says so.
 """
 
 import os
-import re
 import shutil
 import socket
 import subprocess
 import time
 from pathlib import Path
+from typing import Any
 
 from of_tools.debian import install
-from of_tools.samples import EXAMPLES, PROGRAM, STORED, TOP, Ran, ToolTest, record, rejoining, run, tool
+from of_tools.samples import EXAMPLES, PROGRAM, STORED, TOP, Ran, ToolTest, group, record, rejoining, run, tool
 
 ACCOUNTS = {"one.example": "galluspa-one", "two.example": "galluspa-two"}
 COMMANDS = {"sshd": "openssh-server", "rsync": "rsync", "munged": "munge", "slurmctld": "slurmctld", "slurmd": "slurmd",
             "sbatch": "slurm-client", "make": "make"}
 SECONDS = 60
 FOUND = f"{os.environ['PATH']}:/usr/sbin:/sbin"
-QUIET = {"stdout": subprocess.DEVNULL, "stderr": subprocess.DEVNULL, "stdin": subprocess.DEVNULL}
+QUIET: dict[str, Any] = {"stdout": subprocess.DEVNULL, "stderr": subprocess.DEVNULL, "stdin": subprocess.DEVNULL}
 
 
 def recipe(name: str) -> str:
     """A recipe of the document."""
     text = (TOP / "docs/suites.md").read_text()
-    return re.search(rf"^<!-- recipe {name} -->\n```\w+\n(.*?)^```$", text, re.DOTALL | re.MULTILINE)[1]
+    return group(rf"^<!-- recipe {name} -->\n```\w+\n(.*?)^```$", text)
 
 
 def free_port() -> int:
@@ -66,7 +66,7 @@ class RecipesTest(ToolTest):
 
     def start(self, *words: object) -> None:
         """Starts a server, which is ended with the test."""
-        path = shutil.which(str(words[0]), path=FOUND)
+        path = shutil.which(str(words[0]), path=FOUND) or str(words[0])
         server = subprocess.Popen([path, *map(str, words[1:])], **QUIET, env=self.environment())
         self.addCleanup(server.wait, 10)
         self.addCleanup(server.terminate)

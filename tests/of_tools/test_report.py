@@ -11,6 +11,7 @@ import time
 import unittest
 from dataclasses import replace
 from pathlib import Path
+from typing import Any
 from unittest import mock
 
 from PIL import Image
@@ -22,8 +23,9 @@ from galluspa.program import Program
 from galluspa.recording import Event, page_of
 from of_tools import browser
 from of_tools.samples import (
-    EXAMPLES, JUMP, PROGRAM, STORED, ToolTest, claim, encoded, record, rejoining, run, session, status_of, tool,
+    EXAMPLES, JUMP, PROGRAM, STORED, ToolTest, claim, encoded, group, record, rejoining, run, session, status_of, tool,
 )
+
 
 # The dots of a page's pictures, row by row from the top: a bit for each that is dark, as a base64 text.
 DOTS = """
@@ -58,16 +60,18 @@ class ReportTest(ToolTest):
         self.assertTrue(all(url.startswith(("file:", "data:")) for url in page.requests), page.requests)
         self.assertEqual(page.answer("document.querySelector('h1').innerText"), line)
         self.assertEqual(page.answer("getComputedStyle(document.querySelector('h1')).backgroundColor"), color)
-        self.assertGreater(page.answer("parseFloat(getComputedStyle(document.querySelector('h1')).fontSize)"), 24)
+        size: Any = page.answer("parseFloat(getComputedStyle(document.querySelector('h1')).fontSize)")
+        self.assertGreater(size, 24)
 
     def assert_dots(self, page: browser.Page, text: bytes, checkpoints: list[int]) -> None:
         """The pictures of a page are those of these checkpoints, dot by dot as the program draws them."""
-        width, dots = page.answer(DOTS)
+        drawn: Any = page.answer(DOTS)
+        width, dots = drawn
         self.assertEqual(width, 1024)
         self.assertEqual([int(number) for number in dots], checkpoints)
         for number in checkpoints:
-            drawn = run([PROGRAM, "screen", "--at", number], text).output
-            self.assertEqual(base64.b64decode(dots[str(number)]), drawn[12:], f"checkpoint {number}")
+            screen = run([PROGRAM, "screen", "--at", number], text).output
+            self.assertEqual(base64.b64decode(dots[str(number)]), screen[12:], f"checkpoint {number}")
 
 
 class ReportWordsTest(ReportTest):
@@ -145,7 +149,7 @@ class SizeTest(ReportTest):
         sizes = mock.patch.multiple(pictures, AT_ONCE=4, FULL_BYTES=140_000, SMALL_BYTES=20_000)
         with sizes, mock.patch.dict(os.environ, GALLUSPA_LIBRARY="/none"):
             page = "".join(Report.of(program, "it's.orsr", text).html())
-        told = re.search(r'id="few">(.*?)</p>', page, re.DOTALL)[1]
+        told = group(r'id="few">(.*?)</p>', page)
         full, every, small, none = map(int, re.findall(r"\d+", told))
         self.assertEqual((full + small + none, full % 4, small % 4, page.count("data-checkpoint=")), (every, 0, 0, full + small))
         self.assertGreater(min(full, small, none), 0)
@@ -170,13 +174,15 @@ class SizeTest(ReportTest):
 
 
 class ReportInBrowserTest(ReportTest):
+    running: browser.Browser
+
     @classmethod
     def setUpClass(cls) -> None:
-        cls.browser = cls.enterClassContext(browser.browser())
+        cls.running = cls.enterClassContext(browser.browser())
 
     def test_the_face(self) -> None:
         text = (EXAMPLES / "face.orsr").read_bytes()
-        with self.browser.page(self.report(text)) as page:
+        with self.running.page(self.report(text)) as page:
             self.assert_sound(page, "accepted 4 checkpoints 20000000 steps", "rgb(20, 114, 59)")
             self.assert_dots(page, text, [0, 1, 2, 3, 4])
             shot = Image.open(io.BytesIO(page.screenshot(1280, 2200)))
@@ -191,18 +197,19 @@ class ReportInBrowserTest(ReportTest):
         )
         widest = encoded(2, [page_of(JUMP), page_of(1)], [claim(0), wide], [Event(5, 3, 0x073FF3FF)])
         for text in ((EXAMPLES / "face.orsr").read_bytes(), widest, STORED[:-1]):
-            with self.browser.page(self.report(text, "a" * 200 + ".orsr")) as opened:
+            with self.running.page(self.report(text, "a" * 200 + ".orsr")) as opened:
                 for width in browser.WIDTHS:
                     opened.resize(width, 1000)
                     self.assertEqual(opened.answer(browser.FAULTS), [], f"{width} points")
 
     def test_a_false_recording(self) -> None:
         text = rejoining(9)
-        with self.browser.page(self.report(text)) as page:
+        with self.running.page(self.report(text)) as page:
             self.assert_sound(page, "false checkpoint 1 at 2 part R5", "rgb(179, 38, 30)")
             self.assert_dots(page, text, [0])
             self.assertEqual(page.answer("document.querySelector('#checkpoint-1 dd.false').textContent"), "00000009")
-            self.assertIn("R5", page.answer("document.querySelector('#checkpoint-1 .claim').textContent"))
+            claimed: Any = page.answer("document.querySelector('#checkpoint-1 .claim').textContent")
+            self.assertIn("R5", claimed)
             self.assertEqual(page.answer("document.querySelectorAll('dd.false').length"), 1)
             changed = "[...document.querySelectorAll('#checkpoint-2 dd.changed')].map(it => it.textContent).join()"
             self.assertEqual(page.answer(changed), "00000001")
@@ -215,7 +222,7 @@ class ReportInBrowserTest(ReportTest):
             (lambda it: it[:5408] + b"\x02" + it[5409:], "refused 7 page at byte 5408", "02"),
             (lambda it: b"", "refused 1 short at byte 0", "··"),
         ):
-            with self.browser.page(self.report(change(STORED))) as page:
+            with self.running.page(self.report(change(STORED))) as page:
                 self.assert_sound(page, line, "rgb(179, 38, 30)")
                 self.assertEqual(page.answer("document.querySelector('.at').innerText"), marked)
                 self.assertEqual(page.answer("document.images.length"), 0)
@@ -227,7 +234,7 @@ class ReportInBrowserTest(ReportTest):
         page_file = self.report(text)
         self.assertLess(page_file.stat().st_size, 20_000_000)
         start = time.monotonic()
-        with self.browser.page(page_file) as page:
+        with self.running.page(page_file) as page:
             self.assertEqual(page.answer("document.querySelectorAll('.checkpoint').length"), 4097)
             page.answer("document.querySelector('#checkpoint-4096').scrollIntoView()")
             self.assertLess(time.monotonic() - start, 20)
@@ -238,7 +245,7 @@ class ReportInBrowserTest(ReportTest):
         face = (EXAMPLES / "face.orsr").read_bytes()
         for text, name in ((face, "face.orsr"), (rejoining(9), "</script><b>.orsr".replace("/", "")), (STORED[:-1], "short.orsr")):
             line = run([PROGRAM, "check"], text).output.decode().rstrip("\n")
-            with self.browser.page(self.report(text, name, "--live")) as page:
+            with self.running.page(self.report(text, name, "--live")) as page:
                 self.assertEqual(page.answer("document.querySelector('#line').textContent"), line)
                 page.answer("document.querySelector('#check-again').click()")
                 page.wait("document.querySelector('#again.same, #again.other')")
@@ -246,12 +253,13 @@ class ReportInBrowserTest(ReportTest):
                                  f"Computed in this browser: {line}, the line of this report")
                 for width in browser.WIDTHS:
                     page.resize(width, 1000)
-                    self.assertLessEqual(page.answer("document.documentElement.scrollWidth"), width)
+                    shown: Any = page.answer("document.documentElement.scrollWidth")
+                    self.assertLessEqual(shown, width)
                 self.assertEqual(page.errors, [])
                 self.assertTrue(all(url.startswith(("file:", "data:", "blob:")) for url in page.requests), page.requests)
 
     def test_a_live_report_runs_on_from_a_checkpoint(self) -> None:
-        with self.browser.page(self.report((EXAMPLES / "face.orsr").read_bytes(), "face.orsr", "--live")) as page:
+        with self.running.page(self.report((EXAMPLES / "face.orsr").read_bytes(), "face.orsr", "--live")) as page:
             page.answer("document.querySelector('button[data-from=\"2\"]').click()")
             page.wait("app.latest && countOf(app.latest.state) === 8000000")
             page.answer("el('next').click()")
@@ -264,7 +272,7 @@ class ReportInBrowserTest(ReportTest):
         for text, name in ((rejoining(9), "it.orsr"), (STORED[:-1], "short.bin"), (b"{}", "shape.json")):
             line = run([PROGRAM, "check"], text).output.decode().rstrip("\n")
             expected = f"Computed in this browser: {line}, the line of this report"
-            with self.browser.page(self.report(text, name, "--live")) as page:
+            with self.running.page(self.report(text, name, "--live")) as page:
                 for other in (None, "openExample('draw')", "openBytes('other.orsr', EXAMPLES && new Uint8Array(3))"):
                     page.answer("document.querySelector('#again').textContent = ''")
                     if other:
@@ -276,7 +284,7 @@ class ReportInBrowserTest(ReportTest):
                 self.assertEqual(page.errors, [])
 
     def test_a_live_report_runs_on_from_its_recording_after_another_one(self) -> None:
-        with self.browser.page(self.report((EXAMPLES / "face.orsr").read_bytes(), "face.orsr", "--live")) as page:
+        with self.running.page(self.report((EXAMPLES / "face.orsr").read_bytes(), "face.orsr", "--live")) as page:
             page.answer("document.querySelector('#check-again').click()")
             page.wait("document.querySelector('#again.same')")
             page.answer("openExample('draw')")
@@ -289,7 +297,7 @@ class ReportInBrowserTest(ReportTest):
         page_file = self.report(rejoining(9), "it.orsr", "--live")
         told = page_file.read_text()
         page_file.write_text(told.replace(">false checkpoint 1 at 2 part R5</h1>", ">accepted 2 checkpoints 4 steps</h1>"))
-        with self.browser.page(page_file) as page:
+        with self.running.page(page_file) as page:
             page.answer("document.querySelector('#check-again').click()")
             page.wait("document.querySelector('#again.other')")
             self.assertEqual(page.answer("document.querySelector('#again').textContent"),
@@ -298,7 +306,7 @@ class ReportInBrowserTest(ReportTest):
     def test_pictures_that_come_again_are_there_once(self) -> None:
         turn = (0x6100000E, 0x41167F00, 0x5000FFFF, 0xA0100000, 0x40000000, 0xA0100000, 0xE7FFFFFB)
         text = record(session(turn, [4, 5, 6, 9, 14]))
-        with self.browser.page(self.report(text)) as page:
+        with self.running.page(self.report(text)) as page:
             self.assert_dots(page, text, [0, 1])
             told = "[...document.querySelectorAll('.notes a')].map(it => it.hash).join()"
             self.assertEqual(page.answer(told), "#checkpoint-1,#checkpoint-0,#checkpoint-1,#checkpoint-1")

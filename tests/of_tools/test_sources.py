@@ -8,9 +8,9 @@ from of_tools.samples import TOOLS, TOP, Ran, ToolTest, run
 
 COLUMNS = 120
 NOT_SOURCES = {"out", "__pycache__"}
-# What mypy looks at: not at the tests of the page, the examples, and the modules of tests here, which are not typed throughout.
+# What mypy looks at, and what in it is not typed throughout.
 TYPED = ("tools", "tests", "bench", "docs")
-NOT_TYPED = ("tests/page", "tests/of_page/*", "tests/of_tools/test_*", "tests/of_tools/browser.py")
+NOT_TYPED = ("tests/page", "tests/of_page/*", "tests/of_tools/browser.py")
 
 
 def sources(top: Path) -> Iterator[Path]:

@@ -8,8 +8,9 @@ import signal
 import subprocess
 import tempfile
 import time
-from collections.abc import Callable, Iterable
+from collections.abc import Callable, Iterable, Sequence
 from pathlib import Path
+from typing import Any
 from xml.etree import ElementTree
 
 from galluspa.recording import page_of
@@ -44,9 +45,9 @@ class OutputTest(ToolTest):
             ["suite", self.folder / "suite"],
         ]
 
-    def ended(self, words: list[object], output: object, **options: object) -> Ran:
+    def ended(self, words: Sequence[object], output: Any, **options: Any) -> Ran:
         """A tool with this standard output."""
-        command = [TOOLS / words[0], *map(str, words[1:])]
+        command = [str(TOOLS / str(words[0])), *map(str, words[1:])]
         ran = subprocess.run(command, stdout=output, stderr=subprocess.PIPE, check=False, **options)
         return Ran(b"", ran.stderr.decode(), ran.returncode)
 
@@ -103,7 +104,7 @@ class NamesTest(ToolTest):
     def assert_shown(self, commands: Iterable[list[object]]) -> None:
         """Tools show what they show, and nothing raw, in a few lines, with no traceback."""
         for words in commands:
-            ran = tool(*words)
+            ran = tool(*map(str, words))
             self.assertNotIn("Traceback", ran.errors)
             self.assertEqual(raw(ran.output + ran.errors.encode()), b"", words[0])
             self.assertLessEqual(len(ran.errors.splitlines()), 6, words[0])
@@ -196,7 +197,7 @@ class SizeTest(ToolTest):
             (["suite", self.folder, "--keep", self.folder / "it"], "refused 2 magic"),
         ):
             start = time.monotonic()
-            ran = tool(*words)
+            ran = tool(*map(str, words))
             self.assertIn(told, ran.output.decode() + ran.errors)
             self.assertLess(time.monotonic() - start, 20)
 
@@ -263,7 +264,7 @@ class TimeTest(ToolTest):
         self.assertLess(time.monotonic() - start, 20)
         self.assertEqual((ran.status, ran.errors), (1, ""))
         self.assertIn(b'not ok 1 - a.orsr\n  ---\n  expected: "no answer in 1 s"\n  answered: "no answer in 1 s"', ran.output)
-        self.assertEqual(ElementTree.parse(junit).getroot()[0][0].find("error").text, "no answer in 1 s")
+        self.assertEqual(ElementTree.parse(junit).getroot()[0][0].findtext("error"), "no answer in 1 s")
         self.assertIn("<code>no answer in 1 s</code>", page.read_text())
         self.assert_none_is_left()
 
@@ -304,7 +305,7 @@ class TimeTest(ToolTest):
         program.chmod(0o755)
         start = time.monotonic()
         with open("/dev/full", "wb") as full:
-            command = [TOOLS / "suite", self.folder / "suite", "--program", program]
+            command = [str(it) for it in (TOOLS / "suite", self.folder / "suite", "--program", program)]
             ran = subprocess.run(command, stdout=full, stderr=subprocess.PIPE, check=False)
         self.assertEqual((ran.returncode, ran.stderr), (3, b"suite: standard output: No space left on device\n"))
         self.assertLess(time.monotonic() - start, 20)
@@ -313,8 +314,9 @@ class TimeTest(ToolTest):
         """The runs take minutes; none of them calls another program while it is ended."""
         sends = encoded(2, [page_of(0x5100FFC8, 0xA0100000, 0xE7FFFFFE)], [claim(0), claim(1, output=b"x"), claim(1 << 40)])
         path = self.file("it.orsr", sends)
-        trace = ["trace", path, "--at", 0]
-        for number, status, words in ((signal.SIGINT, 130, ["--from", 1 << 39]), (signal.SIGTERM, 143, ["--until", "stop"])):
+        trace: list[object] = ["trace", path, "--at", 0]
+        rows: list[tuple[int, int, list[object]]] = [(signal.SIGINT, 130, ["--from", 1 << 39]), (signal.SIGTERM, 143, ["--until", "stop"])]
+        for number, status, words in rows:
             start = time.monotonic()
             self.ended_by(number, status, trace + words, lambda room: time.monotonic() - start > 0.7)
 
@@ -323,10 +325,10 @@ class TimeTest(ToolTest):
             self.ended_by(number, status, ["package", "--into", self.folder / "packages"], lambda room: os.listdir(room))
         self.assertFalse((self.folder / "packages").exists())
 
-    def ended_by(self, number: int, status: int, words: list[object], has_begun: Callable[[str], object]) -> None:
+    def ended_by(self, number: int, status: int, words: Sequence[object], has_begun: Callable[[str], object]) -> None:
         """Ends a tool by a signal once it has begun; it ends at once, without a word, and leaves no temporary file."""
         with tempfile.TemporaryDirectory() as room:
-            command = [TOOLS / words[0], *map(str, words[1:])]
+            command = [str(TOOLS / str(words[0])), *map(str, words[1:])]
             begun = subprocess.Popen(command, stdout=subprocess.DEVNULL, stderr=subprocess.PIPE, env={**os.environ, "TMPDIR": room})
             end = time.monotonic() + 20
             while not has_begun(room):

@@ -5,6 +5,7 @@ import io
 import json
 import os
 import re
+from typing import Any
 from xml.etree import ElementTree
 
 from PIL import Image
@@ -153,9 +154,9 @@ class JUnitTest(SuitesTest):
         suite = ElementTree.parse(self.folder / "it.xml").getroot()[0]
         self.assertEqual((suite.get("tests"), suite.get("failures"), suite.get("errors")), ("3", "1", "0"))
         self.assertEqual([it.get("name") for it in suite], ["a.orsr", "b/false.orsr", "c/short.orsr"])
-        self.assertTrue(all(float(it.get("time")) >= 0 for it in suite))
-        self.assertEqual(suite[0].find("failure").text, "expected accepted 10, answered accepted 1 checkpoints 100 steps")
-        self.assertEqual(suite[2].find("system-out").text, "refused 1 short at byte 9503")
+        self.assertTrue(all(float(it.get("time", -1)) >= 0 for it in suite))
+        self.assertEqual(suite[0].findtext("failure"), "expected accepted 10, answered accepted 1 checkpoints 100 steps")
+        self.assertEqual(suite[2].findtext("system-out"), "refused 1 short at byte 9503")
 
     def test_says_where_it_cannot_be_written(self) -> None:
         self.suite()
@@ -165,9 +166,11 @@ class JUnitTest(SuitesTest):
 
 
 class PageTest(SuitesTest):
+    running: browser.Browser
+
     @classmethod
     def setUpClass(cls) -> None:
-        cls.browser = cls.enterClassContext(browser.browser())
+        cls.running = cls.enterClassContext(browser.browser())
 
     def test_the_page(self) -> None:
         self.suite()
@@ -177,11 +180,11 @@ class PageTest(SuitesTest):
         before = self.file("before.json", '{"format": "galluspa-suite-run", "version": 1, "recordings": {}}')
         ran = tool("suite", self.folder, "--page", self.folder / "page.html", "--changed-since", before)
         self.assertEqual((ran.status, ran.errors), (1, ""))
-        with self.browser.page(self.folder / "page.html") as page:
+        with self.running.page(self.folder / "page.html") as page:
             self.assertEqual(page.errors, [])
             self.assertTrue(all(url.startswith(("file:", "data:")) for url in page.requests), page.requests)
             self.assertEqual(page.answer("document.querySelector('h1').innerText"), "4 of 5 as expected")
-            names = page.answer("[...document.querySelectorAll('.case h3')].map(it => it.innerText)")
+            names: Any = page.answer("[...document.querySelectorAll('.case h3')].map(it => it.innerText)")
             self.assertEqual(names[:4], ["a.orsr", "b/false.orsr", "c/short.orsr", "face.orsr"])
             self.assertEqual(page.answer("document.querySelectorAll('.case.bad').length"), 1)
             self.assertEqual(page.answer("document.querySelectorAll('#changes li').length"), 5)
@@ -196,7 +199,8 @@ class PageTest(SuitesTest):
 
     def assert_thumbnail(self, page: browser.Page) -> None:
         """The small picture of the face has its dots, a sixteenth of them in each of its own."""
-        shown = page.answer("document.querySelector('img[alt$=\"of face.orsr\"]').src").partition(",")[2]
+        source: Any = page.answer("document.querySelector('img[alt$=\"of face.orsr\"]').src")
+        shown = source.partition(",")[2]
         small = Image.open(io.BytesIO(base64.b64decode(shown)))
         drawn = Image.open(io.BytesIO(run([PROGRAM, "screen", "--at", 4], (EXAMPLES / "face.orsr").read_bytes()).output))
         self.assertEqual(small.size, (256, 192))

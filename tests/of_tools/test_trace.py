@@ -4,6 +4,7 @@ import json
 import random
 import time
 from dataclasses import replace
+from typing import cast
 
 from galluspa import recording
 from galluspa.library import MOST_STEPS, SENT_KEPT, Library, Sent
@@ -121,7 +122,7 @@ class TraceTest(ToolTest):
         for true, count, start in rows:
             claimed: list[int] = []
             run = Run(Library.find(None), (EXAMPLES / "face.orsr").read_bytes(), read, range(true))
-            run.library = _Watched(run.library, claimed)
+            run.library = cast(Library, _Watched(run.library, claimed))
             machine = run.machine(count)
             self.assertEqual((machine.count, [read.checkpoints[it].count for it in claimed]), (count, [start]))
 
@@ -223,12 +224,12 @@ class AtOnceTest(ToolTest):
 
     def test_where_the_time_is_over_the_machine_is_at_the_last(self) -> None:
         run = run_of(record(session((0x40080001, 0xE7FFFFFE), [100_000])))
-        machine, last = run.machine(0), None
+        machine, last = run.machine(0), list[Step]()
         run.library = replace(run.library, limit=Limit(1.5))
         with self.assertRaises(TimeIsUp):
             for step in run.steps(machine, 1 << 30):
-                last = step
-        self.assertEqual((machine.count, machine.state.r[0]), (last.after.count, last.after.registers[0]))
+                last = [step]
+        self.assertEqual((machine.count, machine.state.r[0]), (last[0].after.count, last[0].after.registers[0]))
         self.assertGreater(machine.count, FIRST_ONES)
 
     def test_a_search_goes_faster(self) -> None:
