@@ -165,7 +165,7 @@ int main(int argc, char **argv) {
         if (refused == 1 || spared > 2) return 1;
     }
     int fault = faults(text_len, sizeof own);
-    if (fault) { printf(": fault %d told as want of memory\n", fault); return 1; }
+    if (fault) { printf(": fault %d reported as out of memory\n", fault); return 1; }
     size_t none = hostile(0, 100000000, GALLUSPA_NO_ROOM), some = hostile(1000, 1ULL << 62, GALLUSPA_NO_ROOM);
     size_t all = hostile(sizeof own, sizeof own, GALLUSPA_DONE);
     size_t much = hostile_sent((size_t)1 << 32);
