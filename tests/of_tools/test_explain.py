@@ -200,8 +200,8 @@ class ExplainTest(ToolTest):
             "byte 0 is 00": "the first four bytes", "byte 4 is 09": "the version", "byte 16 is 00": "K + 1",
             "byte 20 is 01": "the last field of the header", "byte 1048 is 01": "the count of checkpoint 0",
             "byte 5388 is 01": "the keys of checkpoint 1", "byte 5404 is 01": "the text ends in the bytes sent",
-            "byte 5408 is 02": "the page number of place 0 of checkpoint 1", "byte 1196 is 00": "change 0 of checkpoint 0",
-            "byte 1192 is 00, byte 1193 is 04": "change 0 of checkpoint 0, page number 1 at place 1024",
+            "byte 5408 is 02": "the page id of slot 0 of checkpoint 1", "byte 1196 is 00": "change 0 of checkpoint 0",
+            "byte 1192 is 00, byte 1193 is 04": "change 0 of checkpoint 0, page id 1 at slot 1024",
             "byte 1336 is 01": "phase of checkpoint 1", "byte 1340 is 01": "the text ends in checkpoint 1",
             "byte 4 is 02": "of checkpoint 1",
         }

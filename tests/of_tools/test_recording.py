@@ -120,12 +120,12 @@ class RecordingTest(unittest.TestCase):
         self.assertEqual(face.memory(last, 0, 1 << 20)[recording.DISPLAY_START:recording.DISPLAY_END],
                          face.memory(last, recording.DISPLAY_START, recording.DISPLAY_END))
 
-    def test_changed_places_go_by_content(self) -> None:
+    def test_changed_slots_go_by_content(self) -> None:
         claims = [claim(k, pages) for k, pages in enumerate([{1: 1}, {1: 2}, {1: 3, 9: 1}])]
         read = recording.read(encoded(1, [page_of(7), page_of(7), page_of(8)], claims))
         first, second, third = read.checkpoints
-        self.assertEqual(read.changed_places(first, second), [])
-        self.assertEqual(read.changed_places(second, third), [1, 9])
+        self.assertEqual(read.changed_slots(first, second), [])
+        self.assertEqual(read.changed_slots(second, third), [1, 9])
 
     def test_other_texts_are_refused_without_a_traceback(self) -> None:
         chance = random.Random(2)

@@ -182,14 +182,14 @@ def _page(text: bytes, at: int) -> Fault:
     claim = next(claim for claim in _claims(text) if claim.start < at < claim.end)
     where = f" of checkpoint {claim.number}"
     if _number(text, 4) == 1:
-        place = (at - claim.start - FIXED_BYTES) // 4
-        return Fault(f"the page number of place {place}{where}", at, text[at : at + 4],
-                     f"a page number is at most P, the number of pages, {pages}")
+        slot = (at - claim.start - FIXED_BYTES) // 4
+        return Fault(f"the page id of slot {slot}{where}", at, text[at : at + 4],
+                     f"a page id is at most P, the number of pages, {pages}")
     number = (at - claim.start - CHANGES_AT) // CHANGE_BYTES
-    place, page = struct.unpack_from("<2I", text, at)
-    rule = (f"a place is below 1,024 and above that of the change before; a page number is at most P, {pages}, "
-            "and not the one that stood at the place")
-    return Fault(f"change {number}{where}, page number {page} at place {place}", at, text[at : at + 8], rule)
+    slot, page = struct.unpack_from("<2I", text, at)
+    rule = (f"a page slot is below 1,024 and above that of the change before; a page id is at most P, {pages}, "
+            "and not the one that the slot had")
+    return Fault(f"change {number}{where}, page id {page} at slot {slot}", at, text[at : at + 8], rule)
 
 
 def _short(text: bytes, at: int) -> Fault:

@@ -43,7 +43,7 @@ class Shown:
     registers: list[Part]
     others: list[Part]
     next: str
-    places: str
+    slots: str
     sent: int
     output: str
     alike: int
@@ -174,8 +174,8 @@ class Report:
             shown = [f"{part.name} {part.text}" for part in parts if self._is_shown(part, before)]
             shown += [f"next {self._next(checkpoint)}"] if self._next(checkpoint) else []
             shown += [f"out {line}" for line in states.text(checkpoint.output).split("\n") if checkpoint.output]
-            if places := self._places(checkpoint, before):
-                shown.append(f"places {places}")
+            if slots := self._slots(checkpoint, before):
+                shown.append(f"page slots {slots}")
             yield from (f"  {line}" for line in shown)
             before = checkpoint
 
@@ -201,7 +201,7 @@ class Report:
             registers=states.registers(checkpoint, before),
             others=states.others(checkpoint, before, self._read.version),
             next=self._next(checkpoint),
-            places=self._places(checkpoint, before),
+            slots=self._slots(checkpoint, before),
             sent=len(checkpoint.output),
             output=states.text(checkpoint.output),
             alike=drawn.first[number],
@@ -209,8 +209,8 @@ class Report:
             is_small=number in drawn.small,
         )
 
-    def _places(self, checkpoint: Checkpoint, before: Checkpoint | None) -> str:
-        return states.ranges(self._read.changed_places(before, checkpoint)) if before else ""
+    def _slots(self, checkpoint: Checkpoint, before: Checkpoint | None) -> str:
+        return states.ranges(self._read.changed_slots(before, checkpoint)) if before else ""
 
     def _next(self, checkpoint: Checkpoint) -> str:
         """The instruction that a running machine does next."""

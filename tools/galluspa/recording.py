@@ -114,8 +114,8 @@ class Recording:
         page = self.page(checkpoint.table[number // WORDS_IN_PAGE])
         return struct.unpack_from("<I", page, number % WORDS_IN_PAGE * 4)[0]
 
-    def changed_places(self, before: Checkpoint, after: Checkpoint) -> list[int]:
-        """The places of memory whose content is another at one checkpoint than at another."""
+    def changed_slots(self, before: Checkpoint, after: Checkpoint) -> list[int]:
+        """The page slots whose content is another at one checkpoint than at another."""
         if before.table == after.table:
             return []
         pairs = zip(before.table, after.table)
@@ -190,12 +190,12 @@ def _words(text: bytes) -> array:
 
 
 def _changed(table: array, changes: array) -> array:
-    """The table that comes of one by changes: pairs of a place and its new page number."""
+    """The table that comes of one by changes: pairs of a page slot and its new page id."""
     if not changes:
         return table
     after = table[:]
-    for place, page in zip(changes[::2], changes[1::2]):
-        after[place] = page
+    for slot, page in zip(changes[::2], changes[1::2]):
+        after[slot] = page
     return after
 
 
@@ -237,8 +237,8 @@ def page_of(*words: int) -> bytes:
 
 
 def table_of(pages: Mapping[int, int]) -> array:
-    """The table that has these page numbers at these places, and 0 at all others."""
-    return array("I", [pages.get(place, 0) for place in range(PLACES)])
+    """The table that has these page ids in these slots, and 0 in all others."""
+    return array("I", [pages.get(slot, 0) for slot in range(PLACES)])
 
 
 def of_display(checkpoint: Checkpoint, pages: bytes) -> bytes:
@@ -262,9 +262,9 @@ def _memory_fields(version: int, checkpoint: Checkpoint, before: array) -> bytes
     after = checkpoint.table
     if version == 1:
         return _bytes(after)
-    places = [] if after == before else [at for at in range(PLACES) if after[at] != before[at]]
-    changes = [number for at in places for number in (at, after[at])]
-    return _TIMER.pack(checkpoint.rate, checkpoint.phase, len(places)) + _bytes(changes)
+    slots = [] if after == before else [at for at in range(PLACES) if after[at] != before[at]]
+    changes = [number for at in slots for number in (at, after[at])]
+    return _TIMER.pack(checkpoint.rate, checkpoint.phase, len(slots)) + _bytes(changes)
 
 
 def _bytes(words: Sequence[int]) -> bytes:
