@@ -60,7 +60,7 @@ class CoverageTest(ToolTest):
 
     def test_a_recording_that_no_session_begins_is_named(self) -> None:
         lines = self.coverage(encoded(2, [page_of(JUMP)], [claim(0, leds=1)]))
-        self.assertEqual(lines[1], "not looked at: it.orsr: its first state has LEDs other than 0, which a session cannot say")
+        self.assertEqual(lines[1], "not looked at: it.orsr: its initial state has LEDs other than 0, which a session cannot say")
         lines = self.coverage(STORED[:-1])
         self.assertEqual(lines[1], "not looked at: it.orsr: refused 1 short at byte 9503")
 

@@ -30,7 +30,7 @@ class DiffTest(ToolTest):
     def test_what_is_the_same_is_so_in_any_version(self) -> None:
         face, other = (EXAMPLES / name for name in ("face.orsr", "face-version-1.orsr"))
         ran = tool("diff", face, other)
-        self.assertEqual((ran.output, ran.errors, ran.status), (b"the same: 0 inputs, and 4 checkpoints after the first state\n", "", 0))
+        self.assertEqual((ran.output, ran.errors, ran.status), (b"the same: 0 inputs, and 4 checkpoints after the initial state\n", "", 0))
         # The same pages, in another order and with one that nothing names.
         pool, tables = [page_of(JUMP), page_of(1), page_of(2)], ({0: 1, 5: 2}, {0: 3, 5: 2})
         one, another = encoded(2, pool[:2], [claim(0, tables[0])]), encoded(2, pool[::-1], [claim(0, tables[1])])

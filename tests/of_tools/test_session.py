@@ -69,7 +69,7 @@ class SessionTest(ToolTest):
             if name == "flags":
                 self.assertEqual(json.loads(ran.output)["start"]["flags"], 1)
             else:
-                self.assert_refused(ran, f"its first state has {name} other than 0")
+                self.assert_refused(ran, f"its initial state has {name} other than 0")
         text = encoded(1, [], [claim(0, {}, keys=b"\x00")])
         self.assert_refused(tool("session", "--of", self.file("it.orsr", text)), "keys")
 

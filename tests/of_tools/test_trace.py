@@ -174,7 +174,7 @@ class AtOnceTest(ToolTest):
     """The instructions that are had by many at once are those that are had one by one."""
 
     def assert_alike(self, text: bytes, number: int) -> list[Step]:
-        """Compares both from the first state of a recording on, and gives them back."""
+        """Compares both from the initial state of a recording on, and gives them back."""
         run = run_of(text)
         run.true = range(1)
         one, other = run.machine(0), run.machine(0)

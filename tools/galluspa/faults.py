@@ -89,7 +89,7 @@ def _limit(text: bytes, at: int) -> Fault:
     rules = {
         8: ("P, the number of pages", "P is at most 65,536"),
         12: ("E, the number of events", "E is at most 1,000,000"),
-        16: ("K + 1, the number of checkpoints with the first state", "K + 1 is from 1 to 4,097"),
+        16: ("K + 1, the number of checkpoints with the initial state", "K + 1 is from 1 to 4,097"),
         20: ("the last field of the header", "the last field of the header is 0"),
     }
     name, rule = rules[at]

@@ -34,7 +34,7 @@ class Shot:
 
 
 def shots_of_claims(read: Recording, program: Program) -> Iterator[Shot]:
-    """The screens that the checkpoints claim, the first state's among them."""
+    """The screens that the checkpoints claim, the initial state's among them."""
     before, pbm = b"", b""
     for claim in read.checkpoints:
         memory = read.memory(claim, FIRST_PAGE, PLACES * PAGE_BYTES)

@@ -155,7 +155,7 @@ class Report:
         )
 
     def plain(self) -> Iterator[str]:
-        """The lines of a text that says the line, the first state, and what changed at each checkpoint."""
+        """The lines of a text that says the line, the initial state, and what changed at each checkpoint."""
         yield self.answer.line
         if fault := self._fault():
             yield from fault.explanation

@@ -86,7 +86,7 @@ class Checkpoint:
 
 @dataclass(frozen=True)
 class Recording:
-    """A recording: its version, its pool of pages, its inputs and its checkpoints, the first state among them."""
+    """A recording: its version, its pool of pages, its inputs and its checkpoints, the initial state among them."""
 
     version: int
     pool: memoryview | bytes

@@ -23,7 +23,7 @@ MOST = {"timer": 0xFFFFFFFF, "switches": 0xFFF, "mouse": MOUSE, "key": 0xFF, "se
 
 @dataclass
 class Session:
-    """A session: a first state, inputs, and the counts of checkpoints. Rate and phase are said by version 2 alone."""
+    """A session: initial state, inputs, and the counts of checkpoints. Rate and phase are said by version 2 alone."""
 
     registers: list[int] = field(default_factory=lambda: [0] * 16)
     h: int = 0
@@ -66,7 +66,7 @@ def _rows(items: list[str], in_row: int) -> str:
 
 
 def of_recording(name: str, read: Recording) -> Session:
-    """The session of a recording's first state, inputs and counts; refused if no session can say that state."""
+    """The session of a recording's initial state, inputs and counts; refused if no session can say that state."""
     first, *later = read.checkpoints
     inexpressible = [
         what
@@ -78,7 +78,7 @@ def of_recording(name: str, read: Recording) -> Session:
     ]
     if inexpressible:
         parts = ", ".join(inexpressible)
-        raise Refused(f"{name}: its first state has {parts} other than 0, which a session cannot say")
+        raise Refused(f"{name}: its initial state has {parts} other than 0, which a session cannot say")
     return Session(
         registers=list(first.registers),
         h=first.h,

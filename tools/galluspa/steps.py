@@ -50,7 +50,7 @@ def spread(to: int, most: int) -> list[int]:
 
 
 def steps_of(program: Program, name: str, read: Recording, counts: list[int]) -> Iterator[Step]:
-    """The instructions of these counts in the one run from a recording's first state."""
+    """The instructions of these counts in the one run from a recording's initial state."""
     session = sessions.of_recording(name, read)
     at_a_time = CHECKPOINTS // 2
     for first in range(0, len(counts), at_a_time):

@@ -19,7 +19,7 @@ _FALSE = re.compile(r"false checkpoint (\d{1,4}) at (\d{1,13}) part (.+)", re.AS
 
 
 def stretch(read: Recording, first: int, last: int) -> Recording:
-    """The recording from one checkpoint to a later one: what the first claims is its first state, counts and inputs
+    """The recording from one checkpoint to a later one: what the first claims is its initial state, counts and inputs
     begin at 0 again, and its pool has the pages that it names, in the order in which it names them."""
     begin, end = read.checkpoints[first].count, read.checkpoints[last].count
     from_here, up_to = (bisect_left(read.events, count, key=attrgetter("count")) for count in (begin, end))
