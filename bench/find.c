@@ -1,6 +1,7 @@
-/* find FILE STEPS TURNS: prints how many million steps a second galluspa_find does from the first state of a recording, without its
+/* find FILE STEPS TURNS: prints how many million steps a second galluspa_find does from the initial state of a recording, without its
  * inputs, with conditions that never hold: a word that the program counter never comes to; a word that is never stored to as well;
- * and a value that R11 never becomes as well. The best of so many turns, by the processor's time. */
+ * a value that R11 never becomes as well, which few programs write; and one that R0 never becomes, which most write all the time. The best
+ * of so many turns, by the processor's time. */
 #include "galluspa.h"
 #include <stdio.h>
 #include <stdlib.h>
@@ -16,12 +17,12 @@ static double seconds(void) {
     return (double)now.tv_sec + 1e-9 * (double)now.tv_nsec;
 }
 
-/* The seconds of one search with the first of the conditions. */
-static double search(uint64_t steps, size_t conditions) {
-    static const galluspa_condition never[] = {
+/* The seconds of one search with the first of the conditions, of which the last one is on a register. */
+static double search(uint64_t steps, size_t conditions, uint32_t number) {
+    const galluspa_condition never[] = {
         {.kind = GALLUSPA_COUNTER, .from = 0x3FFFFF, .end = 0x400000},
         {.kind = GALLUSPA_STORE, .from = 0xFFF00, .end = 0xFFF04},
-        {.kind = GALLUSPA_BECOMES, .from = 11, .value = 0x12345678},
+        {.kind = GALLUSPA_BECOMES, .from = number, .value = 0x12345678},
     };
     static const galluspa_input none; /* no pointer may be null */
     galluspa_hit hit;
@@ -34,6 +35,16 @@ static double search(uint64_t steps, size_t conditions) {
     return seconds() - start;
 }
 
+/* Prints the million steps a second of the best search. */
+static void measure(uint64_t steps, int turns, size_t conditions, uint32_t number) {
+    double best = 1e9;
+    for (; turns > 0; turns--) {
+        double took = search(steps, conditions, number);
+        if (took < best) best = took;
+    }
+    printf(" %8.1f", (double)steps / best / 1e6);
+}
+
 int main(int argc, char **argv) {
     if (argc != 4) return 4;
     FILE *file = fopen(argv[1], "rb");
@@ -42,14 +53,9 @@ int main(int argc, char **argv) {
     fclose(file);
     if (galluspa_claim(text, length, 0, &state, words, GALLUSPA_WORDS)) return 2;
     uint64_t steps = strtoull(argv[2], NULL, 10);
-    for (size_t conditions = 1; conditions <= 3; conditions++) {
-        double best = 1e9;
-        for (int turn = atoi(argv[3]); turn > 0; turn--) {
-            double took = search(steps, conditions);
-            if (took < best) best = took;
-        }
-        printf(" %8.1f", (double)steps / best / 1e6);
-    }
+    int turns = atoi(argv[3]);
+    for (size_t conditions = 1; conditions <= 3; conditions++) measure(steps, turns, conditions, 11);
+    measure(steps, turns, 3, 0);
     printf("\n");
     return 0;
 }
