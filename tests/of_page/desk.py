@@ -168,7 +168,7 @@ class Desk:
     def saved(self, name: str) -> bytes:
         """A file that the page saved, once it is whole."""
         path, end = self.folder / name, time.monotonic() + browser.PATIENCE
-        while not path.exists():
+        while not self.page.has_saved(name):
             if time.monotonic() > end:
                 fail(f"the page did not save {name}")
             time.sleep(0.05)

@@ -58,6 +58,9 @@ class Pipe:
         self._errors = errors
         self._rest = b""
         self._asked = 0
+        # The files that pages began to save, by the browser's names for the downloads: their own names, and which of them are whole.
+        self.begun: dict[str, str] = {}
+        self.whole: set[str] = set()
 
     def send(self, message: dict) -> int:
         """Asks something, and gives the number by which the answer will be known."""
@@ -190,7 +193,16 @@ class Page:
 
     def save_into(self, folder: Path) -> None:
         """Has files that the page saves go to a folder."""
-        self._ask("Browser.setDownloadBehavior", behavior="allow", downloadPath=str(folder.resolve()))
+        self._ask("Browser.setDownloadBehavior", behavior="allow", downloadPath=str(folder.resolve()), eventsEnabled=True)
+
+    def has_saved(self, name: str) -> bool:
+        """Whether a file of this name is saved, and whole; it is said of each file once. The browser reserves a name with an empty file, so
+        that the name is there says nothing."""
+        self.answer("0")  # so that what the browser told meanwhile is read
+        for download in self._pipe.whole & {it for it, other in self._pipe.begun.items() if other == name}:
+            self._pipe.whole.remove(download)
+            return True
+        return False
 
     def reload(self) -> None:
         """Loads the page anew."""
@@ -234,6 +246,10 @@ class Page:
             raise RuntimeError("the page crashed")
         elif method == "Network.requestWillBeSent":
             self.requests.append(told["request"]["url"])
+        elif method == "Browser.downloadWillBegin":
+            self._pipe.begun[told["guid"]] = told["suggestedFilename"]
+        elif method == "Browser.downloadProgress" and told["state"] == "completed":
+            self._pipe.whole.add(told["guid"])
 
 
 @dataclass(frozen=True)
