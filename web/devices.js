@@ -44,8 +44,9 @@ function isComposed({ isComposing, key }) {
 
 function pressed(event) {
   const isDown = event.type === "keydown", isToLeave = event.key === "Tab" && (event.shiftKey || !app.latest?.on);
-  if (isToLeave) return;
+  if (isToLeave || (event.key === "Enter" && event.ctrlKey && event.shiftKey)) return;
   if (event.key === "Enter" && event.ctrlKey) return leaveScreen(event);
+  if (isArrow(event)) return isDown ? arrowPressed(event) : undefined;
   if (isComposed(event)) return isDown ? sayIfUncomposed() : undefined;
   if (isDown && (!isForMachine(event) || !isRunning())) return;
   const codes = codesOf(event);
@@ -53,6 +54,19 @@ function pressed(event) {
     event.preventDefault();
     sendCodes(codes);
   } else if (isDown) sendText(event.key);
+}
+
+/** Whether a key is an arrow that goes to a machine that runs, which has no character for it. */
+function isArrow({ key, ctrlKey, metaKey, altKey }) {
+  return key in ARROWS && !isPs2() && !ctrlKey && !metaKey && !altKey && app.latest?.on;
+}
+
+/** Sends an arrow as the key that Snake has for it; else says that it is dropped. */
+function arrowPressed(event) {
+  event.preventDefault();
+  if (!isRunning()) return;
+  if (isSnake()) sendCodes([ARROWS[event.key].charCodeAt(0)]);
+  else notice("An arrow has no character, so it is dropped: choose keys as PS/2 codes among the devices.");
 }
 
 /** Says so where the browser composes no characters on the screen. */
@@ -64,6 +78,7 @@ function sayIfUncomposed() {
 function isRunning() {
   if (!app.latest) return false;
   const { on, deaf } = app.latest;
+  if (isPast()) return notice("PAST: keys and the mouse do nothing until you take over, or go back to now."), false;
   if (on && !deaf) return true;
   notice(`${deaf ?? "The machine is paused: keys and the mouse go to it while it runs"}.`);
   return false;
@@ -104,6 +119,26 @@ function compose() {
   el("screen").virtualKeyboardPolicy = "manual";
 }
 
+// What the hidden field holds, so that a key that deletes has something to delete.
+const FILLING = "  ";
+
+/** Sends what is typed into the hidden field, which brings up the keyboard of a phone. */
+function typed() {
+  const { value } = el("typed");
+  el("typed").value = FILLING;
+  if (value.length < FILLING.length) {
+    if (isRunning()) sendCodes([CHARACTERS.Backspace]);
+  } else sendText(value.slice(FILLING.length));
+}
+
+function listenToKeyboard() {
+  el("typed").value = FILLING;
+  on("keyboard", "click", () => el("typed").focus());
+  on("typed", "input", ({ isComposing }) => isComposing || typed());
+  on("typed", "compositionend", typed);
+  for (const type of ["keydown", "keyup"]) on("typed", type, pressed);
+}
+
 /** Goes from the screen to the next control, since Tab goes to the machine. */
 function leaveScreen(event) {
   event.preventDefault();
@@ -127,10 +162,7 @@ function mouseWord(x, y, left, middle, right) {
 
 /** Returns the mouse word of an event over the screen, which is in a box of the window. */
 function wordOf(event, box) {
-  const inside = (value, most) => Math.max(0, Math.min(most, Math.floor(value)));
-  const x = inside(((event.clientX - box.left) * 1024) / box.width, 1023);
-  const y = 767 - inside(((event.clientY - box.top) * 768) / box.height, 767);
-  const first = event.buttons & 1, [isMiddle, isRight] = [first && event.altKey, first && event.ctrlKey];
+  const [x, y] = dotAt(event, box), first = event.buttons & 1, [isMiddle, isRight] = [first && event.altKey, first && event.ctrlKey];
   const keys = [first && !isMiddle && !isRight, event.buttons & 4 || isMiddle, event.buttons & 2 || isRight].map((is) => (is ? 1 : 0));
   return mouseWord(x, y, ...keys);
 }
@@ -140,10 +172,11 @@ function pointed(event) {
   const box = el("screen").getBoundingClientRect();
   const between = event.type === "pointermove" ? event.getCoalescedEvents?.() ?? [] : [];
   const changes = (between.length ? between : [event]).map((one) => [wordOf(one, box), performance.timeOrigin + one.timeStamp]);
-  if (!app.latest?.deaf) showMouse((pointer.word = changes.at(-1)[0]));
+  if (!app.latest?.deaf && !isPast()) showMouse((pointer.word = changes.at(-1)[0]));
   if (event.type === "pointerdown") {
     el("screen").setPointerCapture(event.pointerId);
     el("screen").focus({ preventScroll: true });
+    if (app.latest && !app.latest.on) return askDot(event);
     isRunning();
   }
   sendPointer(changes);

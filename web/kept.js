@@ -181,15 +181,12 @@ let listing = 0;
 async function showKept() {
   const turn = ++listing, read = await summaries().catch((error) => error);
   if (turn !== listing) return;
-  const items = read instanceof Error ? [unreadable(read)] : read.filter(({ id }) => id !== app.work.id).map(keptItem);
+  const own = read instanceof Error ? [] : read.filter(({ id }) => id !== app.work.id);
+  const items = read instanceof Error ? [unreadable(read)] : own.map(keptItem);
+  offerToContinue(own.filter(({ isReadable }) => isReadable));
   write("kept-number", `Recordings kept in this browser: ${items.length || "none"}`);
+  el("kept").hidden = !items.length && !forgotten.size;
   el("kept-list").replaceChildren(...[...[...forgotten.values()].map(forgottenItem), ...items].flat());
-}
-
-function button(text, task) {
-  const made = document.createElement("button");
-  Object.assign(made, { type: "button", textContent: text, onclick: () => task().catch((error) => notice(error.message)) });
-  return made;
 }
 
 function keptItem({ id, isReadable, text }) {

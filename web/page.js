@@ -1,10 +1,8 @@
-/* The page's own script: it opens files, shows the machine, and saves. Its other parts are requests.js, verdicts.js, kept.js and
- * devices.js. Workers (worker.js) do all the work, so that the page never freezes. */
+/* The page's own script: it opens files, follows the machine, and saves. Each other concern has a script of its own, with a state that
+ * is replaced whole. Workers (worker.js) do all the work, so that the page never freezes. */
 "use strict";
 
-const el = (name) => document.getElementById(`g-${name}`);
 const LONGEST_READ = 118310057, LONGEST_FILE = 67108865, KEEP_MS = 5000, OUT_MOST = 20000;
-const grouped = (number) => number.toLocaleString("en");
 
 /** Decompresses what the page contains: its module, or the recording of a report. */
 async function unpacked(name) {
@@ -16,32 +14,9 @@ async function unpacked(name) {
 // What the page knows
 
 // `work` is the recording in progress with the name of the machine; `file` is the recording that is open, with its name, its claims
-// and its verdict.
-const app = { module: null, live: null, work: new Work("live"), file: null, latest: null, image: null };
+// and its verdict. `latest` is the last frame of the live machine, and `dots` its screen.
+const app = { module: null, live: null, past: null, work: new Work("live"), file: null, latest: null, dots: null, image: null };
 const verdicts = { file: new Verdict("", "The file"), own: new Verdict("own-", "The recording that you saved,") };
-
-function notice(text) {
-  write("notice", text ?? "");
-}
-
-/** Sets a text, unless it is there already: the browser would lay the page out anew for the same text, too. */
-function write(name, text) {
-  if (el(name).textContent !== text) el(name).textContent = text;
-}
-
-/** Runs a task on an event of a control. If the task fails, the page says so. */
-function on(name, event, task) {
-  el(name).addEventListener(event, (given) => attempt(() => task(given)));
-}
-
-/** Runs a task. If it fails, the page says so. */
-async function attempt(task) {
-  try {
-    return await task();
-  } catch (error) {
-    notice(`${error.message ?? error}`);
-  }
-}
 
 /** Asks the live machine for something whose answer nothing waits for. */
 function tell(ask, given) {
@@ -132,6 +107,8 @@ async function showVerdict(file, answer) {
   file.verdict = answer;
   if (file !== app.file) return;
   showOf(file);
+  showFalse();
+  drawLanes();
   const number = /^false checkpoint (\d+) /.exec(answer.line)?.[1];
   if (number || answer.status === 0) await showClaim(Number(number ?? file.claims.length - 1));
 }
@@ -163,7 +140,10 @@ function showOpened({ claims, version, inputs, checkpoints, left }, work) {
   const before = app.work;
   Object.assign(app, { work, file: claims ? { claims, version, inputs, checkpoints, verdict: null } : null, image: null });
   leave(before, left);
-  pausedBefore = null;
+  beginShowing();
+  branches = NO_BRANCHES;
+  showBranches();
+  closeCard();
   verdicts.file.clear();
   verdicts.own.clear();
   clearRefusal();
@@ -172,9 +152,8 @@ function showOpened({ claims, version, inputs, checkpoints, left }, work) {
   el("image").hidden = true;
   el("kept").open = false;
   el("claims").hidden = !claims;
-  for (const name of ["run", "step", "next", "mark", "save", "record"]) el(name).disabled = false;
-  showDevices(app.latest.state);
-  showMode(app.latest);
+  el("pad").hidden = true;
+  for (const name of ["run", "step", "next", "mark", "save", "record", "picture", "find-before", "find-next"]) el(name).disabled = false;
   if (claims) el("number").max = checkpoints;
   else el("screen").focus({ preventScroll: true });
 }
@@ -182,42 +161,20 @@ function showOpened({ claims, version, inputs, checkpoints, left }, work) {
 // Showing the machine
 
 const STATUS_MS = 100;
-let pausedBefore = null, lampsShown = null, statusDue = 0;
+let lampsShown = null, statusDue = 0;
 
-const LINE_BYTES = 128, LINES = 768;
-const screens = { dots: null, isDue: false, images: new WeakMap() };
-
-/** Draws dots on a canvas, and repaints only the lines that changed. Line 0 is the lowest, and bit 0 of a byte is its leftmost
- * dot. */
-function paint(canvas, dots) {
-  const context = canvas.getContext("2d");
-  if (!screens.images.has(canvas)) screens.images.set(canvas, { image: context.createImageData(1024, LINES), dots: null });
-  const shown = screens.images.get(canvas), pixels = new Uint32Array(shown.image.data.buffer);
-  let [top, bottom] = [LINES, -1];
-  for (let y = 0; y < LINES; y++) {
-    const from = LINE_BYTES * (LINES - 1 - y);
-    if (shown.dots && isSameLine(shown.dots, dots, from)) continue;
-    [top, bottom] = [Math.min(top, y), y];
-    for (let at = from, to = 1024 * y; at < from + LINE_BYTES; at++)
-      for (let bits = dots[at], k = 0; k < 8; k++, bits >>= 1) pixels[to++] = bits & 1 ? 0xff000000 : 0xffffffff;
-  }
-  shown.dots = dots;
-  if (bottom >= top) context.putImageData(shown.image, 0, 0, 0, top, 1024, bottom - top + 1);
-}
-
-function isSameLine(some, others, from) {
-  for (let at = from; at < from + LINE_BYTES; at++) if (some[at] !== others[at]) return false;
-  return true;
-}
-
-function drawSoon(dots) {
-  screens.dots = dots;
-  if (screens.isDue) return;
-  screens.isDue = true;
-  requestAnimationFrame(() => {
-    screens.isDue = false;
-    paint(el("screen"), screens.dots);
-  });
+/** Shows a machine that was opened: it is looked at now, and its timeline begins with its count. */
+function beginShowing() {
+  const { state, listing } = app.latest;
+  endWelcome();
+  look = NOW;
+  hits = [];
+  registersBefore = null;
+  app.past.begin(app.work.generation);
+  beginLanes();
+  showDevices(state);
+  showPaused(state, listing);
+  showLook(true);
 }
 
 function heard(news) {
@@ -229,15 +186,24 @@ function heard(news) {
 function showFrame(frame) {
   const { on: wasOn, isReplay: wasReplay } = app.latest ?? {};
   app.latest = frame;
-  if (frame.dots) drawSoon(frame.dots);
+  if (frame.dots) app.dots = frame.dots;
   if (frame.sent) appendSent(frame.sent);
-  showLamps(field(frame.state, AT.LEDs));
-  if (frame.isReplay || wasReplay) followDevices(frame.state);
+  followGame(frame);
+  noteFrame(frame);
+  if (!isPast()) showNow(frame, wasReplay);
   showMode(frame);
   showStatus(frame);
-  write("when", frame.on ? "Registers, at the last pause" : "Registers");
-  if (frame.listing) showPaused(frame);
   if (wasOn && !frame.on) keep();
+}
+
+/** Shows a frame of the live machine, which is looked at now. */
+function showNow(frame, wasReplay) {
+  if (frame.dots) drawSoon(frame.dots);
+  showLamps(field(frame.state, AT.LEDs));
+  if (frame.isReplay || wasReplay) followDevices(frame.state);
+  write("when", frame.on ? "Registers, at the last pause" : "Registers");
+  if (frame.listing) showPaused(frame.state, frame.listing);
+  showCursor(!frame.on);
 }
 
 function appendSent(text) {
@@ -252,27 +218,6 @@ function showLamps(value) {
   [...el("leds").children].forEach((lamp, at) => lamp.classList.toggle("lit", (value >> (7 - at) & 1) === 1));
   const lit = [7, 6, 5, 4, 3, 2, 1, 0].filter((at) => value >> at & 1);
   el("leds").setAttribute("aria-label", `LEDs: ${lit.length ? `lit are ${lit.join(", ")}` : "none is lit"}`);
-}
-
-/** Says in one word what the machine's state is, and what that means. */
-function showMode(frame) {
-  const { on, isReplay, isTrue } = frame, [word, text] = modeOf(frame);
-  write("run", on ? "Pause" : "Run");
-  el("take").hidden = !isReplay;
-  write("name", app.work.generation ? app.work.name : "");
-  write("state-word", word);
-  const claim = isTrue ? "" : " A claim that was passed is false: what comes after it is what the machine does.";
-  write("mode-text", text + claim);
-}
-
-function modeOf({ state, on, isReplay, ahead, full }) {
-  const stop = field(state, AT.stop), left = ahead ? `${grouped(ahead)} inputs` : "checkpoints";
-  const then = full?.isEnd ? "What comes after is not recorded." : "The machine takes no more.";
-  if (full) return ["FULL", `at ${grouped(full.count)}: ${full.why}. ${then}`];
-  if (isReplay) return ["REPLAY", `${left} of the file are still to come. Your own keys and mouse count once you take over.`];
-  if (stop) return ["STOPPED", `${STOPS[stop]}: the machine does nothing more.`];
-  if (on) return ["LIVE", "What you type, click and send is recorded."];
-  return ["LIVE", "The machine is paused: keys and the mouse go to it while it runs."];
 }
 
 /** Writes the status line: while the machine runs, no more often than can be read. */
@@ -291,113 +236,22 @@ function sayOf({ state, inputs, marks, speed, typed }) {
     (stop ? `; stopped: ${STOPS[stop]}` : "");
 }
 
-function cells(state, before, wrong) {
-  const old = before && Object.fromEntries(partsOf(before));
-  return partsOf(state).map(([name, text]) => {
-    const cell = document.createElement("div"), term = document.createElement("dt"), value = document.createElement("dd");
-    [term.textContent, value.textContent] = [name, text];
-    value.classList.toggle("changed", Boolean(old) && old[name] !== text);
-    value.classList.toggle("wrong", name === wrong);
-    cell.append(term, value);
-    return cell;
-  });
-}
-
-function showPaused({ state, listing }) {
-  if (pausedBefore && equal(pausedBefore, state)) return;
-  el("state").replaceChildren(...cells(state, pausedBefore, null));
-  pausedBefore = state;
-  const pc = field(state, AT.PC);
-  const lines = listing.map(([at, word]) => {
-    const line = document.createElement("span"), [mnemonic, meaning] = instruction(word, at);
-    line.textContent = `${at === pc ? "▸" : " "}${`${at}`.padStart(6)}  ${hex(word, 8)}  ${mnemonic.padEnd(20)} ${meaning}\n`;
-    line.classList.toggle("here", at === pc);
-    return line;
-  });
-  el("listing").replaceChildren(...(lines.length ? lines : ["PC is outside memory"]));
-}
-
-function showPassed({ number, count, part }) {
-  const item = document.createElement("li");
-  item.value = number;
-  item.textContent = part ? `at ${grouped(count)}: false, first in ${part}` : `at ${grouped(count)}: true`;
-  item.classList.toggle("wrong", Boolean(part));
-  el("passed").append(item);
-  el("passed").scrollTop = el("passed").scrollHeight;
-}
-
-// The checkpoints of a recording
-
-async function showClaim(number) {
-  const { file } = app;
-  if (!file) return;
-  number = Math.max(0, Math.min(file.claims.length - 1, Math.floor(number) || 0));
-  const shown = await app.live.ask("claimed", { number, of: app.work.generation });
-  if (!shown || file !== app.file) return;
-  el("number").value = number;
-  const [, wrongNumber, part] = /^false checkpoint (\d+) at \d+ part (.*)$/.exec(file.verdict?.line ?? "") ?? [];
-  const wrong = Number(wrongNumber) === number ? part : null;
-  el("claim").replaceChildren(...claimParts(shown, wrong));
-  showOf(file);
-  el("from").disabled = false;
-}
-
-/** Says which recording the checkpoints are of, and its verdict. */
-function showOf({ name, version, inputs, checkpoints, verdict }) {
-  const line = verdict ? `: ${verdict.line}` : "";
-  write("of", `of ${grouped(checkpoints)} in ${name}, ${grouped(inputs)} inputs, version ${version}${line}`);
-}
-
-function paragraph(text, name = "") {
-  const made = document.createElement("p");
-  made.textContent = text;
-  made.className = name;
-  return made;
-}
-
-function claimParts({ number, count, steps, state, before, dots, sent, sentLength, pages }, wrong) {
-  const canvas = document.createElement("canvas"), list = document.createElement("dl");
-  [canvas.width, canvas.height] = [1024, 768];
-  canvas.setAttribute("role", "img");
-  canvas.setAttribute("aria-label", `The screen at checkpoint ${number}`);
-  paint(canvas, dots);
-  list.append(...cells(state, before, wrong));
-  const made = [paragraph(number ? `at ${grouped(count)}, after ${grouped(steps)} more steps; changes are marked` : "the initial state, taken as given", "hint")];
-  if (wrong) made.push(paragraph(`False: the first part that differs from the machine's is ${wrong}.`, "wrong"));
-  made.push(canvas, list);
-  if (pages.length) made.push(paragraph(`Memory changed in the pages ${rangesText(pages)}, of 1,024 bytes each.`, "hint"));
-  if (!sentLength) return made;
-  const output = document.createElement("pre");
-  output.textContent = sent;
-  output.tabIndex = 0;
-  output.setAttribute("role", "region");
-  output.setAttribute("aria-label", `Bytes sent at checkpoint ${number}`);
-  return [...made, paragraph(`Sent since the checkpoint before, ${grouped(sentLength)} bytes:`, "hint"), output];
-}
-
 /** Goes on from what a checkpoint of the file claims, with a recording that begins with the file's up to there. */
 async function runOnFrom(number) {
-  const { file } = app, wrong = Number(/^false checkpoint (\d+)/.exec(file.verdict?.line ?? "")?.[1] ?? Infinity);
+  const { file } = app, wrong = falseClaim()?.number ?? Infinity;
   if (!(await mayLeave())) return;
   const { generation, left } = await app.live.ask("openRecording", { text: file.text, checkpoint: number }), before = app.work;
   app.work = new Work(nameOf(file.name), generation);
   leave(before, left);
   verdicts.own.clear();
   el("out").textContent = el("passed").textContent = "";
-  showDevices(app.latest.state);
+  beginShowing();
   notice(number >= wrong ? `Checkpoint ${wrong} is false, and a recording that you save from here contains it.` : "");
   el("screen").scrollIntoView({ block: "nearest" });
   el("screen").focus({ preventScroll: true });
 }
 
 // Saving
-
-function download(name, content, type) {
-  const link = document.createElement("a"), url = URL.createObjectURL(new Blob([content], { type }));
-  Object.assign(link, { download: name, href: url });
-  link.click();
-  setTimeout(() => URL.revokeObjectURL(url), 10000);
-}
 
 /** Pauses the machine, and returns its session or its recording. */
 async function paused(ask) {
@@ -431,11 +285,11 @@ async function saveRecording() {
 // Running
 
 const isFast = () => el("speed").value === "fast";
-const seconds = () => Math.max(0, Math.min(3600, Math.floor(Number(el("each").value)) || 0));
+const everySeconds = () => Math.max(0, Math.min(3600, Math.floor(Number(el("each").value)) || 0));
 
 async function setRun(isOn) {
   notice();
-  await app.live.ask("setRun", { on: isOn, fast: isFast(), seconds: seconds() });
+  await app.live.ask("setRun", { on: isOn, fast: isFast(), seconds: everySeconds() });
   if (!isOn) return;
   el("screen").focus({ preventScroll: true });
   catchUp();
@@ -453,13 +307,19 @@ function listen() {
   on("file", "change", ({ target }) => openChosen(target));
   on("draw", "click", () => openExample("draw"));
   on("face", "click", () => openExample("face"));
+  for (const name of ["snake", "play"]) on(name, "click", playSnake);
+  on("choose", "click", () => el("file").click());
+  on("full", "click", showFull);
+  on("picture", "click", savePicture);
+  listenToKeyboard();
+  on("pad", "pointerdown", padPressed);
+  for (const name of TABS) on(`tab-${name}`, "click", () => showTab(name));
+  for (const name of TABS) on(`tab-${name}`, "keydown", tabByKey);
   on("image", "submit", openImage);
   on("cancel", "click", cancelImage);
-  on("run", "click", () => setRun(!app.latest?.on));
-  on("step", "click", () => app.live.ask("step"));
-  on("next", "click", () => app.live.ask("toCheckpoint", { fast: isFast(), seconds: seconds() }));
+  on("next", "click", () => app.live.ask("toCheckpoint", { fast: isFast(), seconds: everySeconds() }));
   on("take", "click", takeOver);
-  for (const name of ["speed", "each"]) on(name, "change", () => app.live.ask("setPace", { fast: isFast(), seconds: seconds() }));
+  for (const name of ["speed", "each"]) on(name, "change", () => app.live.ask("setPace", { fast: isFast(), seconds: everySeconds() }));
   on("mark", "click", () => app.live.ask("mark"));
   on("save", "click", saveSession);
   on("record", "click", saveRecording);
@@ -478,14 +338,27 @@ function listen() {
   for (const type of ["pointermove", "pointerdown", "pointerup", "pointercancel"]) on("screen", type, pointed);
   on("screen", "contextmenu", (event) => event.preventDefault());
   compose();
+  listenToTime();
+  listenToMemory();
+  listenToSearch();
+  addEventListener("resize", showSized);
+  addEventListener("fullscreenchange", showSized);
   setInterval(keep, KEEP_MS);
   document.addEventListener("visibilitychange", keep);
   addEventListener("beforeunload", (event) => app.work.isUnkept && event.preventDefault());
 }
 
-async function openExample(name) {
+/** Fits the page to its window. */
+function showSized() {
+  fitScreen();
+  drawLanes();
+  freshen(true);
+}
+
+/** Opens an example, of which some members may be changed, and runs it. */
+async function openExample(name, changes = {}) {
   clearRefusal();
-  const text = new TextEncoder().encode(JSON.stringify(EXAMPLES[name]));
+  const text = new TextEncoder().encode(JSON.stringify({ ...EXAMPLES[name], ...changes }));
   if (await replaced(`${name}.json`, "openSession", { text })) await setRun(true);
 }
 
@@ -501,10 +374,15 @@ function dropFiles() {
 /** Starts the machine. Returns whether this browser can run it. */
 async function started() {
   makeDevices();
+  makeRegisters();
+  makeTimeline();
+  showSized();
   try {
     app.module = await WebAssembly.compile(await unpacked("module"));
     app.live = new Helper(app.module, heard);
     await app.live.ready;
+    app.past = new Past(app.module, heardPast);
+    app.past.connect(app.live);
   } catch (error) {
     notice(`This browser cannot run the module: ${error.message}`);
     return false;
@@ -518,6 +396,7 @@ async function started() {
 async function begin() {
   if (!(await started())) return;
   document.body.dataset.ready = "yes";
+  welcome();
   await showKept();
   el("kept").open = !app.latest && el("kept-list").childElementCount > 0;
 }

@@ -1,0 +1,146 @@
+/* The registers of the machine, the checkpoints of a recording, and where the two differ. */
+"use strict";
+
+const REGISTERS_ASKED = [...REGISTERS, "H", "flags"];
+// The cells of the registers by their names, made once: a drag of the cursor changes texts, and makes nothing. `before` is the state
+// that was shown before, to mark what changed.
+const registerCells = new Map();
+let registersBefore = null;
+
+function makeRegisters() {
+  for (const [name] of partsOf(new Uint8Array(STATE_BYTES))) {
+    const [cell, value] = cellOf(name, "");
+    if (REGISTERS_ASKED.includes(name)) value.append(button("", () => askRegister(name)));
+    const holder = value.firstElementChild ?? value;
+    if (holder !== value) holder.title = `Who wrote ${name}`;
+    registerCells.set(name, { value, holder });
+    el("state").append(cell);
+  }
+}
+
+function cellOf(name, text) {
+  const cell = document.createElement("div"), value = made("dd", text);
+  cell.append(made("dt", name), value);
+  return [cell, value];
+}
+
+function askRegister(name) {
+  return askWho({ register: REGISTERS_ASKED.indexOf(name) }, `Who wrote ${name}`);
+}
+
+/** Shows the parts of a state, with what has changed since the one shown before marked, and beside them what a checkpoint here claims
+ * falsely. */
+function showRegisters(state) {
+  const before = registersBefore && new Map(partsOf(registersBefore));
+  for (const [name, text] of partsOf(state)) {
+    const { value, holder } = registerCells.get(name);
+    if (holder.textContent !== text) holder.textContent = text;
+    if (holder !== value) holder.setAttribute("aria-label", `${name} ${text}: who wrote it`);
+    value.classList.toggle("changed", Boolean(before) && before.get(name) !== text);
+  }
+  registersBefore = state;
+  showFalse();
+}
+
+function showPaused(state, listing) {
+  if (registersBefore && equal(registersBefore, state)) return;
+  showRegisters(state);
+  showListing(field(state, AT.PC), listing);
+  showAround();
+  showMemory();
+}
+
+function cells(state, before, wrong) {
+  const old = before && Object.fromEntries(partsOf(before));
+  return partsOf(state).map(([name, text]) => {
+    const [cell, value] = cellOf(name, text);
+    value.classList.toggle("changed", Boolean(old) && old[name] !== text);
+    value.classList.toggle("wrong", name === wrong);
+    return cell;
+  });
+}
+
+function showPassed({ number, count, part }) {
+  const item = made("li", part ? `at ${grouped(count)}: false, first in ${part}` : `at ${grouped(count)}: true`, part ? "wrong" : "");
+  item.value = number;
+  el("passed").append(item);
+  el("passed").scrollTop = el("passed").scrollHeight;
+  lanes.passed.set(count, part ? "false" : "true");
+}
+
+// The checkpoints of a recording
+
+async function showClaim(number) {
+  const { file } = app;
+  if (!file) return;
+  number = Math.max(0, Math.min(file.claims.length - 1, Math.floor(number) || 0));
+  const shown = await app.live.ask("claimed", { number, of: app.work.generation });
+  if (!shown || file !== app.file) return;
+  el("number").value = number;
+  const wrong = falseClaim();
+  el("claim").replaceChildren(...claimParts(shown, wrong?.number === number ? wrong.part : null));
+  showOf(file);
+  el("from").disabled = false;
+}
+
+/** Says which recording the checkpoints are of, and its verdict. */
+function showOf({ name, version, inputs, checkpoints, verdict }) {
+  const line = verdict ? `: ${verdict.line}` : "";
+  write("of", `of ${grouped(checkpoints)} in ${name}, ${grouped(inputs)} inputs, version ${version}${line}`);
+}
+
+function claimParts({ number, count, steps, state, before, dots, sent, sentLength, pages }, wrong) {
+  const canvas = made("canvas", ""), list = made("dl", "");
+  [canvas.width, canvas.height] = [DOTS_WIDE, LINES];
+  canvas.setAttribute("role", "img");
+  canvas.setAttribute("aria-label", `The screen at checkpoint ${number}`);
+  paint(canvas, dots);
+  list.append(...cells(state, before, wrong));
+  const parts = [paragraph(number ? `at ${grouped(count)}, after ${grouped(steps)} more steps; changes are marked` : "the initial state, taken as given", "hint")];
+  if (wrong) parts.push(paragraph(`False: the first part that differs from the machine's is ${wrong}.`, "wrong"));
+  parts.push(canvas, list);
+  if (pages.length) parts.push(paragraph(`Memory changed in the pages ${rangesText(pages)}, of 1,024 bytes each.`, "hint"));
+  if (!sentLength) return parts;
+  const output = made("pre", sent);
+  output.tabIndex = 0;
+  output.setAttribute("role", "region");
+  output.setAttribute("aria-label", `Bytes sent at checkpoint ${number}`);
+  return [...parts, paragraph(`Sent since the checkpoint before, ${grouped(sentLength)} bytes:`, "hint"), output];
+}
+
+// A false checkpoint
+
+/** Returns the false checkpoint that the verdict line of the file names: its number, its count and its part; or null. */
+function falseClaim() {
+  const [, number, count, part] = /^false checkpoint (\d+) at (\d+) part (.*)$/.exec(app.file?.verdict?.line ?? "") ?? [];
+  return part === undefined ? null : { number: Number(number), count: Number(count), part };
+}
+
+/** Shows a headline for a false checkpoint, and the way to what the machine has there; at its count, both parts side by side. */
+async function showFalse() {
+  const wrong = falseClaim(), place = el("false");
+  place.hidden = !wrong;
+  if (!wrong) return;
+  const { number, count, part } = wrong, headline = made("b", `False at checkpoint ${number}: ${part}`);
+  if (shownCount() !== count || app.latest?.on) return place.replaceChildren(headline, " ", button("What the machine has", () => lookAt(count)));
+  const shown = await app.live.ask("claimed", { number, of: app.work.generation });
+  if (!shown || shownCount() !== count) return;
+  const page = /^page (\d+)$/.exec(part), both = page ? await bytesThatDiffer(wrong, Number(page[1])) : partsThatDiffer(shown.state, part);
+  if (!both) return place.replaceChildren(headline);
+  const { own, claimed, about } = both, who = about ? [button("Which instruction made it so", () => askWho(about, `Who wrote ${both.name}`))] : [];
+  place.replaceChildren(headline, paragraph(`${both.name}: the machine has ${own}, the recording claims ${claimed}.`, "both"), ...who);
+}
+
+function partsThatDiffer(claimedState, part) {
+  const [own, claimed] = [shownState(), claimedState].map((state) => new Map(partsOf(state)).get(part)), register = REGISTERS_ASKED.indexOf(part);
+  return own === undefined ? null : { name: part, own, claimed, about: register < 0 ? null : { register } };
+}
+
+/** Returns the first word of a page that differs from what the false checkpoint claims. */
+async function bytesThatDiffer({ number, count }, page) {
+  const from = PAGE_BYTES * page, [own, claimed] = await Promise.all([app.past.memory(count, from, PAGE_BYTES), app.live.ask("claimedPage", { number, page, of: app.work.generation })]);
+  if (!own || !claimed) return null;
+  const [words, others] = [own.bytes.slice(), claimed].map(wordsOf), at = words.findIndex((word, number) => word !== others[number]);
+  const address = from + 4 * at;
+  return { name: `the word at ${hex(address, 5)}`, own: hex(words[at], 8), claimed: hex(others[at], 8), about: { address, mask: ALL_BITS } };
+}

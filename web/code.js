@@ -1,0 +1,66 @@
+/* The code around PC, with its breakpoints, and the instructions that were done before the cursor and come after it. */
+"use strict";
+
+// So many instructions before the cursor are shown, and after it; and a search has so many conditions at most.
+const DONE_BEFORE = 12, DONE_AFTER = 6, MOST_BREAKS = 32;
+// The word numbers at which the machine stops on its way, and the hits that were found of them, each with a glyph and what it is.
+let breaks = new Set(), hits = [];
+
+function toggleBreak(pc) {
+  const next = new Set(breaks);
+  if (!next.delete(pc)) next.add(pc);
+  if (next.size > MOST_BREAKS) return notice(`There are ${MOST_BREAKS} breakpoints at most.`);
+  breaks = next;
+  for (const gutter of el("listing").querySelectorAll("button")) showBreak(gutter);
+  write("breaks", breaks.size ? `Breakpoints at PC ${[...breaks].sort((one, other) => one - other).join(", ")}.` : "Click beside an instruction to set a breakpoint.");
+}
+
+function showBreak(gutter) {
+  gutter.setAttribute("aria-pressed", breaks.has(Number(gutter.dataset.pc)));
+}
+
+/** The conditions of all breakpoints and watches. */
+function conditionsOfBreaks() {
+  return [...[...breaks].map((pc) => ({ kind: COUNTER, from: pc, end: pc + 1, value: 0 })), ...conditionsOfWatches()];
+}
+
+/** The hits that were found of breakpoints and searches, the last one with a glyph of its own. */
+function hitMarks() {
+  return hits.map(([count, what], at) => [count, at === hits.length - 1 ? "◎" : "●", what]);
+}
+
+/** Notes a hit, of which some are kept. */
+function noteHit(count, what) {
+  hits = [...hits.filter(([other]) => other !== count).slice(-30), [count, what]];
+}
+
+/** Shows the instructions around a program counter, each with a place for a breakpoint. */
+function showListing(pc, listing) {
+  const lines = listing.map(([at, word]) => {
+    const line = made("span", ""), gutter = made("button", "", "gutter"), [mnemonic, meaning] = instruction(word, at);
+    const text = `${at === pc ? "▸" : " "}${`${at}`.padStart(6)}  ${hex(word, 8)}  ${mnemonic.padEnd(20)} `;
+    Object.assign(gutter, { type: "button", onclick: () => toggleBreak(at) });
+    gutter.dataset.pc = at;
+    gutter.setAttribute("aria-label", `breakpoint at ${at}, ${mnemonic}`);
+    showBreak(gutter);
+    line.append(gutter, text, made("i", `${meaning}\n`));
+    line.classList.toggle("here", at === pc);
+    return line;
+  });
+  el("listing").replaceChildren(...(lines.length ? lines : ["PC is outside memory"]));
+}
+
+/** Shows what the instructions around the cursor did, if that is to be seen. */
+async function showAround() {
+  const at = shownCount();
+  if (!app.latest || app.latest.on || !isTab("code")) return;
+  const after = Math.min(DONE_AFTER, lanes.end - at);
+  const done = await app.past.around(at, Math.min(DONE_BEFORE, at), after);
+  if (done && at === shownCount()) el("trace").replaceChildren(...done.map((one) => doneLine(one, at)));
+}
+
+function doneLine({ count, pc, word, changes }, at) {
+  const line = made("div", "", count === at ? "here" : ""), go = button(grouped(count), () => lookAt(count));
+  line.append(go, ` ${`${pc}`.padStart(6)}  ${instruction(word, pc)[0].padEnd(20)} ${changes.map(([name, old, now]) => `${name} ${old} → ${now}`).join("; ")}`);
+  return line;
+}

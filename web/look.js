@@ -1,0 +1,122 @@
+/* What is looked at: the machine now, or a moment of its past. A moment is a count with the state before the inputs of that count.
+ * Looking never changes the recording. */
+"use strict";
+
+// `at` is the count that is looked at, in the past, or ahead of a replay; or null for now. `moment` is what was answered for it last.
+const NOW = { at: null, moment: null };
+let look = NOW;
+
+const isPast = () => look.at !== null;
+/** Whether a count is looked at to which the replay has not come yet: what is shown is what the file claims, or what comes of it. */
+const isAhead = () => look.at > nowCount();
+const nowCount = () => (app.latest ? countOf(app.latest.state) : 0);
+const shownCount = () => look.at ?? nowCount();
+/** The state that is shown: that of the moment, or the machine's own. */
+const shownState = () => look.moment?.state ?? app.latest?.state;
+
+const secondsOf = (counts) => `${(counts / PER_SECOND).toFixed(3)} s`;
+/** How many seconds a count is from now. */
+const apart = (at) => (Math.abs(nowCount() - at) / PER_SECOND).toFixed(1);
+
+/** Looks at a count. A machine that runs is paused first. A cursor that has not settled has more looks to come. */
+async function lookAt(count, isSettled = true) {
+  if (!app.latest) return;
+  if (app.latest.on) await app.live.ask("setRun", { on: false });
+  const at = Math.max(0, Math.min(Math.floor(count), lanes.end));
+  if (at === nowCount()) return backToNow(isSettled);
+  look = { ...look, at };
+  showLook(isSettled);
+  const moment = await app.past.peek(at, { quick: !isSettled });
+  if (moment && look.at === at) showMoment(moment);
+}
+
+/** Runs a replay up to a count, as fast as it goes. */
+async function runTo(goal) {
+  look = NOW;
+  await app.live.ask("setRun", { on: true, fast: true, goal, seconds: everySeconds() });
+}
+
+/** Shows the machine as it is now. */
+async function backToNow(isSettled = true) {
+  look = NOW;
+  showLook(isSettled);
+  if (!app.latest) return;
+  el("nearly").hidden = true;
+  if (app.dots) drawSoon(app.dots);
+  showLamps(field(app.latest.state, AT.LEDs));
+  showDevices(app.latest.state);
+  if (app.latest.listing) showPaused(app.latest.state, app.latest.listing);
+}
+
+/** Shows what the page says of what is looked at. */
+function showLook(isSettled) {
+  if (app.latest) showMode(app.latest);
+  showCursor(isSettled);
+}
+
+/** Shows a moment; one that is not exact is a near one that is shown first. There is no listing while the cursor is dragged. */
+function showMoment(moment) {
+  look = { ...look, moment };
+  el("nearly").hidden = moment.exact;
+  drawSoon(moment.dots);
+  showLamps(field(moment.state, AT.LEDs));
+  showRegisters(moment.state);
+  write("when", moment.exact ? `Registers, before instruction ${grouped(moment.at)}` : "Registers, nearly");
+  showMode(app.latest);
+  if (!moment.listing) return;
+  showListing(field(moment.state, AT.PC), moment.listing.map(({ pc, word }) => [pc, word]));
+  showDevices(moment.state);
+  showAround();
+  showMemory();
+}
+
+/** Hears what the past says between its answers. */
+function heardPast(news) {
+  if (news.peeked && news.peeked.at === look.at) showMoment(news.peeked);
+  else if (news.searched) showSearched(news.searched);
+  else if (news.who) showWho(news.who);
+  else if (news.refused || news.broken) notice(news.refused ?? news.broken);
+}
+
+/** Has the machine go on from the moment that is looked at. What it did after it is kept as a branch. */
+async function takeOverHere() {
+  const { at } = look;
+  if (at === null || isAhead()) return;
+  notice();
+  const moment = await app.past.moment(at);
+  if (!moment || !(await keepBranch(at))) return;
+  look = NOW;
+  await app.live.ask("takeOver", moment);
+  forgetAfter(at);
+  await backToNow();
+  el("screen").focus({ preventScroll: true });
+}
+
+/** Says in one word what the machine's state is, and what that means. */
+function showMode(frame) {
+  const { on, isReplay, isTrue } = frame, [word, text] = isPast() ? pastMode() : modeOf(frame);
+  write("run", isAhead() ? "Run to here" : on ? "Pause" : "Run");
+  el("take").hidden = !isReplay || isPast();
+  el("take-here").hidden = !isPast() || isAhead();
+  el("back-now").hidden = !isPast();
+  write("name", app.work.generation ? app.work.name : "");
+  write("state-word", word);
+  el("state-word").className = word.toLowerCase();
+  const claim = isTrue ? "" : " A claim that was passed is false: what comes after it is what the machine does.";
+  write("mode-text", text + claim);
+}
+
+function pastMode() {
+  if (!isAhead()) return ["PAST", `${apart(look.at)} s before now. Keys do nothing.`];
+  return ["REPLAY", `${apart(look.at)} s ahead of the replay, ${look.moment?.isClaimed ? "claimed, not checked" : "not run yet"}. Keys do nothing.`];
+}
+
+function modeOf({ state, on, isReplay, ahead, full }) {
+  const stop = field(state, AT.stop), left = ahead ? `${grouped(ahead)} inputs` : "checkpoints";
+  const then = full?.isEnd ? "What comes after is not recorded." : "The machine takes no more.";
+  if (full) return ["FULL", `at ${grouped(full.count)}: ${full.why}. ${then}`];
+  if (isReplay) return ["REPLAY", `${left} of the file are still to come. Your own keys and mouse count once you take over.`];
+  if (stop) return ["STOPPED", `${STOPS[stop]}: the machine does nothing more.`];
+  if (on) return ["LIVE", "What you type, click and send is recorded."];
+  return ["LIVE", "The machine is paused: keys and the mouse go to it while it runs."];
+}

@@ -1,0 +1,131 @@
+/* The bytes of memory, of which some are selected, to watch them or to ask who wrote them. */
+"use strict";
+
+const MEMORY_ROWS = 16, MOST_WATCHED = 4096, ALL_BITS = 0xffffffff;
+// What is shown: the first address, its bytes, and those selected, from one address to another, of which `anchor` stays.
+let bytesShown = { from: 0, bytes: new Uint8Array() }, selected = null, watches = [];
+
+const rowBytes = () => (isNarrow() ? 8 : 16);
+const address = (value) => hex(value, 5);
+
+/** Shows the memory at the cursor, if its tab is. */
+async function showMemory() {
+  if (!app.latest || app.latest.on || !isTab("memory")) return;
+  const at = shownCount(), length = MEMORY_ROWS * rowBytes(), from = Math.max(0, Math.min(bytesShown.from, MEMORY_BYTES - length));
+  const found = await app.past.memory(at, from, length);
+  if (!found || at !== shownCount()) return;
+  const { bytes } = found, isSame = bytesShown.from === from && bytesShown.bytes.length === length, before = isSame ? bytesShown.bytes : bytes;
+  bytesShown = { from, bytes };
+  const rows = Array.from({ length: MEMORY_ROWS }, (_, row) => memoryRow(row * rowBytes(), before));
+  el("memory").replaceChildren(...rows);
+  showSelected();
+}
+
+function memoryRow(first, before) {
+  const { from, bytes } = bytesShown, line = made("div", `${address(from + first)} `), end = first + rowBytes();
+  for (let at = first; at < end; at++) {
+    const byte = made("span", hex(bytes[at], 2));
+    byte.dataset.at = from + at;
+    byte.classList.toggle("changed", bytes[at] !== before[at]);
+    line.append(byte, at % 4 === 3 ? " " : "");
+  }
+  line.append(printable(bytes.subarray(first, end)));
+  return line;
+}
+
+const printable = (bytes) => Array.from(bytes, (byte) => (byte >= 0x20 && byte < 0x7f ? String.fromCharCode(byte) : ".")).join("");
+
+/** Shows the memory from an address on, which is rounded down to a row. */
+function showMemoryAt(at) {
+  bytesShown = { from: Math.max(0, at - (at % rowBytes())), bytes: new Uint8Array() };
+  return showMemory();
+}
+
+function memoryByField() {
+  const at = parseInt(el("memory-at").value, 16);
+  if (!(at >= 0 && at < MEMORY_BYTES)) return notice(`${el("memory-at").value}: an address is hexadecimal, from 0 to FFFFF.`);
+  notice();
+  select(at, at);
+  return showMemoryAt(at);
+}
+
+// Selecting
+
+/** Selects the bytes from one address to another. */
+function select(anchor, to) {
+  selected = { anchor, to, first: Math.min(anchor, to), end: Math.min(Math.max(anchor, to) + 1, Math.min(anchor, to) + MOST_WATCHED) };
+  showSelected();
+}
+
+function showSelected() {
+  const { first = 0, end = 0 } = selected ?? {};
+  for (const byte of el("memory").querySelectorAll("span")) byte.classList.toggle("selected", byte.dataset.at >= first && byte.dataset.at < end);
+  for (const name of ["wrote", "watch"]) el(name).disabled = !selected;
+  if (selected) write("selected", selectedText());
+}
+
+function selectedText() {
+  const { first, end } = selected, { from, bytes } = bytesShown, word = first - (first % 4) - from;
+  const value = word >= 0 && word + 4 <= bytes.length ? new DataView(bytes.buffer, bytes.byteOffset).getUint32(word, true) : null;
+  const at = end - first === 1 ? address(first) : `${address(first)} to ${address(end - 1)}`;
+  return `${at}${value === null ? "" : `; the word at ${address(from + word)} is ${hex(value, 8)}, ${value | 0}`}`;
+}
+
+/** Selects the byte under the mouse; with Shift, or while its key is down, all up to it. */
+function memoryPointed(event) {
+  const at = event.target.dataset?.at ?? document.elementFromPoint(event.clientX, event.clientY)?.dataset?.at;
+  if (at === undefined || (event.type === "pointermove" && !event.buttons)) return;
+  const isMore = event.type === "pointermove" || event.shiftKey;
+  select(isMore && selected ? selected.anchor : Number(at), Number(at));
+}
+
+function memoryKey(event) {
+  const step = { ArrowLeft: -1, ArrowRight: 1, ArrowUp: -rowBytes(), ArrowDown: rowBytes() }[event.key];
+  if (!step) return;
+  event.preventDefault();
+  const { anchor = bytesShown.from, to = bytesShown.from - step } = selected ?? {}, next = Math.max(0, Math.min(MEMORY_BYTES - 1, to + step));
+  select(event.shiftKey ? anchor : next, next);
+  const { from, bytes } = bytesShown;
+  if (next < from || next >= from + bytes.length) return showMemoryAt(next < from ? next : next - bytes.length + rowBytes());
+}
+
+// Watching
+
+function watchSelected() {
+  if (!selected) return notice("Select bytes of memory first: they are watched.");
+  const { first, end } = selected, others = watches.filter((one) => one.first !== first || one.end !== end);
+  if (others.length >= MOST_BREAKS) return notice(`There are ${MOST_BREAKS} watches at most.`);
+  watches = others.length < watches.length ? others : [...watches, { first, end }];
+  el("watches").replaceChildren(...(watches.length ? ["Watched: ", ...watches.map(watchButton)] : []));
+}
+
+function watchButton({ first, end }) {
+  const made = button(`${address(first)}${end - first > 1 ? ` to ${address(end - 1)}` : ""} ×`, async () => {
+    select(first, end - 1);
+    watchSelected();
+  });
+  made.setAttribute("aria-label", `Watch ${address(first)} no more`);
+  return made;
+}
+
+function conditionsOfWatches() {
+  return watches.map(({ first, end }) => ({ kind: CHANGE, from: first, end, value: ALL_BITS }));
+}
+
+/** Asks who wrote what is selected: its bits of the word in which it begins. */
+function whoWroteSelected() {
+  const { first, end } = selected, word = first - (first % 4);
+  const bytes = [0, 1, 2, 3].filter((at) => word + at >= first && word + at < end);
+  const mask = bytes.reduce((sum, at) => sum + 0xff * 2 ** (8 * at), 0);
+  return askWho({ address: word, mask }, `Who wrote ${bytes.length === 4 ? "the word" : "the bytes"} at ${address(first)}`);
+}
+
+function listenToMemory() {
+  on("memory-at", "change", memoryByField);
+  on("memory-before", "click", () => showMemoryAt(Math.max(0, bytesShown.from - MEMORY_ROWS * rowBytes())));
+  on("memory-after", "click", () => showMemoryAt(bytesShown.from + MEMORY_ROWS * rowBytes()));
+  for (const type of ["pointerdown", "pointermove"]) on("memory", type, memoryPointed);
+  on("memory", "keydown", memoryKey);
+  on("wrote", "click", whoWroteSelected);
+  on("watch", "click", watchSelected);
+}

@@ -1,0 +1,75 @@
+/* The screen: its dots, its size in the window, full screen, and its picture as a file. */
+"use strict";
+
+const LINE_BYTES = 128, LINES = 768, DOTS_WIDE = 1024, DISPLAY_AT = 4 * 237504;
+// In a wide window the screen leaves room for the tabs beside it, and is so high at least, in CSS pixels.
+const SIDE_ROOM = 420, LEAST_HEIGHT = 340, MARGIN = 24;
+const screens = { dots: null, isDue: false, images: new WeakMap() };
+
+/** Draws dots on a canvas, and repaints only the lines that changed. Line 0 is the lowest, and bit 0 of a byte is its leftmost
+ * dot. Returns how many lines changed. */
+function paint(canvas, dots) {
+  const context = canvas.getContext("2d");
+  if (!screens.images.has(canvas)) screens.images.set(canvas, { image: context.createImageData(DOTS_WIDE, LINES), dots: null });
+  const shown = screens.images.get(canvas), pixels = new Uint32Array(shown.image.data.buffer);
+  let [top, bottom, changed] = [LINES, -1, 0];
+  for (let y = 0; y < LINES; y++) {
+    const from = LINE_BYTES * (LINES - 1 - y);
+    if (shown.dots && isSameLine(shown.dots, dots, from)) continue;
+    [top, bottom, changed] = [Math.min(top, y), y, changed + 1];
+    for (let at = from, to = DOTS_WIDE * y; at < from + LINE_BYTES; at++)
+      for (let bits = dots[at], k = 0; k < 8; k++, bits >>= 1) pixels[to++] = bits & 1 ? 0xff000000 : 0xffffffff;
+  }
+  shown.dots = dots;
+  if (bottom >= top) context.putImageData(shown.image, 0, 0, 0, top, DOTS_WIDE, bottom - top + 1);
+  return changed;
+}
+
+function isSameLine(some, others, from) {
+  for (let at = from; at < from + LINE_BYTES; at++) if (some[at] !== others[at]) return false;
+  return true;
+}
+
+/** Draws dots on the screen with the browser's next frame. */
+function drawSoon(dots) {
+  screens.dots = dots;
+  if (screens.isDue) return;
+  screens.isDue = true;
+  requestAnimationFrame(() => {
+    screens.isDue = false;
+    noteChange(paint(el("screen"), screens.dots));
+  });
+}
+
+/** Returns the room for the screen: its width, and its height so that the timeline below it is in the window, too. */
+function roomForScreen() {
+  if (document.fullscreenElement === el("stage")) return [innerWidth, innerHeight];
+  const isWide = matchMedia("(min-width: 60rem)").matches, all = el("desk").parentElement.clientWidth;
+  if (!isWide) return [all, Infinity];
+  const above = el("stage").getBoundingClientRect().top + scrollY, below = el("desk").offsetHeight - el("stage").offsetHeight + el("stay").offsetHeight;
+  return [all - SIDE_ROOM, Math.max(LEAST_HEIGHT, innerHeight - above - below - MARGIN)];
+}
+
+/** Gives the screen the largest size that fits: a whole factor of its dots, if there is room for one. */
+function fitScreen() {
+  const [wide, high] = roomForScreen(), most = Math.min(wide, high * 4 / 3), factor = Math.floor(most * devicePixelRatio / DOTS_WIDE);
+  document.getElementById("galluspa").style.setProperty("--screen", `${factor ? factor * DOTS_WIDE / devicePixelRatio : most}px`);
+  el("screen").style.imageRendering = factor ? "pixelated" : "auto";
+}
+
+async function showFull() {
+  if (document.fullscreenElement) await document.exitFullscreen();
+  else await el("stage").requestFullscreen();
+}
+
+/** Saves the screen that is shown as a PNG. */
+async function savePicture() {
+  const content = await new Promise((done) => el("screen").toBlob(done, "image/png"));
+  download(`${app.work.name}-${shownCount()}.png`, content, "image/png");
+}
+
+/** Returns the dot under an event over the screen, which is in a box of the window: its x, and its y from the bottom. */
+function dotAt({ clientX, clientY }, { left, top, width, height }) {
+  const inside = (value, most) => Math.max(0, Math.min(most, Math.floor(value)));
+  return [inside(((clientX - left) * DOTS_WIDE) / width, DOTS_WIDE - 1), LINES - 1 - inside(((clientY - top) * LINES) / height, LINES - 1)];
+}

@@ -1,0 +1,120 @@
+/* Searches: at which count something happens, before the cursor or after it. */
+"use strict";
+
+// The kinds of conditions, as include/galluspa.h has them.
+const COUNTER = 1, STORE = 2, CHANGE = 3, LOAD = 4, BECOMES = 5, SENDS = 6, SENDS_BYTE = 7, TAKES = 8, STOP = 9;
+// What can be searched for: its kind, its name, and the labels of what it is about: a range, a value.
+const WANTED = [
+  [COUNTER, "PC comes to", "PC"], [STORE, "a store to", "address"], [CHANGE, "a change of", "address"], [LOAD, "a load from", "address"],
+  [BECOMES, "a register becomes", "register", "value"], [SENDS, "any byte sent"], [SENDS_BYTE, "the byte sent", null, "byte"],
+  [TAKES, "an input"], [STOP, "the machine stops"],
+];
+// The search that is under way, and the conditions of the last one. It is replaced whole.
+let finding = { isOn: false, begun: 0, conditions: null, what: "" };
+
+/** Returns the count of the nearest hit of some conditions, and looks at it; or null if there is none. */
+async function search(conditions, isBack, what = "breakpoint") {
+  const at = shownCount(), [from, to] = isBack ? [0, at] : [at + 1, nowCount()];
+  if (app.latest.on) await app.live.ask("setRun", { on: false });
+  finding = { isOn: true, begun: performance.now(), conditions, what };
+  showFinding("searching ..");
+  const found = from < to ? await app.past.find({ from, to, last: isBack, conditions }) : { none: true };
+  finding = { ...finding, isOn: false };
+  if (!found || found.stopped) showFinding("The search was stopped.");
+  else if (found.none) showFinding(`There is none ${isBack ? "before" : "after it, up to now"}.`);
+  else return foundAt(found, conditions);
+  return found?.none ? null : undefined;
+}
+
+async function foundAt({ at, which }, conditions) {
+  const { kind, from } = conditions[which] ?? conditions[0], what = kind === COUNTER ? `PC ${from}` : WANTED.find(([one]) => one === kind)[1];
+  noteHit(at, what);
+  showFinding(`${what} at ${grouped(at)}`);
+  await lookAt(at);
+  return at;
+}
+
+function showFinding(text) {
+  write("found", text);
+  el("find-stop").hidden = !finding.isOn;
+}
+
+/** Says how far the search has come, and how long it will take. */
+function showSearched({ done, of }) {
+  if (!finding.isOn) return;
+  const ms = performance.now() - finding.begun, left = done ? `, about ${Math.max(1, Math.ceil((ms * (of - done)) / done / 1000))} s left` : "";
+  write("found", `${grouped(done)} of ${grouped(of)} counts${left}`);
+}
+
+async function stopSearch() {
+  await app.past.stop();
+}
+
+/** Searches again for what was searched last. */
+function searchAgain(isBack) {
+  const conditions = finding.conditions ?? conditionsOfBreaks();
+  if (!conditions.length) return notice("Nothing was searched for yet.");
+  return search(conditions, isBack);
+}
+
+/** Searches for what the form says. */
+function searchByForm(event) {
+  event.preventDefault();
+  notice();
+  const conditions = conditionsOfForm();
+  if (conditions) return search(conditions, event.submitter?.value === "before");
+}
+
+/** Returns the conditions that the form says, or null if it says none: then the page says why. */
+function conditionsOfForm() {
+  const [kind, , about, valued] = WANTED.find(([one]) => one === Number(el("what").value));
+  const range = about ? rangeOf(el("from-value").value, about) : { from: 0, end: 1 };
+  if (!range) return notice(`${el("from-value").value}: ${FORMS[about]}`), null;
+  const value = kind === TAKES ? Number(el("kind").value) : kind === CHANGE ? ALL_BITS : valued ? valueOf(el("value").value) : 0;
+  if (value === null) return notice(`${el("value").value}: a value is a number, hexadecimal after 0x, or a character in quotes.`), null;
+  return [{ kind, ...range, value }];
+}
+
+const FORMS = { PC: "PC is a word number, or two as in 20-30.", address: "an address is hexadecimal, or two as in E8000-E8003.", register: "a register is R0 to R15, H or flags." };
+const FLAGS = 17, LAST_PC = 1 << 22, LAST_ADDRESS = 1 << 24;
+
+/** Returns the range that was written: two numbers with a line between them, or one. */
+function rangeOf(text, about) {
+  if (about === "register") {
+    const from = text.toUpperCase() === "FLAGS" ? FLAGS : [...REGISTERS, "H"].indexOf(text.toUpperCase());
+    return from < 0 ? null : { from, end: from + 1 };
+  }
+  const isHex = about === "address", pattern = isHex ? /^(?:0x)?([0-9a-f]+)(?:-(?:0x)?([0-9a-f]+))?$/i : /^(\d+)(?:-(\d+))?$/;
+  const found = pattern.exec(text.trim());
+  if (!found) return null;
+  const [from, last] = [found[1], found[2] ?? found[1]].map((digits) => parseInt(digits, isHex ? 16 : 10));
+  return from <= last && last < (isHex ? LAST_ADDRESS : LAST_PC) ? { from, end: last + 1 } : null;
+}
+
+/** Returns the value that was written: a number, or the code of a character in quotes. */
+function valueOf(text) {
+  const character = /^'(.)'$/u.exec(text.trim());
+  if (character) return character[1].codePointAt(0);
+  const number = /^(?:0x[0-9a-f]+|\d+)$/i.test(text.trim()) ? Number(text) : NaN;
+  return number <= ALL_BITS ? number : null;
+}
+
+/** Shows the fields that what is searched for has. */
+function showFields() {
+  const [kind, , about, valued] = WANTED.find(([one]) => one === Number(el("what").value));
+  for (const [name, label] of [["from", about], ["value", valued]]) {
+    el(`${name}-label`).hidden = !label;
+    el(`${name}-label`).firstElementChild.textContent = label ?? "";
+  }
+  el("kind-label").hidden = kind !== TAKES;
+}
+
+function listenToSearch() {
+  const choice = ([value, text]) => Object.assign(made("option", text), { value });
+  el("what").replaceChildren(...WANTED.map(choice));
+  el("kind").replaceChildren(...KINDS.map((name, kind) => [kind, name]).slice(1).map(choice));
+  on("what", "change", showFields);
+  on("search", "submit", searchByForm);
+  on("find-stop", "click", stopSearch);
+  showFields();
+}

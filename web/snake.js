@@ -1,0 +1,95 @@
+/* Snake: the page makes a checkpoint of each dot that is eaten, so that the score is claimed in the recording. After a game it shows
+ * the score with a real check of that recording; and a claim of another score, which the same check finds false. */
+"use strict";
+
+const SNAKE = "snake", FIRST_LENGTH = 3, OVER = "over\n", BEFORE_CRASH = PER_SECOND, CHEATED = 100;
+// Where the LEDs are in a checkpoint of a recording.
+const LEDS_AT = 96;
+const ARROWS = { ArrowUp: "w", ArrowLeft: "a", ArrowDown: "s", ArrowRight: "d" };
+// The game: how long the snake is, and the checkpoint that claims it; `isOver` while the card of its end is shown. Replaced whole.
+const NO_GAME = { length: FIRST_LENGTH, longest: FIRST_LENGTH, keys: 0, isOver: false };
+let game = NO_GAME;
+
+const isSnake = () => app.work.name === SNAKE;
+
+/** Begins the game of the example, without the keys of the game that somebody played. */
+async function playSnake() {
+  game = NO_GAME;
+  await openExample(SNAKE, { inputs: [], checkpoints: [] });
+  el("pad").hidden = false;
+}
+
+/** Follows a game: the LEDs show how long the snake is, and the program sends a text when it is over. */
+function followGame({ state, sent, on, isReplay, inputs }) {
+  if (!isSnake() || isReplay || !on) return;
+  const length = field(state, AT.LEDs);
+  if (sent?.includes(OVER)) return attempt(() => endGame(inputs));
+  if (length > game.length) tell("mark");
+  if (length !== game.length) game = { ...game, length };
+}
+
+/** Pauses at the end of a game, and shows its card. */
+async function endGame(keys) {
+  const { length } = game;
+  game = NO_GAME;
+  await app.live.ask("setRun", { on: false });
+  const { text } = await app.live.ask("recording"), title = `Game over: ${length - FIRST_LENGTH} points`;
+  const summary = paragraph(`${grouped(keys)} keys; the recording has ${grouped(text.length)} bytes.`), place = paragraph("checking ..", "line note");
+  const crash = await crashCount();
+  const back = button("Go back before the crash", () => lookAt(crash - BEFORE_CRASH)), again = button("Play again", () => setRun(true));
+  const cheat = button("Try to cheat", () => tryToCheat(text));
+  showCard(title, [summary, place, back, cheat, again, made("div", "", "cheat")]);
+  await showLine(text, place);
+}
+
+/** The count at which the last game was over: at which its text was sent. */
+async function crashCount() {
+  const found = await app.past.find({ from: 0, to: nowCount(), last: true, conditions: [{ kind: SENDS_BYTE, from: 0, end: 1, value: OVER.charCodeAt(0) }] });
+  return found?.at ?? nowCount();
+}
+
+/** Has a recording checked by a clerk, and shows its verdict line in a place. */
+async function showLine(text, place) {
+  const clerk = new Helper(app.module, () => {});
+  try {
+    const { line, status } = await clerk.ask("check", { text });
+    place.textContent = line;
+    place.className = `line ${STATUSES[status]}`;
+    return line;
+  } finally {
+    clerk.end();
+  }
+}
+
+/** Claims another score in the last checkpoint, and has that checked: the line names the LEDs, and the machine has what they were. */
+async function tryToCheat(text) {
+  const place = el("card").querySelector(".cheat"), line = paragraph("checking ..", "line note");
+  const { forged, claimed, own, count } = forgedScore(text);
+  place.replaceChildren(paragraph(`The same recording, which claims ${claimed - FIRST_LENGTH} points at ${grouped(count)}:`), line);
+  await showLine(forged, line);
+  place.append(paragraph(`The machine has ${own - FIRST_LENGTH} points there: the LEDs are ${hex(own, 2)}, and ${hex(claimed, 2)} is claimed.`));
+}
+
+/** Returns a recording whose checkpoint with the most points claims more. */
+function forgedScore(text) {
+  const view = new DataView(text.buffer, text.byteOffset, text.length), forged = text.slice();
+  const offsets = claimOffsets(view), best = offsets.slice(1).reduce((one, other) => (view.getUint32(other + LEDS_AT, true) >= view.getUint32(one + LEDS_AT, true) ? other : one));
+  const own = view.getUint32(best + LEDS_AT, true), claimed = Math.min(255, own + CHEATED);
+  forged[best + LEDS_AT] = claimed;
+  return { forged, claimed, own, count: Number(view.getBigUint64(best, true)) };
+}
+
+/** Returns where the checkpoints of a recording of version 2 begin. */
+function claimOffsets(view) {
+  const [pages, inputs, checkpoints] = [8, 12, 16].map((at) => view.getUint32(at, true)), offsets = [];
+  for (let at = 24 + PAGE_BYTES * pages + INPUT_BYTES * inputs; offsets.length < checkpoints; at += 144 + 8 * view.getUint32(at + 140, true)) offsets.push(at);
+  return offsets;
+}
+
+/** Sends the key of a button below the screen, as on a phone. */
+function padPressed(event) {
+  const { key } = event.target.dataset;
+  if (!key) return;
+  event.preventDefault();
+  if (isRunning()) sendCodes([key.charCodeAt(0)]);
+}

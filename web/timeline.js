@@ -1,0 +1,345 @@
+/* The timeline: lanes of what came, what was sent and what changed over the counts, with a cursor that is a slider. */
+"use strict";
+
+const PER_SECOND = 25000000;
+const LANES = ["claims", "keys", "mouse", "serial", "screen", "marks", "film"];
+const ROW = 17, AXIS = 17, MERGED = 26, LEAST_SPAN = 16, MOST_NOTED = 20000, SENT_SHOWN = 40;
+const FRESH_MS = 200, FILM_MS = 2000, TICK_WIDTH = 76, ZOOM = 1.6;
+
+// What the lanes show. `end` is the last count that is known of: that of now, or of the file.
+// `sent` and `painted` are noted while the machine runs, `passed` are the claims that a replay has judged, and `film` the counts of
+// the keyframes. It is replaced whole when another machine is opened.
+const NOTHING_FOUND = { keys: [], mouse: [], serial: [], listed: { keys: [], mouse: [], serial: [] }, marks: [], planned: [], end: 0 };
+const newLanes = () => ({ end: 0, found: NOTHING_FOUND, sent: [], painted: [], passed: new Map(), film: [] });
+let lanes = newLanes();
+// The span that is shown, and how it is used: `isAsked` while the worker is asked for its lanes, and `pointers` are those on the track.
+const timeline = { from: 0, to: PER_SECOND, isWhole: true, isDragged: false, isAsked: false, isStale: false, due: 0, filmDue: 0, pointers: new Map() };
+
+/** Begins the lanes of a machine that was opened. */
+function beginLanes() {
+  lanes = { ...newLanes(), end: nowCount() };
+  Object.assign(timeline, { isWhole: true, isDragged: false });
+  freshen(true);
+}
+
+/** Forgets what came after a count, from which the machine goes on otherwise. */
+function forgetAfter(at) {
+  const isBefore = ([count]) => count <= at;
+  const passed = new Map([...lanes.passed].filter(isBefore));
+  lanes = { ...lanes, end: at, sent: lanes.sent.filter(isBefore), painted: lanes.painted.filter(isBefore), passed };
+  freshen(true);
+}
+
+/** Notes what a frame of the live machine brings for the lanes. */
+function noteFrame({ state, sent, on }) {
+  const count = countOf(state);
+  if (sent) note(lanes.sent, [count, sent.slice(0, SENT_SHOWN)]);
+  if (count > lanes.end) lanes.end = count;
+  freshen(!on);
+}
+
+/** Notes how many lines of the screen changed, up to now. */
+function noteChange(lines) {
+  if (lines && !isPast() && app.latest) note(lanes.painted, [nowCount(), lines]);
+}
+
+function note(list, entry) {
+  list.push(entry);
+  if (list.length > MOST_NOTED) list.splice(0, list.length, ...list.filter((_, at) => at % 2 === 0));
+}
+
+// The span
+
+/** The span of all that is known, rounded up, so that it does not move with each frame. */
+function wholeSpan() {
+  const length = Math.max(LEAST_SPAN, lanes.end, lanes.found.end);
+  const unit = 10 ** Math.floor(Math.log10(length));
+  return { from: 0, to: unit * [1, 1.5, 2, 3, 4, 5, 7.5, 10].find((share) => share * unit >= length) };
+}
+
+/** Shows a span, inside all that is known. */
+function showSpan(from, to) {
+  const whole = wholeSpan(), length = Math.max(LEAST_SPAN, Math.min(to - from, whole.to - whole.from));
+  const begin = Math.max(whole.from, Math.min(from, whole.to - length));
+  Object.assign(timeline, { from: begin, to: begin + length, isWhole: length === whole.to - whole.from });
+  showCursor(false);
+  freshen(true);
+}
+
+/** Zooms by a factor around a count. */
+function zoom(factor, around = shownCount()) {
+  const { from, to } = timeline, share = (around - from) / (to - from), length = (to - from) / factor;
+  const inside = Math.max(0, Math.min(1, share));
+  showSpan(around - inside * length, around + (1 - inside) * length);
+}
+
+const columns = () => Math.max(1, Math.floor(el("track").clientWidth));
+const columnOf = (count) => ((count - timeline.from) / (timeline.to - timeline.from)) * columns();
+const countAt = (x) => timeline.from + (x / columns()) * (timeline.to - timeline.from);
+
+// Asking for what the lanes show
+
+/** Has the lanes show what is so now: at once, or while the machine runs some times a second. */
+function freshen(isAtOnce) {
+  const now = performance.now();
+  if (!isAtOnce && now < timeline.due) return;
+  timeline.due = now + FRESH_MS;
+  attempt(askLanes);
+}
+
+/** Asks the worker for the lanes, once at a time, and draws them. What is wanted meanwhile is asked for afterwards. */
+async function askLanes() {
+  if (timeline.isAsked || !app.work.generation) return (timeline.isStale = timeline.isAsked);
+  if (timeline.isWhole) Object.assign(timeline, wholeSpan());
+  const { from, to } = timeline, { generation } = app.work;
+  Object.assign(timeline, { isAsked: true, isStale: false });
+  const found = await app.live.ask("lanes", { from, to, columns: columns(), of: generation }).finally(() => (timeline.isAsked = false));
+  if (found && generation === app.work.generation) showLanes({ ...found, from, to });
+  if (timeline.isStale) freshen(true);
+}
+
+function showLanes(found) {
+  lanes = { ...lanes, found, end: Math.max(nowCount(), app.latest?.isReplay ? found.end : 0) };
+  drawLanes();
+  showCursor(!app.latest?.on && !timeline.isDragged);
+  attempt(askFilm);
+}
+
+async function askFilm() {
+  const now = performance.now();
+  if (now < timeline.filmDue) return;
+  timeline.filmDue = now + FILM_MS;
+  const film = await app.past.keyframes();
+  if (film) lanes = { ...lanes, film: film.counts };
+}
+
+// Drawing
+
+const isNarrow = () => matchMedia("(max-width: 36rem)").matches;
+
+/** Draws all lanes, one below the other; or merged to one in a narrow window. */
+function drawLanes() {
+  const canvas = el("lanes"), width = columns(), height = AXIS + (isNarrow() ? MERGED : ROW * LANES.length);
+  const [wide, high] = [width, height].map((points) => Math.round(points * devicePixelRatio));
+  if (canvas.width !== wide || canvas.height !== high) Object.assign(canvas, { width: wide, height: high });
+  canvas.style.height = `${height}px`;
+  const style = getComputedStyle(canvas), colour = (name) => style.getPropertyValue(`--${name}`).trim();
+  const pen = canvas.getContext("2d");
+  pen.setTransform(devicePixelRatio, 0, 0, devicePixelRatio, 0, 0);
+  pen.clearRect(0, 0, width, height);
+  pen.font = `12px ${colour("mono")}`;
+  pen.textBaseline = "middle";
+  const to = { pen, colour, width, row: (at) => (isNarrow() ? AXIS : AXIS + ROW * at), high: isNarrow() ? MERGED : ROW };
+  drawAxis(to);
+  [drawClaims, drawKeys, drawMouse, drawSerial, drawScreen, drawMarks, drawFilm].forEach((draw, at) => draw({ ...to, y: to.row(at) }));
+  drawNow(to, height);
+}
+
+function drawAxis({ pen, colour, width }) {
+  const span = timeline.to - timeline.from, step = tickStep(span * TICK_WIDTH / width), inSeconds = step >= PER_SECOND / 1000;
+  pen.fillStyle = colour("soft");
+  for (let count = Math.ceil(timeline.from / step) * step; count <= timeline.to; count += step) {
+    const x = columnOf(count), text = inSeconds ? `${Number((count / PER_SECOND).toPrecision(7))} s` : grouped(count);
+    pen.fillRect(x, 0, 1, AXIS - 2);
+    if (x + pen.measureText(text).width + 4 < width) pen.fillText(text, x + 4, AXIS / 2);
+  }
+}
+
+/** Returns the step between two ticks: 1, 2 or 5 of a power of ten, of seconds where there is a thousandth of one between them, else
+ * of counts. */
+function tickStep(least) {
+  const unit = least >= PER_SECOND / 1000 ? PER_SECOND : 1, power = 10 ** Math.floor(Math.log10(Math.max(1, least) / unit));
+  return Math.max(1, unit * power * [1, 2, 5, 10].find((share) => share * unit * power >= least));
+}
+
+/** The checkpoints with what is known of each: those of the file, or those that the page made. */
+function claimMarks() {
+  const { file } = app, wrong = falseClaim(), own = file ? [] : lanes.found.planned;
+  const claims = (file?.claims ?? []).map((count, number) => [count, stateOfClaim(number, count, wrong)]).slice(1);
+  const made = lanes.found.marks.filter((count) => !file?.claims.includes(count));
+  const ofOwn = verdicts.own.status === 0 ? "true" : "unchecked";
+  return [...claims, ...[...new Set([...own, ...made])].map((count) => [count, lanes.passed.get(count) ?? ofOwn])];
+}
+
+/** What is known of a checkpoint of the file: true, false, not judged (it comes after a false one), or unchecked. */
+function stateOfClaim(number, count, wrong) {
+  if (wrong) return number < wrong.number ? "true" : number === wrong.number ? "false" : "not judged";
+  if (app.file.verdict?.status === 0) return "true";
+  return lanes.passed.get(count) ?? "unchecked";
+}
+
+const GLYPHS = { true: "◆", false: "■", "not judged": "◇", unchecked: "○" };
+
+function drawClaims({ pen, colour, y, high }) {
+  pen.textAlign = "center";
+  for (const [count, state] of claimMarks()) {
+    pen.fillStyle = colour(state === "true" ? "true" : state === "false" ? "wrong" : "soft");
+    pen.fillText(GLYPHS[state], columnOf(count), y + high / 2);
+  }
+  pen.textAlign = "start";
+}
+
+function drawKeys({ pen, colour, y, high }) {
+  let free = -Infinity;
+  pen.fillStyle = colour("ink");
+  for (const [column, code] of lanes.found.keys) {
+    const text = code > 32 && code < 127 ? String.fromCharCode(code) : "";
+    if (text && column > free && high === ROW) pen.fillText(text, column, y + high / 2);
+    else if (column > free - 5) pen.fillRect(column, y + 3, 1, high - 6);
+    if (text && column > free) free = column + 7;
+  }
+}
+
+function drawMouse({ pen, colour, y, high }) {
+  pen.fillStyle = colour("link");
+  lanes.found.mouse.forEach((level, column) => level && pen.fillRect(column, y + high - (level === 2 ? high - 4 : 5), 1, level === 2 ? high - 5 : 4));
+}
+
+function drawSerial({ pen, colour, y, high }) {
+  pen.fillStyle = colour("ink");
+  lanes.found.serial.forEach((level, column) => level && pen.fillRect(column, y + 2, 2, high / 2 - 3));
+  pen.fillStyle = colour("odd-ink");
+  for (const [count] of inSpan(lanes.sent)) pen.fillRect(columnOf(count), y + high / 2 + 1, 2, high / 2 - 3);
+}
+
+function drawScreen({ pen, colour, y, high }) {
+  const most = new Map();
+  for (const [count, lines] of inSpan(lanes.painted)) {
+    const column = Math.floor(columnOf(count));
+    most.set(column, Math.max(most.get(column) ?? 0, lines));
+  }
+  pen.fillStyle = colour("ink");
+  for (const [column, lines] of most) {
+    const share = Math.sqrt(lines / LINES);
+    pen.globalAlpha = 0.4 + 0.6 * share;
+    pen.fillRect(column, y + high - 5 - share * (high - 8), 1, share * (high - 8) + 4);
+  }
+  pen.globalAlpha = 1;
+}
+
+function drawMarks({ pen, colour, y, high }) {
+  pen.fillStyle = colour("wrong");
+  pen.textAlign = "center";
+  for (const [count, glyph] of inSpan(hitMarks())) pen.fillText(glyph, columnOf(count), y + high / 2);
+  pen.textAlign = "start";
+}
+
+/** The film: a line as far as the machine has run, with a tick at each keyframe, and a dashed line for what is still to come. */
+function drawFilm({ pen, colour, y, high }) {
+  const middle = Math.round(y + high / 2), [begin, now, end] = [0, nowCount(), lanes.end].map(columnOf);
+  pen.fillStyle = pen.strokeStyle = colour("soft");
+  if (high !== ROW) return;
+  pen.fillRect(begin, middle - 1, now - begin, 2);
+  for (const [count] of inSpan(lanes.film.map((count) => [count]))) pen.fillRect(columnOf(count), middle - 3, 1, 6);
+  pen.setLineDash([5, 4]);
+  pen.beginPath();
+  pen.moveTo(now, middle);
+  pen.lineTo(end, middle);
+  pen.stroke();
+  pen.setLineDash([]);
+}
+
+function drawNow({ pen, colour, width }, height) {
+  const x = columnOf(nowCount());
+  if (x < 0 || x > width) return;
+  pen.fillStyle = colour("link");
+  pen.fillRect(x - 0.5, AXIS - 3, 1, height);
+}
+
+/** Returns the entries of a list whose counts are in the span; the list is in the order of its counts. */
+function inSpan(list) {
+  return list.filter(([count]) => count >= timeline.from && count <= timeline.to);
+}
+
+// The cursor
+
+/** Shows the cursor where it is. Its value in words changes once it has settled, so that a screen reader says that, and nothing on the way. */
+function showCursor(isSettled) {
+  const at = shownCount(), x = columnOf(at), cursor = el("cursor");
+  cursor.style.left = `${Math.max(0, Math.min(columns(), x))}px`;
+  cursor.classList.toggle("outside", x < 0 || x > columns());
+  cursor.classList.toggle("past", isPast());
+  if (!app.latest) return;
+  write("count", `${grouped(at)} · ${secondsOf(at)}`);
+  for (const name of ["begin-at", "back-run", "back"]) el(name).disabled = at === 0;
+  el("now").disabled = !isPast() && !app.latest.isReplay;
+  if (!isSettled) return;
+  cursor.setAttribute("aria-valuemax", lanes.end);
+  cursor.setAttribute("aria-valuenow", at);
+  cursor.setAttribute("aria-valuetext", cursorWords(at));
+  listLanes();
+}
+
+function cursorWords(at) {
+  const where = isPast() ? `${isAhead() ? "not run yet" : "the past"}, ${apart(at)} seconds ${isAhead() ? "ahead of" : "before"} now` : "now";
+  const claim = claimMarks().find(([count]) => count === at);
+  return `count ${grouped(at)}, ${secondsOf(at).replace(" s", " seconds")}, ${where}${claim ? `, a checkpoint, ${claim[1]}` : ""}`;
+}
+
+/** Writes each lane as a list, for those who do not see it. */
+function listLanes() {
+  const { listed } = lanes.found, inputs = (lane) => listed[lane].map(([count, kind, value]) => `${kind} ${hex(value, 2)} at ${grouped(count)}`);
+  const lists = { claims: inSpan(claimMarks()).slice(0, 40).map(([count, state]) => `${state} at ${grouped(count)}`),
+                  keys: inputs("keys"), mouse: inputs("mouse"), serial: [...inputs("serial"), ...inSpan(lanes.sent).slice(-20).map(([count, text]) => `sent ${text} by ${grouped(count)}`)],
+                  screen: inSpan(lanes.painted).slice(-20).map(([count, lines]) => `${lines} lines changed by ${grouped(count)}`),
+                  marks: inSpan(hitMarks()).map(([count, , what]) => `${what} at ${grouped(count)}`), film: [`kept up to ${grouped(nowCount())}`] };
+  el("lists").replaceChildren(...LANES.map((lane) => laneList(lane, lists[lane])));
+}
+
+function laneList(lane, items) {
+  const list = made("ul", "");
+  list.setAttribute("aria-label", `Lane ${lane}: ${items.length || "nothing"}`);
+  list.append(...items.map((text) => made("li", text)));
+  return list;
+}
+
+// The mouse and fingers on the track
+
+const xOf = (event) => event.clientX - el("track").getBoundingClientRect().left;
+
+function trackPressed(event) {
+  if (!app.latest || event.button > 0) return;
+  timeline.pointers.set(event.pointerId, event.clientX);
+  el("track").setPointerCapture(event.pointerId);
+  el("cursor").focus({ preventScroll: true });
+  timeline.isDragged = timeline.pointers.size === 1;
+  if (timeline.isDragged) return lookAt(countAt(xOf(event)), false);
+}
+
+function trackMoved(event) {
+  const { pointers } = timeline;
+  if (!pointers.has(event.pointerId)) return;
+  if (pointers.size === 2) return pinch(event);
+  pointers.set(event.pointerId, event.clientX);
+  if (timeline.isDragged) return lookAt(countAt(xOf(event)), false);
+}
+
+/** Zooms by the distance of two fingers, around the one that stays. */
+function pinch({ pointerId, clientX }) {
+  const { pointers } = timeline, [[, other]] = [...pointers].filter(([id]) => id !== pointerId);
+  const [before, now] = [Math.abs(pointers.get(pointerId) - other), Math.abs(clientX - other)];
+  pointers.set(pointerId, clientX);
+  if (before > 4 && now > 4) zoom(now / before, countAt(other - el("track").getBoundingClientRect().left));
+}
+
+function trackReleased(event) {
+  if (!timeline.pointers.delete(event.pointerId) || !timeline.isDragged) return;
+  timeline.isDragged = false;
+  return lookAt(shownCount());
+}
+
+/** The wheel zooms around the pointer, and with Shift, or sideways, it moves along. */
+function wheeled(event) {
+  if (!app.latest) return;
+  event.preventDefault();
+  const across = event.shiftKey ? event.deltaY : event.deltaX, { from, to } = timeline;
+  if (Math.abs(across) > Math.abs(event.shiftKey ? 0 : event.deltaY)) {
+    const by = (across / columns()) * (to - from);
+    showSpan(from + by, to + by);
+  } else zoom(Math.exp(-event.deltaY * 0.002), countAt(xOf(event)));
+}
+
+function makeTimeline() {
+  el("names").replaceChildren(...["", ...LANES].map((name) => made("span", name)));
+  drawLanes();
+}

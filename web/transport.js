@@ -1,0 +1,109 @@
+/* The transport: the buttons and the keys that go to another count. The keys are those of the time machine's region: while the screen
+ * has the focus, its keys go to the machine. */
+"use strict";
+
+/** Runs and pauses the machine; in the past, goes on to the next breakpoint or watch, or without any to the next input. */
+async function runOrPause() {
+  if (isAhead()) return runTo(look.at);
+  if (isPast()) return runInPast(false);
+  await setRun(!app.latest?.on);
+}
+
+/** Does one instruction; in the past, looks at one count more. */
+async function stepOn() {
+  if (isPast()) return lookAt(look.at + 1);
+  await app.live.ask("step");
+}
+
+function stepBack() {
+  return lookAt(shownCount() - 1);
+}
+
+/** Goes to the last hit of the breakpoints and watches before the cursor, or to the first one after it; without any to an input. */
+async function runInPast(isBack) {
+  if (!conditionsOfBreaks().length) return toInput(isBack);
+  const found = await search(conditionsOfBreaks(), isBack);
+  if (found === null && !isBack) return backToNow();
+}
+
+/** Goes to the input before the cursor, or to the next one; to the beginning, or to now, if there is none. */
+async function toInput(isBack) {
+  const at = await app.live.ask("inputNear", { at: shownCount(), isBefore: isBack });
+  if (at !== null && at <= nowCount()) return lookAt(at);
+  return isBack ? lookAt(0) : backToNow();
+}
+
+/** Goes to the checkpoint before the cursor, or to the next one. */
+async function toClaim(isBack) {
+  const at = shownCount(), counts = [0, ...claimMarks().map(([count]) => count).sort((one, other) => one - other)];
+  const found = isBack ? counts.filter((count) => count < at).at(-1) : counts.find((count) => count > at);
+  if (found !== undefined) await lookAt(found);
+}
+
+/** Goes to now; from there, to the end of a replay. */
+async function toNow() {
+  if (isPast()) return backToNow();
+  if (app.latest?.isReplay) await runTo(lanes.found.end);
+}
+
+/** Goes to the count that was written: a number, or seconds as in 1.5 s. */
+async function toWritten() {
+  const text = el("goto").value.replaceAll(/[, ]/g, ""), seconds = /^(\d+(?:\.\d*)?)s$/.exec(text);
+  if (!seconds && !/^\d+$/.test(text)) return notice(`${el("goto").value}: a count is a whole number, or seconds as in 1.5 s.`);
+  notice();
+  await lookAt(seconds ? Number(seconds[1]) * PER_SECOND : Number(text));
+}
+
+// What each key does. A capital is with Shift.
+const KEYS = {
+  ArrowLeft: stepBack, ArrowRight: stepOn, "Shift+ArrowLeft": () => runInPast(true), "Shift+ArrowRight": runOrPause,
+  ",": () => toInput(true), ".": () => toInput(false), "[": () => toClaim(true), "]": () => toClaim(false),
+  Home: () => lookAt(0), End: toNow, PageUp: () => zoom(ZOOM), PageDown: () => zoom(1 / ZOOM), "+": () => zoom(ZOOM), "-": () => zoom(1 / ZOOM),
+  "−": () => zoom(1 / ZOOM), "=": () => zoom(ZOOM), g: () => el("goto").focus(), "/": () => el("what").focus(),
+  n: () => searchAgain(false), N: () => searchAgain(true), b: () => toggleBreak(field(shownState(), AT.PC)), w: watchSelected, Escape: endOrNow,
+};
+
+/** Does what a key of the region means, unless it is typed into a field. */
+function timeKey(event) {
+  const { key, shiftKey, ctrlKey, altKey, metaKey, target } = event, isField = target.matches("input, select, textarea");
+  if (!app.latest || ctrlKey || altKey || metaKey || (isField && key !== "Escape")) return;
+  const task = KEYS[shiftKey && key.startsWith("Arrow") ? `Shift+${key}` : key];
+  if (!task) return;
+  event.preventDefault();
+  return task();
+}
+
+/** Ends the search that is under way, or else goes to now. */
+function endOrNow() {
+  return finding.isOn ? stopSearch() : backToNow();
+}
+
+/** Pauses or runs, from anywhere in the page. */
+function anywhere(event) {
+  if (event.key !== "Enter" || !event.ctrlKey || !event.shiftKey || !app.latest) return;
+  event.preventDefault();
+  attempt(runOrPause);
+}
+
+function listenToTime() {
+  on("run", "click", runOrPause);
+  on("step", "click", stepOn);
+  on("back", "click", stepBack);
+  on("back-run", "click", () => runInPast(true));
+  on("begin-at", "click", () => lookAt(0));
+  on("now", "click", toNow);
+  on("back-now", "click", () => backToNow());
+  on("take-here", "click", takeOverHere);
+  on("goto", "change", toWritten);
+  on("nearer", "click", () => zoom(ZOOM));
+  on("farther", "click", () => zoom(1 / ZOOM));
+  on("whole", "click", () => showSpan(...Object.values(wholeSpan())));
+  on("time", "keydown", timeKey);
+  on("track", "pointerdown", trackPressed);
+  on("track", "pointermove", trackMoved);
+  // The track keeps the focus that it is given when it is pressed.
+  on("track", "mousedown", (event) => event.preventDefault());
+  for (const type of ["pointerup", "pointercancel"]) on("track", type, trackReleased);
+  el("track").addEventListener("wheel", (event) => attempt(() => wheeled(event)), { passive: false });
+  addEventListener("keydown", anywhere);
+}

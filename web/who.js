@@ -1,0 +1,48 @@
+/* Who drew this dot, and who wrote this: a card with the instruction that wrote it last. */
+"use strict";
+
+// What was asked last: the question, and what it is about.
+let asking = null;
+
+/** Asks for the instruction that wrote something last before a count, which is that of the cursor if it is not given. */
+async function askWho(about, title, before = shownCount()) {
+  if (!app.latest || app.latest.on) return;
+  const question = { ...about, before };
+  asking = { about, title, question };
+  showCard(title, [paragraph("searching ..", "hint")]);
+  const answer = await app.past.who(question);
+  if (asking?.question === question && answer) showWho(answer);
+}
+
+/** Shows an answer: an instruction, probably or surely, or that it was there from the beginning. */
+function showWho(answer) {
+  const { title, about } = asking ?? {}, { stored } = answer;
+  if (!title) return;
+  const again = stored ? [paragraph(`Instruction ${grouped(stored.at)} wrote the same again.`, "hint")] : [];
+  if (answer.stopped) return showCard(title, [paragraph("The search was stopped.", "hint")]);
+  if (answer.initial) return showCard(title, [paragraph("No instruction: it is in the initial memory."), ...again]);
+  const { at, pc, word, state, sure } = answer, [mnemonic, meaning] = instruction(word, pc), registers = made("code", REGISTERS.map((name, number) => `${name} ${hex(field(state, AT.R + 4 * number), 8)}`).join("  "));
+  const jump = button("Jump", () => lookAt(at)), earlier = button("Earlier", () => askWho(about, title, at));
+  const line = paragraph(`${mnemonic}  `, "instruction");
+  line.append(made("span", meaning));
+  showCard(title, [paragraph(`Instruction ${grouped(at)}, PC ${pc}: ${sure ? "sure" : "probably; still searching"}`), line, jump, earlier, ...again, registers]);
+}
+
+function showCard(title, parts) {
+  const close = button("×", async () => closeCard()), heading = made("h2", title);
+  close.className = "close";
+  close.setAttribute("aria-label", "Close");
+  el("card").replaceChildren(heading, close, ...parts);
+  el("card").hidden = false;
+}
+
+function closeCard() {
+  asking = null;
+  el("card").hidden = true;
+}
+
+/** Asks who drew the dot under the mouse, if the machine does not run: else the click is the machine's. */
+function askDot(event) {
+  const [x, y] = dotAt(event, el("screen").getBoundingClientRect());
+  return askWho({ address: DISPLAY_AT + LINE_BYTES * y + (x >> 3), bit: x & 7 }, `Who drew the dot ${x}, ${LINES - 1 - y}`);
+}
