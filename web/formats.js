@@ -22,12 +22,23 @@ class Inputs {
     return new DataView(this.room.buffer);
   }
 
+  /** Makes room for so many bytes. */
+  reserve(length) {
+    if (length <= this.room.length) return;
+    const room = new Uint8Array(Math.max(1024, 2 * this.room.length, length));
+    room.set(this.room);
+    this.room = room;
+  }
+
+  /** Puts the bytes of others in place of the inputs from a position on. */
+  replace(from, bytes) {
+    this.reserve(INPUT_BYTES * from + bytes.length);
+    this.room.set(bytes, INPUT_BYTES * from);
+    this.length = from + bytes.length / INPUT_BYTES;
+  }
+
   push(count, kind, value) {
-    if (this.bytes.length === this.room.length) {
-      const room = new Uint8Array(Math.max(1024, 2 * this.room.length));
-      room.set(this.room);
-      this.room = room;
-    }
+    this.reserve(this.bytes.length + INPUT_BYTES);
     const at = INPUT_BYTES * this.length++, view = this.view;
     view.setBigUint64(at, BigInt(count), true);
     view.setUint32(at + 8, kind, true);

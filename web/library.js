@@ -1,6 +1,6 @@
 /* The proved library as a WebAssembly module: its exports, over the module's own memory. include/galluspa.h says what each does.
- * Pointers, lengths and counts have 64 bits, so they are passed as BigInt. The worker script is states.js, this file, formats.js,
- * stretches.js, recorder.js, machine.js, arrivals.js and worker.js, in this order. */
+ * Pointers, lengths and counts have 64 bits, so they are passed as BigInt. web/build lists the files of the worker script, this one among
+ * the first. */
 "use strict";
 
 const LONGEST_RECORDING = 118310056, MOST_COUNT = 2 ** 40;
@@ -10,6 +10,7 @@ const RECORD_REFUSALS = ["", "a number is out of its range", "", "no memory", "t
                          "the recording has reached its limit of checkpoints", "the recording has reached its limit of sent bytes",
                          "the recording has reached its limit of pages", "the recording has inputs at or after its last checkpoint"];
 const RECORD_ROOM = 1 << 18, LINE_ROOM = 256;
+const NOT_FOUND = 11, HIT_BYTES = 16;
 
 /** Bad input, or a request that cannot be met. Its message is one line for the user. */
 class Refused extends Error {}
@@ -103,6 +104,22 @@ class Library {
     const code = this.exports.galluspa_claim(...given) & 255;
     if (code !== DONE && code !== NO_CHECKPOINT) throw new Refused(code === 3 ? "no memory" : "the file is no recording");
     return code === DONE;
+  }
+
+  /** Returns the first or the last hit of conditions in the run of the state and the words at an address, before a count; or null. */
+  find(place, inputs, to, conditions, isLast) {
+    const written = Uint32Array.from(conditions.flatMap(({ kind, from = 0, end = 0, value = 0 }) => [kind, from, end, value]));
+    const held = [this.hold(inputs), this.hold(new Uint8Array(written.buffer)), this.take(HIT_BYTES)];
+    const [list, wanted, hit] = held.map(BigInt), machine = [place, place + STATE_BYTES, WORDS].map(BigInt);
+    try {
+      const many = BigInt(inputs.length / INPUT_BYTES), number = BigInt(conditions.length);
+      const code = this.exports.galluspa_find(...machine, list, many, BigInt(to), wanted, number, isLast ? 1 : 0, hit) & 255;
+      if (code !== DONE && code !== NOT_FOUND) throw new Refused(ADVANCE_REFUSALS[code]);
+      const read = (at) => Number(this.view.getBigUint64(held[2] + at, true));
+      return code === DONE ? { at: read(0), which: read(8) } : null;
+    } finally {
+      for (const it of held) this.leave(it);
+    }
   }
 }
 

@@ -1,46 +1,19 @@
-/* The live machine: a state and 262,144 words that the library advances, the recording in progress, and the recording that is
- * played back, if there is one. Each input is stamped with the count of the instruction before which it comes. */
+/* The live machine: an emulator, the recording in progress, and the recording that is played back, if there is one. Each input is
+ * stamped with the count of the instruction before which it comes. */
 "use strict";
 
-// The clock of the workstation: 25 MHz, one instruction per cycle.
-const PER_SECOND = 25000000;
-const INPUTS_AT_ONCE = 4096, SENT_ROOM = 1 << 20, QUEUE = 16, RECEIVED = 256;
-const DISPLAY_AT = 4 * 237504, DISPLAY_BYTES = 98304;
+const QUEUE = 16, RECEIVED = 256;
 
-class Machine {
+class Machine extends Emulator {
   constructor(library) {
-    this.library = library;
-    // The words are next to the state. `other` has the same size, for claims to compare with.
-    this.place = library.take(STATE_BYTES + MEMORY_BYTES);
+    super(library);
+    // As large as a state with its words, for claims to compare with.
     this.other = library.take(STATE_BYTES + MEMORY_BYTES);
-    this.list = library.take(INPUT_BYTES * INPUTS_AT_ONCE);
-    this.sentPlace = library.take(SENT_ROOM);
-    this.sentCount = library.take(8);
     this.text = 0;
     this.recorder = new Recorder(library);
     this.arrivals = new Arrivals();
     this.inputs = new Inputs();
-    this.given = this.next = 0;
-  }
-
-  get state() {
-    return this.library.bytes(this.place, STATE_BYTES);
-  }
-
-  get words() {
-    return this.library.bytes(this.place + STATE_BYTES, MEMORY_BYTES);
-  }
-
-  get dots() {
-    return this.words.subarray(DISPLAY_AT, DISPLAY_AT + DISPLAY_BYTES);
-  }
-
-  get count() {
-    return countOf(this.state);
-  }
-
-  part(name) {
-    return field(this.state, AT[name]);
+    this.given = this.next = this.sentTotal = 0;
   }
 
   /** Begins a session. `checkpoints` are the counts of its checkpoints, at which the claims of a recording are compared. */
@@ -51,16 +24,12 @@ class Machine {
     this.start({ state, words, inputs, given: inputs.length, next: 0, planned: checkpoints });
   }
 
-  /** Puts a state and its words at an address. */
-  put(place, { state, words }) {
-    this.library.bytes(place, STATE_BYTES).set(state);
-    this.library.bytes(place + STATE_BYTES, MEMORY_BYTES).set(words);
-  }
-
-  /** Starts at a state. Of the inputs the first so many are of a file, and the first so many are taken already. */
+  /** Starts at a state, after the bytes that the recording in progress says were sent. Of the inputs the first so many are of a file,
+   * and the first so many are taken already. */
   start({ state, words, inputs, given, next, planned, waiting }) {
     this.put(this.place, { state, words });
     Object.assign(this, { inputs, given, next, planned, isTrue: true, sentSince: [], arrivals: new Arrivals(waiting) });
+    this.sentTotal = this.recorder.sentTotal;
     this.arrivals.forgetMouse(this.part("mouse"));
   }
 
@@ -154,6 +123,18 @@ class Machine {
     this.arrivals.forgetMouse(this.part("mouse"));
   }
 
+  /** Goes on from a moment of the past: its state, its words, and how many bytes were sent before it. Later inputs and claims are
+   * dropped. The recording in progress is cut back to its last checkpoint that is not after the moment; what came since then is still
+   * to be recorded. A recording that ended before the moment stays as it is. */
+  goBack(at, { state, words, sent }) {
+    if (countOf(state) !== at || at > this.count) throw new Refused(`the machine has not come to ${at} yet`);
+    const inputs = new Inputs(this.inputs.bytes.subarray(0, INPUT_BYTES * this.inputs.from(at)));
+    const planned = this.planned.filter((count) => count <= at), given = Math.min(this.given, inputs.length);
+    if (!(this.recorder.full?.count <= at)) this.recorder.cut(at, sent);
+    this.start({ state, words, inputs, given, next: inputs.length, planned });
+    this.sentTotal = sent;
+  }
+
   /** Why the machine takes no inputs of the user, or null. */
   get deaf() {
     if (this.isReplay) return "REPLAY: the inputs are the file's until you take over";
@@ -198,25 +179,12 @@ class Machine {
 
   /** Runs up to a count or less, and returns the bytes that the machine sent. */
   advance(to) {
-    const end = this.inputs.from(to, this.next);
-    const code = this.call(this.inputs.bytes.subarray(INPUT_BYTES * this.next, INPUT_BYTES * end), to);
-    if (code === NO_ROOM && to - this.count > 1) return this.advance(this.count + Math.floor((to - this.count) / 2));
-    if (code !== DONE) throw new Refused(ADVANCE_REFUSALS[code]);
-    this.next = end;
-    const length = Number(this.library.view.getBigUint64(this.sentCount, true));
-    const sent = this.library.bytes(this.sentPlace, length).slice();
+    const sent = this.run(this.inputs, this.next, to);
+    this.next = this.inputs.from(this.count, this.next);
     this.recorder.note(sent);
-    if (this.recording && length) this.sentSince.push(sent);
+    this.sentTotal += sent.length;
+    if (this.recording && sent.length) this.sentSince.push(sent);
     return sent;
-  }
-
-  call(inputs, to) {
-    const many = inputs.length / INPUT_BYTES, list = many > INPUTS_AT_ONCE ? this.library.hold(inputs) : this.list;
-    this.library.bytes(list, inputs.length).set(inputs);
-    const given = [this.place, this.place + STATE_BYTES, WORDS, list, many, to, this.sentPlace, SENT_ROOM, this.sentCount];
-    const code = this.library.exports.galluspa_advance(...given.map(BigInt)) & 255;
-    if (list !== this.list) this.library.leave(list);
-    return code;
   }
 
   /** Returns the next count at which to stop: that of a checkpoint that is planned, the end of a replay, or a checkpoint that is
@@ -280,7 +248,7 @@ class Machine {
   /** Compares the recording's claim at this count with the machine. Returns its number, and the name of the first part that
    * differs, or null. */
   judge() {
-    if (!this.recording) return null;
+    if (!this.recording || !this.planned.includes(this.count)) return null;
     const number = this.recording.claims.findIndex((claim) => claim.count === this.count);
     if (number < 1) return null;
     this.library.claim(this.text, this.recording.text.length, number, this.other, this.other + STATE_BYTES);
@@ -289,10 +257,6 @@ class Machine {
     this.sentSince = [];
     if (part) this.isTrue = false;
     return { number, count: this.count, part };
-  }
-
-  at(place) {
-    return { state: this.library.bytes(place, STATE_BYTES), words: this.library.bytes(place + STATE_BYTES, MEMORY_BYTES) };
   }
 
   /** Returns what a checkpoint of the recording claims, and what has changed since the checkpoint before. */
@@ -331,17 +295,6 @@ class Machine {
     const inputs = this.inputs.bytes.slice();
     return { ...this.recorder.kept, live: copied(this.at(this.place)), count: this.count, inputs, waiting: { keys, serial } };
   }
-
-  /** Returns the words around PC, each with its address. */
-  listing(before, after) {
-    const pc = this.part("PC"), from = Math.max(0, pc - before), to = Math.min(WORDS, pc + after);
-    const view = this.library.view, words = this.place + STATE_BYTES;
-    return Array.from({ length: Math.max(0, to - from) }, (_, at) => [from + at, view.getUint32(words + 4 * (from + at), true)]);
-  }
-}
-
-function copied({ state, words }) {
-  return { state: state.slice(), words: words.slice() };
 }
 
 /** Returns inputs whose bytes were kept. They are refused if one is out of its range, or before the one before it. */

@@ -28,6 +28,14 @@ class Recorder {
     this.note(sent);
   }
 
+  /** Goes back to a count, before which so many bytes were sent: to the last checkpoint that is not after it, and what was sent since. */
+  cut(count, sent) {
+    const recording = readRecording(this.text), { claims } = recording, last = claims.findLastIndex((claim) => claim.count <= count);
+    const output = joined([...claims.map((claim) => claim.sent), ...this.sent]);
+    const before = claims.slice(0, last + 1).reduce((length, claim) => length + claim.sent.length, 0);
+    this.resume(stretch(recording, firstTable(recording), 0, last), output.slice(before, sent));
+  }
+
   forgetSent() {
     this.sent = [];
     this.sentLength = 0;
@@ -40,9 +48,14 @@ class Recorder {
     this.sentLength += sent.length;
   }
 
+  /** How many bytes were sent, as far as the recording has them. */
+  get sentTotal() {
+    return this.sentBefore + this.sentLength;
+  }
+
   /** How many more bytes the recording has room for. */
   get room() {
-    return Math.max(0, MOST_SENT - this.sentBefore - this.sentLength);
+    return Math.max(0, MOST_SENT - this.sentTotal);
   }
 
   /** The limit of a recording that is so near that no more may fit than a checkpoint at this count, or null. */

@@ -1,7 +1,8 @@
-/* The last part of the worker script: it answers the page's requests. Two workers run it. One has the live machine and records it.
- * The other, the clerk, checks, so that a long check can be stopped without touching the machine. A request is `{id, ask, ..}`,
- * and its answer `{id, answer}`, `{id, refused}` with a line for the user, or `{id, broken}` for a bug in this script. Messages
- * that answer no request have no id. */
+/* The last part of the worker script: it answers the page's requests. Three kinds of workers run it. One has the live machine and
+ * records it. Another, the clerk, checks, so that a long check can be stopped without touching the machine. A third one looks into the
+ * past, which the live one tells it through a port. A request is `{id, ask, ..}`, and its answer `{id, answer}`, `{id, refused}` with a
+ * line for the user, or `{id, broken}` for a bug in this script. Messages that answer no request have no id, and a request without an
+ * id gets no answer. */
 "use strict";
 
 const FRAME_MS = 1000 / 60, BUDGET_MS = 12, FIRST_CHUNK = 200000, LAG_MS = 100, PER_MS = PER_SECOND / 1000;
@@ -10,7 +11,8 @@ const PIECES = 48, PIECES_MS = 8;
 // A recording of up to one second of the machine's time is checked by one call.
 const WHOLE_STEPS = 25000000;
 
-let library = null, machine = null;
+// `feed` tells the past of the live machine, once it is connected; `history` is there in the worker that looks into the past.
+let library = null, machine = null, feed = null, history = null;
 let run = { on: false };
 // The number of the machine that is shown: each one that is opened has the next.
 let generation = 0;
@@ -40,7 +42,8 @@ function speedOf() {
 function setRun({ on, fast, goal = null, seconds }) {
   const now = performance.now();
   const clock = { ms: now, count: machine.count };
-  run = { on, fast, goal, seconds, begun: now, turn: now, from: machine.count, clock, busy: 0, frames: 0, chunk: FIRST_CHUNK };
+  const pace = new Pace(BUDGET_MS, FIRST_CHUNK);
+  run = { on, fast, goal, seconds, begun: now, turn: now, from: machine.count, clock, busy: 0, frames: 0, pace };
   if (on) return isDue ? undefined : tick();
   endRun();
   show([]);
@@ -64,6 +67,7 @@ function tick() {
   try {
     const begun = performance.now(), wasReplay = machine.isReplay;
     const sent = isAtEnd() ? turnTo(machine.end, begun + LAG_MS) : run.fast ? fastTurn(begun) : clockedTurn(begun);
+    feed?.follow(run.fast);
     run.busy += performance.now() - begun;
     run.turn = begun;
     run.frames++;
@@ -121,10 +125,10 @@ function clockedTurn(now) {
 
 /** Runs a piece that takes about a frame, so that messages are read between two pieces. */
 function fastTurn(begun) {
-  const from = machine.count, perMs = run.chunk / BUDGET_MS, { turn } = run;
-  machine.stamp((at) => from + (at - turn) * perMs, from + run.chunk);
-  const sent = turnTo(from + run.chunk, begun + BUDGET_MS), ms = performance.now() - begun;
-  if (machine.count - from === run.chunk) run.chunk = Math.ceil(run.chunk * Math.min(4, Math.max(0.25, BUDGET_MS / Math.max(ms, 0.1))));
+  const from = machine.count, { pace, turn } = run, to = from + pace.steps;
+  machine.stamp((at) => from + (at - turn) * pace.steps / BUDGET_MS, to);
+  const sent = turnTo(to, begun + BUDGET_MS);
+  pace.took(machine.count - from, performance.now() - begun);
   return sent;
 }
 
@@ -155,11 +159,14 @@ function reached() {
   run.becameFull = machine.endIfFull();
   const passed = machine.judge();
   if (passed) postMessage({ passed });
+  if (isPlanned) feed?.keyframe(true);
 }
 
 /** Records a checkpoint. Room for one is left for the end of the recording. */
 function mark() {
-  return machine.mark(CHECKPOINT_LIMIT - 1);
+  const isNew = machine.mark(CHECKPOINT_LIMIT - 1);
+  if (isNew) feed?.keyframe(true);
+  return isNew;
 }
 
 /** Opens a machine in place of the one that is there, unless `begin` refuses: then that one stays as it is. Returns what was
@@ -169,6 +176,7 @@ function opened(kind, begin) {
   begin();
   run = { on: false };
   generation++;
+  feed?.begin(generation);
   show([], true);
   const { recording, planned, inputs } = machine;
   return { kind, claims: recording?.claims.map((claim) => claim.count) ?? null, version: recording?.version, inputs: inputs.length,
@@ -220,9 +228,20 @@ const LIVE = {
     const goal = machine.nextStop(seconds || 1);
     setRun({ on: true, fast, goal, seconds });
   },
-  takeOver() {
-    machine.takeOver();
-    show([]);
+  /** Ends a replay where it is; or goes on from a moment of the past, which `history` has. */
+  takeOver({ at, ...moment }) {
+    if (at === undefined) machine.takeOver();
+    else {
+      machine.goBack(at, moment);
+      run = { on: false };
+    }
+    feed?.cut();
+    show([], at !== undefined);
+  },
+  /** Tells the past of this machine through a port from now on. */
+  connect({ port }) {
+    feed = new Feed(machine, port);
+    if (generation) feed.begin(generation);
   },
   /** Takes changes of the mouse or of the switches, each with its value and its time since 1970 in ms. Returns why they have no
    * effect, or null. */
@@ -307,7 +326,28 @@ function lawful(text) {
   }
 }
 
-// Both
+// The past
+
+const PAST = {
+  /** Hears the live machine through a port. */
+  listen({ port }) {
+    history ??= new History(library, (news) => postMessage(news));
+    history.listen(port);
+  },
+  peek: (given) => history.peek(given),
+  memory: (given) => history.memory(given),
+  moment: (given) => history.moment(given),
+  around: (given) => history.around(given),
+  find: (given) => history.searches.find(given),
+  who: (given) => history.searches.who(given),
+  stopSearch: () => history.searches.stop(),
+  /** Returns the counts of the keyframes, how many bytes they take, and how far the past is known. */
+  keyframes: () => history.extent(),
+  /** Returns the inputs from a number on. */
+  inputs: (given) => history.inputsFrom(given),
+};
+
+// All
 
 function faultOf(error) {
   if (error instanceof Refused) return { refused: error.message };
@@ -315,16 +355,20 @@ function faultOf(error) {
   return { broken: `${error.message}\n${error.stack}` };
 }
 
+/** Makes the machine of this worker. */
+function start({ module }) {
+  library = new Library(module);
+  machine = new Machine(library);
+  return true;
+}
+
 onmessage = ({ data: { id, ask, ...given } }) => {
+  const post = (message) => id !== undefined && postMessage({ id, ...message });
   try {
-    if (ask === "start") {
-      library = new Library(given.module);
-      machine = new Machine(library);
-      postMessage({ id, answer: true });
-    } else {
-      postMessage({ id, answer: (LIVE[ask] ?? CLERK[ask])(given) });
-    }
+    const task = ask === "start" ? start : LIVE[ask] ?? CLERK[ask] ?? PAST[ask], answer = task(given);
+    if (answer instanceof Promise) answer.then((later) => post({ answer: later }), (error) => post(faultOf(error)));
+    else post({ answer });
   } catch (error) {
-    postMessage({ id, ...faultOf(error) });
+    post(faultOf(error));
   }
 };

@@ -1,0 +1,56 @@
+/* What the live machine posts to the worker that looks into its past: the initial state, keyframes and inputs. The memory is compared
+ * with what was posted last, and only pages that changed are posted. */
+"use strict";
+
+const KEYFRAME_STEPS = 2500000;
+// A fast run spends at most this part of its time on keyframes.
+const KEYFRAME_SHARE = 0.02;
+
+class Feed {
+  /** Posts to a port. When something is posted there, the other side wants to know how far the machine is. */
+  constructor(machine, port) {
+    Object.assign(this, { machine, port, generation: 0, posted: 0, last: 0, due: 0, memory: new Uint8Array(MEMORY_BYTES) });
+    port.onmessage = () => this.post({ isAnswer: true });
+  }
+
+  /** Begins with a machine of a new number. */
+  begin(generation) {
+    const { machine } = this, first = machine.firstOf(machine.recorder.text), text = machine.recording?.text ?? machine.recorder.text;
+    Object.assign(this, { generation, posted: 0, last: 0, due: 0 });
+    this.memory.set(first.words);
+    this.post({ begin: { ...first, text } });
+    if (machine.count) this.keyframe(false);
+  }
+
+  /** Posts how far the machine is, the inputs that are new since then, and something else. */
+  post(more = {}) {
+    const { machine, posted, generation } = this, { count, end, isReplay } = machine;
+    const inputs = { from: posted, bytes: machine.inputs.bytes.slice(INPUT_BYTES * posted) };
+    this.posted = machine.inputs.length;
+    this.port.postMessage({ generation, count, end: isReplay ? Math.max(count, end) : count, inputs, ...more });
+  }
+
+  /** Posts a keyframe after a turn, if one is due. */
+  follow(isFast) {
+    if (this.machine.count - this.last < KEYFRAME_STEPS || (isFast && performance.now() < this.due)) return;
+    this.keyframe(false);
+  }
+
+  /** Posts the state, with the pages that changed since the last time. */
+  keyframe(isCheckpoint) {
+    const begun = performance.now(), { words, state, sentTotal, count } = this.machine, numbers = differingPages(words, this.memory);
+    const bytes = new Uint8Array(PAGE_BYTES * numbers.length);
+    numbers.forEach((page, at) => bytes.set(words.subarray(PAGE_BYTES * page, PAGE_BYTES * (page + 1)), PAGE_BYTES * at));
+    numbers.forEach((page, at) => this.memory.set(bytes.subarray(PAGE_BYTES * at, PAGE_BYTES * (at + 1)), PAGE_BYTES * page));
+    this.post({ keyframe: { count, state: state.slice(), sent: sentTotal, isCheckpoint, numbers, bytes } });
+    const now = performance.now();
+    Object.assign(this, { last: count, due: now + (now - begun) / KEYFRAME_SHARE });
+  }
+
+  /** Posts that what came after the machine's count is void, also the inputs that it has not taken. */
+  cut() {
+    this.posted = this.machine.next;
+    this.post({ isCut: true });
+    this.keyframe(false);
+  }
+}

@@ -1,0 +1,278 @@
+/* The past of the live machine: its state at any count, run again from a keyframe. A worker of its own looks, so that the live machine
+ * is never held up; the live one's feed (feed.js) tells it what it needs. Looks come one after the other, and before each piece of a
+ * search (searches.js). */
+"use strict";
+
+// If a look takes longer, what is there comes first.
+const SLOW_MS = 30;
+// After a look there are keyframes about so far before it, so that steps back are short.
+const NEAR = [262144, 16384, 1024, 64, 4];
+const LISTED_BEFORE = 16, LISTED_AFTER = 32, MOST_AROUND = 512;
+
+/** Says that nobody waits for an answer any more: something newer came, or another machine. */
+class Ended extends Error {}
+
+const tasks = { channel: new MessageChannel(), waiting: [] };
+tasks.channel.port1.onmessage = () => tasks.waiting.shift()();
+
+/** Lets the worker take its messages. */
+function nextTask() {
+  return new Promise((resolve) => {
+    tasks.waiting.push(resolve);
+    tasks.channel.port2.postMessage(null);
+  });
+}
+
+class History {
+  /** `tell` posts news to the page. */
+  constructor(library, tell) {
+    Object.assign(this, { library, tell, port: null, keyframes: new Keyframes(), inputs: new Inputs(), claims: null, liveTable: null });
+    Object.assign(this, { looker: new Replayer(library), searcher: new Replayer(library) });
+    // The number of the machine; a number of the past as it is known, since a machine that goes back has another one; how far the live
+    // machine is known to be, how far its inputs are known, and where it began if that is not at the beginning.
+    Object.assign(this, { generation: 0, epoch: 0, count: 0, end: 0, begun: 0 });
+    Object.assign(this, { wakes: [], asked: 0, answered: 0 });
+    Object.assign(this, { looks: Promise.resolve(), looking: 0, peeks: 0, cursor: null, isSettled: true });
+    this.searches = new Searches(this);
+  }
+
+  // What the live machine says
+
+  /** Hears the live machine through a port. */
+  listen(port) {
+    this.port = port;
+    port.onmessage = ({ data }) => this.hear(data);
+  }
+
+  hear({ generation, count, end, inputs, begin, keyframe, isCut, isAnswer }) {
+    if (begin) this.begin(generation, count, begin);
+    if (isCut) this.cut(count);
+    this.inputs.replace(inputs.from, inputs.bytes);
+    Object.assign(this, { count, end, answered: this.answered + (isAnswer ? 1 : 0) });
+    if (keyframe) this.addLive(keyframe);
+    for (const wake of this.wakes.splice(0)) wake();
+  }
+
+  /** Begins with another machine, which began at a count: its initial state, and the recording of what came before, or of its file. */
+  begin(generation, begun, { state, words, text }) {
+    this.makeVoid();
+    this.claims?.leave();
+    const keyframes = new Keyframes(this.keyframes.budget), table = keyframes.tableOf(wordsOf(words));
+    keyframes.add({ count: 0, state, table, sent: 0, isCheckpoint: true, isClaimed: false });
+    Object.assign(this, { generation, keyframes, liveTable: keyframes.copied(table), claims: new Claims(this.library, text) });
+    Object.assign(this, { inputs: new Inputs(), cursor: null, isSettled: true, begun });
+  }
+
+  /** Drops what came after a count: the machine goes on from there otherwise. */
+  cut(count) {
+    this.makeVoid();
+    this.keyframes.forgetAfter(count);
+    this.begun = Math.min(this.begun, count);
+    if (this.cursor > count) Object.assign(this, { cursor: null, isSettled: true });
+  }
+
+  /** Ends what is under way, at its next turn. What still waits for this machine goes on. */
+  makeVoid() {
+    this.epoch++;
+    this.looker.forget();
+    this.searcher.forget();
+  }
+
+  addLive({ count, state, sent, isCheckpoint, numbers, bytes }) {
+    this.keyframes.change(this.liveTable, numbers, wordsOf(bytes));
+    this.keyframes.add({ count, state, sent, isCheckpoint, isClaimed: false, table: this.keyframes.copied(this.liveTable) });
+    this.keyframes.thin(this.cursor ?? count);
+  }
+
+  /** Returns once the machine of a number is the one that is known, and known up to a count, as far as it has come. */
+  async known(generation, count) {
+    if (!generation) throw new Refused("no machine is open");
+    while (this.generation < generation) await this.heard();
+    if (this.generation !== generation) throw new Ended();
+    if (count <= this.end) return;
+    const number = ++this.asked;
+    this.port.postMessage(null);
+    while (this.answered < number) await this.heard();
+    if (this.generation !== generation) throw new Ended();
+  }
+
+  heard() {
+    return new Promise((resolve) => this.wakes.push(resolve));
+  }
+
+  /** Returns the counts of the keyframes, how many bytes they take, and how far the past and its inputs are known. */
+  extent() {
+    const { counts, bytes } = this.keyframes;
+    return { counts, bytes, count: this.count, end: this.end, generation: this.generation };
+  }
+
+  /** Returns the inputs from a number on. */
+  inputsFrom({ generation, from }) {
+    const read = async () => {
+      await this.known(generation, Infinity);
+      return { from, bytes: this.inputs.bytes.slice(INPUT_BYTES * from) };
+    };
+    return read().catch(unlessEnded(null));
+  }
+
+  // Running again
+
+  /** Whether the state at a count may come from a claim: only where the live machine has not run. */
+  mayBeClaimed(count) {
+    return count > this.count || count < this.begun;
+  }
+
+  /** Returns the last keyframe at or below a count from which a replayer may start. */
+  nearest(count, mayBeClaimed = false) {
+    let at = this.keyframes.position(count);
+    while (!mayBeClaimed && this.keyframes.items[at].isClaimed) at--;
+    return this.keyframes.items[at];
+  }
+
+  /** Starts a replayer as near below a count as there is something to start from. */
+  start(replayer, count, mayBeClaimed) {
+    const keyframe = this.nearest(count, mayBeClaimed), claim = mayBeClaimed ? this.claims.before(count) : 0;
+    const isUsable = replayer.isSet && replayer.count <= count && (mayBeClaimed || !replayer.isClaimed);
+    const own = isUsable ? replayer.count : -1;
+    if (this.claims.counts[claim] > Math.max(own, keyframe.count)) replayer.loadClaim(this.claims, claim);
+    else if (own < keyframe.count) replayer.load(this.keyframes, keyframe);
+  }
+
+  /** Brings a replayer to a count. Between two calls `turn` lets others go first; before each one `heard` hears of it. In a long gap
+   * between keyframes it leaves some. */
+  async reach(replayer, count, turn, { mayBeClaimed = false, heard = () => {} } = {}) {
+    this.start(replayer, count, mayBeClaimed);
+    while (replayer.count < count) {
+      heard(replayer);
+      const gap = replayer.count - this.nearest(replayer.count, replayer.isClaimed).count;
+      if (gap >= KEYFRAME_STEPS) this.keep(replayer);
+      replayer.advance(this.inputs, Math.min(count, replayer.count + KEYFRAME_STEPS - (gap % KEYFRAME_STEPS)));
+      await turn();
+    }
+  }
+
+  /** Makes a keyframe of where a replayer is. */
+  keep(replayer) {
+    const { count, sent, isClaimed } = replayer, { count: there, table } = this.nearest(count, true);
+    if (there === count) return;
+    const own = this.keyframes.tableOf(wordsOf(replayer.words), table);
+    this.keyframes.add({ count, state: replayer.state.slice(), sent, isClaimed, isCheckpoint: false, table: own });
+    this.keyframes.thin(this.cursor ?? count);
+  }
+
+  // Looks
+
+  /** Does a task with the machine at a count, after the looks before it. Returns null if the past became another one meanwhile, or if
+   * `isOver`. */
+  look({ generation, at }, task, isOver = () => false) {
+    if (!isWhole(at)) throw new Refused(`${at} is no count`);
+    const done = this.inTurn(async () => {
+      await this.known(generation, at);
+      if (at > this.end) throw new Refused(`the machine has not come to ${at} yet`);
+      const { epoch } = this;
+      const turn = async () => {
+        await nextTask();
+        if (this.epoch !== epoch || isOver()) throw new Ended();
+      };
+      if (isOver()) throw new Ended();
+      return task(turn);
+    });
+    return done.catch(unlessEnded(null));
+  }
+
+  /** Does a task after the looks before it. After the last one, keyframes are made near the cursor. */
+  inTurn(task) {
+    this.looking++;
+    const done = this.looks.then(task);
+    this.looks = done.catch(() => {}).then(() => {
+      this.looking--;
+      if (!this.looking && !this.isSettled) this.inTurn(() => this.settle()).catch(() => {});
+    });
+    return done;
+  }
+
+  /** Looks at a count. If that takes long, the news have a nearby state first. `quick` looks are those of a cursor that moves. A newer
+   * look ends this one. */
+  peek({ generation, at, quick = false }) {
+    const number = ++this.peeks, begun = performance.now(), { looker } = this;
+    let isTold = false;
+    const heard = () => {
+      if (isTold || performance.now() - begun + looker.msTo(at) <= SLOW_MS) return;
+      isTold = true;
+      this.tell({ peeked: { generation, at, exact: false, ...pictureOf(looker) } });
+    };
+    return this.look({ generation, at }, async (turn) => {
+      await this.reach(looker, at, turn, { mayBeClaimed: this.mayBeClaimed(at), heard });
+      Object.assign(this, { cursor: at, isSettled: quick });
+      const listing = quick ? null : looker.listing(LISTED_BEFORE, LISTED_AFTER).map(([pc, word]) => ({ pc, word }));
+      return { at, exact: true, ...pictureOf(looker), listing };
+    }, () => number !== this.peeks);
+  }
+
+  /** Makes keyframes near before the cursor where there are none, unless another look waits. */
+  async settle() {
+    const { cursor, epoch } = this, mayBeClaimed = this.mayBeClaimed(cursor);
+    const turn = async () => {
+      await nextTask();
+      if (this.looking > 1 || this.epoch !== epoch) throw new Ended();
+    };
+    for (const [at, distance] of NEAR.entries()) {
+      const from = cursor - distance, to = cursor - (NEAR[at + 1] ?? 0);
+      if (from <= 0 || this.nearest(to, mayBeClaimed).count >= from) continue;
+      await this.reach(this.looker, from, turn, { mayBeClaimed });
+      this.keep(this.looker);
+      await turn();
+    }
+    this.isSettled = true;
+  }
+
+  /** Returns bytes of the memory at a count. */
+  memory({ generation, at, from, length }) {
+    if (!(isWhole(from) && isWhole(length) && from + length <= MEMORY_BYTES)) throw new Refused("these bytes are beyond the memory");
+    return this.reached({ generation, at }, (looker) => ({ at, bytes: looker.words.slice(from, from + length) }));
+  }
+
+  /** Returns all that the live machine needs to go on from a count: state, words, and how many bytes were sent. */
+  moment({ generation, at }) {
+    return this.reached({ generation, at }, (looker) => ({ at, ...copied(looker.at(looker.place)), sent: looker.sent }));
+  }
+
+  /** Does something with the machine at a count. */
+  reached({ generation, at }, task) {
+    return this.look({ generation, at }, async (turn) => {
+      await this.reach(this.looker, at, turn, { mayBeClaimed: this.mayBeClaimed(at) });
+      return task(this.looker);
+    });
+  }
+
+  /** Returns the instructions before and after a count, as far as the machine does any, with what each changed. */
+  around({ generation, at, before, after }) {
+    if (!(isWhole(before) && isWhole(after) && before + after <= MOST_AROUND)) throw new Refused(`more than ${MOST_AROUND} instructions`);
+    return this.look({ generation, at }, async (turn) => {
+      const { looker } = this, rows = [], end = Math.min(at + after, Math.max(at, this.end));
+      await this.reach(looker, Math.max(0, at - before), turn, { mayBeClaimed: this.mayBeClaimed(at) });
+      while (looker.count < end && !looker.part("stop")) {
+        rows.push(looker.step(this.inputs));
+        await turn();
+      }
+      return rows;
+    });
+  }
+}
+
+/** Whether a value is a whole number, as counts and addresses are. */
+const isWhole = (value) => Number.isSafeInteger(value) && value >= 0;
+
+/** Returns a handler of errors that answers with something where nobody waits any more. */
+function unlessEnded(answer) {
+  return (error) => {
+    if (!(error instanceof Ended)) throw error;
+    return answer;
+  };
+}
+
+/** Returns what is shown of a machine at a moment. */
+function pictureOf(replayer) {
+  const { state, dots, sent, isClaimed, count } = replayer;
+  return { count, state: state.slice(), dots: dots.slice(), sent, isClaimed };
+}

@@ -1,0 +1,107 @@
+/* A machine that runs a part of the past again, from a keyframe or from what a checkpoint claims, in calls of a few milliseconds. */
+"use strict";
+
+// How long a call takes at most, as far as can be foreseen: between two calls others get their turn.
+const CALL_MS = 10, FIRST_RUN = 200000, FIRST_SEARCH = 100000;
+
+class Replayer extends Emulator {
+  constructor(library) {
+    super(library);
+    this.running = new Pace(CALL_MS, FIRST_RUN);
+    this.finding = new Pace(CALL_MS, FIRST_SEARCH);
+    this.forget();
+  }
+
+  /** Forgets where it is: what it was at is void. */
+  forget() {
+    Object.assign(this, { isSet: false, isClaimed: false, sent: 0 });
+  }
+
+  /** Goes to a keyframe. */
+  load(keyframes, keyframe) {
+    keyframes.load(keyframe, wordsOf(this.words));
+    this.state.set(keyframe.state);
+    Object.assign(this, { isSet: true, isClaimed: keyframe.isClaimed, sent: keyframe.sent });
+  }
+
+  /** Goes to what a checkpoint claims. */
+  loadClaim(claims, number) {
+    claims.load(number, this.place);
+    Object.assign(this, { isSet: true, isClaimed: number > 0, sent: claims.sent[number] });
+  }
+
+  /** Runs up to a count, or as far as one call goes. */
+  advance(inputs, to) {
+    const { count } = this, begun = performance.now();
+    this.sent += this.run(inputs, inputs.from(count), Math.min(to, count + this.running.steps)).length;
+    this.running.took(this.count - count, performance.now() - begun);
+  }
+
+  /** Returns about how many ms it takes to a count. */
+  msTo(count) {
+    return (count - this.count) / this.running.steps * this.running.ms;
+  }
+
+  /** Returns the first or the last hit of the conditions from its count on and before another, or null. It stays where it is. */
+  find(inputs, to, conditions, isLast) {
+    const { count } = this, begun = performance.now(), given = inputs.bytes.subarray(INPUT_BYTES * inputs.from(count), INPUT_BYTES * inputs.from(to));
+    const hit = this.library.find(this.place, given, to, conditions, isLast);
+    if (isLast || !hit) this.finding.took(to - count, performance.now() - begun);
+    return hit;
+  }
+
+  /** Does one instruction. Returns its count, its word, the inputs before it, and what it changed: names, and texts of values before and
+   * after. The word is null if PC is outside memory. */
+  step(inputs) {
+    const { count } = this, before = this.state.slice(), pc = this.part("PC"), word = pc < WORDS ? this.word(pc) : null;
+    const stored = storedWord(word, before), old = stored === null ? 0 : this.word(stored);
+    const taken = Array.from({ length: inputs.from(count + 1) - inputs.from(count) }, (_, at) => inputs.item(inputs.from(count) + at).slice(1));
+    this.advance(inputs, count + 1);
+    const changes = changesBetween(before, this.state);
+    if (stored !== null && this.word(stored) !== old) changes.push([`Mem[${hex(4 * stored, 6)}]`, hex(old, 8), hex(this.word(stored), 8)]);
+    return { count, pc, word, inputs: taken, changes };
+  }
+}
+
+/** Returns the number of the word of memory that an instruction may store to, or null. */
+function storedWord(word, state) {
+  if (word === null || word >>> 29 !== 5) return null;
+  const address = (field(state, AT.R + 4 * (word >>> 20 & 15)) + (word << 12 >> 12)) & 0xffffff;
+  return address < MEMORY_BYTES ? address >>> 2 : null;
+}
+
+// What changes with each instruction, or with time.
+const UNTOLD = ["PC", "timer", "phase"];
+
+/** Returns the parts in which two states differ: the name, and the two texts. */
+function changesBetween(before, after) {
+  const old = partsOf(before);
+  return partsOf(after).map(([name, text], at) => [name, old[at][1], text]).filter(([name, was, is]) => was !== is && !UNTOLD.includes(name));
+}
+
+/** What the checkpoints of a recording claim. The recording's bytes are in the module's memory from the first use on. */
+class Claims {
+  constructor(library, text) {
+    const { claims } = readRecording(text);
+    Object.assign(this, { library, text, place: 0, counts: claims.map(({ count }) => count) });
+    let sent = 0;
+    this.sent = claims.map((claim) => (sent += claim.sent.length));
+  }
+
+  /** Returns the number of the last checkpoint at or below a count. */
+  before(count) {
+    return this.counts.findLastIndex((other) => other <= count);
+  }
+
+  /** Writes a claimed state and its words to an address. */
+  load(number, place) {
+    this.place ||= this.library.hold(this.text);
+    this.library.claim(this.place, this.text.length, number, place, place + STATE_BYTES);
+  }
+
+  /** Gives the memory free. */
+  leave() {
+    if (this.place) this.library.leave(this.place);
+    this.place = 0;
+  }
+}

@@ -1,0 +1,174 @@
+/* Searches in the past of the live machine: when a condition holds, and which instruction wrote what is in memory or in a register. One
+ * search is under way at a time, in pieces of a few milliseconds. */
+"use strict";
+
+// Kinds of conditions, as include/galluspa.h numbers them.
+const STORE = 2, CHANGE = 3, BECOMES = 5;
+const PROGRESS_MS = 100, MOST_CONDITIONS = 64, H_NUMBER = 16, FLAGS_NUMBER = 17;
+
+class Searches {
+  constructor(history) {
+    Object.assign(this, { history, end: () => {} });
+  }
+
+  /** Ends the search that is under way. Its answer is that it was stopped. */
+  stop() {
+    this.end();
+    return true;
+  }
+
+  /** Finds the first or the last count from one on and before another at which a condition holds. */
+  find({ generation, from = 0, to, last = false, conditions }) {
+    if (!(isWhole(from) && isWhole(to))) throw new Refused("a search goes from a count up to a count");
+    if (!conditions.length || conditions.length > MOST_CONDITIONS) throw new Refused(`want 1 to ${MOST_CONDITIONS} conditions`);
+    return this.begin({ generation, to }, async (turn, end) => {
+      const hit = await (last ? this.findLast(from, end, conditions, turn) : this.findFirst(from, end, conditions, turn));
+      return hit ?? { none: true };
+    });
+  }
+
+  /** Finds the instruction that wrote what a register has at a count, or what is in memory: a byte, some bits of it, or some bits of the
+   * word at an address. It is the last one that changed it. `stored` is a later one that stored the same again. */
+  who({ generation, before, register, address, bit, mask }) {
+    if (!isWhole(before)) throw new Refused(`${before} is no count`);
+    const wanted = register === undefined ? bitsOf({ address, bit, mask }) : registerOf(register);
+    return this.begin({ generation, to: before }, async (turn, end) => {
+      const found = await (register === undefined ? this.whoWrote(wanted, end, turn) : this.whoSet(wanted, end, turn));
+      return { ...found, sure: true };
+    });
+  }
+
+  /** Begins a search that ends the one before. The task gets what lets others go first, and the count up to which it may search. */
+  begin({ generation, to }, task) {
+    const { history } = this;
+    this.end();
+    let isOver = false;
+    const stopped = new Promise((resolve) => {
+      this.end = () => {
+        isOver = true;
+        resolve({ stopped: true });
+      };
+    });
+    const search = async () => {
+      await history.known(generation, to);
+      const { epoch } = history;
+      const turn = async () => {
+        await nextTask();
+        while (history.looking) await history.looks;
+        if (isOver || history.epoch !== epoch) throw new Ended();
+      };
+      await turn();
+      return task(turn, Math.min(to, history.end));
+    };
+    return Promise.race([search().catch(unlessEnded({ stopped: true })), stopped]);
+  }
+
+  /** Returns a function that posts how much of a search is done, now and then. */
+  progress(of) {
+    let due = performance.now() + PROGRESS_MS;
+    return (done) => {
+      const now = performance.now();
+      if (now < due) return;
+      due = now + PROGRESS_MS;
+      this.history.tell({ searched: { generation: this.history.generation, done, of } });
+    };
+  }
+
+  async findFirst(from, to, conditions, turn) {
+    const { history } = this, { searcher } = history, tell = this.progress(to - from);
+    for (let at = from, end; at < to; at = end) {
+      await history.reach(searcher, at, turn);
+      if (searcher.part("stop")) return null;
+      end = Math.min(to, at + searcher.finding.steps);
+      const hit = searcher.find(history.inputs, end, conditions, false);
+      if (hit) return hit;
+      tell(end - from);
+      await turn();
+    }
+    return null;
+  }
+
+  /** Goes backward gap by gap between keyframes. In a gap it goes forward: the last hit stands once all of the gap is searched. */
+  async findLast(from, to, conditions, turn) {
+    const { history } = this, { searcher } = history, tell = this.progress(to - from);
+    for (let end = to, first; end > from; end = first) {
+      first = Math.max(from, history.nearest(end - 1).count, end - KEYFRAME_STEPS);
+      let found = null;
+      for (let at = first, next; at < end; at = next) {
+        await history.reach(searcher, at, turn);
+        next = Math.min(end, at + searcher.finding.steps);
+        found = searcher.find(history.inputs, next, conditions, true) ?? found;
+        tell(to - end + next - first);
+        await turn();
+      }
+      if (found) return found;
+    }
+    return null;
+  }
+
+  /** Returns the instruction at a count, with the state before it. */
+  async instructionAt(at, turn) {
+    const { history } = this, { searcher } = history;
+    await history.reach(searcher, at, turn);
+    const pc = searcher.part("PC");
+    return { at, pc, word: searcher.word(pc), state: searcher.state.slice() };
+  }
+
+  async whoSet(register, before, turn) {
+    const { history } = this, { searcher } = history;
+    await history.reach(searcher, before, turn);
+    const value = registerIn(searcher.state, register);
+    const hit = await this.findLast(0, before, [{ kind: BECOMES, from: register, value }], turn);
+    return hit ? this.instructionAt(hit.at, turn) : { initial: true };
+  }
+
+  /** Keyframes in which the bits are others say where they changed: the answer from there is posted first. Between the later ones they may
+   * have changed and changed back. */
+  async whoWrote({ from, end, value }, before, turn) {
+    const { history } = this, change = { kind: CHANGE, from, end, value }, store = { kind: STORE, from, end };
+    const gap = await this.gapOfChange({ from, value }, before, turn);
+    let found = gap && (await this.findLast(gap.from, gap.to, [change], turn));
+    if (found) history.tell({ who: { generation: history.generation, ...(await this.instructionAt(found.at, turn)), sure: false } });
+    const after = found ? found.at + 1 : 0;
+    const last = await this.findLast(after, before, [change, store], turn);
+    const stored = last?.which === 1 ? last : null;
+    found = (stored ? await this.findLast(after, stored.at, [change], turn) : last) ?? found;
+    const again = stored && (await this.instructionAt(stored.at, turn));
+    return { ...(found ? await this.instructionAt(found.at, turn) : { initial: true }), stored: again };
+  }
+
+  /** Returns the last gap between keyframes, or between one and a count, at whose ends bits of a word are different; or null. */
+  async gapOfChange({ from, value }, before, turn) {
+    const { history } = this, { searcher, keyframes } = history, number = Math.floor(from / 4);
+    await history.reach(searcher, before, turn);
+    const word = searcher.word(number);
+    let to = before;
+    for (let at = keyframes.position(before); at >= 0; at--) {
+      const keyframe = keyframes.items[at];
+      if (keyframe.isClaimed) continue;
+      if ((keyframes.word(keyframe, number) ^ word) & value) return { from: keyframe.count, to };
+      to = keyframe.count;
+    }
+    return null;
+  }
+}
+
+/** Returns the range of bytes that is wanted, and the mask of their bits in their word. */
+function bitsOf({ address, bit, mask }) {
+  const isWord = mask !== undefined, isLawful = isWhole(address) && address < MEMORY_BYTES && (!isWord || address % 4 === 0);
+  if (!isLawful || !(bit === undefined || (isWhole(bit) && bit < 8))) throw new Refused("want a byte of the memory, and a bit of it");
+  const first = 8 * (address % 4);
+  if (isWord) return { from: address, end: address + 4, value: mask >>> 0 };
+  return { from: address, end: address + 1, value: ((bit === undefined ? 0xff : 1 << bit) << first) >>> 0 };
+}
+
+function registerOf(register) {
+  if (!(isWhole(register) && register <= FLAGS_NUMBER)) throw new Refused(`${register} is no register: want 0 to ${FLAGS_NUMBER}`);
+  return register;
+}
+
+/** Returns what a register has: 0 to 15 for R0 to R15, 16 for H, 17 for the flags. */
+function registerIn(state, register) {
+  if (register < H_NUMBER) return field(state, AT.R + 4 * register);
+  return field(state, register === H_NUMBER ? AT.H : AT.flags);
+}
