@@ -63,6 +63,7 @@ function cells(state, before, wrong) {
 function showPassed({ number, count, part }) {
   const item = made("li", part ? `at ${grouped(count)}: false, first in ${part}` : `at ${grouped(count)}: true`, part ? "wrong" : "");
   item.value = number;
+  item.dataset.count = count;
   el("passed").append(item);
   el("passed").scrollTop = el("passed").scrollHeight;
   lanes.passed.set(count, part ? "false" : "true");

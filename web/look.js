@@ -83,11 +83,12 @@ async function takeOverHere() {
   const { at } = look;
   if (at === null || isAhead()) return;
   notice();
-  const moment = await app.past.moment(at);
-  if (!moment || !(await keepBranch(at))) return;
+  const [moment, now] = await Promise.all([at, nowCount()].map((count) => app.past.moment(count)));
+  if (!moment || !now || !(await keepBranch(at))) return;
   look = NOW;
   await app.live.ask("takeOver", moment);
   forgetAfter(at);
+  dropSent(now.sent - moment.sent);
   await backToNow();
   el("screen").focus({ preventScroll: true });
 }

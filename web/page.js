@@ -207,8 +207,18 @@ function showNow(frame, wasReplay) {
 }
 
 function appendSent(text) {
-  app.work.sent = (app.work.sent + text).slice(-OUT_MOST);
-  el("out").textContent = app.work.sent;
+  showSent((app.work.sent + text).slice(-OUT_MOST));
+}
+
+/** Drops the last bytes of what was sent: the machine goes on from before them. A byte is a character, or a backslash and two digits. */
+function dropSent(bytes) {
+  const written = app.work.sent.match(/\\[0-9a-f]{2}|[^]/g) ?? [];
+  showSent(written.slice(0, Math.max(0, written.length - bytes)).join(""));
+}
+
+function showSent(text) {
+  app.work.sent = text;
+  el("out").textContent = text;
   el("out").scrollTop = el("out").scrollHeight;
 }
 
@@ -343,6 +353,8 @@ function listen() {
   listenToSearch();
   addEventListener("resize", showSized);
   addEventListener("fullscreenchange", showSized);
+  const above = new ResizeObserver(fitScreen);
+  for (const name of ["kept", "image", "verdicts"]) above.observe(el(name));
   setInterval(keep, KEEP_MS);
   document.addEventListener("visibilitychange", keep);
   addEventListener("beforeunload", (event) => app.work.isUnkept && event.preventDefault());

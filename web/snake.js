@@ -6,35 +6,34 @@ const SNAKE = "snake", FIRST_LENGTH = 3, OVER = "over\n", BEFORE_CRASH = PER_SEC
 // Where the LEDs are in a checkpoint of a recording.
 const LEDS_AT = 96;
 const ARROWS = { ArrowUp: "w", ArrowLeft: "a", ArrowDown: "s", ArrowRight: "d" };
-// The game: how long the snake is, and the checkpoint that claims it; `isOver` while the card of its end is shown. Replaced whole.
-const NO_GAME = { length: FIRST_LENGTH, longest: FIRST_LENGTH, keys: 0, isOver: false };
-let game = NO_GAME;
+// How long the snake is, as the LEDs said last.
+let snakeLength = FIRST_LENGTH;
 
 const isSnake = () => app.work.name === SNAKE;
 
 /** Begins the game of the example, without the keys of the game that somebody played. */
 async function playSnake() {
-  game = NO_GAME;
+  snakeLength = FIRST_LENGTH;
   await openExample(SNAKE, { inputs: [], checkpoints: [] });
   el("pad").hidden = false;
 }
 
 /** Follows a game: the LEDs show how long the snake is, and the program sends a text when it is over. */
-function followGame({ state, sent, on, isReplay, inputs }) {
+function followGame({ state, sent, on, isReplay }) {
   if (!isSnake() || isReplay || !on) return;
+  if (sent.includes(OVER)) return attempt(endGame);
   const length = field(state, AT.LEDs);
-  if (sent?.includes(OVER)) return attempt(() => endGame(inputs));
-  if (length > game.length) tell("mark");
-  if (length !== game.length) game = { ...game, length };
+  if (length > snakeLength) tell("mark");
+  snakeLength = length;
 }
 
 /** Pauses at the end of a game, and shows its card. */
-async function endGame(keys) {
-  const { length } = game;
-  game = NO_GAME;
+async function endGame() {
+  const points = snakeLength - FIRST_LENGTH;
+  snakeLength = FIRST_LENGTH;
   await app.live.ask("setRun", { on: false });
-  const { text } = await app.live.ask("recording"), title = `Game over: ${length - FIRST_LENGTH} points`;
-  const summary = paragraph(`${grouped(keys)} keys; the recording has ${grouped(text.length)} bytes.`), place = paragraph("checking ..", "line note");
+  const { text } = await app.live.ask("recording"), title = `Game over: ${points} points`;
+  const summary = paragraph(`${grouped(keysIn(text))} keys; the recording has ${grouped(text.length)} bytes.`), place = paragraph("checking ..", "line note");
   const crash = await crashCount();
   const back = button("Go back before the crash", () => lookAt(crash - BEFORE_CRASH)), again = button("Play again", () => setRun(true));
   const cheat = button("Try to cheat", () => tryToCheat(text));
@@ -77,6 +76,13 @@ function forgedScore(text) {
   const own = view.getUint32(best + LEDS_AT, true), claimed = Math.min(255, own + CHEATED);
   forged[best + LEDS_AT] = claimed;
   return { forged, claimed, own, count: Number(view.getBigUint64(best, true)) };
+}
+
+/** Returns how many keys are in a recording. */
+function keysIn(text) {
+  const view = new DataView(text.buffer, text.byteOffset, text.length), [pages, inputs] = [8, 12].map((at) => view.getUint32(at, true));
+  const kinds = Array.from({ length: inputs }, (_, at) => view.getUint32(24 + PAGE_BYTES * pages + INPUT_BYTES * at + 8, true));
+  return kinds.filter((kind) => kind === KEY).length;
 }
 
 /** Returns where the checkpoints of a recording of version 2 begin. */

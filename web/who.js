@@ -41,8 +41,8 @@ function closeCard() {
   el("card").hidden = true;
 }
 
-/** Asks who drew the dot under the mouse, if the machine does not run: else the click is the machine's. */
+/** Asks who drew the dot under the mouse: its x, and its y from the bottom. */
 function askDot(event) {
   const [x, y] = dotAt(event, el("screen").getBoundingClientRect());
-  return askWho({ address: DISPLAY_AT + LINE_BYTES * y + (x >> 3), bit: x & 7 }, `Who drew the dot ${x}, ${LINES - 1 - y}`);
+  return askWho({ address: DISPLAY_AT + LINE_BYTES * y + (x >> 3), bit: x & 7 }, `Who drew the dot ${x},${y}`);
 }

@@ -1,0 +1,73 @@
+"""Snake, as somebody plays it: from the card of the empty page into the wall, the check of the game, a claim of another score, and back before the crash."""
+
+import json
+import re
+import time
+
+import galluspa.recording
+from desk import SENT, Desk, expect, fail, shown
+from timeline import EXACT
+
+CARD, LINE_OF_CARD, CHEAT = shown("card"), "el('card').querySelector('.line').textContent", "el('card').querySelector('.cheat .line.false')"
+POINTS = "el('card').querySelector('h2')?.textContent"
+LEDS, KEY = 104, 4
+
+
+def press_button(desk: Desk, text: str) -> None:
+    """Clicks a button of the card."""
+    desk.page.answer(f"[...el('card').querySelectorAll('button')].find((it) => it.textContent === {json.dumps(text)}).click()")
+
+
+def click_card(desk: Desk, name: str) -> None:
+    """Clicks on a card of the empty page with the mouse."""
+    x, y = desk.page.answer(f"(({{ left, top, width, height }}) => [left + width / 2, top + height / 2])(el('{name}').getBoundingClientRect())")
+    desk.page.send_mouse("mousePressed", x, y, time.time(), 1)
+    desk.page.send_mouse("mouseReleased", x, y, time.time())
+
+
+def play(desk: Desk) -> None:
+    """A game by keys and arrows ends at the wall. Its recording is accepted; another score is false, and the line names what the machine has."""
+    page = desk.page
+    desk.reload()
+    page.resize(1400, 900)
+    page.wait("!el('welcome').hidden && el('screen').getBoundingClientRect().width > 0")
+    click_card(desk, "play")
+    page.wait("app.latest?.on && el('welcome').hidden")
+    page.press("ArrowRight")
+    page.press("w")
+    page.wait(f"{POINTS}?.startsWith('Game over') && {LINE_OF_CARD}.startsWith('accepted')")
+    points, keys = page.answer(f"[{POINTS}, el('card').querySelector('p').textContent]")
+    if not re.fullmatch(r"Game over: \d+ points", points) or not re.fullmatch(r"2 keys; the recording has [\d,]+ bytes\.", keys):
+        fail(f"the card of the game says {points!r}, {keys!r}")
+    press_button(desk, "Try to cheat")
+    page.wait(CHEAT)
+    if not re.fullmatch(r"false checkpoint \d+ at \d+ part LEDs", page.answer(f"{CHEAT}.textContent")):
+        fail(f"the line of the cheat is {page.answer(f'{CHEAT}.textContent')!r}")
+    own = int(points.split()[2])
+    page.wait(f"el('card').querySelector('.cheat').textContent.includes('The machine has {own} points there')")
+    print(f"snake: {points}, {page.answer(LINE_OF_CARD)}; with another score {page.answer(f'{CHEAT}.textContent')}")
+
+
+def go_on_before_crash(desk: Desk) -> None:
+    """One goes back before the crash, takes over, turns, and lives on; the recording has the one score and is accepted."""
+    page = desk.page
+    crash = page.answer("nowCount()")
+    press_button(desk, "Go back before the crash")
+    page.wait(f"isPast() && {EXACT}")
+    at = page.answer("look.at")
+    desk.click("take-here")
+    page.wait(f"!isPast() && nowCount() === {at}")
+    desk.go_on()
+    page.press("a")
+    page.wait(f"nowCount() > {crash + 5000000}")
+    expect("whether it is over", page.answer(SENT), "")
+    desk.pause()
+    recording = galluspa.recording.read(desk.save("snake", "the game that went on"))
+    expect("its keys", [event.value for event in recording.events if event.kind == KEY], [ord("d"), ord("w"), ord("a")])
+    print(f"snake: taken over {(crash - at) / 25e6:.1f} s before, and lives on; accepted")
+
+
+def drive(desk: Desk) -> None:
+    """All of it."""
+    play(desk)
+    go_on_before_crash(desk)

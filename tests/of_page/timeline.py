@@ -1,0 +1,243 @@
+"""The timeline in use, by the mouse and the keyboard: the cursor looks at the past, one takes over from there, and the past says who wrote what."""
+
+import base64
+import re
+import time
+
+import galluspa.recording
+from desk import CTRL, JUDGED, OWN_LINE, SENT, SHIFT, Desk, expect, fail, program, shown
+from samples import EXAMPLES, PROGRAM, rejoining, run
+
+FACE = (EXAMPLES / "face.orsr").read_bytes()
+WORD, CARD, WORDS = shown("state-word"), shown("card"), "el('cursor').getAttribute('aria-valuetext')"
+EXACT = "look.moment?.exact && look.moment.listing && look.moment.at === look.at"
+LINE_BYTES, LINES = 128, 768
+REVERSED = bytes(int(f"{byte:08b}"[::-1], 2) for byte in range(256))
+
+
+def seen(desk: Desk) -> list:
+    """The state's word, and the count that is looked at."""
+    return desk.page.answer(f"[{WORD}, shownCount()]")
+
+
+def look_at(desk: Desk, count: int) -> None:
+    """Looks at a count by the field of the region."""
+    page = desk.page
+    page.answer("el('cursor').focus()")
+    page.press("g")
+    page.answer("el('goto').value = ''")
+    page.insert(str(count))
+    page.press("Enter")
+    page.wait(f"look.at === {count} && {EXACT}")
+    page.answer("el('cursor').focus()")
+
+
+def run_to_end(desk: Desk, name: str, text: bytes) -> None:
+    """Opens a recording or a session, and runs it to its end."""
+    page = desk.page
+    page.answer("el('speed').value = 'fast'")
+    desk.start(name, text)
+    desk.click("run")
+    page.wait("!app.latest.isReplay && !app.latest.on" + (f" && {JUDGED}" if name.endswith(".orsr") else ""))
+
+
+def program_dots(recording: bytes, checkpoint: int) -> bytes:
+    """The dots of a checkpoint as the machine has them in memory, of the picture that the program draws."""
+    rows = run([PROGRAM, "screen", "--at", checkpoint], recording).output[-LINE_BYTES * LINES :].translate(REVERSED)
+    return b"".join(rows[LINE_BYTES * line : LINE_BYTES * (line + 1)] for line in reversed(range(LINES)))
+
+
+def page_dots(desk: Desk) -> bytes:
+    """The dots that are on the screen."""
+    desk.page.wait("!screens.isDue")
+    return base64.b64decode(desk.page.answer("btoa(String.fromCharCode.apply(null, screens.dots.subarray(0, 49152)) + String.fromCharCode.apply(null, screens.dots.subarray(49152)))"))
+
+
+def drag(desk: Desk) -> None:
+    """A real drag of the cursor looks at the past; the picture at a checkpoint is the program's; the words come once it has settled; and back to now."""
+    page = desk.page
+    page.resize(1400, 900)
+    run_to_end(desk, "face.orsr", FACE)
+    page.wait(f"{WORDS}.startsWith('count 20,000,000, 0.800 seconds, now')")
+    left, top, width = page.answer("(({ left, top, width }) => [left, top, width])(el('track').getBoundingClientRect())")
+    at = lambda share: (left + width * share, top + 60, time.time())
+    page.answer("window.said = new Set(); new MutationObserver(() => said.add(el('cursor').getAttribute('aria-valuetext'))).observe(el('cursor'), { attributes: true })")
+    page.send_mouse("mousePressed", *at(0.95), 1)
+    for step in range(60):
+        page.send_mouse("mouseMoved", *at(0.95 - step * 0.01), 1)
+    page.wait(f"look.at < 8000000 && {WORD} === 'PAST'")
+    expect("what is said on the way", page.answer("said.size"), 1)
+    page.send_mouse("mouseReleased", *at(0.36))
+    page.wait(EXACT)
+    found = re.fullmatch(r"count ([\d,]+), (\d\.\d+) seconds, the past, 0\.5 seconds before now", page.answer(WORDS))
+    if not found or not 6900000 < int(found[1].replace(",", "")) < 7500000:
+        fail(f"the words of the cursor: {page.answer(WORDS)}")
+    expect("what is said of the past", page.answer(shown("mode-text")), "0.5 s before now. Keys do nothing.")
+    for checkpoint, count in ((2, 8000000), (1, 4000000), (3, 12000000)):
+        look_at(desk, count)
+        expect(f"the picture at {count}", page_dots(desk) == program_dots(FACE, checkpoint), True)
+    page.wait(f"{WORDS}.endsWith(', a checkpoint, true')")
+    desk.click("back-now")
+    page.wait(f"{WORD} === 'LIVE' && !screens.isDue")
+    expect("the picture now", page_dots(desk) == program_dots(FACE, 4), True)
+    print("cursor: dragged by the mouse, its words once it has settled, three pictures of the past as the program draws them, and back to now")
+
+
+def press_each(desk: Desk) -> None:
+    """Each key of the region does what it is for."""
+    page = desk.page
+    look_at(desk, 8000000)
+    for key, modifiers, count in (("ArrowLeft", 0, 7999999), ("ArrowRight", 0, 8000000), ("[", 0, 4000000), ("]", 0, 8000000), ("Home", 0, 0),
+                                  ("]", 0, 4000000), (",", 0, 0), ("End", 0, 20000000), ("[", 0, 12000000), (".", 0, 20000000)):
+        page.press(key, modifiers=modifiers)
+        page.wait(f"shownCount() === {count} && (!isPast() || {EXACT})")
+    for key, sign in (("PageUp", "<"), ("PageDown", ">"), ("+", "<"), ("-", ">")):
+        page.answer("window.span = timeline.to - timeline.from")
+        page.press(key)
+        page.wait(f"timeline.to - timeline.from {sign} span")
+    look_at(desk, 8000000)
+    pc = page.answer("field(look.moment.state, AT.PC)")
+    page.press("b")
+    expect("the breakpoint", page.answer("[...breaks]"), [pc])
+    page.press("ArrowLeft", modifiers=SHIFT)
+    page.wait(f"shownCount() < 8000000 && {EXACT} && !finding.isOn")
+    expect("the program counter of the last hit", page.answer("field(look.moment.state, AT.PC)"), pc)
+    page.press("ArrowRight", modifiers=SHIFT)
+    page.wait(f"shownCount() === 8000000 && {EXACT} && !finding.isOn")
+    page.press("n")
+    page.wait(f"shownCount() > 8000000 && {EXACT}")
+    page.press("N", modifiers=SHIFT)
+    page.wait(f"shownCount() === 8000000 && {EXACT}")
+    page.press("b")
+    expect("no breakpoint", page.answer("breaks.size"), 0)
+    page.press("w")
+    desk.expect_notice("a watch of nothing", "Select bytes of memory first: they are watched.")
+    page.press("/")
+    expect("where / goes", page.answer("document.activeElement.id"), "g-what")
+    page.answer("el('cursor').focus()")
+    page.press("Escape")
+    page.wait(f"{WORD} === 'LIVE'")
+    for isOn in ("app.latest.on", "!app.latest.on"):
+        page.press("Enter", modifiers=CTRL | SHIFT)
+        page.wait(isOn)
+    print("keys: each of the region, with a breakpoint met backward and forward, and Ctrl+Shift+Enter")
+
+
+def ask_who(desk: Desk) -> None:
+    """A click on a dot, and on a register, has the instruction that the tools find; a dot that none drew is said to be so."""
+    page = desk.page
+    run_to_end(desk, "face.orsr", FACE)
+    page.answer("el('screen').focus()")
+    left, top, width = desk.screen()
+    click_dot(desk, left + (600.5 / 1024) * width, top + ((767 - 219 + 0.5) / 768) * width * 0.75)
+    page.wait(f"{CARD}.includes(': sure')")
+    found = page.answer("[...el('card').querySelectorAll('h2, p')].map((it) => it.textContent)")
+    expect("who drew the dot", found, ["Who drew the dot 600,219", "Instruction 4,838,732, PC 41: sure", "STR R6, R13, 0  Mem[R13] := R6"])
+    page.answer("[...el('card').querySelectorAll('button')].find((it) => it.textContent === 'Jump').click()")
+    page.wait(f"look.at === 4838732 && {EXACT}")
+    desk.click("back-now")
+    page.wait("!isPast()")
+    click_dot(desk, left + 5, top + 5)
+    page.wait(f"{CARD}.includes('initial memory')")
+    page.answer("registerCells.get('R13').holder.click()")
+    page.wait(f"{CARD}.includes('Who wrote R13') && {CARD}.includes(': sure')")
+    print("who: a dot as the tools find it, one that no instruction drew, and a register")
+
+
+def click_dot(desk: Desk, x: float, y: float) -> None:
+    """Clicks on the screen."""
+    desk.page.send_mouse("mousePressed", x, y, time.time(), 1)
+    desk.page.send_mouse("mouseReleased", x, y, time.time())
+
+
+def search(desk: Desk) -> None:
+    """A search by the form finds what happens next and before; what is written wrongly is said to be; a watch of bytes is met."""
+    page = desk.page
+    run_to_end(desk, "keys.json", (EXAMPLES / "keys.json").read_bytes())
+    end = page.answer("nowCount()")
+    page.answer("el('what').value = SENDS; el('what').dispatchEvent(new Event('change'))")
+    desk.click("find-before")
+    page.wait(f"isPast() && {EXACT}")
+    last = page.answer("look.at")
+    expect("the byte that is sent there", page.answer("look.moment.sent + 1"), page.answer(f"app.past.moment({end}).then((it) => it.sent)"))
+    desk.click("find-next")
+    page.wait(f"{shown('found')} === 'There is none after it, up to now.'")
+    expect("where it stays", page.answer("look.at"), last)
+    page.answer("el('what').value = STORE; el('what').dispatchEvent(new Event('change')); el('from-value').value = 'xyz'")
+    desk.click("find-before")
+    desk.expect_notice("no address", "xyz: an address is hexadecimal, or two as in E8000-E8003.")
+    run_to_end(desk, "face.orsr", FACE)
+    desk.click("tab-memory")
+    page.answer("el('memory-at').value = 'EECC8'; el('memory-at').dispatchEvent(new Event('change'))")
+    page.wait("selected?.first === 0xEECC8 && el('memory').querySelector('.selected')")
+    page.press("ArrowRight") if page.answer("el('memory').focus()") else page.press("ArrowRight", modifiers=SHIFT)
+    expect("the bytes that are selected", page.answer("[selected.first, selected.end]"), [0xEECC8, 0xEECCA])
+    page.answer("el('cursor').focus()")
+    page.press("w")
+    desk.click("back-run")
+    page.wait(f"look.at === 4838732 && {EXACT}")
+    page.press("w")
+    expect("no watch", page.answer("watches.length"), 0)
+    desk.click("tab-state")
+    desk.click("back-now")
+    print("search: the last byte that is sent, none after it, a word that is no address, and a watch of two bytes of the face")
+
+
+def show_false(desk: Desk) -> None:
+    """A false recording shows the machine's part beside the claimed one, and a click leads to the instruction that made it so."""
+    page = desk.page
+    run_to_end(desk, "false.orsr", rejoining(9))
+    page.wait("!el('false').hidden")
+    expect("the headline", page.answer("el('false').querySelector('b').textContent"), "False at checkpoint 1: R5")
+    page.answer("el('false').querySelector('button').click()")
+    page.wait("el('false').querySelector('.both')")
+    expect("both parts", page.answer("el('false').querySelector('.both').textContent"), "R5: the machine has 00000001, the recording claims 00000009.")
+    page.answer("el('false').querySelector('button').click()")
+    page.wait(f"{CARD}.includes('Who wrote R5') && {CARD}.includes(': sure')")
+    desk.click("back-now")
+    print("false: the machine's part beside the claimed one, and the instruction that made it so")
+
+
+def branch(desk: Desk) -> None:
+    """After a take-over the recording goes on from there; the old one stays as a branch; both are accepted by the program."""
+    page = desk.page
+    page.answer("el('speed').value = 'clock'; el('each').value = 1")
+    desk.draw()
+    for key in "ab":
+        page.press(key)
+        page.wait(f"{SENT}.endsWith({key!r})")
+    desk.pause()
+    end = page.answer("nowCount()")
+    page.answer("el('cursor').focus()")
+    page.press(",")
+    page.wait(f"isPast() && {EXACT}")
+    parent = page.answer("look.at")
+    desk.click("take-here")
+    page.wait(f"!isPast() && nowCount() === {parent}")
+    expect("what was sent before it", page.answer(SENT), "a")
+    desk.go_on()
+    page.press("c")
+    page.wait(f"{SENT} === 'ac'")
+    desk.pause()
+    own = desk.save("draw", "what was taken over")
+    page.answer("document.querySelector('#g-branches button').click()")
+    page.wait(f"nowCount() === {end} && !app.latest.on")
+    other = desk.save("draw", "the branch that was returned to")
+    keys = [[event.value for event in galluspa.recording.read(text).events if event.kind == 4] for text in (own, other)]
+    expect("the keys of both branches", keys, [[ord("a"), ord("c")], [ord("a"), ord("b")]])
+    expect("the branches that are shown", page.answer("branches.list.length"), 1)
+    for text in (own, other):
+        expect("the program's line", program("check", text)[0].split()[0], "accepted")
+    page.answer("document.querySelector('#g-branches button').click()")
+    page.wait("branches.list[0]?.name === 'branch 3' && !isPast()")
+    print(f"branches: taken over before a key, and returned to; both accepted, {page.answer(OWN_LINE) or 'each with its keys'}")
+
+
+def drive(desk: Desk) -> None:
+    """All of it."""
+    drag(desk)
+    press_each(desk)
+    ask_who(desk)
+    search(desk)
+    show_false(desk)
+    branch(desk)
