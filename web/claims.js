@@ -123,13 +123,18 @@ async function showFalse() {
   place.hidden = !wrong;
   if (!wrong) return;
   const { number, count, part } = wrong, headline = made("b", `False at checkpoint ${number}: ${part}`);
-  if (shownCount() !== count || app.latest?.on) return place.replaceChildren(headline, " ", button("What the machine has", () => lookAt(count)));
+  if (shownCount() !== count || isAhead() || app.latest?.on) return place.replaceChildren(headline, " ", button("What the machine has", () => toMachineAt(count)));
   const shown = await app.live.ask("claimed", { number, of: app.work.generation });
   if (!shown || shownCount() !== count) return;
   const page = /^page (\d+)$/.exec(part), both = page ? await bytesThatDiffer(wrong, Number(page[1])) : partsThatDiffer(shown.state, part);
   if (!both) return place.replaceChildren(headline);
   const { own, claimed, about } = both, who = about ? [button("Which instruction made it so", () => askWho(about, `Who wrote ${both.name}`))] : [];
   place.replaceChildren(headline, paragraph(`${both.name}: the machine has ${own}, the recording claims ${claimed}.`, "both"), ...who);
+}
+
+/** Looks at what the machine has at a count, to which a replay runs first: before, there is only what the file claims. */
+function toMachineAt(count) {
+  return nowCount() < count ? runTo(count) : lookAt(count);
 }
 
 function partsThatDiffer(claimedState, part) {

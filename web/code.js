@@ -34,16 +34,36 @@ function noteHit(count, what) {
   hits = [...hits.filter(([other]) => other !== count).slice(-30), [count, what]];
 }
 
+// How far a run has been searched for breakpoints, and whether it is being searched.
+let meeting = { from: 0, isOn: false };
+
+/** Has a run that begins here meet the breakpoints and watches after it. */
+function beginMeeting() {
+  meeting = { from: nowCount() + 1, isOn: false };
+}
+
+/** Searches what a running machine has done since for breakpoints and watches. At a hit it is paused, and that is looked at. */
+async function meetBreaks() {
+  const conditions = conditionsOfBreaks(), { from } = meeting, to = nowCount(), { generation } = app.work;
+  if (!conditions.length || meeting.isOn || from >= to) return;
+  const own = (meeting = { from: to, isOn: true }), found = await app.past.find({ from, to, conditions });
+  if (own !== meeting || generation !== app.work.generation) return;
+  meeting = { from: to, isOn: false };
+  if (found?.at === undefined || !app.latest.on) return;
+  await app.live.ask("setRun", { on: false });
+  await foundAt(found, conditions);
+}
+
 /** Shows the instructions around a program counter, each with a place for a breakpoint. */
 function showListing(pc, listing) {
   const lines = listing.map(([at, word]) => {
     const line = made("span", ""), gutter = made("button", "", "gutter"), [mnemonic, meaning] = instruction(word, at);
-    const text = `${at === pc ? "▸" : " "}${`${at}`.padStart(6)}  ${hex(word, 8)}  ${mnemonic.padEnd(20)} `;
+    const place = `${at === pc ? "▸" : " "}${`${at}`.padStart(6)}  `;
     Object.assign(gutter, { type: "button", onclick: () => toggleBreak(at) });
     gutter.dataset.pc = at;
     gutter.setAttribute("aria-label", `breakpoint at ${at}, ${mnemonic}`);
     showBreak(gutter);
-    line.append(gutter, text, made("i", `${meaning}\n`));
+    line.append(gutter, place, made("i", `${hex(word, 8)}  `), `${mnemonic.padEnd(20)} ${meaning}\n`);
     line.classList.toggle("here", at === pc);
     return line;
   });

@@ -15,8 +15,11 @@ const shownCount = () => look.at ?? nowCount();
 const shownState = () => look.moment?.state ?? app.latest?.state;
 
 const secondsOf = (counts) => `${(counts / PER_SECOND).toFixed(3)} s`;
-/** How many seconds a count is from now. */
-const apart = (at) => (Math.abs(nowCount() - at) / PER_SECOND).toFixed(1);
+/** How far a count is from now: in seconds, or in instructions where it is near. */
+function apart(at) {
+  const counts = Math.abs(nowCount() - at);
+  return counts < PER_SECOND / 20 ? `${grouped(counts)} instruction${counts === 1 ? "" : "s"}` : `${(counts / PER_SECOND).toFixed(1)} s`;
+}
 
 /** Looks at a count. A machine that runs is paused first. A cursor that has not settled has more looks to come. */
 async function lookAt(count, isSettled = true) {
@@ -108,8 +111,8 @@ function showMode(frame) {
 }
 
 function pastMode() {
-  if (!isAhead()) return ["PAST", `${apart(look.at)} s before now. Keys do nothing.`];
-  return ["REPLAY", `${apart(look.at)} s ahead of the replay, ${look.moment?.isClaimed ? "claimed, not checked" : "not run yet"}. Keys do nothing.`];
+  if (!isAhead()) return ["PAST", `${apart(look.at)} before now. Keys do nothing.`];
+  return ["REPLAY", `${apart(look.at)} ahead of the replay, ${look.moment?.isClaimed ? "claimed, not checked" : "not run yet"}. Keys do nothing.`];
 }
 
 function modeOf({ state, on, isReplay, ahead, full }) {

@@ -190,6 +190,7 @@ function showFrame(frame) {
   if (frame.sent) appendSent(frame.sent);
   followGame(frame);
   noteFrame(frame);
+  if (frame.on) attempt(meetBreaks);
   if (!isPast()) showNow(frame, wasReplay);
   showMode(frame);
   showStatus(frame);
@@ -299,6 +300,7 @@ const everySeconds = () => Math.max(0, Math.min(3600, Math.floor(Number(el("each
 
 async function setRun(isOn) {
   notice();
+  beginMeeting();
   await app.live.ask("setRun", { on: isOn, fast: isFast(), seconds: everySeconds() });
   if (!isOn) return;
   el("screen").focus({ preventScroll: true });

@@ -29,16 +29,22 @@ function followGame({ state, sent, on, isReplay }) {
 
 /** Pauses at the end of a game, and shows its card. */
 async function endGame() {
-  const points = snakeLength - FIRST_LENGTH;
   snakeLength = FIRST_LENGTH;
   await app.live.ask("setRun", { on: false });
-  const { text } = await app.live.ask("recording"), title = `Game over: ${points} points`;
+  const { text } = await app.live.ask("recording"), crash = await crashCount();
+  await lookAt(crash);
+  const points = field(shownState(), AT.LEDs) - FIRST_LENGTH, title = `Game over: ${points} point${points === 1 ? "" : "s"}`;
   const summary = paragraph(`${grouped(keysIn(text))} keys; the recording has ${grouped(text.length)} bytes.`), place = paragraph("checking ..", "line note");
-  const crash = await crashCount();
-  const back = button("Go back before the crash", () => lookAt(crash - BEFORE_CRASH)), again = button("Play again", () => setRun(true));
+  const back = button("Go back before the crash", () => lookAt(crash - BEFORE_CRASH)), again = button("Play again", playAgain);
   const cheat = button("Try to cheat", () => tryToCheat(text));
   showCard(title, [summary, place, back, cheat, again, made("div", "", "cheat")]);
   await showLine(text, place);
+}
+
+/** Goes on from now: the program has begun another game. */
+async function playAgain() {
+  await backToNow();
+  await setRun(true);
 }
 
 /** The count at which the last game was over: at which its text was sent. */

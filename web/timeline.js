@@ -3,7 +3,7 @@
 
 const PER_SECOND = 25000000;
 const LANES = ["claims", "keys", "mouse", "serial", "screen", "marks", "film"];
-const ROW = 17, AXIS = 17, MERGED = 26, LEAST_SPAN = 16, MOST_NOTED = 20000, SENT_SHOWN = 40;
+const ROW = 17, AXIS = 17, MERGED = 26, LEAST_SPAN = 16, MOST_NOTED = 20000, SENT_SHOWN = 40, GLYPH_WIDTH = 6;
 const FRESH_MS = 200, FILM_MS = 2000, TICK_WIDTH = 76, ZOOM = 1.6;
 
 // What the lanes show. `end` is the last count that is known of: that of now, or of the file.
@@ -132,7 +132,9 @@ function drawLanes() {
   pen.textBaseline = "middle";
   const to = { pen, colour, width, row: (at) => (isNarrow() ? AXIS : AXIS + ROW * at), high: isNarrow() ? MERGED : ROW };
   drawAxis(to);
-  [drawClaims, drawKeys, drawMouse, drawSerial, drawScreen, drawMarks, drawFilm].forEach((draw, at) => draw({ ...to, y: to.row(at) }));
+  const drawings = [drawClaims, drawKeys, drawMouse, drawSerial, drawScreen, drawMarks, drawFilm];
+  drawings.forEach((draw, at) => draw({ ...to, y: to.row(at) }));
+  drawBranches({ ...to, y: to.row(drawings.length - 1) });
   drawNow(to, height);
 }
 
@@ -272,9 +274,9 @@ function showCursor(isSettled) {
 }
 
 function cursorWords(at) {
-  const where = isPast() ? `${isAhead() ? "not run yet" : "the past"}, ${apart(at)} seconds ${isAhead() ? "ahead of" : "before"} now` : "now";
+  const where = isPast() ? `${isAhead() ? "not run yet" : "the past"}, ${apart(at)} ${isAhead() ? "ahead of" : "before"} now` : "now";
   const claim = claimMarks().find(([count]) => count === at);
-  return `count ${grouped(at)}, ${secondsOf(at).replace(" s", " seconds")}, ${where}${claim ? `, a checkpoint, ${claim[1]}` : ""}`;
+  return `count ${grouped(at)}, ${secondsOf(at)}, ${where}${claim ? `, a checkpoint, ${claim[1]}` : ""}`.replaceAll(" s,", " seconds,").replace(" s ", " seconds ");
 }
 
 /** Writes each lane as a list, for those who do not see it. */
@@ -304,13 +306,21 @@ function trackPressed(event) {
   el("track").setPointerCapture(event.pointerId);
   el("cursor").focus({ preventScroll: true });
   timeline.isDragged = timeline.pointers.size === 1;
-  if (timeline.isDragged) return lookAt(countAt(xOf(event)), false);
+  if (timeline.isDragged) return lookAt(glyphNear(event) ?? countAt(xOf(event)), false);
+}
+
+/** Returns the count of the checkpoint or the hit whose glyph is under the pointer, if there is one. */
+function glyphNear(event) {
+  const lane = Math.floor((event.clientY - el("track").getBoundingClientRect().top - AXIS) / ROW), x = xOf(event);
+  const marks = isNarrow() || lane === 0 ? claimMarks() : lane === 5 ? hitMarks() : [];
+  return marks.map(([count]) => count).find((count) => Math.abs(columnOf(count) - x) < GLYPH_WIDTH);
 }
 
 function trackMoved(event) {
   const { pointers } = timeline;
   if (!pointers.has(event.pointerId)) return;
   if (pointers.size === 2) return pinch(event);
+  if (Math.abs(event.clientX - pointers.get(event.pointerId)) < 1) return;
   pointers.set(event.pointerId, event.clientX);
   if (timeline.isDragged) return lookAt(countAt(xOf(event)), false);
 }

@@ -19,11 +19,14 @@ function stepBack() {
   return lookAt(shownCount() - 1);
 }
 
-/** Goes to the last hit of the breakpoints and watches before the cursor, or to the first one after it; without any to an input. */
+/** Goes to the last hit of the breakpoints and watches before the cursor, or to the first one after it, for which the machine runs on from
+ * now if there is none before; without any to an input. */
 async function runInPast(isBack) {
   if (!conditionsOfBreaks().length) return toInput(isBack);
   const found = await search(conditionsOfBreaks(), isBack);
-  if (found === null && !isBack) return backToNow();
+  if (found !== null || isBack) return;
+  await backToNow();
+  await setRun(true);
 }
 
 /** Goes to the input before the cursor, or to the next one; to the beginning, or to now, if there is none. */

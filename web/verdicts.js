@@ -21,6 +21,7 @@ class Verdict {
     Object.assign(this, { line, status });
     this.part("line").textContent = line ?? "";
     this.part("line").className = `line ${STATUSES[status] ?? "note"}`;
+    this.part("headline").textContent = headlineOf(line);
     this.part("how").textContent = how;
   }
 
@@ -91,6 +92,14 @@ class Verdict {
     if (this.line) this.part("how").textContent += " The check of the whole was stopped.";
     else this.show("stopped: no verdict", null, knownSoFar(this.work));
   }
+}
+
+/** Says a verdict line in words. */
+function headlineOf(line) {
+  const [, checkpoint, part] = /^false checkpoint (\d+) at \d+ part (.*)$/.exec(line ?? "") ?? [];
+  if (part) return `False at checkpoint ${grouped(checkpoint)}: ${part}`;
+  const accepted = /^accepted (\d+) checkpoints (\d+) steps$/.exec(line ?? "");
+  return accepted ? `Accepted: ${grouped(accepted[1])} checkpoints in ${secondsOf(accepted[2])} are true` : "";
 }
 
 /** Says what a check has found that was stopped before it had a line. */

@@ -183,18 +183,39 @@ def search(desk: Desk) -> None:
     print("search: the last byte that is sent, none after it, a word that is no address, and a watch of two bytes of the face")
 
 
+def meet_breakpoint(desk: Desk) -> None:
+    """A run of the live machine meets a breakpoint that was set beside the listing, and what is looked at is saved as a picture."""
+    page = desk.page
+    page.answer("el('speed').value = 'fast'")
+    desk.start("face.json", (EXAMPLES / "face.json").read_bytes())
+    desk.click("tab-code")
+    page.wait("el('listing').querySelector('button[data-pc=\"6\"]')")
+    x, y = page.answer("(({ left, top }) => [left + 4, top + 4])(el('listing').querySelector('button[data-pc=\"6\"]').getBoundingClientRect())")
+    click_dot(desk, x, y)
+    expect("the breakpoint beside the listing", page.answer("[...breaks]"), [6])
+    desk.click("run")
+    page.wait(f"isPast() && {EXACT}")
+    expect("the program counter that is met first", page.answer("[field(look.moment.state, AT.PC), look.at]"), [6, 6])
+    page.wait("el('trace').querySelector('.here')")
+    desk.click("picture")
+    expect("the picture that is saved", desk.saved("face-6.png")[:4], b"\x89PNG")
+    page.answer("toggleBreak(6)")
+    desk.click("tab-state")
+    desk.click("back-now")
+    print("breakpoint: set beside the listing, met by a run; and a picture saved")
+
+
 def show_false(desk: Desk) -> None:
     """A false recording shows the machine's part beside the claimed one, and a click leads to the instruction that made it so."""
     page = desk.page
-    run_to_end(desk, "false.orsr", rejoining(9))
+    desk.start("false.orsr", rejoining(9))
     page.wait("!el('false').hidden")
     expect("the headline", page.answer("el('false').querySelector('b').textContent"), "False at checkpoint 1: R5")
     page.answer("el('false').querySelector('button').click()")
-    page.wait("el('false').querySelector('.both')")
+    page.wait("nowCount() === 2 && el('false').querySelector('.both')")
     expect("both parts", page.answer("el('false').querySelector('.both').textContent"), "R5: the machine has 00000001, the recording claims 00000009.")
     page.answer("el('false').querySelector('button').click()")
     page.wait(f"{CARD}.includes('Who wrote R5') && {CARD}.includes(': sure')")
-    desk.click("back-now")
     print("false: the machine's part beside the claimed one, and the instruction that made it so")
 
 
@@ -235,9 +256,11 @@ def branch(desk: Desk) -> None:
 
 def drive(desk: Desk) -> None:
     """All of it."""
+    desk.reload()
     drag(desk)
     press_each(desk)
     ask_who(desk)
     search(desk)
+    meet_breakpoint(desk)
     show_false(desk)
     branch(desk)
