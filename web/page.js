@@ -322,6 +322,7 @@ function listen() {
   for (const name of ["snake", "play"]) on(name, "click", playSnake);
   on("choose", "click", () => el("file").click());
   on("full", "click", showFull);
+  el("full").hidden = !document.fullscreenEnabled;
   on("picture", "click", savePicture);
   listenToKeyboard();
   on("pad", "pointerdown", padPressed);

@@ -45,9 +45,9 @@ function drawSoon(dots) {
 function roomForScreen() {
   if (document.fullscreenElement === el("stage")) return [innerWidth, innerHeight];
   const isWide = matchMedia("(min-width: 60rem)").matches, all = el("desk").parentElement.clientWidth;
-  if (!isWide) return [all, Infinity];
+  if (isNarrow()) return [all, Infinity];
   const above = el("stage").getBoundingClientRect().top + scrollY, below = el("desk").offsetHeight - el("stage").offsetHeight + el("stay").offsetHeight;
-  return [all - SIDE_ROOM, Math.max(LEAST_HEIGHT, innerHeight - above - below - MARGIN)];
+  return [isWide ? all - SIDE_ROOM : all, Math.max(LEAST_HEIGHT, innerHeight - above - below - MARGIN)];
 }
 
 /** Gives the screen the largest size that fits: a whole factor of its dots, if there is room for one. */

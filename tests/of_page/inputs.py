@@ -126,7 +126,15 @@ def compose_text(desk: Desk) -> None:
     desk.expect_notice("a dead key where nothing is composed", "This browser composes no characters here: send them over the serial line.")
     page.answer("el('screen').editContext = context")
     expect("what was sent", page.answer(SENT), "\\e9\\fc\\df")
+    page.press("ArrowUp")
+    desk.expect_notice("an arrow", "An arrow has no character, so it is dropped: choose keys as PS/2 codes among the devices.")
+    page.answer("notice()")
+    desk.click("keyboard")
+    page.insert("k")
+    page.press("Backspace", number=8)
+    page.wait(f"{SENT} === '\\\\e9\\\\fc\\\\dfk\\\\08'")
     print("composed text: é by a dead key, ü and ß are sent; 日本, € and composed text as PS/2 codes are said not to be")
+    print("the keyboard of a phone: a character and a deletion are sent; an arrow is said to be dropped")
 
 
 def go_to_checkpoints(desk: Desk) -> None:

@@ -1,23 +1,19 @@
 """The timeline in use, by the mouse and the keyboard: the cursor looks at the past, one takes over from there, and the past says who wrote what."""
 
 import base64
+import json
 import re
 import time
 
 import galluspa.recording
 from desk import CTRL, JUDGED, OWN_LINE, SENT, SHIFT, Desk, expect, fail, program, shown
-from samples import EXAMPLES, PROGRAM, rejoining, run
+from samples import EXAMPLES, PROGRAM, rejoining, run, session
 
 FACE = (EXAMPLES / "face.orsr").read_bytes()
 WORD, CARD, WORDS = shown("state-word"), shown("card"), "el('cursor').getAttribute('aria-valuetext')"
 EXACT = "look.moment?.exact && look.moment.listing && look.moment.at === look.at"
 LINE_BYTES, LINES = 128, 768
 REVERSED = bytes(int(f"{byte:08b}"[::-1], 2) for byte in range(256))
-
-
-def seen(desk: Desk) -> list:
-    """The state's word, and the count that is looked at."""
-    return desk.page.answer(f"[{WORD}, shownCount()]")
 
 
 def look_at(desk: Desk, count: int) -> None:
@@ -183,6 +179,24 @@ def search(desk: Desk) -> None:
     print("search: the last byte that is sent, none after it, a word that is no address, and a watch of two bytes of the face")
 
 
+def stop_search(desk: Desk) -> None:
+    """A long search says how far it is, and ends as soon as it is stopped."""
+    page = desk.page
+    page.answer("el('speed').value = 'fast'")
+    desk.start("counting.json", json.dumps(session([0x40080001, 0xE7FFFFFE], [])).encode())
+    desk.click("run")
+    page.wait("nowCount() > 100000000")
+    desk.click("run")
+    page.wait("!app.latest.on")
+    page.answer("el('what').value = SENDS; el('what').dispatchEvent(new Event('change')); el('find-before').click()")
+    page.wait(f"/^[\\d,]+ of [\\d,]+ counts, about \\d+ s left$/.test({shown('found')}) && !el('find-stop').hidden")
+    page.answer("el('cursor').focus()")
+    page.press("Escape")
+    page.wait(f"{shown('found')} === 'The search was stopped.' && el('find-stop').hidden")
+    expect("where it stays", page.answer(WORD), "LIVE")
+    print("search: a long one says how far it is, and is stopped")
+
+
 def meet_breakpoint(desk: Desk) -> None:
     """A run of the live machine meets a breakpoint that was set beside the listing, and what is looked at is saved as a picture."""
     page = desk.page
@@ -261,6 +275,7 @@ def drive(desk: Desk) -> None:
     press_each(desk)
     ask_who(desk)
     search(desk)
+    stop_search(desk)
     meet_breakpoint(desk)
     show_false(desk)
     branch(desk)
