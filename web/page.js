@@ -4,7 +4,7 @@
 
 const LONGEST_READ = 118310057, LONGEST_FILE = 67108865, KEEP_MS = 5000, OUT_MOST = 20000;
 
-/** Decompresses what the page contains: its module, or the recording of a report. */
+/** Decompresses what the page contains: its module, the script of its workers, or the recording of a report. */
 async function unpacked(name) {
   const packed = Uint8Array.from(atob(el(name).textContent), (character) => character.charCodeAt(0));
   const stream = new Blob([packed]).stream().pipeThrough(new DecompressionStream("gzip"));
@@ -288,8 +288,9 @@ async function saveRecording() {
   const made = await paused("recording"), name = `${app.work.name}-live.orsr`;
   download(name, made.text, "application/octet-stream");
   sayIfCut("recording", made);
-  const begun = performance.now();
-  if (!(await verdicts.own.check(name, made.text))) return;
+  const begun = performance.now(), answer = await verdicts.own.check(name, made.text);
+  if (!answer) return;
+  if (answer.status === 0) noteChecked(made.count);
   el("say").textContent = `${grouped(made.text.length)} bytes, checked in ${((performance.now() - begun) / 1000).toFixed(1)} s`;
 }
 
@@ -394,6 +395,7 @@ async function started() {
   showSized();
   try {
     app.module = await WebAssembly.compile(await unpacked("module"));
+    el("worker").textContent = new TextDecoder().decode(await unpacked("worker"));
     app.live = new Helper(app.module, heard);
     await app.live.ready;
     app.past = new Past(app.module, heardPast);

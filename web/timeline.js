@@ -39,6 +39,12 @@ function noteFrame({ state, sent, on }) {
   freshen(!on);
 }
 
+/** Notes that the checkpoints up to a count were checked, and are true. */
+function noteChecked(last) {
+  for (const count of lanes.found.marks) if (count <= last) lanes.passed.set(count, "true");
+  drawLanes();
+}
+
 /** Notes how many lines of the screen changed, up to now. */
 function noteChange(lines) {
   if (lines && !isPast() && app.latest) note(lanes.painted, [nowCount(), lines]);
@@ -132,9 +138,9 @@ function drawLanes() {
   pen.textBaseline = "middle";
   const to = { pen, colour, width, row: (at) => (isNarrow() ? AXIS : AXIS + ROW * at), high: isNarrow() ? MERGED : ROW };
   drawAxis(to);
-  const drawings = [drawClaims, drawKeys, drawMouse, drawSerial, drawScreen, drawMarks, drawFilm];
-  drawings.forEach((draw, at) => draw({ ...to, y: to.row(at) }));
-  drawBranches({ ...to, y: to.row(drawings.length - 1) });
+  // Merged, the checkpoints are in front.
+  const rows = [drawClaims, drawKeys, drawMouse, drawSerial, drawScreen, drawMarks, drawFilm].map((draw, at) => [draw, to.row(at)]);
+  for (const [draw, y] of [...(isNarrow() ? rows.reverse() : rows), [drawBranches, to.row(LANES.length - 1)]]) draw({ ...to, y });
   drawNow(to, height);
 }
 
@@ -160,8 +166,7 @@ function claimMarks() {
   const { file } = app, wrong = falseClaim(), own = file ? [] : lanes.found.planned;
   const claims = (file?.claims ?? []).map((count, number) => [count, stateOfClaim(number, count, wrong)]).slice(1);
   const made = lanes.found.marks.filter((count) => !file?.claims.includes(count));
-  const ofOwn = verdicts.own.status === 0 ? "true" : "unchecked";
-  return [...claims, ...[...new Set([...own, ...made])].map((count) => [count, lanes.passed.get(count) ?? ofOwn])];
+  return [...claims, ...[...new Set([...own, ...made])].map((count) => [count, lanes.passed.get(count) ?? "unchecked"])];
 }
 
 /** What is known of a checkpoint of the file: true, false, not judged (it comes after a false one), or unchecked. */
@@ -351,6 +356,7 @@ function wheeled(event) {
 }
 
 function makeTimeline() {
+  matchMedia("(prefers-color-scheme: dark)").addEventListener("change", drawLanes);
   el("names").replaceChildren(...["", ...LANES].map((name) => made("span", name)));
   drawLanes();
 }

@@ -8,12 +8,14 @@ const readline = require("readline");
 
 const html = readFileSync(process.argv[2], "utf8");
 const part = (name) => new RegExp(`<script[^>]* id="g-${name}">([^]*?)</script>`).exec(html)[1];
-const module_ = new WebAssembly.Module(gunzipSync(Buffer.from(part("module"), "base64")));
+const unpacked = (name) => gunzipSync(Buffer.from(part(name), "base64"));
+const module_ = new WebAssembly.Module(unpacked("module"));
+const workerScript = unpacked("worker").toString();
 
 let said = null;
 globalThis.onmessage = null;
 globalThis.postMessage = (news) => { if (news.id !== undefined) said = news; };
-(0, eval)(`${part("worker")}\n;globalThis.tell = (data) => onmessage({ data });
+(0, eval)(`${workerScript}\n;globalThis.tell = (data) => onmessage({ data });
 globalThis.runToLast = () => turnTo(machine.planned.at(-1) ?? 0, Infinity);
 globalThis.cut = cutAll;
 globalThis.times = { pages: () => differingPages(new Uint8Array(MEMORY_BYTES), new Uint8Array(MEMORY_BYTES)), feed: () => machine.feed() };

@@ -11,7 +11,9 @@ const threads = require("worker_threads");
 const [, , PAGE_PATH, FOLDER] = process.argv;
 const html = readFileSync(PAGE_PATH, "utf8");
 const part = (name) => new RegExp(`<script[^>]* id="g-${name}">([^]*?)</script>`).exec(html)[1];
-const wasm = new WebAssembly.Module(gunzipSync(Buffer.from(part("module"), "base64")));
+const unpacked = (name) => gunzipSync(Buffer.from(part(name), "base64"));
+const wasm = new WebAssembly.Module(unpacked("module"));
+const workerScript = unpacked("worker").toString();
 
 // What a worker's thread runs: the page's worker script over node's messages. A browser takes its messages in turn; node would take all
 // of a channel between two of the page's.
@@ -48,7 +50,7 @@ globalThis.Worker = class {
 // The worker's classes, for runs that the answers are compared with; and the page's own.
 globalThis.onmessage = null;
 globalThis.postMessage = () => {};
-(0, eval)(`${part("worker")}\n;globalThis.kit = { Library, Emulator, Replayer, Inputs, Keyframes, readSession, readRecording, countOf, field, AT };`);
+(0, eval)(`${workerScript}\n;globalThis.kit = { Library, Emulator, Replayer, Inputs, Keyframes, readSession, readRecording, countOf, field, AT };`);
 (0, eval)(`(() => { ${part("script")}\n; globalThis.ofPage = { Past, Helper }; })()`);
 const { Library, Replayer, Inputs, Keyframes, readSession, readRecording, countOf, field, AT } = kit;
 const { Past, Helper } = ofPage;
@@ -76,7 +78,7 @@ function chance(seed) {
 
 /** The page's two workers: that of the live machine, and that of its past. */
 class Desk {
-  constructor(script = part("worker")) {
+  constructor(script = workerScript) {
     Helper.place = () => script;
     this.news = [];
     this.frames = [];
@@ -155,7 +157,7 @@ function drawing(seed, many, apart) {
 
 /** Has the script of the workers with other numbers. */
 function withNumbers(numbers) {
-  let script = part("worker");
+  let script = workerScript;
   for (const [name, value] of Object.entries(numbers)) {
     const pattern = new RegExp(`\\b${name} = [\\de]+`);
     if (!pattern.test(script)) fail(`the worker has no ${name}`);
