@@ -3,7 +3,7 @@
 
 const PER_SECOND = 25000000;
 const LANES = ["claims", "keys", "mouse", "serial", "screen", "marks", "film"];
-const ROW = 17, AXIS = 17, MERGED = 26, LEAST_SPAN = 16, MOST_NOTED = 20000, SENT_SHOWN = 40, GLYPH_WIDTH = 6;
+const ROW = 17, AXIS = 17, MERGED = 28, LEAST_SPAN = 16, MOST_NOTED = 20000, SENT_SHOWN = 40, GLYPH_WIDTH = 6;
 const FRESH_MS = 200, FILM_MS = 2000, TICK_WIDTH = 76, ZOOM = 1.6;
 
 // What the lanes show. `end` is the last count that is known of: that of now, or of the file.
@@ -136,12 +136,17 @@ function drawLanes() {
   pen.clearRect(0, 0, width, height);
   pen.font = `12px ${colour("mono")}`;
   pen.textBaseline = "middle";
-  const to = { pen, colour, width, row: (at) => (isNarrow() ? AXIS : AXIS + ROW * at), high: isNarrow() ? MERGED : ROW };
+  const to = { pen, colour, width };
   drawAxis(to);
-  // Merged, the checkpoints are in front.
-  const rows = [drawClaims, drawKeys, drawMouse, drawSerial, drawScreen, drawMarks, drawFilm].map((draw, at) => [draw, to.row(at)]);
-  for (const [draw, y] of [...(isNarrow() ? rows.reverse() : rows), [drawBranches, to.row(LANES.length - 1)]]) draw({ ...to, y });
+  const drawings = { claims: drawClaims, keys: drawKeys, mouse: drawMouse, serial: drawSerial, screen: drawScreen, marks: drawMarks, film: drawFilm };
+  for (const lane of LANES) drawings[lane]({ ...to, ...placeOf(lane) });
   drawNow(to, height);
+}
+
+/** Returns where a lane is. Merged, the checkpoints and hits are above all others. */
+function placeOf(lane) {
+  if (!isNarrow()) return { y: AXIS + ROW * LANES.indexOf(lane), high: ROW };
+  return ["claims", "marks"].includes(lane) ? { y: AXIS, high: MERGED / 2 } : { y: AXIS + MERGED / 2, high: MERGED / 2 };
 }
 
 function drawAxis({ pen, colour, width }) {
@@ -235,8 +240,9 @@ function drawMarks({ pen, colour, y, high }) {
 /** The film: a line as far as the machine has run, with a tick at each keyframe, and a dashed line for what is still to come. */
 function drawFilm({ pen, colour, y, high }) {
   const middle = Math.round(y + high / 2), [begin, now, end] = [0, nowCount(), lanes.end].map(columnOf);
-  pen.fillStyle = pen.strokeStyle = colour("soft");
   if (high !== ROW) return;
+  drawBranches({ pen, colour, y, high });
+  pen.fillStyle = pen.strokeStyle = colour("soft");
   pen.fillRect(begin, middle - 1, now - begin, 2);
   for (const [count] of inSpan(lanes.film.map((count) => [count]))) pen.fillRect(columnOf(count), middle - 3, 1, 6);
   pen.setLineDash([5, 4]);
