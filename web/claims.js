@@ -120,6 +120,7 @@ function falseClaim() {
 /** Shows a headline for a false checkpoint, and the way to what the machine has there; at its count, both parts side by side. */
 async function showFalse() {
   const wrong = falseClaim(), place = el("false");
+  for (const [name, { value }] of registerCells) value.classList.toggle("wrong", name === wrong?.part && shownCount() === wrong.count && !isAhead());
   place.hidden = !wrong;
   if (!wrong) return;
   const { number, count, part } = wrong, headline = made("b", `False at checkpoint ${number}: ${part}`);

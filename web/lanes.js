@@ -10,8 +10,8 @@ Object.assign(LIVE, {
   /** Returns the lanes of a span of counts, which is shown in so many columns, of the machine of a number; or null if that is gone. */
   lanes({ from, to, columns, of }) {
     if (of !== generation) return null;
-    const { marks, planned, recording } = machine;
-    return { ...inputLanes(from, to, columns), marks, planned: recording ? [] : planned, end: machine.end };
+    const { marks, planned, end } = machine;
+    return { ...inputLanes(from, to, columns), marks, planned, end };
   },
   /** Returns the count of the last input before a count, or of the first one after it, or null. */
   inputNear({ at, isBefore }) {

@@ -89,6 +89,7 @@ async function takeOverHere() {
   const [moment, now] = await Promise.all([at, nowCount()].map((count) => app.past.moment(count)));
   if (!moment || !now || !(await keepBranch(at))) return;
   look = NOW;
+  closeCard();
   await app.live.ask("takeOver", moment);
   forgetAfter(at);
   dropSent(now.sent - moment.sent);

@@ -326,7 +326,7 @@ function listen() {
   el("full").hidden = !document.fullscreenEnabled;
   on("picture", "click", savePicture);
   listenToKeyboard();
-  on("pad", "pointerdown", padPressed);
+  on("pad", "click", padPressed);
   for (const name of TABS) on(`tab-${name}`, "click", () => showTab(name));
   for (const name of TABS) on(`tab-${name}`, "keydown", tabByKey);
   on("image", "submit", openImage);
@@ -415,7 +415,6 @@ async function begin() {
   document.body.dataset.ready = "yes";
   welcome();
   await showKept();
-  el("kept").open = !app.latest && el("kept-list").childElementCount > 0;
 }
 
 /** Prepares the machine in a report. It is started at the first use, with the report's recording, which is judged as a recording in

@@ -99,9 +99,7 @@ function claimOffsets(view) {
 }
 
 /** Sends the key of a button below the screen, as on a phone. */
-function padPressed(event) {
-  const { key } = event.target.dataset;
-  if (!key) return;
-  event.preventDefault();
-  if (isRunning()) sendCodes([key.charCodeAt(0)]);
+function padPressed({ target }) {
+  const { key } = target.dataset;
+  if (key && isRunning()) sendCodes([key.charCodeAt(0)]);
 }

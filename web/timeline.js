@@ -112,12 +112,16 @@ function showLanes(found) {
   attempt(askFilm);
 }
 
+/** Asks for the keyframes: now and then while the machine runs. */
+
 async function askFilm() {
   const now = performance.now();
-  if (now < timeline.filmDue) return;
+  if (app.latest?.on && now < timeline.filmDue) return;
   timeline.filmDue = now + FILM_MS;
   const film = await app.past.keyframes();
-  if (film) lanes = { ...lanes, film: film.counts };
+  if (!film || film.counts.length === lanes.film.length) return;
+  lanes = { ...lanes, film: film.counts };
+  drawLanes();
 }
 
 // Drawing
@@ -168,10 +172,10 @@ function tickStep(least) {
 
 /** The checkpoints with what is known of each: those of the file, or those that the page made. */
 function claimMarks() {
-  const { file } = app, wrong = falseClaim(), own = file ? [] : lanes.found.planned;
-  const claims = (file?.claims ?? []).map((count, number) => [count, stateOfClaim(number, count, wrong)]).slice(1);
-  const made = lanes.found.marks.filter((count) => !file?.claims.includes(count));
-  return [...claims, ...[...new Set([...own, ...made])].map((count) => [count, lanes.passed.get(count) ?? "unchecked"])];
+  const wrong = falseClaim(), ofFile = app.file?.claims ?? [], known = new Set(ofFile), { planned, marks } = lanes.found;
+  const claims = ofFile.map((count, number) => [count, stateOfClaim(number, count, wrong)]).slice(1);
+  const own = [...new Set([...planned, ...marks])].filter((count) => !known.has(count));
+  return [...claims, ...own.map((count) => [count, lanes.passed.get(count) ?? "unchecked"])];
 }
 
 /** What is known of a checkpoint of the file: true, false, not judged (it comes after a false one), or unchecked. */
@@ -185,7 +189,7 @@ const GLYPHS = { true: "◆", false: "■", "not judged": "◇", unchecked: "○
 
 function drawClaims({ pen, colour, y, high }) {
   pen.textAlign = "center";
-  for (const [count, state] of claimMarks()) {
+  for (const [count, state] of inSpan(claimMarks())) {
     pen.fillStyle = colour(state === "true" ? "true" : state === "false" ? "wrong" : "soft");
     pen.fillText(GLYPHS[state], columnOf(count), y + high / 2);
   }

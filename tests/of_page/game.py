@@ -67,7 +67,20 @@ def go_on_before_crash(desk: Desk) -> None:
     print(f"snake: taken over {(crash - at) / 25e6:.1f} s before, and lives on; accepted")
 
 
+def continue_after(desk: Desk) -> None:
+    """After a reload the card of the empty page continues the game."""
+    page = desk.page
+    count = page.answer("nowCount()")
+    page.wait("app.work.kept.startsWith(`${nowCount()} `)")
+    desk.reload()
+    page.wait("!el('continue').disabled")
+    click_card(desk, "continue")
+    page.wait(f"app.work.name === 'snake' && nowCount() === {count}")
+    print("snake: continued after a reload, by the card of the empty page")
+
+
 def drive(desk: Desk) -> None:
     """All of it."""
     play(desk)
     go_on_before_crash(desk)
+    continue_after(desk)
