@@ -14,6 +14,7 @@ class Machine extends Emulator {
     this.arrivals = new Arrivals();
     this.inputs = new Inputs();
     this.given = this.next = this.sentTotal = 0;
+    this.falseAt = Infinity;
   }
 
   /** Begins a session. `checkpoints` are the counts of its checkpoints, at which the claims of a recording are compared. */
@@ -28,7 +29,7 @@ class Machine extends Emulator {
    * and the first so many are taken already. */
   start({ state, words, inputs, given, next, planned, waiting }) {
     this.put(this.place, { state, words });
-    Object.assign(this, { inputs, given, next, planned, isTrue: true, sentSince: [], arrivals: new Arrivals(waiting) });
+    Object.assign(this, { inputs, given, next, planned, falseAt: Infinity, sentSince: [], arrivals: new Arrivals(waiting) });
     this.sentTotal = this.recorder.sentTotal;
     this.arrivals.forgetMouse(this.part("mouse"));
   }
@@ -131,8 +132,14 @@ class Machine extends Emulator {
     const inputs = new Inputs(this.inputs.bytes.subarray(0, INPUT_BYTES * this.inputs.from(at)));
     const planned = this.planned.filter((count) => count <= at), given = Math.min(this.given, inputs.length);
     if (!(this.recorder.full?.count <= at)) this.recorder.cut(at, sent);
+    const { falseAt } = this;
     this.start({ state, words, inputs, given, next: inputs.length, planned });
-    this.sentTotal = sent;
+    Object.assign(this, { sentTotal: sent, falseAt: falseAt <= at ? falseAt : Infinity });
+  }
+
+  /** Whether each claim of the file was true that was passed. */
+  get isTrue() {
+    return this.falseAt === Infinity;
   }
 
   /** Why the machine takes no inputs of the user, or null. */
@@ -255,7 +262,7 @@ class Machine extends Emulator {
     const own = { state: this.state, words: this.words, sent: joined(this.sentSince) };
     const part = firstDifference(own, { ...this.at(this.other), sent: this.recording.claims[number].sent });
     this.sentSince = [];
-    if (part) this.isTrue = false;
+    if (part) this.falseAt = Math.min(this.falseAt, this.count);
     return { number, count: this.count, part };
   }
 

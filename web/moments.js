@@ -2,19 +2,34 @@
  * through a channel between the two. Answers about a machine that is no longer open are null. */
 "use strict";
 
+// The crew has at most so many workers. The page's own thread and the worker of the past need a processor each.
+const MOST_CREW = 3, OTHER_THREADS = 2;
+
 class Past {
   /** `news` hears what comes before an answer, `{peeked}`, `{searched}` and `{who}`, and that the worker is broken. The worker starts
    * when the live machine's is connected. */
   constructor(module, news) {
-    Object.assign(this, { module, news, helper: null, generation: 0, wanted: null, isLooking: false, isSlow: false });
+    Object.assign(this, { module, news, helper: null, generation: 0, wanted: null, isLooking: false, isSlow: false, crew: [] });
   }
 
   /** Has the worker of the live machine tell its past from now on. */
   connect(live) {
-    const { port1, port2 } = new MessageChannel();
     this.helper = new Helper(this.module, (news) => this.heard(news));
-    live.worker.postMessage({ ask: "connect", port: port1 }, [port1]);
-    this.helper.worker.postMessage({ ask: "listen", port: port2 }, [port2]);
+    this.join(live, "connect", "listen");
+  }
+
+  /** Gives the two ends of a channel to another worker and to that of the past, each with what it is asked. */
+  join(other, ask, own) {
+    const { port1, port2 } = new MessageChannel();
+    other.worker.postMessage({ ask, port: port1 }, [port1]);
+    this.helper.worker.postMessage({ ask: own, port: port2 }, [port2]);
+  }
+
+  /** Starts the workers that search, as many as there are processors besides those that the page needs. */
+  recruit() {
+    const size = Math.max(1, Math.min(MOST_CREW, navigator.hardwareConcurrency - OTHER_THREADS)), failed = this.crew.find(({ broken }) => broken);
+    if (failed) throw new Refusal(failed.broken);
+    for (; this.crew.length < size; this.join(this.crew.at(-1), "serve", "recruit")) this.crew.push(new Searcher(this));
   }
 
   /** Says that another machine is open, by its number. What is asked of the one before is void. */
@@ -74,14 +89,20 @@ class Past {
     return this.ask("around", { at, before, after });
   }
 
+  /** Asks for something that the crew searches. */
+  async searching(ask, given) {
+    this.recruit();
+    return this.ask(ask, given);
+  }
+
   /** Finds the first count from one on and before another at which a condition holds, or the last one. */
   find({ from = 0, to, last = false, conditions }) {
-    return this.ask("find", { from, to, last, conditions });
+    return this.searching("find", { from, to, last, conditions });
   }
 
   /** Finds the instruction that wrote what is there at a count. */
   who({ before, ...what }) {
-    return this.ask("who", { before, ...what });
+    return this.searching("who", { before, ...what });
   }
 
   /** Ends the search that is under way. */
@@ -97,5 +118,19 @@ class Past {
   /** Returns the bytes of the inputs from a number on. */
   inputs(from = 0) {
     return this.ask("inputs", { from });
+  }
+}
+
+/** A worker of the crew. If it fails, the search that it has a part in is ended, and the page hears why. */
+class Searcher extends Helper {
+  constructor(past) {
+    super(past.module, past.news);
+    this.past = past;
+  }
+
+  fail(event) {
+    super.fail(event);
+    this.past.news({ broken: this.broken });
+    this.past.stop().catch(() => {});
   }
 }

@@ -2,13 +2,12 @@
 "use strict";
 
 // How long a call takes at most, as far as can be foreseen: between two calls others get their turn.
-const CALL_MS = 10, FIRST_RUN = 200000, FIRST_SEARCH = 100000;
+const CALL_MS = 10, FIRST_RUN = 200000;
 
 class Replayer extends Emulator {
   constructor(library) {
     super(library);
     this.running = new Pace(CALL_MS, FIRST_RUN);
-    this.finding = new Pace(CALL_MS, FIRST_SEARCH);
     this.forget();
   }
 
@@ -40,14 +39,6 @@ class Replayer extends Emulator {
   /** Returns about how many ms it takes to a count. */
   msTo(count) {
     return (count - this.count) / this.running.steps * this.running.ms;
-  }
-
-  /** Returns the first or the last hit of the conditions from its count on and before another, or null. It stays where it is. */
-  find(inputs, to, conditions, isLast) {
-    const { count } = this, begun = performance.now(), given = inputs.bytes.subarray(INPUT_BYTES * inputs.from(count), INPUT_BYTES * inputs.from(to));
-    const hit = this.library.find(this.place, given, to, conditions, isLast);
-    if (isLast || !hit) this.finding.took(to - count, performance.now() - begun);
-    return hit;
   }
 
   /** Does one instruction. Returns its count, its word, the inputs before it, and what it changed: names, and texts of values before and

@@ -1,14 +1,17 @@
 /* Searches in the past of the live machine: when a condition holds, and which instruction wrote what is in memory or in a register. One
- * search is under way at a time, in pieces of a few milliseconds. */
+ * search is under way at a time. It is cut into pieces, which the crew searches (crew.js), several at a time. */
 "use strict";
 
 // Kinds of conditions, as include/galluspa.h numbers them.
 const STORE = 2, CHANGE = 3, BECOMES = 5;
 const PROGRESS_MS = 100, MOST_CONDITIONS = 64, H_NUMBER = 16, FLAGS_NUMBER = 17;
+// How long a piece is to take, how many steps the first one has, since a hit may be near, and how many a piece has at most: a worker is
+// not free for another search before its piece is searched.
+const PIECE_MS = 60, FIRST_PIECE = 20000, MOST_PIECE = 5000000;
 
 class Searches {
   constructor(history) {
-    Object.assign(this, { history, end: () => {} });
+    Object.assign(this, { history, crew: new Crew(), end: () => {} });
   }
 
   /** Ends the search that is under way. Its answer is that it was stopped. */
@@ -42,6 +45,7 @@ class Searches {
   begin({ generation, to }, task) {
     const { history } = this;
     this.end();
+    this.crew.clear();
     let isOver = false;
     const stopped = new Promise((resolve) => {
       this.end = () => {
@@ -74,36 +78,66 @@ class Searches {
     };
   }
 
-  async findFirst(from, to, conditions, turn) {
-    const { history } = this, { searcher } = history, tell = this.progress(to - from);
-    for (let at = from, end; at < to; at = end) {
-      await history.reach(searcher, at, turn);
-      if (searcher.part("stop")) return null;
-      end = Math.min(to, at + searcher.finding.steps);
-      const hit = searcher.find(history.inputs, end, conditions, false);
+  findFirst(from, to, conditions, turn) {
+    const pace = new Pace(PIECE_MS, FIRST_PIECE);
+    return this.searched(this.forward(from, to, pace, turn), pace, { conditions, isLast: false }, this.progress(to - from));
+  }
+
+  findLast(from, to, conditions, turn) {
+    const pace = new Pace(PIECE_MS, FIRST_PIECE);
+    return this.searched(this.backward(from, to, pace, turn), pace, { conditions, isLast: true }, this.progress(to - from));
+  }
+
+  /** Has pieces searched, as many at a time as the crew can. Returns the hit of the first piece that has one, once all before it are known
+   * to have none; or null. */
+  async searched(pieces, pace, wanted, tell) {
+    const under = [];
+    let done = 0;
+    const first = async () => {
+      const { steps, found } = under.shift(), { hit, ms } = await found;
+      pace.took(steps, ms);
+      tell((done += steps));
+      return hit;
+    };
+    for await (const { steps, ...piece } of pieces) {
+      under.push({ steps, found: this.crew.search({ ...piece, ...wanted }) });
+      const hit = under.length > this.crew.size ? await first() : null;
       if (hit) return hit;
-      tell(end - from);
-      await turn();
+    }
+    while (under.length) {
+      const hit = await first();
+      if (hit) return hit;
     }
     return null;
   }
 
-  /** Goes backward gap by gap between keyframes. In a gap it goes forward: the last hit stands once all of the gap is searched. */
-  async findLast(from, to, conditions, turn) {
-    const { history } = this, { searcher } = history, tell = this.progress(to - from);
-    for (let end = to, first; end > from; end = first) {
-      first = Math.max(from, history.nearest(end - 1).count, end - KEYFRAME_STEPS);
-      let found = null;
-      for (let at = first, next; at < end; at = next) {
-        await history.reach(searcher, at, turn);
-        next = Math.min(end, at + searcher.finding.steps);
-        found = searcher.find(history.inputs, next, conditions, true) ?? found;
-        tell(to - end + next - first);
-        await turn();
-      }
-      if (found) return found;
+  /** The pieces of a range from its beginning on. A machine that has stopped does nothing more. */
+  async *forward(from, to, pace, turn) {
+    const { searcher } = this.history;
+    for (let at = from, end; at < to; at = end) {
+      await this.history.reach(searcher, at, turn);
+      if (searcher.part("stop")) return;
+      end = Math.min(to, at + Math.min(pace.steps, MOST_PIECE));
+      yield this.pieceTo(end);
     }
-    return null;
+  }
+
+  /** The pieces of a range from its end on. They begin at keyframes where there are some. */
+  async *backward(from, to, pace, turn) {
+    const { history } = this;
+    for (let end = to, first; end > from; end = first) {
+      const steps = Math.min(pace.steps, MOST_PIECE), least = Math.max(from, end - steps), { count } = history.nearest(least);
+      first = least - count < steps ? Math.max(from, count) : least;
+      await history.reach(history.searcher, first, turn);
+      yield this.pieceTo(end);
+    }
+  }
+
+  /** Returns the piece from where the searcher is up to a count. */
+  pieceTo(to) {
+    const { searcher, inputs } = this.history, { count } = searcher;
+    const given = inputs.bytes.slice(INPUT_BYTES * inputs.from(count), INPUT_BYTES * inputs.from(to));
+    return { ...copied(searcher.at(searcher.place)), inputs: given, to, steps: to - count };
   }
 
   /** Returns the instruction at a count, with the state before it. */

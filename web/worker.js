@@ -1,6 +1,6 @@
-/* The last part of the worker script: it answers the page's requests. Three kinds of workers run it. One has the live machine and
+/* The last part of the worker script: it answers the page's requests. Four kinds of workers run it. One has the live machine and
  * records it. Another, the clerk, checks, so that a long check can be stopped without touching the machine. A third one looks into the
- * past, which the live one tells it through a port. A request is `{id, ask, ..}`, and its answer `{id, answer}`, `{id, refused}` with a
+ * past, which the live one tells it through a port; the crew search for it. A request is `{id, ask, ..}`, and its answer `{id, answer}`, `{id, refused}` with a
  * line for the user, or `{id, broken}` for a bug in this script. Messages that answer no request have no id, and a request without an
  * id gets no answer. */
 "use strict";
@@ -341,10 +341,27 @@ const PAST = {
   find: (given) => history.searches.find(given),
   who: (given) => history.searches.who(given),
   stopSearch: () => history.searches.stop(),
+  /** Takes one more worker for searches, by its port. */
+  recruit: ({ port }) => history.searches.crew.join(port),
   /** Returns the counts of the keyframes, how many bytes they take, and how far the past is known. */
   keyframes: () => history.extent(),
   /** Returns the inputs from a number on. */
   inputs: (given) => history.inputsFrom(given),
+};
+
+// The crew
+
+const CREW = {
+  /** Searches the pieces that come through a port. */
+  serve({ port }) {
+    port.onmessage = ({ data }) => {
+      try {
+        port.postMessage({ found: searchedOn(machine, data) });
+      } catch (error) {
+        port.postMessage(faultOf(error));
+      }
+    };
+  },
 };
 
 // All
@@ -365,7 +382,7 @@ function start({ module }) {
 onmessage = ({ data: { id, ask, ...given } }) => {
   const post = (message) => id !== undefined && postMessage({ id, ...message });
   try {
-    const task = ask === "start" ? start : LIVE[ask] ?? CLERK[ask] ?? PAST[ask], answer = task(given);
+    const task = ask === "start" ? start : LIVE[ask] ?? CLERK[ask] ?? PAST[ask] ?? CREW[ask], answer = task(given);
     if (answer instanceof Promise) answer.then((later) => post({ answer: later }), (error) => post(faultOf(error)));
     else post({ answer });
   } catch (error) {

@@ -47,6 +47,8 @@ globalThis.Worker = class {
   }
 };
 
+globalThis.navigator ??= { hardwareConcurrency: 4 };
+
 // The worker's classes, for runs that the answers are compared with; and the page's own.
 globalThis.onmessage = null;
 globalThis.postMessage = () => {};
@@ -133,6 +135,13 @@ class Fresh {
     if (machine.count > count) this.begin();
     while (machine.count < count) machine.advance(this.inputs, count);
     return machine;
+  }
+
+  /** The hit of a search from the beginning up to a count, by one call. */
+  find(to, conditions, isLast) {
+    const { machine, inputs } = this;
+    this.begin();
+    return machine.library.find(machine.place, inputs.bytes, to, conditions, isLast);
   }
 }
 
@@ -259,7 +268,7 @@ async function lookAtOdd() {
     const session = example(name), desk = new Desk(withNumbers({ KEYFRAME_STEPS: 500 })), fresh = new Fresh(session), end = 6000;
     await desk.openSession(session);
     await desk.run(end);
-    const stop = fresh.machine.find(fresh.inputs, end, [{ kind: STOPS }], false), from = stop ? stop.at + 20 : end;
+    const stop = fresh.find(end, [{ kind: STOPS }], false), from = stop ? stop.at + 20 : end;
     for (let at = from; at > from - 60; at--) expectMoment(`${name}, the step back to ${at}`, await desk.past.peek(at), fresh.at(at));
     const rows = await desk.past.around(from - 20, 20, 20);
     expect(`${name}: how many instructions it does there`, rows.length, stop ? 21 : 40);
@@ -318,7 +327,7 @@ const wantedOf = (data) => [
 /** The first and the last hits of each condition are those of a loop of single steps, at borders of ranges and of keyframes. */
 async function search() {
   const session = example("mixed"), end = 5000, steps = traced(session, end), random = chance(17);
-  const desk = new Desk(withNumbers({ KEYFRAME_STEPS: 700, FIRST_SEARCH: 70 }));
+  const desk = new Desk(withNumbers({ KEYFRAME_STEPS: 700, FIRST_PIECE: 70, MOST_PIECE: 400 }));
   await desk.openSession(session);
   await desk.run(end);
   await desk.past.peek(end);
@@ -352,7 +361,7 @@ async function who() {
   await desk.openSession(session);
   await desk.run(end);
   await desk.past.peek(end);
-  const whole = (conditions) => fresh.at(0) && fresh.machine.find(fresh.inputs, end, conditions, true);
+  const whole = (conditions) => fresh.find(end, conditions, true);
   const [byte, twice] = [950016 + 100, 950016 + 228];
   const again = await desk.past.who({ address: byte, bit: 3, before: end }), change = { kind: CHANGE, from: byte, end: byte + 1, value: 8 };
   expect("the dot that was cleared and drawn again", [again.at, again.sure, again.stored], [whole([change]).at, true, null]);
@@ -376,7 +385,7 @@ async function whoOfFace() {
   await desk.run(9000000);
   const [x, y] = [600, 219], address = 950016 + 128 * y + (x >> 3), fresh = new Fresh(session);
   const { at, pc, word, sure } = await desk.past.who({ address, bit: x & 7, before: 9000000 });
-  expect("who drew a dot of the face", [at, sure], [fresh.machine.find(fresh.inputs, 9000000, [{ kind: CHANGE, from: address, end: address + 1, value: 1 << x % 8 << 8 * (address % 4) }], true).at, true]);
+  expect("who drew a dot of the face", [at, sure], [fresh.find(9000000, [{ kind: CHANGE, from: address, end: address + 1, value: 1 << x % 8 << 8 * (address % 4) }], true).at, true]);
   expect("its instruction", [pc, word], [field(fresh.at(at).state, AT.PC), fresh.machine.word(pc)]);
   expect("what came first", desk.news.filter((news) => news.who).map((news) => [news.who.at, news.who.sure]), [[at, false]]);
   const claimed = await desk.past.peek(3000000);
@@ -452,6 +461,12 @@ async function takeOverAgain(desk) {
   await desk.run(13000000);
   expect("that what the file claims later is not judged", desk.frames.flatMap((news) => news.passed?.count ?? []), [4000000, 8000000]);
   console.log(`recording of-a-replay ${Buffer.from((await desk.live.ask("recording")).text).toString("base64")}`);
+  await desk.open("openRecording", { text: new Uint8Array(readFileSync(join(FOLDER, "false.orsr"))), checkpoint: 0 });
+  await desk.run(4);
+  for (const [at, isTrue] of [[3, false], [1, true]]) {
+    await desk.live.ask("takeOver", await desk.past.moment(at));
+    expect(`whether all claims before ${at} are true`, desk.frames.findLast((news) => news.state).isTrue, isTrue);
+  }
 }
 
 (async () => {

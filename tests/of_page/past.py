@@ -7,7 +7,7 @@ import subprocess
 from pathlib import Path
 
 from desk import PAGE, expect, fail, program
-from samples import EXAMPLES, TOP, tool
+from samples import EXAMPLES, TOP, rejoining, tool
 
 EXAMPLES_USED = ("draw.json", "face.json", "face.orsr")
 # Programs, each with the words of its labels that the tests name.
@@ -92,6 +92,7 @@ def make_programs(folder: Path) -> None:
     """Writes the sessions of the programs, and the words of their labels."""
     for name in EXAMPLES_USED:
         shutil.copy(EXAMPLES / name, folder)
+    (folder / "false.orsr").write_bytes(rejoining(9))
     found = {}
     for name, source in SOURCES.items():
         path = folder / f"{name}.asm"
