@@ -97,7 +97,8 @@ function claimParts({ number, count, steps, state, before, dots, sent, sentLengt
   canvas.setAttribute("aria-label", `The screen at checkpoint ${number}`);
   paint(canvas, dots);
   list.append(...cells(state, before, wrong));
-  const parts = [paragraph(number ? `at ${grouped(count)}, after ${grouped(steps)} more steps; changes are marked` : "the initial state, taken as given", "hint")];
+  const when = number ? `at ${grouped(count)}, after ${grouped(steps)} more steps; changes are marked` : "the initial state, taken as given";
+  const parts = [paragraph(when, "hint")];
   if (wrong) parts.push(paragraph(`False: the first part that differs from the machine's is ${wrong}.`, "wrong"));
   parts.push(canvas, list);
   if (pages.length) parts.push(paragraph(`Memory changed in the pages ${rangesText(pages)}, of 1,024 bytes each.`, "hint"));
@@ -124,13 +125,23 @@ async function showFalse() {
   place.hidden = !wrong;
   if (!wrong) return;
   const { number, count, part } = wrong, headline = made("b", `False at checkpoint ${number}: ${part}`);
-  if (shownCount() !== count || isAhead() || app.latest?.on) return place.replaceChildren(headline, " ", button("What the machine has", () => toMachineAt(count)));
-  const shown = await app.live.ask("claimed", { number, of: app.work.generation });
-  if (!shown || shownCount() !== count) return;
-  const page = /^page (\d+)$/.exec(part), both = page ? await bytesThatDiffer(wrong, Number(page[1])) : partsThatDiffer(shown.state, part);
-  if (!both) return place.replaceChildren(headline);
-  const { own, claimed, about } = both, who = about ? [button("Which instruction made it so", () => askWho(about, `Who wrote ${both.name}`))] : [];
-  place.replaceChildren(headline, paragraph(`${both.name}: the machine has ${own}, the recording claims ${claimed}.`, "both"), ...who);
+  if (shownCount() !== count || isAhead() || app.latest?.on)
+    return place.replaceChildren(headline, " ", button("What the machine has", () => toMachineAt(count)));
+  const both = await bothParts(wrong);
+  if (shownCount() === count) place.replaceChildren(headline, ...(both ? bothLines(both) : []));
+}
+
+/** Returns what the machine has at a false checkpoint, and what is claimed; or null if it is no part of a state, nor of memory. */
+async function bothParts(wrong) {
+  const page = /^page (\d+)$/.exec(wrong.part);
+  if (page) return bytesThatDiffer(wrong, Number(page[1]));
+  const shown = await app.live.ask("claimed", { number: wrong.number, of: app.work.generation });
+  return shown && partsThatDiffer(shown.state, wrong.part);
+}
+
+function bothLines({ name, own, claimed, about }) {
+  const line = paragraph(`${name}: the machine has ${own}, the recording claims ${claimed}.`, "both");
+  return about ? [line, button("Which instruction made it so", () => askWho(about, `Who wrote ${name}`))] : [line];
 }
 
 /** Looks at what the machine has at a count, to which a replay runs first: before, there is only what the file claims. */
@@ -139,13 +150,15 @@ function toMachineAt(count) {
 }
 
 function partsThatDiffer(claimedState, part) {
-  const [own, claimed] = [shownState(), claimedState].map((state) => new Map(partsOf(state)).get(part)), register = REGISTERS_ASKED.indexOf(part);
+  const [own, claimed] = [shownState(), claimedState].map((state) => new Map(partsOf(state)).get(part));
+  const register = REGISTERS_ASKED.indexOf(part);
   return own === undefined ? null : { name: part, own, claimed, about: register < 0 ? null : { register } };
 }
 
 /** Returns the first word of a page that differs from what the false checkpoint claims. */
 async function bytesThatDiffer({ number, count }, page) {
-  const from = PAGE_BYTES * page, [own, claimed] = await Promise.all([app.past.memory(count, from, PAGE_BYTES), app.live.ask("claimedPage", { number, page, of: app.work.generation })]);
+  const from = PAGE_BYTES * page, claimed = await app.live.ask("claimedPage", { number, page, of: app.work.generation });
+  const own = await app.past.memory(count, from, PAGE_BYTES);
   if (!own || !claimed) return null;
   const [words, others] = [own.bytes.slice(), claimed].map(wordsOf), at = words.findIndex((word, number) => word !== others[number]);
   const address = from + 4 * at;

@@ -12,7 +12,8 @@ function toggleBreak(pc) {
   if (next.size > MOST_BREAKS) return notice(`There are ${MOST_BREAKS} breakpoints at most.`);
   breaks = next;
   for (const gutter of el("listing").querySelectorAll("button")) showBreak(gutter);
-  write("breaks", breaks.size ? `Breakpoints at PC ${[...breaks].sort((one, other) => one - other).join(", ")}.` : "Click beside an instruction to set a breakpoint.");
+  const counters = [...breaks].sort((one, other) => one - other).join(", ");
+  write("breaks", counters ? `Breakpoints at PC ${counters}.` : "Click beside an instruction to set a breakpoint.");
 }
 
 function showBreak(gutter) {
@@ -81,6 +82,7 @@ async function showAround() {
 
 function doneLine({ count, pc, word, changes }, at) {
   const line = made("div", "", count === at ? "here" : ""), go = button(grouped(count), () => lookAt(count));
-  line.append(go, ` ${`${pc}`.padStart(6)}  ${instruction(word, pc)[0].padEnd(20)} ${changes.map(([name, old, now]) => `${name} ${old} → ${now}`).join("; ")}`);
+  const changed = changes.map(([name, old, now]) => `${name} ${old} → ${now}`).join("; ");
+  line.append(go, ` ${`${pc}`.padStart(6)}  ${instruction(word, pc)[0].padEnd(20)} ${changed}`);
   return line;
 }

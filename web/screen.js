@@ -46,7 +46,8 @@ function roomForScreen() {
   if (document.fullscreenElement === el("stage")) return [innerWidth, innerHeight];
   const isWide = matchMedia("(min-width: 60rem)").matches, all = el("desk").parentElement.clientWidth;
   if (isNarrow()) return [all, Infinity];
-  const above = el("stage").getBoundingClientRect().top + scrollY, below = el("desk").offsetHeight - el("stage").offsetHeight + el("stay").offsetHeight;
+  const above = el("stage").getBoundingClientRect().top + scrollY;
+  const below = el("desk").offsetHeight - el("stage").offsetHeight + el("stay").offsetHeight;
   return [isWide ? all - SIDE_ROOM : all, Math.max(LEAST_HEIGHT, innerHeight - above - below - MARGIN)];
 }
 

@@ -70,12 +70,17 @@ function conditionsOfForm() {
   const [kind, , about, valued] = WANTED.find(([one]) => one === Number(el("what").value));
   const range = about ? rangeOf(el("from-value").value, about) : { from: 0, end: 1 };
   if (!range) return notice(`${el("from-value").value}: ${FORMS[about]}`), null;
-  const value = kind === TAKES ? Number(el("kind").value) : kind === CHANGE ? ALL_BITS : valued ? valueOf(el("value").value) : 0;
+  const fixed = { [TAKES]: Number(el("kind").value), [CHANGE]: ALL_BITS }[kind] ?? 0;
+  const value = valued ? valueOf(el("value").value) : fixed;
   if (value === null) return notice(`${el("value").value}: a value is a number, hexadecimal after 0x, or a character in quotes.`), null;
   return [{ kind, ...range, value }];
 }
 
-const FORMS = { PC: "PC is a word number, or two as in 20-30.", address: "an address is hexadecimal, or two as in E8000-E8003.", register: "a register is R0 to R15, H or flags." };
+const FORMS = {
+  PC: "PC is a word number, or two as in 20-30.",
+  address: "an address is hexadecimal, or two as in E8000-E8003.",
+  register: "a register is R0 to R15, H or flags.",
+};
 const FLAGS = 17, LAST_PC = 1 << 22, LAST_ADDRESS = 1 << 24;
 
 /** Returns the range that was written: two numbers with a line between them, or one. */

@@ -3,8 +3,8 @@
 "use strict";
 
 const SNAKE = "snake", FIRST_LENGTH = 3, OVER = "over\n", BEFORE_CRASH = PER_SECOND, CHEATED = 100;
-// Where the LEDs are in a checkpoint of a recording.
-const LEDS_AT = 96;
+// The bytes of a recording before its pages and of a checkpoint before its changes, and where the LEDs are in a checkpoint.
+const HEADER_BYTES = 24, CLAIM_BYTES = 144, LEDS_AT = 96;
 const ARROWS = { ArrowUp: "w", ArrowLeft: "a", ArrowDown: "s", ArrowRight: "d" };
 // How long the snake is, as the LEDs said last.
 let snakeLength = FIRST_LENGTH;
@@ -33,11 +33,11 @@ async function endGame() {
   await app.live.ask("setRun", { on: false });
   const { text } = await app.live.ask("recording"), crash = await crashCount();
   await lookAt(crash);
-  const points = field(shownState(), AT.LEDs) - FIRST_LENGTH, title = `Game over: ${points} point${points === 1 ? "" : "s"}`;
-  const summary = paragraph(`${grouped(keysIn(text))} keys; the recording has ${grouped(text.length)} bytes.`), place = paragraph("checking ..", "line note");
+  const points = field(shownState(), AT.LEDs) - FIRST_LENGTH, place = paragraph("checking ..", "line note");
+  const summary = paragraph(`${grouped(keysIn(text))} keys; the recording has ${grouped(text.length)} bytes.`);
   const back = button("Go back before the crash", () => lookAt(crash - BEFORE_CRASH)), again = button("Play again", playAgain);
   const cheat = button("Try to cheat", () => tryToCheat(text));
-  showCard(title, [summary, place, back, cheat, again, made("div", "", "cheat")]);
+  showCard(`Game over: ${points} point${points === 1 ? "" : "s"}`, [summary, place, back, cheat, again, made("div", "", "cheat")]);
   await showLine(text, place);
 }
 
@@ -49,7 +49,8 @@ async function playAgain() {
 
 /** The count at which the last game was over: at which its text was sent. */
 async function crashCount() {
-  const found = await app.past.find({ from: 0, to: nowCount(), last: true, conditions: [{ kind: SENDS_BYTE, from: 0, end: 1, value: OVER.charCodeAt(0) }] });
+  const first = { kind: SENDS_BYTE, from: 0, end: 1, value: OVER.charCodeAt(0) };
+  const found = await app.past.find({ from: 0, to: nowCount(), last: true, conditions: [first] });
   return found?.at ?? nowCount();
 }
 
@@ -77,25 +78,26 @@ async function tryToCheat(text) {
 
 /** Returns a recording whose checkpoint with the most points claims more. */
 function forgedScore(text) {
-  const view = new DataView(text.buffer, text.byteOffset, text.length), forged = text.slice();
-  const offsets = claimOffsets(view), best = offsets.slice(1).reduce((one, other) => (view.getUint32(other + LEDS_AT, true) >= view.getUint32(one + LEDS_AT, true) ? other : one));
-  const own = view.getUint32(best + LEDS_AT, true), claimed = Math.min(255, own + CHEATED);
+  const { view, claims } = layoutOf(text), ledsOf = (claim) => view.getUint32(claim + LEDS_AT, true), forged = text.slice();
+  const best = claims.slice(1).reduce((one, other) => (ledsOf(other) >= ledsOf(one) ? other : one));
+  const own = ledsOf(best), claimed = Math.min(255, own + CHEATED);
   forged[best + LEDS_AT] = claimed;
   return { forged, claimed, own, count: Number(view.getBigUint64(best, true)) };
 }
 
 /** Returns how many keys are in a recording. */
 function keysIn(text) {
-  const view = new DataView(text.buffer, text.byteOffset, text.length), [pages, inputs] = [8, 12].map((at) => view.getUint32(at, true));
-  const kinds = Array.from({ length: inputs }, (_, at) => view.getUint32(24 + PAGE_BYTES * pages + INPUT_BYTES * at + 8, true));
-  return kinds.filter((kind) => kind === KEY).length;
+  const { view, inputs } = layoutOf(text);
+  return inputs.filter((at) => view.getUint32(at + 8, true) === KEY).length;
 }
 
-/** Returns where the checkpoints of a recording of version 2 begin. */
-function claimOffsets(view) {
-  const [pages, inputs, checkpoints] = [8, 12, 16].map((at) => view.getUint32(at, true)), offsets = [];
-  for (let at = 24 + PAGE_BYTES * pages + INPUT_BYTES * inputs; offsets.length < checkpoints; at += 144 + 8 * view.getUint32(at + 140, true)) offsets.push(at);
-  return offsets;
+/** Returns where the inputs and the checkpoints of a recording of version 2 begin. */
+function layoutOf(text) {
+  const view = new DataView(text.buffer, text.byteOffset, text.length), number = (at) => view.getUint32(at, true);
+  const first = HEADER_BYTES + PAGE_BYTES * number(8), inputs = Array.from({ length: number(12) }, (_, at) => first + INPUT_BYTES * at), claims = [];
+  let at = first + INPUT_BYTES * inputs.length;
+  for (; claims.length < number(16); at += CLAIM_BYTES + 8 * number(at + CLAIM_BYTES - 4)) claims.push(at);
+  return { view, inputs, claims };
 }
 
 /** Sends the key of a button below the screen, as on a phone. */

@@ -3,7 +3,7 @@
 
 const PER_SECOND = 25000000;
 const LANES = ["claims", "keys", "mouse", "serial", "screen", "marks", "film"];
-const ROW = 17, AXIS = 17, MERGED = 28, LEAST_SPAN = 16, MOST_NOTED = 20000, SENT_SHOWN = 40, GLYPH_WIDTH = 6;
+const ROW = 17, AXIS = 17, MERGED = 28, LEAST_SPAN = 16, MOST_NOTED = 20000, SENT_SHOWN = 40, GLYPH_WIDTH = 6, LISTED = 40;
 const FRESH_MS = 200, FILM_MS = 2000, TICK_WIDTH = 76, ZOOM = 1.6;
 
 // What the lanes show. `end` is the last count that is known of: that of now, or of the file.
@@ -12,8 +12,11 @@ const FRESH_MS = 200, FILM_MS = 2000, TICK_WIDTH = 76, ZOOM = 1.6;
 const NOTHING_FOUND = { keys: [], mouse: [], serial: [], listed: { keys: [], mouse: [], serial: [] }, marks: [], planned: [], end: 0 };
 const newLanes = () => ({ end: 0, found: NOTHING_FOUND, sent: [], painted: [], passed: new Map(), film: [] });
 let lanes = newLanes();
-// The span that is shown, and how it is used: `isAsked` while the worker is asked for its lanes, and `pointers` are those on the track.
-const timeline = { from: 0, to: PER_SECOND, isWhole: true, isDragged: false, isAsked: false, isStale: false, due: 0, filmDue: 0, pointers: new Map() };
+// The span that is shown, and how it is used: `isAsked` while the worker is asked for its lanes, `isStale` if they are wanted again, and
+// `pointers` are those on the track, with where they are.
+const timeline = {
+  from: 0, to: PER_SECOND, isWhole: true, isDragged: false, pointers: new Map(), isAsked: false, isStale: false, due: 0, filmDue: 0,
+};
 
 /** Begins the lanes of a machine that was opened. */
 function beginLanes() {
@@ -291,16 +294,23 @@ function showCursor(isSettled) {
 function cursorWords(at) {
   const where = isPast() ? `${isAhead() ? "not run yet" : "the past"}, ${apart(at)} ${isAhead() ? "ahead of" : "before"} now` : "now";
   const claim = claimMarks().find(([count]) => count === at);
-  return `count ${grouped(at)}, ${secondsOf(at)}, ${where}${claim ? `, a checkpoint, ${claim[1]}` : ""}`.replaceAll(" s,", " seconds,").replace(" s ", " seconds ");
+  const words = `count ${grouped(at)}, ${secondsOf(at)}, ${where}${claim ? `, a checkpoint, ${claim[1]}` : ""}`;
+  return words.replace(/ s\b/g, " seconds");
 }
 
 /** Writes each lane as a list, for those who do not see it. */
 function listLanes() {
-  const { listed } = lanes.found, inputs = (lane) => listed[lane].map(([count, kind, value]) => `${kind} ${hex(value, 2)} at ${grouped(count)}`);
-  const lists = { claims: inSpan(claimMarks()).slice(0, 40).map(([count, state]) => `${state} at ${grouped(count)}`),
-                  keys: inputs("keys"), mouse: inputs("mouse"), serial: [...inputs("serial"), ...inSpan(lanes.sent).slice(-20).map(([count, text]) => `sent ${text} by ${grouped(count)}`)],
-                  screen: inSpan(lanes.painted).slice(-20).map(([count, lines]) => `${lines} lines changed by ${grouped(count)}`),
-                  marks: inSpan(hitMarks()).map(([count, , what]) => `${what} at ${grouped(count)}`), film: [`kept up to ${grouped(nowCount())}`] };
+  const { listed } = lanes.found, last = (list) => inSpan(list).slice(-LISTED);
+  const inputs = (lane) => listed[lane].map(([count, kind, value]) => `${kind} ${hex(value, 2)} at ${grouped(count)}`);
+  const lists = {
+    claims: last(claimMarks()).map(([count, state]) => `${state} at ${grouped(count)}`),
+    keys: inputs("keys"),
+    mouse: inputs("mouse"),
+    serial: [...inputs("serial"), ...last(lanes.sent).map(([count, text]) => `sent ${text} by ${grouped(count)}`)],
+    screen: last(lanes.painted).map(([count, lines]) => `${lines} lines changed by ${grouped(count)}`),
+    marks: last(hitMarks()).map(([count, , what]) => `${what} at ${grouped(count)}`),
+    film: [`kept up to ${grouped(nowCount())}`],
+  };
   el("lists").replaceChildren(...LANES.map((lane) => laneList(lane, lists[lane])));
 }
 

@@ -16,16 +16,27 @@ async function askWho(about, title, before = shownCount()) {
 
 /** Shows an answer: an instruction, probably or surely, or that it was there from the beginning. */
 function showWho(answer) {
-  const { title, about } = asking ?? {}, { stored } = answer;
-  if (!title) return;
+  if (asking) showCard(asking.title, partsOfAnswer(answer, asking));
+}
+
+function partsOfAnswer(answer, { about, title }) {
+  const { at, pc, sure, state, stored } = answer;
   const again = stored ? [paragraph(`Instruction ${grouped(stored.at)} wrote the same again.`, "hint")] : [];
-  if (answer.stopped) return showCard(title, [paragraph("The search was stopped.", "hint")]);
-  if (answer.initial) return showCard(title, [paragraph("No instruction: it is in the initial memory."), ...again]);
-  const { at, pc, word, state, sure } = answer, [mnemonic, meaning] = instruction(word, pc), registers = made("code", REGISTERS.map((name, number) => `${name} ${hex(field(state, AT.R + 4 * number), 8)}`).join("  "));
+  if (answer.stopped) return [paragraph("The search was stopped.", "hint")];
+  if (answer.initial) return [paragraph("No instruction: it is in the initial memory."), ...again];
+  const where = paragraph(`Instruction ${grouped(at)}, PC ${pc}: ${sure ? "sure" : "probably; still searching"}`);
   const jump = button("Jump", () => lookAt(at)), earlier = button("Earlier", () => askWho(about, title, at));
-  const line = paragraph(`${mnemonic}  `, "instruction");
+  return [where, instructionLine(answer), jump, earlier, ...again, made("code", registersText(state))];
+}
+
+function instructionLine({ word, pc }) {
+  const [mnemonic, meaning] = instruction(word, pc), line = paragraph(`${mnemonic}  `, "instruction");
   line.append(made("span", meaning));
-  showCard(title, [paragraph(`Instruction ${grouped(at)}, PC ${pc}: ${sure ? "sure" : "probably; still searching"}`), line, jump, earlier, ...again, registers]);
+  return line;
+}
+
+function registersText(state) {
+  return REGISTERS.map((name, number) => `${name} ${hex(field(state, AT.R + 4 * number), 8)}`).join("  ");
 }
 
 function showCard(title, parts) {
@@ -33,7 +44,9 @@ function showCard(title, parts) {
   close.className = "close";
   close.setAttribute("aria-label", "Close");
   el("card").replaceChildren(heading, close, ...parts);
+  if (!el("card").hidden) return;
   el("card").hidden = false;
+  el("card").scrollIntoView({ block: "nearest" });
 }
 
 function closeCard() {

@@ -1,4 +1,4 @@
-"""Snake, as somebody plays it: from the card of the empty page into the wall, the check of the game, a claim of another score, and back before the crash."""
+"""Snake, as somebody plays it: into the wall, the check of the game, a claim of another score, and back before the crash."""
 
 import json
 import re

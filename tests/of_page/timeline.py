@@ -7,7 +7,7 @@ import time
 
 import galluspa.recording
 from desk import CTRL, JUDGED, OWN_LINE, SENT, SHIFT, Desk, expect, fail, program, shown
-from samples import EXAMPLES, PROGRAM, rejoining, run, session
+from samples import EXAMPLES, JUMP, PROGRAM, claim, encoded, page_of, rejoining, run, session
 
 FACE = (EXAMPLES / "face.orsr").read_bytes()
 WORD, CARD, WORDS = shown("state-word"), shown("card"), "el('cursor').getAttribute('aria-valuetext')"
@@ -46,18 +46,19 @@ def program_dots(recording: bytes, checkpoint: int) -> bytes:
 def page_dots(desk: Desk) -> bytes:
     """The dots that are on the screen."""
     desk.page.wait("!screens.isDue")
-    return base64.b64decode(desk.page.answer("btoa(String.fromCharCode.apply(null, screens.dots.subarray(0, 49152)) + String.fromCharCode.apply(null, screens.dots.subarray(49152)))"))
+    halves = (f"String.fromCharCode(...screens.dots.subarray({at}, {at + 49152}))" for at in (0, 49152))
+    return base64.b64decode(desk.page.answer(f"btoa({' + '.join(halves)})"))
 
 
 def drag(desk: Desk) -> None:
-    """A real drag of the cursor looks at the past; the picture at a checkpoint is the program's; the words come once it has settled; and back to now."""
+    """A real drag of the cursor looks at the past; a picture at a checkpoint is the program's; the words come once it has settled."""
     page = desk.page
     page.resize(1400, 900)
     run_to_end(desk, "face.orsr", FACE)
     page.wait(f"{WORDS}.startsWith('count 20,000,000, 0.800 seconds, now')")
     left, top, width = page.answer("(({ left, top, width }) => [left, top, width])(el('track').getBoundingClientRect())")
     at = lambda share: (left + width * share, top + 60, time.time())
-    page.answer("window.said = new Set(); new MutationObserver(() => said.add(el('cursor').getAttribute('aria-valuetext'))).observe(el('cursor'), { attributes: true })")
+    page.answer(f"window.said = new Set(); new MutationObserver(() => said.add({WORDS})).observe(el('cursor'), {{ attributes: true }})")
     page.send_mouse("mousePressed", *at(0.95), 1)
     for step in range(60):
         page.send_mouse("mouseMoved", *at(0.95 - step * 0.01), 1)
@@ -230,7 +231,15 @@ def show_false(desk: Desk) -> None:
     expect("both parts", page.answer("el('false').querySelector('.both').textContent"), "R5: the machine has 00000001, the recording claims 00000009.")
     page.answer("el('false').querySelector('button').click()")
     page.wait(f"{CARD}.includes('Who wrote R5') && {CARD}.includes(': sure')")
-    print("false: the machine's part beside the claimed one, and the instruction that made it so")
+    memory = encoded(2, [page_of(JUMP), page_of(0, 7)], [claim(0), claim(10, {0: 1, 3: 2})])
+    expect("a false word", program("check", memory)[0], "false checkpoint 1 at 10 part page 3")
+    run_to_end(desk, "memory.orsr", memory)
+    page.wait("el('false').querySelector('.both')")
+    both = page.answer("el('false').querySelector('.both').textContent")
+    expect("a word and the claimed one", both, "the word at 00C04: the machine has 00000000, the recording claims 00000007.")
+    page.answer("el('false').querySelector('button').click()")
+    page.wait(f"{CARD}.includes('initial memory')")
+    print("false: the machine's part beside the claimed one, of a register and of memory, and the instruction that made it so")
 
 
 def branch(desk: Desk) -> None:
