@@ -27,7 +27,8 @@ class Past {
 
   /** Starts the workers that search, as many as there are processors besides those that the page needs. */
   recruit() {
-    const size = Math.max(1, Math.min(MOST_CREW, navigator.hardwareConcurrency - OTHER_THREADS)), failed = this.crew.find(({ broken }) => broken);
+    const size = Math.max(1, Math.min(MOST_CREW, (navigator.hardwareConcurrency || 1) - OTHER_THREADS));
+    const failed = this.crew.find(({ broken }) => broken);
     if (failed) throw new Refusal(failed.broken);
     for (; this.crew.length < size; this.join(this.crew.at(-1), "serve", "recruit")) this.crew.push(new Searcher(this));
   }
@@ -113,11 +114,6 @@ class Past {
   /** Returns the counts of the keyframes, how many bytes they take, and how far the past is known. */
   keyframes() {
     return this.ask("keyframes");
-  }
-
-  /** Returns the bytes of the inputs from a number on. */
-  inputs(from = 0) {
-    return this.ask("inputs", { from });
   }
 }
 

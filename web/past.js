@@ -106,15 +106,6 @@ class History {
     return { counts, bytes, count: this.count, end: this.end, generation: this.generation };
   }
 
-  /** Returns the inputs from a number on. */
-  inputsFrom({ generation, from }) {
-    const read = async () => {
-      await this.known(generation, Infinity);
-      return { from, bytes: this.inputs.bytes.slice(INPUT_BYTES * from) };
-    };
-    return read().catch(unlessEnded(null));
-  }
-
   // Running again
 
   /** Whether the state at a count may come from a claim: only where the live machine has not run. */

@@ -43,13 +43,13 @@ class Searches {
 
   /** Begins a search that ends the one before. The task gets what lets others go first, and the count up to which it may search. */
   begin({ generation, to }, task) {
-    const { history } = this;
+    const { history, crew } = this;
     this.end();
-    this.crew.clear();
     let isOver = false;
     const stopped = new Promise((resolve) => {
       this.end = () => {
         isOver = true;
+        crew.clear();
         resolve({ stopped: true });
       };
     });
@@ -91,24 +91,21 @@ class Searches {
   /** Has pieces searched, as many at a time as the crew can. Returns the hit of the first piece that has one, once all before it are known
    * to have none; or null. */
   async searched(pieces, pace, wanted, tell) {
-    const under = [];
-    let done = 0;
-    const first = async () => {
-      const { steps, found } = under.shift(), { hit, ms } = await found;
+    const underWay = [];
+    let done = 0, hit = null;
+    const takeFirst = async () => {
+      const { steps, found } = underWay.shift(), { hit: own, ms } = await found;
       pace.took(steps, ms);
       tell((done += steps));
-      return hit;
+      hit = own;
     };
     for await (const { steps, ...piece } of pieces) {
-      under.push({ steps, found: this.crew.search({ ...piece, ...wanted }) });
-      const hit = under.length > this.crew.size ? await first() : null;
+      underWay.push({ steps, found: this.crew.search({ ...piece, ...wanted }) });
+      if (underWay.length > this.crew.size) await takeFirst();
       if (hit) return hit;
     }
-    while (under.length) {
-      const hit = await first();
-      if (hit) return hit;
-    }
-    return null;
+    while (underWay.length && !hit) await takeFirst();
+    return hit;
   }
 
   /** The pieces of a range from its beginning on. A machine that has stopped does nothing more. */

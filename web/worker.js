@@ -345,8 +345,6 @@ const PAST = {
   recruit: ({ port }) => history.searches.crew.join(port),
   /** Returns the counts of the keyframes, how many bytes they take, and how far the past is known. */
   keyframes: () => history.extent(),
-  /** Returns the inputs from a number on. */
-  inputs: (given) => history.inputsFrom(given),
 };
 
 // The crew

@@ -207,6 +207,7 @@ function keepKeyframes() {
 /** Fifty looks at random counts, a thousand steps forward and back, over inputs and a stop. */
 async function look() {
   const session = drawing(7, 300, 100000), desk = new Desk(), fresh = new Fresh(session), random = chance(11), end = 30000000, times = [];
+  expect("a look at nothing", await desk.past.peek(0).catch((error) => error.message), "no machine is open");
   await desk.openSession(session);
   await desk.run(end);
   for (const at of [...Array.from({ length: 50 }, () => random(end)), 0, end]) {
@@ -246,7 +247,7 @@ async function stepBoth(desk, fresh, session) {
 
 /** Looks at random counts and steps back where there is no room for keyframes. */
 async function lookInBudget() {
-  const budget = 400000, desk = new Desk(withNumbers({ KEYFRAMES_BUDGET: budget, KEYFRAME_STEPS: 100000 }));
+  const budget = 400000, desk = new Desk(withNumbers({ KEYFRAMES_BUDGET: budget, KEYFRAME_STEPS: 100000, SLOW_MS: 0 }));
   const session = drawing(5, 100, 100000), fresh = new Fresh(session), random = chance(13);
   await desk.openSession(session);
   await desk.run(10000000);
@@ -254,12 +255,21 @@ async function lookInBudget() {
     const at = random(10000001);
     expectMoment(`the look at ${at} in a small budget`, await desk.past.peek(at), fresh.at(at));
   }
+  await lookSlowly(desk, fresh);
   for (let at = 9000; at > 8960; at--) expectMoment(`the step back to ${at}`, await desk.past.peek(at), fresh.at(at));
   const { counts, bytes } = await desk.past.keyframes();
   expect("the keyframes at the beginning, at checkpoints and now", [0, 5000000, 10000000].every((count) => counts.includes(count)), true);
   if (bytes > budget || counts.length < 20) fail(`${counts.length} keyframes take ${bytes} bytes`);
   desk.end();
   console.log(`budget: 90 looks as a run from the beginning has them, with ${counts.length} keyframes in ${bytes.toLocaleString("en")} bytes`);
+}
+
+/** What takes long has a state nearby first. */
+async function lookSlowly(desk, fresh) {
+  desk.news = [];
+  const at = 7777777, { state } = await desk.past.peek(at), [{ peeked }] = desk.news;
+  expect("the look that takes long", [peeked.at, peeked.exact, peeked.count < at, state], [at, false, true, fresh.at(at).state]);
+  expectMoment("what comes first", peeked, fresh.at(peeked.count));
 }
 
 /** Looks where a program stops, and where it writes its own code. */
@@ -372,6 +382,8 @@ async function who() {
   expect("the dot that was never written", await desk.past.who({ address: byte + 1, bit: 0, before: end }), { initial: true, stored: null, sure: true });
   const same = await desk.past.who({ address: twice, before: end });
   expect("the byte that got the same value again", [same.pc, same.stored.pc], [first, second]);
+  for (const [asked, why] of [[{ register: 18 }, "18 is no register: want 0 to 17"], [{ address: 1048576 }, "want a byte of the memory, and a bit of it"]])
+    expect("a question that is refused", await desk.past.who({ ...asked, before: end }).catch((error) => error.message), why);
   const { at } = await desk.past.who({ register: 6, before: end });
   expect("what set R6", at, whole([{ kind: BECOMES, from: 6, value: field(fresh.at(end).state, AT.R + 24) }]).at);
   expect("a register that nothing set", await desk.past.who({ register: 12, before: end }), { initial: true, sure: true });
