@@ -20,6 +20,8 @@ def press_button(desk: Desk, text: str) -> None:
 
 def click_card(desk: Desk, name: str) -> None:
     """Clicks on a card of the empty page with the mouse."""
+    # The screen has its size in the frame after the list of what is kept is shown.
+    desk.page.answer("new Promise((done) => requestAnimationFrame(() => requestAnimationFrame(() => done())))")
     x, y = desk.page.answer(f"(({{ left, top, width, height }}) => [left + width / 2, top + height / 2])(el('{name}').getBoundingClientRect())")
     desk.page.send_mouse("mousePressed", x, y, time.time(), 1)
     desk.page.send_mouse("mouseReleased", x, y, time.time())

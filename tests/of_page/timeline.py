@@ -277,6 +277,52 @@ def branch(desk: Desk) -> None:
     print(f"branches: taken over before a key, and returned to; both accepted, {page.answer(OWN_LINE) or 'each with its keys'}")
 
 
+def ask_before_dropping(desk: Desk) -> None:
+    """A ninth branch is made only if the user lets one be dropped."""
+    page = desk.page
+    desk.start("keys.json", (EXAMPLES / "keys.json").read_bytes())
+    page.answer("window.asked = []; window.confirm = (text) => (asked.push(text), asked.length > 1)")
+    for number in range(1, 10):
+        desk.click("step")
+        page.wait("nowCount() === 1")
+        page.answer("stepBack()")
+        page.wait(f"isPast() && {EXACT}")
+        desk.click("take-here")
+        page.wait(f"branches.made === {number} && nowCount() === 0" if number < 9 else "asked.length === 1")
+    expect("the question", page.answer("asked[0]").startswith('There are 8 branches. Drop "branch 1"'), True)
+    expect("the branches while it is asked", page.answer("[branches.made, look.at]"), [8, 0])
+    desk.click("take-here")
+    page.wait("branches.made === 9")
+    expect("the branches", page.answer("branches.list.map(({ name }) => name)"), [f"branch {number}" for number in range(2, 10)])
+    print("branches: eight at most; before the ninth, the user is asked")
+
+
+def look_narrow(desk: Desk) -> None:
+    """At 400 points there are five buttons and one lane, which stay in sight, in the past, too; light and dark have lanes of their own."""
+    page = desk.page
+    run_to_end(desk, "face.orsr", FACE)
+    look_at(desk, 8000000)
+    pictures = []
+    for scheme in ("light", "dark"):
+        page.prefer(scheme)
+        page.resize(400, 850)
+        page.answer("new Promise((done) => requestAnimationFrame(() => setTimeout(done, 50)))")
+        pictures.append(page.answer("el('lanes').toDataURL()"))
+    expect("whether the lanes are the same, light and dark", pictures[0] == pictures[1], False)
+    buttons = "[...document.querySelectorAll('#galluspa .keys button')].filter((it) => it.checkVisibility())"
+    expect("the buttons of the transport", page.answer(f"{buttons}.map((it) => it.id)"), ["g-back-run", "g-back", "g-run", "g-step", "g-now"])
+    expect("the width of the page", page.answer("document.documentElement.scrollWidth"), 400)
+    expect("the height of the lanes", page.answer("el('lanes').offsetHeight < 60"), True)
+    for place in (0, 700, 1200):
+        page.answer(f"scrollTo(0, {place})")
+        top, bottom = page.answer("(({ top, bottom }) => [top, bottom])(el('stay').getBoundingClientRect())")
+        expect(f"whether the transport is in sight at {place}", 0 <= top < bottom <= 850, True)
+    page.answer("scrollTo(0, 0)")
+    page.prefer("light")
+    page.resize(1280, 1100)
+    print("400 points: five buttons and one lane, which stay in sight; light and dark")
+
+
 def drive(desk: Desk) -> None:
     """All of it."""
     desk.reload()
@@ -288,3 +334,5 @@ def drive(desk: Desk) -> None:
     meet_breakpoint(desk)
     show_false(desk)
     branch(desk)
+    ask_before_dropping(desk)
+    look_narrow(desk)
