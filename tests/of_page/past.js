@@ -456,6 +456,8 @@ async function takeOver() {
   for (const count of [at, at - 1, at + 1, 20000000, 30000000]) expectMoment(`the look at ${count} after a take-over`, await desk.past.peek(count), fresh.at(count));
   for (const [name, { text }] of [["branch", branch], ["taken-over", made]]) console.log(`recording ${name} ${Buffer.from(text).toString("base64")}`);
   await takeOverAgain(desk);
+  await takeOverFull(desk);
+  await takeOverKept(desk, session);
   desk.end();
   console.log("take-overs: the recording has the inputs before, and goes on with those after; also from the beginning, and of a replay");
 }
@@ -479,6 +481,39 @@ async function takeOverAgain(desk) {
     await desk.live.ask("takeOver", await desk.past.moment(at));
     expect(`whether all claims before ${at} are true`, desk.frames.findLast((news) => news.state).isTrue, isTrue);
   }
+}
+
+/** A recording that is full ends where it did if one goes on from later, and is no longer full if one goes on from earlier. */
+async function takeOverFull(desk) {
+  const last = () => desk.frames.findLast((news) => news.state);
+  await desk.openSession(example("sends"));
+  await desk.run(3000000);
+  const { full } = last();
+  expect("whether the recording is full", full.isEnd && full.count < 2500000, true);
+  await desk.live.ask("takeOver", await desk.past.moment(2500000));
+  expect("the recording after a take-over after its end", last().full, full);
+  await desk.live.ask("takeOver", await desk.past.moment(500000));
+  await desk.run(600000);
+  const { text, isWhole } = await desk.live.ask("recording");
+  expect("the recording after a take-over before it was full", [last().full, isWhole], [null, true]);
+  console.log(`recording not-full ${Buffer.from(text).toString("base64")}`);
+}
+
+/** What was kept has its past from its recording, and may be taken over before the count at which it was resumed. */
+async function takeOverKept(desk, session) {
+  const fresh = new Fresh({ ...session, inputs: [] });
+  await desk.openSession({ ...session, inputs: [], checkpoints: [] });
+  await desk.run(6000000, 1);
+  await desk.live.ask("mark");
+  await desk.live.ask("type", { keys: [72, 105] });
+  await desk.run(9000000, 1);
+  await desk.open("resume", { kept: await desk.live.ask("kept") });
+  for (const at of [6000000, 100, 5999999]) expectMoment(`the look at ${at} after a reload`, await desk.past.peek(at), fresh.at(at));
+  expect("whether that is as claimed", [(await desk.past.peek(6000000)).isClaimed, (await desk.past.peek(5999999)).isClaimed], [true, false]);
+  expect("the first byte sent", (await desk.past.find({ to: 9000000, conditions: [{ kind: SENDS }] })).at > 6000000, true);
+  await desk.live.ask("takeOver", await desk.past.moment(6500000));
+  await desk.run(7000000);
+  console.log(`recording kept ${Buffer.from((await desk.live.ask("recording")).text).toString("base64")}`);
 }
 
 (async () => {

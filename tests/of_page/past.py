@@ -73,6 +73,12 @@ wait:   SUB R3, R3, 1
         BNE wait
         B R15
     """,
+    # Sends a byte with each second instruction.
+    "sends": """
+        MOV R1, SERIAL
+loop:   STR R1, R1, 0
+        B loop
+    """,
     # Counts, so that no step of it is skipped.
     "counts": """
 loop:   ADD R0, R0, 1
