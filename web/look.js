@@ -54,6 +54,7 @@ async function backToNow(isSettled = true) {
 /** Shows what the page says of what is looked at. */
 function showLook(isSettled) {
   if (app.latest) showMode(app.latest);
+  keepInSight(shownCount());
   showCursor(isSettled);
 }
 
@@ -113,7 +114,8 @@ function showMode(frame) {
 
 function pastMode() {
   if (!isAhead()) return ["PAST", `${apart(look.at)} before now. Keys do nothing.`];
-  return ["REPLAY", `${apart(look.at)} ahead of the replay, ${look.moment?.isClaimed ? "claimed, not checked" : "not run yet"}. Keys do nothing.`];
+  const claimed = app.file?.verdict?.status === 0 ? "as the file claims, which was checked" : "claimed, not checked";
+  return ["REPLAY", `${apart(look.at)} ahead of the replay, ${look.moment?.isClaimed ? claimed : "not run yet"}. Keys do nothing.`];
 }
 
 function modeOf({ state, on, isReplay, ahead, full }) {

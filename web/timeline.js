@@ -76,6 +76,12 @@ function showSpan(from, to) {
   freshen(true);
 }
 
+/** Moves the span so that a count is in it, which is then in its middle. */
+function keepInSight(count) {
+  const { from, to } = timeline, half = (to - from) / 2;
+  if (!timeline.isWhole && (count < from || count > to)) showSpan(count - half, count + half);
+}
+
 /** Zooms by a factor around a count. */
 function zoom(factor, around = shownCount()) {
   const { from, to } = timeline, share = (around - from) / (to - from), length = (to - from) / factor;
@@ -113,10 +119,11 @@ function showLanes(found) {
   drawLanes();
   showCursor(!app.latest?.on && !timeline.isDragged);
   attempt(askFilm);
+  // The first answer says how far the file goes.
+  if (timeline.isWhole && wholeSpan().to !== found.to) freshen(true);
 }
 
 /** Asks for the keyframes: now and then while the machine runs. */
-
 async function askFilm() {
   const now = performance.now();
   if (app.latest?.on && now < timeline.filmDue) return;

@@ -92,6 +92,11 @@ def press_each(desk: Desk) -> None:
         page.answer("window.span = timeline.to - timeline.from")
         page.press(key)
         page.wait(f"timeline.to - timeline.from {sign} span")
+    page.answer("for (let number = 0; number < 50; number++) zoom(ZOOM)")
+    expect("the smallest span", page.answer("timeline.to - timeline.from"), 16)
+    look_at(desk, 4000000)
+    expect("whether the cursor is in sight", page.answer("timeline.from < 4000000 && timeline.to > 4000000"), True)
+    desk.click("whole")
     look_at(desk, 8000000)
     pc = page.answer("field(look.moment.state, AT.PC)")
     page.press("b")
@@ -196,6 +201,21 @@ def stop_search(desk: Desk) -> None:
     page.wait(f"{shown('found')} === 'The search was stopped.' && el('find-stop').hidden")
     expect("where it stays", page.answer(WORD), "LIVE")
     print("search: a long one says how far it is, and is stopped")
+
+
+def look_ahead(desk: Desk) -> None:
+    """In a replay the cursor goes ahead of the machine, to what the file claims; one may run to there, and not take over."""
+    page = desk.page
+    desk.start("face.orsr", FACE)
+    page.wait(f"{JUDGED} && timeline.to === 20000000 && lanes.end === 20000000")
+    look_at(desk, 8000000)
+    expect("what is said of it", page.answer(f"[{WORD}, {shown('mode-text')}]"),
+           ["REPLAY", "0.3 s ahead of the replay, as the file claims, which was checked. Keys do nothing."])
+    expect("the picture that is claimed", page_dots(desk) == program_dots(FACE, 2), True)
+    expect("what one may do", page.answer(f"[el('take-here').hidden, {shown('run')}]"), [True, "Run to here"])
+    desk.click("run")
+    page.wait("!isPast() && nowCount() === 8000000 && !app.latest.on")
+    print("ahead: what the file claims, which is said, and a run up to there")
 
 
 def meet_breakpoint(desk: Desk) -> None:
@@ -331,6 +351,7 @@ def drive(desk: Desk) -> None:
     ask_who(desk)
     search(desk)
     stop_search(desk)
+    look_ahead(desk)
     meet_breakpoint(desk)
     show_false(desk)
     branch(desk)
