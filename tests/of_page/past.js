@@ -232,7 +232,7 @@ async function look() {
 async function stepBoth(desk, fresh, session) {
   const from = session.inputs[200][0] - 500, seen = [];
   for (let at = from; at <= from + 1000; at++) {
-    const moment = await desk.past.peek(at);
+    const moment = await desk.past.peek(at, { quick: true });
     if (at % 50 === 0) expectMoment(`the step to ${at}`, moment, fresh.at(at));
     seen.push(moment);
   }
@@ -243,6 +243,26 @@ async function stepBoth(desk, fresh, session) {
   const rows = await desk.past.around(from + 500, 10, 10), machine = fresh.at(from + 490);
   expect("the instructions around an input", rows, Array.from({ length: 20 }, () => machine.step(fresh.inputs)));
   expect("the input among them", rows.findIndex(({ inputs }) => inputs.length), 10);
+}
+
+/** Looks at a machine that runs at 25 MHz and gets inputs, at counts before now and at now, are those of the run that was recorded. */
+async function lookWhileItRuns() {
+  const session = { ...example("draw"), inputs: [], checkpoints: [] }, desk = new Desk(), random = chance(29), seen = [];
+  await desk.openSession(session);
+  await desk.live.ask("setRun", { on: true, fast: false, seconds: 0 });
+  for (let k = 0; k < 40; k++) {
+    const word = random(1024) + (random(700) << 12) + (1 << 26), now = countOf(desk.frames.findLast((news) => news.state).state);
+    await desk.live.ask("change", { kind: KIND_NAMES.indexOf("mouse"), changes: [[word, performance.timeOrigin + performance.now()]] });
+    if (k % 8 === 0) await desk.live.ask("type", { keys: [65 + k] });
+    seen.push(await desk.past.peek(k % 2 ? now : random(now + 1)));
+    await new Promise((resolve) => setTimeout(resolve, 10));
+  }
+  await desk.live.ask("setRun", { on: false });
+  const { inputs } = readRecording((await desk.live.ask("recording")).text);
+  const fresh = new Fresh({ ...session, inputs: Array.from({ length: inputs.length }, (_, k) => inputs.item(k)) });
+  for (const moment of seen.sort((one, other) => one.at - other.at)) expectMoment(`the look at ${moment.at} of a machine that ran`, moment, fresh.at(moment.at));
+  desk.end();
+  console.log(`running: 40 looks at a machine that got ${inputs.length} inputs meanwhile are those of its recording`);
 }
 
 /** Looks at random counts and steps back where there is no room for keyframes. */
@@ -337,7 +357,7 @@ const wantedOf = (data) => [
 /** The first and the last hits of each condition are those of a loop of single steps, at borders of ranges and of keyframes. */
 async function search() {
   const session = example("mixed"), end = 5000, steps = traced(session, end), random = chance(17);
-  const desk = new Desk(withNumbers({ KEYFRAME_STEPS: 700, FIRST_PIECE: 70, MOST_PIECE: 400 }));
+  const desk = new Desk(withNumbers({ KEYFRAME_STEPS: 700, FIRST_PIECE: 70, MOST_PIECE: 1500 }));
   await desk.openSession(session);
   await desk.run(end);
   await desk.past.peek(end);
@@ -407,7 +427,7 @@ async function whoOfFace() {
 
 /** A search is ended at once, a look comes before it, and an answer about another machine is void. */
 async function stop() {
-  const session = example("counts"), desk = new Desk(), end = 400000000, none = [{ kind: STORE, from: 900000, end: 900001 }];
+  const session = example("counts"), desk = new Desk(), end = 150000000, none = [{ kind: STORE, from: 900000, end: 900001 }];
   await desk.openSession(session);
   await desk.run(end);
   const took = [];
@@ -518,7 +538,7 @@ async function takeOverKept(desk, session) {
 
 (async () => {
   keepKeyframes();
-  for (const task of [look, lookInBudget, lookAtOdd, search, who, stop, takeOver]) await task();
+  for (const task of [look, lookWhileItRuns, lookInBudget, lookAtOdd, search, who, stop, takeOver]) await task();
   // An end before all is written would cut it off.
   process.stdout.write("", () => process.exit(0));
 })().catch((error) => fail(error.stack ?? error));
