@@ -204,7 +204,6 @@ function showNow(frame, wasReplay) {
   if (frame.isReplay || wasReplay) followDevices(frame.state);
   write("when", frame.on ? "Registers, at the last pause" : "Registers");
   if (frame.listing) showPaused(frame.state, frame.listing);
-  showCursor(!frame.on);
 }
 
 function appendSent(text) {
@@ -231,12 +230,13 @@ function showLamps(value) {
   el("leds").setAttribute("aria-label", `LEDs: ${lit.length ? `lit are ${lit.join(", ")}` : "none is lit"}`);
 }
 
-/** Writes the status line: while the machine runs, no more often than can be read. */
+/** Writes the status line and moves the cursor: while the machine runs, no more often than can be read. */
 function showStatus(frame) {
   const now = performance.now();
   if (frame.on && now < statusDue) return;
   statusDue = now + STATUS_MS;
   write("say", sayOf(frame));
+  if (!isPast()) showCursor(!frame.on);
 }
 
 function sayOf({ state, inputs, marks, speed, typed }) {

@@ -284,7 +284,7 @@ function inSpan(list) {
 /** Shows the cursor where it is. Its value in words changes once it has settled, so that a screen reader says that, and nothing on the way. */
 function showCursor(isSettled) {
   const at = shownCount(), x = columnOf(at), cursor = el("cursor");
-  cursor.style.left = `${Math.max(0, Math.min(columns(), x))}px`;
+  cursor.style.transform = `translateX(${Math.max(0, Math.min(columns(), x))}px)`;
   cursor.classList.toggle("outside", x < 0 || x > columns());
   cursor.classList.toggle("past", isPast());
   if (!app.latest) return;
