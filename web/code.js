@@ -16,6 +16,13 @@ function toggleBreak(pc) {
   write("breaks", counters ? `Breakpoints at PC ${counters}.` : "Click beside an instruction to set a breakpoint.");
 }
 
+/** Forgets breakpoints and watches: they are of another program. */
+function forgetBreaks() {
+  for (const pc of breaks) toggleBreak(pc);
+  watches = [];
+  showWatches();
+}
+
 function showBreak(gutter) {
   gutter.setAttribute("aria-pressed", breaks.has(Number(gutter.dataset.pc)));
 }

@@ -78,7 +78,7 @@ function sayIfUncomposed() {
 function isRunning() {
   if (!app.latest) return false;
   const { on, deaf } = app.latest;
-  if (isPast()) return notice("PAST: keys and the mouse do nothing until you take over, or go back to now."), false;
+  if (isPast()) return notice(`${deafInPast()}.`), false;
   if (on && !deaf) return true;
   notice(`${deaf ?? "The machine is paused: keys and the mouse go to it while it runs"}.`);
   return false;
@@ -218,10 +218,10 @@ function switched(event) {
 /** Sends what was set by a control. If it has no effect, the page says why, and the controls show the machine's own again. */
 async function changeByHand(kind, value, { timeStamp }) {
   if (!app.latest) return;
-  const deaf = await app.live.ask("change", { kind, changes: [[value, performance.timeOrigin + timeStamp]] });
+  const changes = [[value, performance.timeOrigin + timeStamp]], deaf = deafInPast() ?? (await app.live.ask("change", { kind, changes }));
   if (!deaf) return;
   notice(`${deaf}.`);
-  showDevices(app.latest.state);
+  showDevices(shownState());
 }
 
 /** Has the controls follow a replay. */
@@ -257,7 +257,7 @@ async function sendSerial(event) {
   event.preventDefault();
   const text = el("serial").value, lines = text.replaceAll("\n", "\r") + (el("return").checked ? "\r" : "");
   if (!app.latest || !lines) return;
-  const deaf = await app.live.ask("type", { serial: [...new TextEncoder().encode(lines)] });
+  const deaf = deafInPast() ?? (await app.live.ask("type", { serial: [...new TextEncoder().encode(lines)] }));
   if (deaf) return notice(`${deaf}. The text stays here.`);
   notice();
   if (el("serial").value === text) el("serial").value = "";

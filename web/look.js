@@ -14,6 +14,9 @@ const shownCount = () => look.at ?? nowCount();
 /** The state that is shown: that of the moment, or the machine's own. */
 const shownState = () => look.moment?.state ?? app.latest?.state;
 
+/** Why keys, the mouse and the controls of devices have no effect while the past is looked at, or null. */
+const deafInPast = () => (isPast() ? "PAST: nothing goes to the machine until you take over, or go back to now" : null);
+
 const secondsOf = (counts) => `${(counts / PER_SECOND).toFixed(3)} s`;
 /** How far a count is from now: in seconds, or in instructions where it is near. */
 function apart(at) {
@@ -106,6 +109,7 @@ function showMode(frame) {
   el("take-here").hidden = !isPast() || isAhead();
   el("back-now").hidden = !isPast();
   write("name", app.work.generation ? app.work.name : "");
+  for (const name of ["mark", "next"]) el(name).disabled = isPast();
   write("state-word", word);
   el("state-word").className = word.toLowerCase();
   const claim = isTrue ? "" : " A claim that was passed is false: what comes after it is what the machine does.";

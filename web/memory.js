@@ -96,6 +96,10 @@ function watchSelected() {
   const { first, end } = selected, others = watches.filter((one) => one.first !== first || one.end !== end);
   if (others.length >= MOST_BREAKS) return notice(`There are ${MOST_BREAKS} watches at most.`);
   watches = others.length < watches.length ? others : [...watches, { first, end }];
+  showWatches();
+}
+
+function showWatches() {
   el("watches").replaceChildren(...(watches.length ? ["Watched: ", ...watches.map(watchButton)] : []));
 }
 

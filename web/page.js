@@ -140,6 +140,7 @@ function showOpened({ claims, version, inputs, checkpoints, left }, work) {
   const before = app.work;
   Object.assign(app, { work, file: claims ? { claims, version, inputs, checkpoints, verdict: null } : null, image: null });
   leave(before, left);
+  if (work.name !== before.name) forgetBreaks();
   beginShowing();
   branches = NO_BRANCHES;
   showBranches();
@@ -152,8 +153,9 @@ function showOpened({ claims, version, inputs, checkpoints, left }, work) {
   el("image").hidden = true;
   el("kept").open = false;
   el("claims").hidden = !claims;
-  el("pad").hidden = true;
-  for (const name of ["run", "step", "next", "mark", "save", "record", "picture", "find-before", "find-next"]) el(name).disabled = false;
+  el("pad").hidden = !isSnake();
+  snakeLength = FIRST_LENGTH;
+  for (const name of ["run", "step", "save", "record", "picture", "find-before", "find-next"]) el(name).disabled = false;
   if (claims) el("number").max = checkpoints;
   else el("screen").focus({ preventScroll: true });
 }

@@ -9,20 +9,20 @@ const WANTED = [
   [BECOMES, "a register becomes", "register", "value"], [SENDS, "any byte sent"], [SENDS_BYTE, "the byte sent", null, "byte"],
   [TAKES, "an input"], [STOP, "the machine stops"],
 ];
-// The search that is under way, and the conditions of the last one. It is replaced whole.
-let finding = { isOn: false, begun: 0, conditions: null, what: "" };
+// The search that is under way, or was last: when it began, and its conditions. It is replaced whole.
+let finding = { isOn: false, begun: 0, conditions: null };
 
-/** Returns the count of the nearest hit of some conditions, and looks at it; or null if there is none. */
-async function search(conditions, isBack, what = "breakpoint") {
+/** Looks at the nearest hit of some conditions. Returns its count, or null if there is none, or undefined if the search was ended. */
+async function search(conditions, isBack) {
   const at = shownCount(), [from, to] = isBack ? [0, at] : [at + 1, nowCount()];
   if (app.latest.on) await app.live.ask("setRun", { on: false });
-  finding = { isOn: true, begun: performance.now(), conditions, what };
+  const own = (finding = { isOn: true, begun: performance.now(), conditions });
   showFinding("searching ..");
-  const found = from < to ? await app.past.find({ from, to, last: isBack, conditions }) : { none: true };
-  finding = { ...finding, isOn: false };
-  if (!found || found.stopped) showFinding("The search was stopped.");
-  else if (found.none) showFinding(`There is none ${isBack ? "before" : "after it, up to now"}.`);
-  else return foundAt(found, conditions);
+  const found = from < to ? await attempt(() => app.past.find({ from, to, last: isBack, conditions })) : { none: true };
+  if (finding !== own) return undefined;
+  finding = { ...own, isOn: false };
+  if (found?.at !== undefined) return foundAt(found, conditions);
+  showFinding(found?.none ? `There is none ${isBack ? "before" : "after it, up to now"}.` : "The search was stopped.");
   return found?.none ? null : undefined;
 }
 

@@ -12,10 +12,8 @@ let snakeLength = FIRST_LENGTH;
 const isSnake = () => app.work.name === SNAKE;
 
 /** Begins the game of the example, without the keys of the game that somebody played. */
-async function playSnake() {
-  snakeLength = FIRST_LENGTH;
-  await openExample(SNAKE, { inputs: [], checkpoints: [] });
-  el("pad").hidden = false;
+function playSnake() {
+  return openExample(SNAKE, { inputs: [], checkpoints: [] });
 }
 
 /** Follows a game: the LEDs show how long the snake is, and the program sends a text when it is over. */

@@ -29,6 +29,7 @@ function beginLanes() {
 function forgetAfter(at) {
   const isBefore = ([count]) => count <= at;
   const passed = new Map([...lanes.passed].filter(isBefore));
+  hits = hits.filter(isBefore);
   for (const item of [...el("passed").children]) if (item.dataset.count > at) item.remove();
   lanes = { ...lanes, end: at, sent: lanes.sent.filter(isBefore), painted: lanes.painted.filter(isBefore), passed };
   freshen(true);

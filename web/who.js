@@ -10,8 +10,8 @@ async function askWho(about, title, before = shownCount()) {
   const question = { ...about, before };
   asking = { about, title, question };
   showCard(title, [paragraph("searching ..", "hint")]);
-  const answer = await app.past.who(question);
-  if (asking?.question === question && answer) showWho(answer);
+  const answer = await attempt(() => app.past.who(question));
+  if (asking?.question === question) showWho(answer ?? { stopped: true });
 }
 
 /** Shows an answer: an instruction, probably or surely, or that it was there from the beginning. */

@@ -283,6 +283,14 @@ def branch(desk: Desk) -> None:
     page.press(",")
     page.wait(f"isPast() && {EXACT}")
     parent = page.answer("look.at")
+    send = "el('serial').value = 'x'; el('serial-form').requestSubmit()"
+    for what, does in (("a switch", "el('switches').querySelector('input').click()"), ("serial bytes", send)):
+        page.answer(f"notice(); {does}")
+        desk.expect_notice(f"{what} in the past", r"PAST: nothing goes to the machine until you take over, or go back to now\..*")
+    page.answer("notice(); el('serial').value = ''; el('screen').focus()")
+    page.press("z")
+    desk.expect_notice("a key in the past", r"PAST: nothing goes to the machine until you take over, or go back to now\.")
+    expect("the inputs of the machine after them", page.answer("app.latest.inputs"), 2)
     desk.click("take-here")
     page.wait(f"!isPast() && nowCount() === {parent}")
     expect("what was sent before it", page.answer(SENT), "a")
