@@ -5,12 +5,14 @@
 const KEYFRAME_STEPS = 2500000;
 // A fast run spends at most this part of its time on keyframes.
 const KEYFRAME_SHARE = 0.02;
+// How long the other side may take to hear of a cut.
+const CUT_MS = 1000;
 
 class Feed {
-  /** Posts to a port. When something is posted there, the other side wants to know how far the machine is. */
+  /** Posts to a port. The other side says there that it has heard of a cut, or wants to know how far the machine is. */
   constructor(machine, port) {
-    Object.assign(this, { machine, port, generation: 0, posted: 0, last: 0, due: 0, memory: new Uint8Array(MEMORY_BYTES) });
-    port.onmessage = () => this.post({ isAnswer: true });
+    Object.assign(this, { machine, port, generation: 0, posted: 0, last: 0, due: 0, memory: new Uint8Array(MEMORY_BYTES), cutHeard: () => {} });
+    port.onmessage = ({ data }) => (data.isCut ? this.cutHeard() : this.post({ isAnswer: true }));
   }
 
   /** Begins with a machine of a new number. */
@@ -47,10 +49,15 @@ class Feed {
     Object.assign(this, { last: count, due: now + (now - begun) / KEYFRAME_SHARE });
   }
 
-  /** Posts that what came after the machine's count is void, also the inputs that it has not taken. */
+  /** Posts that what came after the machine's count is void, also the inputs that it has not taken. Returns once the other side has heard
+   * it, so that nobody who knows of it is answered from before it; or after a while, if the other side is broken. */
   cut() {
     this.posted = this.machine.next;
     this.post({ isCut: true });
     this.keyframe(false);
+    return new Promise((resolve) => {
+      this.cutHeard = resolve;
+      setTimeout(resolve, CUT_MS);
+    });
   }
 }

@@ -51,6 +51,7 @@ class History {
     Object.assign(this, { count, end, answered: this.answered + (isAnswer ? 1 : 0) });
     if (keyframe) this.addLive(keyframe);
     for (const wake of this.wakes.splice(0)) wake();
+    if (isCut) this.port.postMessage({ isCut });
   }
 
   /** Begins with another machine, which began at a count: its initial state, and the recording of what came before, or of its file. */
@@ -91,7 +92,7 @@ class History {
     if (this.generation !== generation) throw new Ended();
     if (count <= this.end) return;
     const number = ++this.asked;
-    this.port.postMessage(null);
+    this.port.postMessage({});
     while (this.answered < number) await this.heard();
     if (this.generation !== generation) throw new Ended();
   }
@@ -153,22 +154,29 @@ class History {
 
   // Looks
 
-  /** Does a task with the machine at a count, after the looks before it. Returns null if the past became another one meanwhile, or if
+  /** Does a task with the machine at a count, after the looks before it. Returns null if another machine is open meanwhile, or if
    * `isOver`. */
   look({ generation, at }, task, isOver = () => false) {
     if (!isWhole(at)) throw new Refused(`${at} is no count`);
-    const done = this.inTurn(async () => {
-      await this.known(generation, at);
-      if (at > this.end) throw new Refused(`the machine has not come to ${at} yet`);
-      const { epoch } = this;
-      const turn = async () => {
-        await nextTask();
-        if (this.epoch !== epoch || isOver()) throw new Ended();
-      };
-      if (isOver()) throw new Ended();
-      return task(turn);
-    });
-    return done.catch(unlessEnded(null));
+    return this.inTurn(() => this.lookNow({ generation, at }, task, isOver)).catch(unlessEnded(null));
+  }
+
+  /** Does the task. It begins again if the machine went back meanwhile. */
+  async lookNow({ generation, at }, task, isOver) {
+    await this.known(generation, at);
+    if (isOver()) throw new Ended();
+    if (at > this.end) throw new Refused(`the machine has not come to ${at} yet`);
+    const { epoch } = this;
+    const turn = async () => {
+      await nextTask();
+      if (this.epoch !== epoch || isOver()) throw new Ended();
+    };
+    try {
+      return await task(turn);
+    } catch (error) {
+      if (!(error instanceof Ended) || this.epoch === epoch) throw error;
+      return this.lookNow({ generation, at }, task, isOver);
+    }
   }
 
   /** Does a task after the looks before it. After the last one, keyframes are made near the cursor. */

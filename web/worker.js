@@ -235,8 +235,8 @@ const LIVE = {
       machine.goBack(at, moment);
       run = { on: false };
     }
-    feed?.cut();
-    show([], at !== undefined);
+    const showIt = () => show([], at !== undefined);
+    return feed ? feed.cut().then(showIt) : showIt();
   },
   /** Tells the past of this machine through a port from now on. */
   connect({ port }) {

@@ -465,7 +465,9 @@ async function takeOver() {
   await desk.openSession(session);
   await desk.run(20000000, 1);
   const branch = await desk.live.ask("recording");
-  await desk.live.ask("takeOver", await desk.past.moment(at));
+  const moment = await desk.past.moment(at), taken = desk.live.ask("takeOver", moment), looks = [at - 1, at - 2000000, 5].map((count) => desk.past.memory(count, 0, 4));
+  await taken;
+  expect("looks while the machine is taken over", (await Promise.all(looks)).map((found) => found?.at), [at - 1, at - 2000000, 5]);
   const { state, inputs: left, isReplay } = desk.frames.findLast((news) => news.state);
   expect("the machine after the take-over", [countOf(state), left, isReplay], [at, session.inputs.filter(([count]) => count < at).length, false]);
   await desk.live.ask("type", { keys: [65, 66], serial: [67] });
