@@ -39,15 +39,15 @@ function showRegisters(state) {
     value.classList.toggle("changed", Boolean(before) && before.get(name) !== text);
   }
   registersBefore = state;
-  showFalse();
+  attempt(showFalse);
 }
 
 function showPaused(state, listing) {
   if (registersBefore && equal(registersBefore, state)) return;
   showRegisters(state);
   showListing(field(state, AT.PC), listing);
-  showAround();
-  showMemory();
+  attempt(showAround);
+  attempt(showMemory);
 }
 
 function cells(state, before, wrong) {

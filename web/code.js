@@ -82,7 +82,7 @@ function showListing(pc, listing) {
 async function showAround() {
   const at = shownCount();
   if (!app.latest || app.latest.on || !isTab("code")) return;
-  const after = Math.min(DONE_AFTER, lanes.end - at);
+  const after = Math.max(0, Math.min(DONE_AFTER, lanes.end - at));
   const done = await app.past.around(at, Math.min(DONE_BEFORE, at), after);
   if (done && at === shownCount()) el("trace").replaceChildren(...done.map((one) => doneLine(one, at)));
 }

@@ -73,8 +73,8 @@ function showMoment(moment) {
   if (!moment.listing) return;
   showListing(field(moment.state, AT.PC), moment.listing.map(({ pc, word }) => [pc, word]));
   showDevices(moment.state);
-  showAround();
-  showMemory();
+  attempt(showAround);
+  attempt(showMemory);
 }
 
 /** Hears what the past says between its answers. */

@@ -107,7 +107,7 @@ async function showVerdict(file, answer) {
   file.verdict = answer;
   if (file !== app.file) return;
   showOf(file);
-  showFalse();
+  attempt(showFalse);
   drawLanes();
   const number = /^false checkpoint (\d+) /.exec(answer.line)?.[1];
   if (number || answer.status === 0) await showClaim(Number(number ?? file.claims.length - 1));
@@ -225,6 +225,7 @@ function showSent(text) {
 }
 
 function showLamps(value) {
+  write("points", pointsOf(value));
   if (value === lampsShown) return;
   lampsShown = value;
   [...el("leds").children].forEach((lamp, at) => lamp.classList.toggle("lit", (value >> (7 - at) & 1) === 1));

@@ -11,6 +11,12 @@ let snakeLength = FIRST_LENGTH;
 
 const isSnake = () => app.work.name === SNAKE;
 
+/** Returns the points of a snake, whose length the LEDs show. */
+function pointsOf(length) {
+  const points = Math.max(0, length - FIRST_LENGTH);
+  return `${points} point${points === 1 ? "" : "s"}`;
+}
+
 /** Begins the game of the example, without the keys of the game that somebody played. */
 function playSnake() {
   return openExample(SNAKE, { inputs: [], checkpoints: [] });
@@ -31,11 +37,11 @@ async function endGame() {
   await app.live.ask("setRun", { on: false });
   const { text } = await app.live.ask("recording"), crash = await crashCount();
   await lookAt(crash);
-  const points = field(shownState(), AT.LEDs) - FIRST_LENGTH, place = paragraph("checking ..", "line note");
+  const place = paragraph("checking ..", "line note");
   const summary = paragraph(`${grouped(keysIn(text))} keys; the recording has ${grouped(text.length)} bytes.`);
   const back = button("Go back before the crash", () => lookAt(crash - BEFORE_CRASH)), again = button("Play again", playAgain);
   const cheat = button("Try to cheat", () => tryToCheat(text));
-  showCard(`Game over: ${points} point${points === 1 ? "" : "s"}`, [summary, place, back, cheat, again, made("div", "", "cheat")]);
+  showCard(`Game over: ${pointsOf(field(shownState(), AT.LEDs))}`, [summary, place, back, cheat, again, made("div", "", "cheat")]);
   await showLine(text, place);
 }
 

@@ -9,8 +9,8 @@ function showTab(name) {
     el(`tab-${tab}`).setAttribute("aria-selected", isShown);
     el(`panel-${tab}`).hidden = !isShown;
   }
-  if (name === "memory") showMemory();
-  if (name === "code") showAround();
+  if (name === "memory") attempt(showMemory);
+  if (name === "code") attempt(showAround);
 }
 
 const isTab = (name) => !el(`panel-${name}`).hidden;
