@@ -325,6 +325,7 @@ function listen() {
   on("face", "click", () => openExample("face"));
   for (const name of ["snake", "play"]) on(name, "click", playSnake);
   on("choose", "click", () => el("file").click());
+  on("notice", "click", () => notice());
   on("full", "click", showFull);
   el("full").hidden = !document.fullscreenEnabled;
   on("picture", "click", savePicture);
