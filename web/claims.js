@@ -136,7 +136,7 @@ async function bothParts(wrong) {
   const page = /^page (\d+)$/.exec(wrong.part);
   if (page) return bytesThatDiffer(wrong, Number(page[1]));
   const shown = await app.live.ask("claimed", { number: wrong.number, of: app.work.generation });
-  return shown && partsThatDiffer(shown.state, wrong.part);
+  return shown && shownCount() === wrong.count ? partsThatDiffer(shown.state, wrong.part) : null;
 }
 
 function bothLines({ name, own, claimed, about }) {

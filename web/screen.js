@@ -3,7 +3,7 @@
 
 const LINE_BYTES = 128, LINES = 768, DOTS_WIDE = 1024, DISPLAY_AT = 4 * 237504;
 // In a wide window the screen leaves room for the tabs beside it, and is so high at least, in CSS pixels.
-const SIDE_ROOM = 420, LEAST_HEIGHT = 340, MARGIN = 24;
+const SIDE_ROOM = 420, LEAST_HEIGHT = 340, MARGIN = 24, WHOLE_SHARE = 0.7;
 const screens = { dots: null, isDue: false, images: new WeakMap() };
 
 /** Draws dots on a canvas, and repaints only the lines that changed. Line 0 is the lowest, and bit 0 of a byte is its leftmost
@@ -51,11 +51,12 @@ function roomForScreen() {
   return [isWide ? all - SIDE_ROOM : all, Math.max(LEAST_HEIGHT, innerHeight - above - below - MARGIN)];
 }
 
-/** Gives the screen the largest size that fits: a whole factor of its dots, if there is room for one. */
+/** Gives the screen the largest size that fits; or a whole factor of its dots, if that fills most of the room. */
 function fitScreen() {
-  const [wide, high] = roomForScreen(), most = Math.min(wide, high * 4 / 3), factor = Math.floor(most * devicePixelRatio / DOTS_WIDE);
-  document.getElementById("galluspa").style.setProperty("--screen", `${factor ? factor * DOTS_WIDE / devicePixelRatio : most}px`);
-  el("screen").style.imageRendering = factor ? "pixelated" : "auto";
+  const [wide, high] = roomForScreen(), most = Math.min(wide, high * 4 / 3);
+  const whole = Math.floor(most * devicePixelRatio / DOTS_WIDE) * DOTS_WIDE / devicePixelRatio, isWhole = whole > WHOLE_SHARE * most;
+  document.getElementById("galluspa").style.setProperty("--screen", `${isWhole ? whole : most}px`);
+  el("screen").style.imageRendering = isWhole ? "pixelated" : "auto";
 }
 
 async function showFull() {

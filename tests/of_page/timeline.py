@@ -354,7 +354,11 @@ def look_narrow(desk: Desk) -> None:
         expect(f"whether the transport is in sight at {place}", 0 <= top < bottom <= 850, True)
     page.answer("scrollTo(0, 0)")
     page.prefer("light")
-    page.resize(1280, 1100)
+    for width, height, wanted in ((1800, 1400, [1024, "pixelated"]), (1280, 1100, [None, "auto"])):
+        page.resize(width, height)
+        page.answer("new Promise((done) => requestAnimationFrame(() => setTimeout(done, 50)))")
+        size, rendering = page.answer("[el('screen').offsetWidth, el('screen').style.imageRendering]")
+        expect(f"the screen at {width} points", [size if wanted[0] else None, rendering], wanted)
     print("400 points: five buttons and one lane, which stay in sight; light and dark")
 
 
