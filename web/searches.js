@@ -3,7 +3,7 @@
 "use strict";
 
 // Kinds of conditions, as include/galluspa.h numbers them.
-const STORE = 2, CHANGE = 3, BECOMES = 5;
+const STORE = 2, CHANGE = 3, BECOMES = 5, SENDS = 6, SENDS_BYTE = 7, TAKES = 8, STOP = 9;
 const PROGRESS_MS = 100, MOST_CONDITIONS = 64, H_NUMBER = 16, FLAGS_NUMBER = 17;
 // How long a piece is to take, how many steps the first one has, since a hit may be near, and how many a piece has at most: a worker is
 // not free for another search before its piece is searched.
@@ -80,12 +80,12 @@ class Searches {
 
   findFirst(from, to, conditions, turn) {
     const pace = new Pace(PIECE_MS, FIRST_PIECE);
-    return this.searched(this.forward(from, to, pace, turn), pace, { conditions, isLast: false }, this.progress(to - from));
+    return this.searched(this.forward(from, to, conditions, pace, turn), pace, { conditions, isLast: false }, this.progress(to - from));
   }
 
   findLast(from, to, conditions, turn) {
     const pace = new Pace(PIECE_MS, FIRST_PIECE);
-    return this.searched(this.backward(from, to, pace, turn), pace, { conditions, isLast: true }, this.progress(to - from));
+    return this.searched(this.backward(from, to, conditions, pace, turn), pace, { conditions, isLast: true }, this.progress(to - from));
   }
 
   /** Has pieces searched, as many at a time as the crew can. Returns the hit of the first piece that has one, once all before it are known
@@ -99,8 +99,8 @@ class Searches {
       tell((done += steps));
       hit = own;
     };
-    for await (const { steps, ...piece } of pieces) {
-      underWay.push({ steps, found: this.crew.search({ ...piece, ...wanted }) });
+    for await (const { steps, isQuiet, ...piece } of pieces) {
+      underWay.push({ steps, found: isQuiet ? { hit: null, ms: 0 } : this.crew.search({ ...piece, ...wanted }) });
       if (underWay.length > this.crew.size) await takeFirst();
       if (hit) return hit;
     }
@@ -109,24 +109,29 @@ class Searches {
   }
 
   /** The pieces of a range from its beginning on. A machine that has stopped does nothing more. */
-  async *forward(from, to, pace, turn) {
-    const { searcher } = this.history;
+  async *forward(from, to, conditions, pace, turn) {
+    const { history } = this, { searcher } = history, isSeen = areSeen(conditions);
     for (let at = from, end; at < to; at = end) {
-      await this.history.reach(searcher, at, turn);
+      await history.reach(searcher, at, turn);
       if (searcher.part("stop")) return;
       end = Math.min(to, at + Math.min(pace.steps, MOST_PIECE));
-      yield this.pieceTo(end);
+      const piece = this.pieceTo(end), before = outsideOf(searcher);
+      if (isSeen) await history.reach(searcher, end, turn);
+      yield isSeen && !mayHold(conditions, history.inputs, before, outsideOf(searcher)) ? { steps: end - at, isQuiet: true } : piece;
     }
   }
 
   /** The pieces of a range from its end on. They begin at keyframes where there are some. */
-  async *backward(from, to, pace, turn) {
-    const { history } = this;
-    for (let end = to, first; end > from; end = first) {
+  async *backward(from, to, conditions, pace, turn) {
+    const { history } = this, { searcher } = history, isSeen = areSeen(conditions);
+    if (isSeen) await history.reach(searcher, to, turn);
+    for (let end = to, after = outsideOf(searcher), first; end > from; end = first) {
       const steps = Math.min(pace.steps, MOST_PIECE), least = Math.max(from, end - steps), { count } = history.nearest(least);
       first = least - count < steps ? Math.max(from, count) : least;
-      await history.reach(history.searcher, first, turn);
-      yield this.pieceTo(end);
+      await history.reach(searcher, first, turn);
+      const before = outsideOf(searcher);
+      yield isSeen && !mayHold(conditions, history.inputs, before, after) ? { steps: end - first, isQuiet: true } : this.pieceTo(end);
+      after = before;
     }
   }
 
@@ -182,6 +187,24 @@ class Searches {
     }
     return null;
   }
+}
+
+/** Whether conditions are of what is seen from outside, so that a piece in which nothing comes about is only run, not searched. */
+function areSeen(conditions) {
+  return conditions.every(({ kind }) => [SENDS, SENDS_BYTE, TAKES, STOP].includes(kind));
+}
+
+/** Returns what is seen of a machine from outside. */
+function outsideOf(replayer) {
+  return { count: replayer.count, sent: replayer.sent, stop: replayer.part("stop") };
+}
+
+/** Whether a condition of what is seen from outside may hold between two moments of a run. */
+function mayHold(conditions, inputs, before, after) {
+  const kinds = new Set(), end = inputs.from(after.count);
+  for (let at = inputs.from(before.count); at < end; at++) kinds.add(inputs.kind(at));
+  const isSent = after.sent !== before.sent, isStopped = after.stop !== before.stop;
+  return conditions.some(({ kind, value }) => (kind === STOP ? isStopped : kind === TAKES ? kinds.has(value) : isSent));
 }
 
 /** Returns the range of bytes that is wanted, and the mask of their bits in their word. */
