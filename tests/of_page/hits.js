@@ -157,4 +157,21 @@ async function stop() {
   console.log(`stops: a search ends in ${Math.min(...took).toFixed(0)} ms, looks during one take ${looks.map((ms) => ms.toFixed(0)).join(", ")} ms, and answers about another machine are void`);
 }
 
-module.exports = [search, who, stop];
+/** A look comes between the pieces of a search that are only run, which have keyframes at both ends. */
+async function lookBetween() {
+  const desk = new Desk(withNumbers({ KEYFRAME_STEPS: 10000, MOST_PIECE: 10000 })), wanted = { to: 10000000, last: true, conditions: [{ kind: SENDS }] };
+  await desk.openSession(example("counts"));
+  await desk.run(wanted.to);
+  expect("what the search finds that makes the keyframes", await desk.past.find(wanted), { none: true });
+  const begun = performance.now(), after = () => performance.now() - begun;
+  const searching = desk.past.find(wanted).then((found) => ({ found, ms: after() }));
+  await new Promise((resolve) => setTimeout(resolve, 20));
+  await desk.past.peek(1000);
+  const looked = after(), { found, ms } = await searching;
+  expect("what a search finds whose pieces are only run", found, { none: true });
+  if (looked > 0.75 * ms) fail(`a look during a search of ${ms} ms came after ${looked} ms`);
+  desk.end();
+  console.log(`runs: a look comes after ${looked.toFixed(0)} ms, between the pieces of a search of ${ms.toFixed(0)} ms that are only run`);
+}
+
+module.exports = [search, who, stop, lookBetween];
