@@ -146,9 +146,10 @@ enum {
  * GALLUSPA_DONE, nothing is written. All numbers are tested before anything is allocated, so GALLUSPA_OUT_OF_MEMORY means that they
  * are in their ranges.
  *
- * A call does some 20 to 40 million steps a second, and far more where the machine waits, since it passes over the iterations of an
- * idle loop. Cut a long range into calls of some millions of steps each, and advance the state between them. A call copies the
- * memory, and holds at most some 2.3 MB and 16 bytes for each input. */
+ * A call does some 80 to 120 million steps a second where few instructions concern a condition, some 30 million where each third one
+ * does, and far more where the machine waits, since it passes over the iterations of an idle loop. Cut a long range into calls of some
+ * millions of steps each, and advance the state between them. A call copies the memory, and holds at most some 2.3 MB and 16 bytes for
+ * each input. */
 uint8_t galluspa_find(const galluspa_state *state, const uint32_t *words, size_t words_len, const galluspa_input *inputs,
                       size_t inputs_len, uint64_t to, const galluspa_condition *conditions, size_t conditions_len, uint32_t wanted,
                       galluspa_hit *hit);
