@@ -31,6 +31,7 @@ async function lookAt(count, isSettled = true) {
   const at = Math.max(0, Math.min(Math.floor(count), lanes.end));
   if (at === nowCount()) return backToNow(isSettled);
   look = { ...look, at };
+  write("again-said", "");
   showLook(isSettled);
   const moment = await app.past.peek(at, { quick: !isSettled });
   if (moment && look.at === at) showMoment(moment);
@@ -42,9 +43,25 @@ async function runTo(goal) {
   await app.live.ask("setRun", { on: true, fast: true, goal, seconds: everySeconds() });
 }
 
+/** Runs the machine again from count 0 to the count that is looked at, without the states that the page keeps on the way, and says whether
+ * it is what is shown. */
+async function runAgain() {
+  const { at } = look;
+  if (at === null || isAhead()) return;
+  write("again-said", "running again ..");
+  const answer = await app.past.recheck(at);
+  if (answer && look.at === at) write("again-said", saidOfAgain(answer));
+}
+
+function saidOfAgain({ stopped, part }) {
+  if (stopped) return "It was stopped.";
+  return part ? `Not the same: ${part} differs from what is shown. Reload the page, and please report it.` : "The same.";
+}
+
 /** Shows the machine as it is now. */
 async function backToNow(isSettled = true) {
   look = NOW;
+  write("again-said", "");
   showLook(isSettled);
   if (!app.latest) return;
   el("nearly").hidden = true;
@@ -106,7 +123,7 @@ function showMode(frame) {
   const { on, isReplay, isTrue } = frame, [word, text] = isPast() ? pastMode() : modeOf(frame);
   write("run", isAhead() ? "Run to here" : on ? "Pause" : "Run");
   el("take").hidden = !isReplay || isPast();
-  el("take-here").hidden = !isPast() || isAhead();
+  for (const name of ["take-here", "again"]) el(name).hidden = !isPast() || isAhead();
   el("back-now").hidden = !isPast();
   write("name", app.work.generation ? app.work.name : "");
   for (const name of ["mark", "next"]) el(name).disabled = isPast();

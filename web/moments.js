@@ -106,6 +106,11 @@ class Past {
     return this.searching("who", { before, ...what });
   }
 
+  /** Runs the machine again from count 0 to a count, and returns the first part in which it is not what is shown there, or null. */
+  recheck(at) {
+    return this.ask("recheck", { at });
+  }
+
   /** Ends the search that is under way. */
   stop() {
     return this.ask("stopSearch");

@@ -41,6 +41,25 @@ class Searches {
     });
   }
 
+  /** Runs the machine again from count 0, past all other keyframes, and compares it with what is shown at a count. Returns the first part
+   * in which they differ, or null. */
+  recheck({ generation, at }) {
+    if (!isWhole(at)) throw new Refused(`${at} is no count`);
+    return this.begin({ generation, to: at }, async (turn, end) => {
+      const { history } = this, { searcher, keyframes, inputs } = history, tell = this.progress(end);
+      await history.reach(searcher, end, turn);
+      const shown = copied(searcher.at(searcher.place));
+      searcher.load(keyframes, keyframes.items[0]);
+      while (searcher.count < end) {
+        tell(searcher.count);
+        searcher.advance(inputs, end);
+        await turn();
+      }
+      const [one, other] = [shown, copied(searcher.at(searcher.place))].map((machine) => ({ ...machine, sent: [] }));
+      return { at: end, part: firstDifference(one, other) };
+    });
+  }
+
   /** Begins a search that ends the one before. The task gets what lets others go first, and the count up to which it may search. */
   begin({ generation, to }, task) {
     const { history, crew } = this;

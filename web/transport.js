@@ -97,6 +97,7 @@ function listenToTime() {
   on("now", "click", toNow);
   on("back-now", "click", () => backToNow());
   on("take-here", "click", takeOverHere);
+  on("again", "click", runAgain);
   on("goto", "change", toWritten);
   on("nearer", "click", () => zoom(ZOOM));
   on("farther", "click", () => zoom(1 / ZOOM));

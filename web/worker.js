@@ -340,6 +340,7 @@ const PAST = {
   around: (given) => history.around(given),
   find: (given) => history.searches.find(given),
   who: (given) => history.searches.who(given),
+  recheck: (given) => history.searches.recheck(given),
   stopSearch: () => history.searches.stop(),
   /** Takes one more worker for searches, by its port. */
   recruit: ({ port }) => history.searches.crew.join(port),

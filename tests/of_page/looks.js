@@ -3,7 +3,7 @@
 
 const {
   Desk, Fresh, Keyframes, chance, countOf, drawing, example, expect, expectMoment, fail, readRecording, sorted,
-  withNumbers, STOPS, KIND_NAMES,
+  withFalseKeyframes, withNumbers, STOPS, KIND_NAMES,
 } = require("./workers.js");
 
 /** Keyframes share equal pages, keep to their budget, and give their pages up. */
@@ -49,6 +49,7 @@ async function look() {
   expect("a whole moment", [Buffer.compare(words, machine.words), sent, state], [0, machine.sent, machine.state]);
   expect("bytes of the memory", (await desk.past.memory(12345678, 950016, 98304)).bytes, machine.dots);
   await stepBoth(desk, fresh, session);
+  for (const at of [0, 12345678, end]) expect(`the machine that is run again to ${at}`, await desk.past.recheck(at), { at, part: null });
   for (const [ask, why] of [[() => desk.past.peek(end + 1), `the machine has not come to ${end + 1} yet`], [() => desk.past.peek(-1), "-1 is no count"],
                             [() => desk.past.memory(0, 1048576, 1), "these bytes are beyond the memory"]])
     expect("a look that is refused", await ask().catch((error) => error.message), why);
@@ -136,4 +137,14 @@ async function lookAtOdd() {
   console.log("odd programs: steps back over a stop, and in a program that writes its own code");
 }
 
-module.exports = [keepKeyframes, look, lookWhileItRuns, lookInBudget, lookAtOdd];
+/** A keyframe with a false bit is found by a run from count 0. */
+async function findFalseKeyframe() {
+  const desk = new Desk(withFalseKeyframes(200000)), at = 9000000;
+  await desk.openSession(drawing(5, 100, 100000));
+  await desk.run(10000000);
+  expect("what differs where a keyframe is false", await desk.past.recheck(at), { at, part: `page ${Math.floor(200000 / 256)}` });
+  desk.end();
+  console.log("again: three moments are the same, run from count 0; a keyframe with a false bit is found");
+}
+
+module.exports = [keepKeyframes, look, findFalseKeyframe, lookWhileItRuns, lookInBudget, lookAtOdd];

@@ -74,6 +74,8 @@ def drag(desk: Desk) -> None:
         look_at(desk, count)
         expect(f"the picture at {count}", page_dots(desk) == program_dots(FACE, checkpoint), True)
     page.wait(f"{WORDS}.endsWith(', a checkpoint, true')")
+    desk.click("again")
+    page.wait(f"{shown('again-said')} === 'The same.'")
     lists = page.answer("[...el('lists').children].map((it) => it.getAttribute('aria-label').split(':')[0])")
     expect("the lists of the lanes", lists, [f"Lane {name}" for name in ("claims", "keys", "mouse", "serial", "screen", "marks", "film")])
     claims = page.answer("[...el('lists').firstChild.children].map((it) => it.textContent)")

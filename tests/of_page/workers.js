@@ -175,7 +175,14 @@ function withNumbers(numbers) {
 const COUNTER = 1, STORE = 2, CHANGE = 3, LOAD = 4, BECOMES = 5, SENDS = 6, SENDS_BYTE = 7, TAKES = 8, STOPS = 9;
 const KIND_NAMES = ["", "timer", "switches", "mouse", "key", "serial"];
 
+/** Returns the workers' script in which keyframes but the first have a false bit of memory, in the word with this number. */
+function withFalseKeyframes(number) {
+  const [right, wrong] = ["this.state.set(keyframe.state);", `this.state.set(keyframe.state); if (keyframe.count) wordsOf(this.words)[${number}] ^= 1;`];
+  if (workerScript.split(right).length !== 2) fail("the worker loads no keyframe");
+  return workerScript.replace(right, wrong);
+}
+
 module.exports = {
   AT, FOLDER, Desk, Fresh, Keyframes, chance, countOf, drawing, example, expect, expectMoment, fail, field, labels,
-  readRecording, sorted, withNumbers, COUNTER, STORE, CHANGE, LOAD, BECOMES, SENDS, SENDS_BYTE, TAKES, STOPS, KIND_NAMES,
+  readRecording, sorted, withFalseKeyframes, withNumbers, COUNTER, STORE, CHANGE, LOAD, BECOMES, SENDS, SENDS_BYTE, TAKES, STOPS, KIND_NAMES,
 };
