@@ -320,25 +320,33 @@ async function takeOver() {
 // The beginning
 
 function listen() {
+  listenToFiles();
+  listenToDevices();
+  on("notice", "click", () => notice());
+  on("full", "click", showFull);
+  el("full").hidden = !document.fullscreenEnabled;
+  on("picture", "click", savePicture);
+  for (const name of TABS) on(`tab-${name}`, "click", () => showTab(name));
+  for (const name of TABS) on(`tab-${name}`, "keydown", tabByKey);
+  on("next", "click", () => app.live.ask("toCheckpoint", { fast: isFast(), seconds: everySeconds() }));
+  on("take", "click", takeOver);
+  for (const name of ["speed", "each"]) on(name, "change", () => app.live.ask("setPace", { fast: isFast(), seconds: everySeconds() }));
+  on("mark", "click", () => app.live.ask("mark"));
+  listenToTime();
+  listenToMemory();
+  listenToSearch();
+  listenToWindow();
+}
+
+/** Hears what opens, saves and checks, and the checkpoints of a file. */
+function listenToFiles() {
   on("file", "change", ({ target }) => openChosen(target));
   on("draw", "click", () => openExample("draw"));
   on("face", "click", () => openExample("face"));
   for (const name of ["snake", "play"]) on(name, "click", playSnake);
   on("choose", "click", () => el("file").click());
-  on("notice", "click", () => notice());
-  on("full", "click", showFull);
-  el("full").hidden = !document.fullscreenEnabled;
-  on("picture", "click", savePicture);
-  listenToKeyboard();
-  on("pad", "click", padPressed);
-  for (const name of TABS) on(`tab-${name}`, "click", () => showTab(name));
-  for (const name of TABS) on(`tab-${name}`, "keydown", tabByKey);
   on("image", "submit", openImage);
   on("cancel", "click", cancelImage);
-  on("next", "click", () => app.live.ask("toCheckpoint", { fast: isFast(), seconds: everySeconds() }));
-  on("take", "click", takeOver);
-  for (const name of ["speed", "each"]) on(name, "change", () => app.live.ask("setPace", { fast: isFast(), seconds: everySeconds() }));
-  on("mark", "click", () => app.live.ask("mark"));
   on("save", "click", saveSession);
   on("record", "click", saveRecording);
   on("stop", "click", () => verdicts.file.stop());
@@ -347,6 +355,12 @@ function listen() {
   on("before", "click", () => showClaim(Number(el("number").value) - 1));
   on("after", "click", () => showClaim(Number(el("number").value) + 1));
   on("from", "click", () => runOnFrom(Number(el("number").value)));
+}
+
+/** Hears keys, the mouse and the other devices. */
+function listenToDevices() {
+  listenToKeyboard();
+  on("pad", "click", padPressed);
   on("switches", "change", switched);
   on("mouse", "change", mouseByFields);
   on("serial-form", "submit", sendSerial);
@@ -356,9 +370,9 @@ function listen() {
   for (const type of ["pointermove", "pointerdown", "pointerup", "pointercancel"]) on("screen", type, pointed);
   on("screen", "contextmenu", (event) => event.preventDefault());
   compose();
-  listenToTime();
-  listenToMemory();
-  listenToSearch();
+}
+
+function listenToWindow() {
   addEventListener("resize", showSized);
   addEventListener("fullscreenchange", showSized);
   const above = new ResizeObserver(fitScreen);

@@ -12,7 +12,7 @@ static galluspa_state start, state;
 static uint32_t start_words[GALLUSPA_WORDS], words[GALLUSPA_WORDS];
 static uint8_t sent[1 << 20];
 
-/* Reads the first state of a recording, and its inputs. Returns how many there are. */
+/* Reads the initial state of a recording, and its inputs. Returns how many there are. */
 static size_t read_start(const char *name, galluspa_input **inputs) {
     uint8_t *text = malloc(GALLUSPA_LONGEST + 1);
     FILE *file = fopen(name, "rb");
