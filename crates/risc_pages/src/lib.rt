@@ -11,9 +11,11 @@ mod memory;
 mod page;
 mod place;
 mod pool;
+mod sizes;
 mod table;
 
 pub use memory::{Delta, Memory};
 pub use page::Page;
 pub use pool::Pool;
+pub use sizes::{MEMORY_WORDS, PAGE_SLOTS, PAGE_WORDS};
 pub use table::Table;

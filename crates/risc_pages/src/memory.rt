@@ -7,6 +7,7 @@ ghost use Rattle.risc_pages.specs.Delta.{places_of, AreDifferences, IsDelta, IsF
 use crate::page::Page;
 use crate::place::{Place, copy_on_write};
 use crate::pool::Pool;
+use crate::sizes::{PAGE_SLOTS, PAGE_WORDS};
 use crate::table::Table;
 use std::alloc::{AllocError, Global};
 use std::marker::Model;
@@ -51,7 +52,7 @@ impl<'a> Memory<'a> {
         ensures shared { IfOk result (λ memory. All (λ owned. owned ≡ false) memory.owned) }
         ensures memory { IfOk result IsMemory }
     {
-        let mut places = Vec::with_capacity(alloc, 1024)?;
+        let mut places = Vec::with_capacity(alloc, PAGE_SLOTS as usize)?;
         let numbers = table.numbers();
         for number in numbers {
             places.push_reserved(pool.place(*number));
@@ -66,8 +67,8 @@ impl<'a> Memory<'a> {
         ensures word { result ≡ slice_index self.now.words word_no }
         ensures memory { IsMemory self.now }
     {
-        let place = (word_no / 256) as usize;
-        let index = (word_no % 256) as usize;
+        let place = (word_no / PAGE_WORDS) as usize;
+        let index = (word_no % PAGE_WORDS) as usize;
         self.places[place].page().words[index]
     }
 
@@ -85,8 +86,8 @@ impl<'a> Memory<'a> {
         ensures out_of_memory { OnErr result (slice_get self.old.owned (word_no / 256) ≡ Some false) }
         ensures succeeds { slice_get self.old.owned (word_no / 256) ≡ Some true → IsOk result }
     {
-        let place = (word_no / 256) as usize;
-        let index = (word_no % 256) as usize;
+        let place = (word_no / PAGE_WORDS) as usize;
+        let index = (word_no % PAGE_WORDS) as usize;
         match &mut self.places[place] {
             Place::Owned(own) => {
                 own.page.words[index] = value;
@@ -115,8 +116,8 @@ impl<'a> Memory<'a> {
         ensures unchanged { result ≡ false → self.new ≡ self.old }
         ensures answer { slice_get self.old.owned (word_no / 256) ≡ Some result }
     {
-        let place = (word_no / 256) as usize;
-        let index = (word_no % 256) as usize;
+        let place = (word_no / PAGE_WORDS) as usize;
+        let index = (word_no % PAGE_WORDS) as usize;
         match &mut self.places[place] {
             Place::Owned(own) => {
                 own.page.words[index] = word;
@@ -160,7 +161,11 @@ impl<'a> Memory<'a> {
         ensures some { IfSome result (IsFirstDifferentPage self.now.words (table_words pool.now table.now.numbers)) }
     {
         let place = self.least_other(pool, table);
-        if place < 1024 { Some(place) } else { None }
+        if place < PAGE_SLOTS {
+            Some(place)
+        } else {
+            None
+        }
     }
 
     /// Returns the least page slot whose content differs from that of the table over the pool, or 1024 if there is none.
@@ -174,7 +179,7 @@ impl<'a> Memory<'a> {
     {
         let numbers = table.numbers();
         let mut place = 0;
-        while place < 1024 {
+        while place < PAGE_SLOTS {
             if !self.places[place as usize].is_same(pool, numbers[place as usize]) {
                 return place;
             }
@@ -189,7 +194,7 @@ impl<'a> Memory<'a> {
         ensures differences { IfOk result (λ changed. AreDifferences self.now.base self.now.words (places_of changed.items)) }
     {
         let mut changed = Vec::new(self.alloc);
-        for place in 0..1024u16 {
+        for place in 0..PAGE_SLOTS {
             if let Some(page) = self.places[place as usize].change() {
                 changed.push((place, *page))?;
             }

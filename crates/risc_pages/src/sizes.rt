@@ -1,0 +1,10 @@
+//! The sizes of a memory and its pages. Array types and contracts have them as plain numbers.
+
+/// The number of words of a page.
+pub const PAGE_WORDS: u32 = 256;
+
+/// The number of page slots of a memory.
+pub const PAGE_SLOTS: u16 = 1_024;
+
+/// The number of words of a memory: the 1 MiB of RAM of Project Oberon (2013, hardware chapters).
+pub const MEMORY_WORDS: u32 = 262_144;
