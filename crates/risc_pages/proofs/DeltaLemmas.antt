@@ -41,15 +41,15 @@ changed_below-more n base words =
     simp map-id at (filter_of_map_range_with_len_more (differs_at base words) (λ x. x) 0 n n (omega arith))
 
 -- a slot whose page differs, with the page
-pub places_more : (n : ℕ) (base words : List ℕ) (cs : List (ℕ × Page)) (page : Page) → map (λ (c : ℕ × Page). c.0) cs ≡ changed_below n base words → (page_at words n ≡ page_at base n → ⊥) → map (λ (c : ℕ × Page). c.0) (cs ++ (n, page) ∷ []) ≡ changed_below (n + 1) base words
-places_more n base words cs page h other =
+pub slots_more : (n : ℕ) (base words : List ℕ) (cs : List (ℕ × Page)) (page : Page) → map (λ (c : ℕ × Page). c.0) cs ≡ changed_below n base words → (page_at words n ≡ page_at base n → ⊥) → map (λ (c : ℕ × Page). c.0) (cs ++ (n, page) ∷ []) ≡ changed_below (n + 1) base words
+slots_more n base words cs page h other =
     map-append (λ (c : ℕ × Page). c.0) cs ((n, page) ∷ [])
     ∙ ap (λ (z : List ℕ). z ++ n ∷ []) h
     ∙ sym (changed_below-more n base words ∙ ap (λ (b : Bool). changed_below n base words ++ cond b (n ∷ []) []) (differs_at-other base words n other))
 
 -- a slot whose page does not differ
-pub places_same : (n : ℕ) (base words : List ℕ) (cs : List (ℕ × Page)) → map (λ (c : ℕ × Page). c.0) cs ≡ changed_below n base words → page_at words n ≡ page_at base n → map (λ (c : ℕ × Page). c.0) cs ≡ changed_below (n + 1) base words
-places_same n base words cs h same =
+pub slots_same : (n : ℕ) (base words : List ℕ) (cs : List (ℕ × Page)) → map (λ (c : ℕ × Page). c.0) cs ≡ changed_below n base words → page_at words n ≡ page_at base n → map (λ (c : ℕ × Page). c.0) cs ≡ changed_below (n + 1) base words
+slots_same n base words cs h same =
     h ∙ sym (changed_below-more n base words ∙ ap (λ (b : Bool). changed_below n base words ++ cond b (n ∷ []) []) (differs_at-same base words n same) ∙ append-nil (changed_below n base words))
 
 -- the test is true only if the pages differ
@@ -98,8 +98,8 @@ changed_below-all (suc n) base words p h other =
     ]))
 
 -- the delta lists differences only, and all of them
-pub AreDifferences-changed_below : (base words places : List ℕ) → places ≡ changed_below 1024 base words → AreDifferences base words places
-AreDifferences-changed_below base words places is =
+pub AreDifferences-changed_below : (base words slots : List ℕ) → slots ≡ changed_below 1024 base words → AreDifferences base words slots
+AreDifferences-changed_below base words slots is =
     let P : List ℕ → Type 0 = λ ps. AreDifferences base words ps in
     subst P (sym is) (record {
       rising = changed_below-rising 1024 base words;

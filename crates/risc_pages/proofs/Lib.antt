@@ -1,4 +1,4 @@
 pub mod Paging
 pub mod PoolLemmas
-pub mod PlaceLemmas
+pub mod SlotLemmas
 pub mod DeltaLemmas

@@ -69,7 +69,7 @@ flat_map-same f g (x ∷ xs) (y ∷ ys) long same =
     let rest : flat_map f xs ≡ flat_map g ys = flat_map-same f g xs ys (omega arith) (λ k d e h. same (suc k) d e (omega arith)) in
     ap (λ (l : List ℕ). l ++ flat_map f xs) first ∙ ap (λ (l : List ℕ). g y ++ l) rest
 
--- another element with the same page in place of the i-th
+-- another element with the same page instead of the i-th
 pub flat_map-set_same : {X : Type 0} (f : X → List ℕ) (xs : List X) (i : ℕ) (e y : X) → i < length xs → f y ≡ f (get_or xs i e) → flat_map f (set xs i y) ≡ flat_map f xs
 flat_map-set_same f [] i e y h same = absurd (omega arith)
 flat_map-set_same f (x ∷ xs) zero e y h same = ap (λ (w : List ℕ). w ++ flat_map f xs) same
@@ -105,6 +105,6 @@ slice_range_more xs from i low inside =
     let next : take (i - from + 1) (drop from xs) ≡ take (i - from) (drop from xs) ++ get_or (drop from xs) (i - from) 0 ∷ [] =
     take_more (drop from xs) (i - from) 0 (omega arith) in
     let count : i + 1 - from ≡ i - from + 1 = omega arith in
-    let place : from + (i - from) ≡ i = omega arith in
+    let slot : from + (i - from) ≡ i = omega arith in
     ap (λ (n : ℕ). take n (drop from xs)) count ∙ next
-    ∙ ap (λ (x : ℕ). take (i - from) (drop from xs) ++ x ∷ []) (get_or-drop from xs (i - from) 0 ∙ ap (λ (k : ℕ). get_or xs k 0) place)
+    ∙ ap (λ (x : ℕ). take (i - from) (drop from xs) ++ x ∷ []) (get_or-drop from xs (i - from) 0 ∙ ap (λ (k : ℕ). get_or xs k 0) slot)

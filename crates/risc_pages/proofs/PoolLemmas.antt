@@ -8,7 +8,7 @@ use Rattle.std.specs.Prelude.{slice_index}
 use Rattle.risc_pages.specs.Tables.{table_words, zero_numbers, IsNamed}
 use Rattle.risc_pages.specs.declared.page.Page.{Page}
 use Rattle.risc_pages.specs.Pages.{ArePages, IsPage, page_at, page_of, zero_page}
-use Rattle.risc_pages.specs.inner.Places.{words_of}
+use Rattle.risc_pages.specs.inner.Slots.{words_of}
 
 pub IsPage-zero_page : IsPage zero_page
 unfolding zero_page

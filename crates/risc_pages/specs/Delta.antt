@@ -24,13 +24,13 @@ pub record IsDelta (base words : List ℕ) (changed : List (ℕ × Page)) : Type
   pub pages : All (λ (c : ℕ × Page). c.1.words ≡ page_at words c.0) changed
 
 -- the law of these slots: they rise, each one differs, and each slot that differs is one of them
-pub record AreDifferences (base words places : List ℕ) : Type 0 where
-  pub rising : IsStrictlyIncreasing places
-  pub each : All (λ p. (p < 1024) × (page_at words p ≢ page_at base p)) places
-  pub all : (p : ℕ) → p < 1024 → page_at words p ≢ page_at base p → Contains places p
+pub record AreDifferences (base words slots : List ℕ) : Type 0 where
+  pub rising : IsStrictlyIncreasing slots
+  pub each : All (λ p. (p < 1024) × (page_at words p ≢ page_at base p)) slots
+  pub all : (p : ℕ) → p < 1024 → page_at words p ≢ page_at base p → Contains slots p
 
 -- the two differ in this page, and have the same words in each page before it
-pub record IsFirstDifferentPage (xs ys : List ℕ) (place : ℕ) : Type 0 where
-  pub inside : place < 1024
-  pub before : (p : ℕ) → p < place → page_at xs p ≡ page_at ys p
-  pub differs : page_at xs place ≢ page_at ys place
+pub record IsFirstDifferentPage (xs ys : List ℕ) (slot : ℕ) : Type 0 where
+  pub inside : slot < 1024
+  pub before : (p : ℕ) → p < slot → page_at xs p ≡ page_at ys p
+  pub differs : page_at xs slot ≢ page_at ys slot

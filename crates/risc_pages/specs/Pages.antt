@@ -1,5 +1,6 @@
 -- Pages of 256 words each, with ids in a pool from 1 on. They are this project's own choice.
-use Rattle.std.specs.Prelude.{ℕ, ◌≡◌, ◌-◌, ◌*◌, ◌^◌, ◌<◌, ◌==◌, List, All, drop, take, replicate, slice_index_or, if◌then◌else◌, length}
+use Rattle.std.specs.Prelude.{ℕ, ◌≡◌, ◌-◌, ◌*◌, ◌^◌, ◌<◌, ◌==◌, List, All, drop, take}
+use Rattle.std.specs.Prelude.{replicate, slice_index_or, if◌then◌else◌, length}
 
 -- the words of the page of zeros
 unfoldable pub zero_page : List ℕ

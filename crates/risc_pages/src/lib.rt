@@ -9,9 +9,9 @@
 
 mod memory;
 mod page;
-mod place;
 mod pool;
 mod sizes;
+mod slot;
 mod table;
 
 pub use memory::{Delta, Memory};

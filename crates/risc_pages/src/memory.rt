@@ -1,13 +1,14 @@
 //! Memory: a map from word number to word, in copy-on-write pages of a pool; and its changes.
-ghost use Rattle.std.specs.Prelude.{◌≡◌, ◌+◌, ◌/◌, ◌<◌, ◌≤◌, ℕ, All, OnOk, OnErr, IfOk, IfNone, IfSome, IsOk, Some, true, false, slice_get, slice_index, slice_range, slice_set};
+ghost use Rattle.std.specs.Prelude.{◌≡◌, ◌+◌, ◌/◌, ◌<◌, ◌≤◌, ℕ, All, OnOk, OnErr, IfOk, IfNone, IfSome, IsOk};
+ghost use Rattle.std.specs.Prelude.{Some, true, false, slice_get, slice_index, slice_range, slice_set};
 ghost use Rattle.risc_pages.specs.Tables.{table_words, IsContent, IsNamed};
 ghost use Rattle.risc_pages.specs.Contents.{IsMemory};
 ghost use Rattle.risc_pages.specs.Delta.{places_of, AreDifferences, IsDelta, IsFirstDifferentPage};
 
 use crate::page::Page;
-use crate::place::{Place, copy_on_write};
 use crate::pool::Pool;
 use crate::sizes::{PAGE_SLOTS, PAGE_WORDS};
+use crate::slot::{Slot, copy_on_write};
 use crate::table::Table;
 use std::alloc::{AllocError, Global};
 use std::marker::Model;
@@ -25,7 +26,7 @@ pub struct Delta {
 /// made with. It borrows its pool, which it never changes.
 #[derive(Drop)]
 pub struct Memory<'a> {
-    places: Vec<Place<'a>>,
+    slots: Vec<Slot<'a>>,
     alloc: Global,
 }
 
@@ -35,11 +36,11 @@ impl<'a> Model for Memory<'a> {
     ghost Value = { Contents };
 
     ghost use Rattle.std.specs.Prelude.{length, ◌≡◌};
-    ghost use Rattle.risc_pages.specs.inner.Places.{contents_of};
+    ghost use Rattle.risc_pages.specs.inner.Slots.{contents_of};
 
-    ghost view = { λ m. contents_of m.places.items };
+    ghost view = { λ m. contents_of m.slots.items };
 
-    ghost invariant = { λ m. length m.places.items ≡ 1024 };
+    ghost invariant = { λ m. length m.slots.items ≡ 1024 };
 }
 
 impl<'a> Memory<'a> {
@@ -52,12 +53,12 @@ impl<'a> Memory<'a> {
         ensures shared { IfOk result (λ memory. All (λ owned. owned ≡ false) memory.owned) }
         ensures memory { IfOk result IsMemory }
     {
-        let mut places = Vec::with_capacity(alloc, PAGE_SLOTS as usize)?;
+        let mut slots = Vec::with_capacity(alloc, PAGE_SLOTS as usize)?;
         let numbers = table.numbers();
         for number in numbers {
-            places.push_reserved(pool.place(*number));
+            slots.push_reserved(pool.slot(*number));
         }
-        Ok(Memory { places, alloc })
+        Ok(Memory { slots, alloc })
     }
 
     /// Returns the word with this number.
@@ -67,9 +68,9 @@ impl<'a> Memory<'a> {
         ensures word { result ≡ slice_index self.now.words word_no }
         ensures memory { IsMemory self.now }
     {
-        let place = (word_no / PAGE_WORDS) as usize;
+        let slot = (word_no / PAGE_WORDS) as usize;
         let index = (word_no % PAGE_WORDS) as usize;
-        self.places[place].page().words[index]
+        self.slots[slot].page().words[index]
     }
 
     /// Changes one word.
@@ -86,21 +87,21 @@ impl<'a> Memory<'a> {
         ensures out_of_memory { OnErr result (slice_get self.old.owned (word_no / 256) ≡ Some false) }
         ensures succeeds { slice_get self.old.owned (word_no / 256) ≡ Some true → IsOk result }
     {
-        let place = (word_no / PAGE_WORDS) as usize;
+        let slot = (word_no / PAGE_WORDS) as usize;
         let index = (word_no % PAGE_WORDS) as usize;
-        match &mut self.places[place] {
-            Place::Owned(own) => {
+        match &mut self.slots[slot] {
+            Slot::Owned(own) => {
                 own.page.words[index] = value;
                 Ok(())
             }
-            Place::Blank(blank) => {
+            Slot::Blank(blank) => {
                 let base = &blank.page;
-                copy_on_write(self.alloc, &mut self.places, place, base, index, value)?;
+                copy_on_write(self.alloc, &mut self.slots, slot, base, index, value)?;
                 Ok(())
             }
-            Place::Shared(page) => {
+            Slot::Shared(page) => {
                 let base = *page;
-                copy_on_write(self.alloc, &mut self.places, place, base, index, value)?;
+                copy_on_write(self.alloc, &mut self.slots, slot, base, index, value)?;
                 Ok(())
             }
         }
@@ -116,26 +117,26 @@ impl<'a> Memory<'a> {
         ensures unchanged { result ≡ false → self.new ≡ self.old }
         ensures answer { slice_get self.old.owned (word_no / 256) ≡ Some result }
     {
-        let place = (word_no / PAGE_WORDS) as usize;
+        let slot = (word_no / PAGE_WORDS) as usize;
         let index = (word_no % PAGE_WORDS) as usize;
-        match &mut self.places[place] {
-            Place::Owned(own) => {
+        match &mut self.slots[slot] {
+            Slot::Owned(own) => {
                 own.page.words[index] = word;
                 true
             }
-            Place::Blank(_) => false,
-            Place::Shared(_) => false,
+            Slot::Blank(_) => false,
+            Slot::Shared(_) => false,
         }
     }
 
     /// Reports whether a page slot has a private page.
-    pub fn owned(&self, place: u16) -> bool
-        requires { place < 1024 }
-        ensures owned { slice_get self.now.owned place ≡ Some result }
+    pub fn owned(&self, slot: u16) -> bool
+        requires { slot < 1024 }
+        ensures owned { slice_get self.now.owned slot ≡ Some result }
         ensures memory { IsMemory self.now }
     {
-        match &self.places[place as usize] {
-            Place::Owned(_) => true,
+        match &self.slots[slot as usize] {
+            Slot::Owned(_) => true,
             _ => false,
         }
     }
@@ -160,12 +161,8 @@ impl<'a> Memory<'a> {
         ensures none { IfNone result (self.now.words ≡ table_words pool.now table.now.numbers) }
         ensures some { IfSome result (IsFirstDifferentPage self.now.words (table_words pool.now table.now.numbers)) }
     {
-        let place = self.least_other(pool, table);
-        if place < PAGE_SLOTS {
-            Some(place)
-        } else {
-            None
-        }
+        let slot = self.least_other(pool, table);
+        if slot < PAGE_SLOTS { Some(slot) } else { None }
     }
 
     /// Returns the least page slot whose content differs from that of the table over the pool, or 1024 if there is none.
@@ -178,14 +175,14 @@ impl<'a> Memory<'a> {
         ensures some { result < 1024 → IsFirstDifferentPage self.now.words (table_words pool.now table.now.numbers) result }
     {
         let numbers = table.numbers();
-        let mut place = 0;
-        while place < PAGE_SLOTS {
-            if !self.places[place as usize].is_same(pool, numbers[place as usize]) {
-                return place;
+        let mut slot = 0;
+        while slot < PAGE_SLOTS {
+            if !self.slots[slot as usize].is_same(pool, numbers[slot as usize]) {
+                return slot;
             }
-            place += 1;
+            slot += 1;
         }
-        place
+        slot
     }
 
     /// Returns the page slots whose content differs from the table that the memory was made from, with their pages.
@@ -194,9 +191,9 @@ impl<'a> Memory<'a> {
         ensures differences { IfOk result (λ changed. AreDifferences self.now.base self.now.words (places_of changed.items)) }
     {
         let mut changed = Vec::new(self.alloc);
-        for place in 0..PAGE_SLOTS {
-            if let Some(page) = self.places[place as usize].change() {
-                changed.push((place, *page))?;
+        for slot in 0..PAGE_SLOTS {
+            if let Some(page) = self.slots[slot as usize].change() {
+                changed.push((slot, *page))?;
             }
         }
         Ok(changed)
@@ -206,7 +203,7 @@ impl<'a> Memory<'a> {
     /// memory, also if there is no memory for the answer.
     pub fn close(self) -> Result<Delta, AllocError>
         ensures delta { IfOk result (λ delta. IsDelta self.entry.base self.entry.words delta.changed.items) }
-        ensures differences { IfOk result (λ delta. AreDifferences self.entry.base self.entry.words (places_of delta.changed.items)) }
+        ensures differences { IfOk result (λ d. AreDifferences self.entry.base self.entry.words (places_of d.changed.items)) }
     {
         let changed = self.changes()?;
         Ok(Delta { changed })

@@ -1,11 +1,12 @@
 //! The pool: the pages that memories share. A table says which page is in which slot.
 
-ghost use Rattle.std.specs.Prelude.{◌≡◌, ◌++◌, ◌∷◌, [], ◌<◌, ◌≤◌, ◌^◌, ◌↔◌, ℕ, false, IsTrue, length, slice_index, OnOk, OnErr, IfOk};
+ghost use Rattle.std.specs.Prelude.{◌≡◌, ◌++◌, ◌∷◌, [], ◌<◌, ◌≤◌, ◌^◌, ◌↔◌, ℕ, false};
+ghost use Rattle.std.specs.Prelude.{IsTrue, length, slice_index, OnOk, OnErr, IfOk};
 ghost use Rattle.risc_pages.specs.Pages.{page_of, ArePages};
-ghost use Rattle.risc_pages.specs.inner.Places.{content, is_owned};
+ghost use Rattle.risc_pages.specs.inner.Slots.{content, is_owned};
 
 use crate::page::{Blank, Page};
-use crate::place::Place;
+use crate::slot::Slot;
 use std::alloc::{AllocError, Global};
 use std::marker::Model;
 
@@ -24,7 +25,7 @@ impl Model for Pool {
     ghost Value = { List (List ℕ) };
 
     ghost use Rattle.std.specs.Prelude.{map, vec_len, ◌≤◌, ◌^◌};
-    ghost use Rattle.risc_pages.specs.inner.Places.{words_of};
+    ghost use Rattle.risc_pages.specs.inner.Slots.{words_of};
 
     ghost view = { λ p. map words_of p.pages.items };
 
@@ -82,39 +83,39 @@ impl Pool {
 
     /// Returns word `i` of the page with this id.
     #[inline]
-    pub fn word(&self, page_no: u32, i: u32) -> u32
-        requires named { page_no ≤ length self.now }
+    pub fn word(&self, page_id: u32, i: u32) -> u32
+        requires named { page_id ≤ length self.now }
         requires inside { i < 256 }
-        ensures { result ≡ slice_index (page_of self.now page_no) i }
+        ensures { result ≡ slice_index (page_of self.now page_id) i }
     {
-        self.page(page_no).words[i as usize]
+        self.page(page_id).words[i as usize]
     }
 
     /// Returns the page with this id.
     #[inline]
-    pub fn page(&self, page_no: u32) -> &Page
-        requires { page_no ≤ length self.now }
-        ensures words { result.now.words ≡ page_of self.now page_no }
+    pub fn page(&self, page_id: u32) -> &Page
+        requires { page_id ≤ length self.now }
+        ensures words { result.now.words ≡ page_of self.now page_id }
         ensures pages { ArePages self.now }
     {
-        if page_no == 0 {
+        if page_id == 0 {
             &self.zeros.page
         } else {
-            &self.pages[(page_no - 1) as usize]
+            &self.pages[(page_id - 1) as usize]
         }
     }
 
     /// Returns a slot that shares the page with this id.
     #[inline]
-    pub(crate) fn place(&self, page_no: u32) -> Place<'_>
-        requires { page_no ≤ length self.now }
-        ensures words { content result ≡ page_of self.now page_no }
+    pub(crate) fn slot(&self, page_id: u32) -> Slot<'_>
+        requires { page_id ≤ length self.now }
+        ensures words { content result ≡ page_of self.now page_id }
         ensures shared { is_owned result ≡ false }
     {
-        if page_no == 0 {
-            Place::Blank(&self.zeros)
+        if page_id == 0 {
+            Slot::Blank(&self.zeros)
         } else {
-            Place::Shared(self.page(page_no))
+            Slot::Shared(self.page(page_id))
         }
     }
 }

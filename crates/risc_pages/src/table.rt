@@ -30,20 +30,20 @@ impl Table {
 
     /// Returns the page id in a slot.
     #[inline]
-    pub fn entry(&self, place: u16) -> u32
-        requires { place < 1024 }
-        ensures { result ≡ slice_index self.now.numbers place }
+    pub fn entry(&self, slot: u16) -> u32
+        requires { slot < 1024 }
+        ensures { result ≡ slice_index self.now.numbers slot }
     {
-        self.numbers()[place as usize]
+        self.numbers()[slot as usize]
     }
 
     /// Sets the page id of a slot.
     #[inline]
-    pub fn set(&mut self, place: u16, page_no: u32)
-        requires { place < 1024 }
-        ensures { self.new.numbers ≡ slice_set self.old.numbers place page_no }
+    pub fn set(&mut self, slot: u16, page_id: u32)
+        requires { slot < 1024 }
+        ensures { self.new.numbers ≡ slice_set self.old.numbers slot page_id }
     {
-        self.numbers[place as usize] = page_no;
+        self.numbers[slot as usize] = page_id;
     }
 
     /// Returns the page ids of all slots, in order.

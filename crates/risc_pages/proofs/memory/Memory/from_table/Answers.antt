@@ -2,61 +2,61 @@ use Rattle.std.proofs.Common.{◌≡◌, ℕ, ◌<◌, List, [], ◌∷◌, Bool
 use Rattle.std.proofs.lemmas.List.{get_or_default}
 use Rattle.std.proofs.lemmas.List.Elements.{All-map, All-push}
 use Rattle.risc_pages.proofs.Paging.{flat_map-same, same_more}
-use Rattle.risc_pages.proofs.PlaceLemmas.{base_of-shared, IsContent-places, IsMemory-contents_of}
-use Rattle.risc_pages.specs.declared.place.Place.{Place}
+use Rattle.risc_pages.proofs.SlotLemmas.{base_of-shared, IsContent-slots, IsMemory-contents_of}
+use Rattle.risc_pages.specs.declared.slot.Slot.{Slot}
 use Rattle.risc_pages.specs.Pages.{page_of}
-use Rattle.risc_pages.specs.inner.Places.{base_of, content, is_owned}
+use Rattle.risc_pages.specs.inner.Slots.{base_of, content, is_owned}
 use Rattle.risc_pages.proofs.memory.Memory.from_table.Goals as goal
 
 numbers_count : (c : goal.After-loop-number) → length c.args.table.now.numbers ≡ 1024
 numbers_count c = c.args.table.now.count
 
-count : (c : goal.After-loop-number) → length c.loop-number.places.items ≡ 1024
+count : (c : goal.After-loop-number) → length c.loop-number.slots.items ≡ 1024
 count c =
     let n : length c.numbers-numbers.result.now ≡ length c.args.table.now.numbers = ap (λ (x : List ℕ). length x) c.numbers-numbers.ensures in
     let t : length c.args.table.now.numbers ≡ 1024 = numbers_count c in
-    let p : length c.loop-number.places.items ≡ c.loop-number.number-index = c.loop-number.invariant.count in
+    let p : length c.loop-number.slots.items ≡ c.loop-number.number-index = c.loop-number.invariant.count in
     omega arith
 
 -- each slot has the page that the table names there
-same : (c : goal.After-loop-number) (k : ℕ) (d : Place) (e : ℕ) → k < length c.loop-number.places.items → content (get_or c.loop-number.places.items k d) ≡ page_of c.args.pool.now (get_or c.args.table.now.numbers k e)
+same : (c : goal.After-loop-number) (k : ℕ) (d : Slot) (e : ℕ) → k < length c.loop-number.slots.items → content (get_or c.loop-number.slots.items k d) ≡ page_of c.args.pool.now (get_or c.args.table.now.numbers k e)
 same c k d e h = c.loop-number.invariant.same k d e h ∙ ap (λ (x : List ℕ). page_of c.args.pool.now (get_or x k e)) c.numbers-numbers.ensures
 
 pub returns-clause-content : goal.returns-clause-content
-returns-clause-content c = IsContent-places c.loop-number.places.items _ _ (count c) (same c)
+returns-clause-content c = IsContent-slots c.loop-number.slots.items _ _ (count c) (same c)
 
 pub returns-clause-words : goal.returns-clause-words
 returns-clause-words c =
     let n = numbers_count c in
     let p = count c in
-    flat_map-same content (page_of c.args.pool.now) c.loop-number.places.items c.args.table.now.numbers (omega arith) (same c)
+    flat_map-same content (page_of c.args.pool.now) c.loop-number.slots.items c.args.table.now.numbers (omega arith) (same c)
 
 pub returns-clause-base : goal.returns-clause-base
 returns-clause-base c =
     let n = numbers_count c in
     let p = count c in
-    flat_map-same base_of (page_of c.args.pool.now) c.loop-number.places.items c.args.table.now.numbers (omega arith)
-    (λ k d e h. base_of-shared (get_or c.loop-number.places.items k d) (c.loop-number.invariant.shared k d h) ∙ same c k d e h)
+    flat_map-same base_of (page_of c.args.pool.now) c.loop-number.slots.items c.args.table.now.numbers (omega arith)
+    (λ k d e h. base_of-shared (get_or c.loop-number.slots.items k d) (c.loop-number.invariant.shared k d h) ∙ same c k d e h)
 
 pub returns-clause-shared : goal.returns-clause-shared
-returns-clause-shared c = All-map (λ (owned : Bool). owned ≡ false) is_owned c.loop-number.places.items c.loop-number.invariant.shared
+returns-clause-shared c = All-map (λ (owned : Bool). owned ≡ false) is_owned c.loop-number.slots.items c.loop-number.invariant.shared
 
 pub returns-clause-memory : goal.returns-clause-memory
-returns-clause-memory c = IsMemory-contents_of c.loop-number.places.items _ (count c) refl
+returns-clause-memory c = IsMemory-contents_of c.loop-number.slots.items _ (count c) refl
 
 pub loop-number-preserved : goal.loop-number-preserved
 loop-number-preserved c =
-    let places = c.loop-number.places.items in
-    let count : length places ≡ c.loop-number.number-index = c.loop-number.invariant.count in
+    let slots = c.loop-number.slots.items in
+    let count : length slots ≡ c.loop-number.number-index = c.loop-number.invariant.count in
     let numbers = c.numbers-numbers.result.now in
-    let more = length-append places (c.place.result ∷ []) in
+    let more = length-append slots (c.slot.result ∷ []) in
     let here = λ (e : ℕ).
-    c.place.ensures.words
+    c.slot.ensures.words
     ∙ ap (page_of c.args.pool.now) (get_or_default numbers c.loop-number.number-index 0 e c.loop-number-test.true)
     ∙ ap (λ (k : ℕ). page_of c.args.pool.now (get_or numbers k e)) (sym count) in
     rw c.push_reserved.ensures.items (record {
       room = omega (arith, c.push_reserved.ensures.capacity);
       count = omega (arith, more);
-      same = λ k d e h. same_more content (page_of c.args.pool.now) places numbers c.place.result c.loop-number.invariant.same here k d e (omega (arith, more));
-      shared = All-push (λ (p : Place). is_owned p ≡ false) _ _ c.loop-number.invariant.shared c.place.ensures.shared;
+      same = λ k d e h. same_more content (page_of c.args.pool.now) slots numbers c.slot.result c.loop-number.invariant.same here k d e (omega (arith, more));
+      shared = All-push (λ (p : Slot). is_owned p ≡ false) _ _ c.loop-number.invariant.shared c.slot.ensures.shared;
     })

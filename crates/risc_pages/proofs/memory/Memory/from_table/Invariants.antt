@@ -1,15 +1,15 @@
 use Rattle.std.proofs.Common.{◌≡◌, ℕ, ◌<◌, ◌≤◌, get_or, length, false}
 use Rattle.std.specs.List.{All}
 use Rattle.std.specs.Vec.{vec_capacity}
-use Rattle.risc_pages.specs.declared.place.Place.{Place}
+use Rattle.risc_pages.specs.declared.slot.Slot.{Slot}
 use Rattle.risc_pages.specs.Pages.{page_of}
-use Rattle.risc_pages.specs.inner.Places.{content, is_owned}
+use Rattle.risc_pages.specs.inner.Slots.{content, is_owned}
 use Rattle.risc_pages.proofs.memory.Memory.from_table.Given as goal
 
 abbrev pub invariant-loop-number : goal.invariant-loop-number
 invariant-loop-number l = record {
-  room : 1024 ≤ vec_capacity l.places;
-  count : length l.places.items ≡ l.number-index;
-  same : (k : ℕ) (d : Place) (e : ℕ) → k < length l.places.items → content (get_or l.places.items k d) ≡ page_of l.pool (get_or l.numbers k e);
-  shared : All (λ (p : Place). is_owned p ≡ false) l.places.items;
+  room : 1024 ≤ vec_capacity l.slots;
+  count : length l.slots.items ≡ l.number-index;
+  same : (k : ℕ) (d : Slot) (e : ℕ) → k < length l.slots.items → content (get_or l.slots.items k d) ≡ page_of l.pool (get_or l.numbers k e);
+  shared : All (λ (p : Slot). is_owned p ≡ false) l.slots.items;
 }

@@ -1,5 +1,5 @@
 use Rattle.std.proofs.Common.{arith}
-use Rattle.risc_pages.proofs.PlaceLemmas.{IsMemory-contents_of, owned_at}
+use Rattle.risc_pages.proofs.SlotLemmas.{IsMemory-contents_of, owned_at}
 use Rattle.risc_pages.proofs.memory.Memory.owned.Goals as goal
 
 pub returns-in-Owned-clause-memory : goal.returns-in-Owned-clause-memory
@@ -10,4 +10,4 @@ returns-in_default-clause-memory c = IsMemory-contents_of _ _ c.self.invariant c
 
 pub returns-in-Owned-clause-owned : goal.returns-in-Owned-clause-owned
 returns-in-Owned-clause-owned c =
-    owned_at c.self.inside.places.items c.args.place c.index.ensures c.in-Owned.is c.self.view_is c.self.invariant (omega (arith, c.requires))
+    owned_at c.self.inside.slots.items c.args.slot c.index.ensures c.in-Owned.is c.self.view_is c.self.invariant (omega (arith, c.requires))

@@ -1,8 +1,9 @@
 //! A page slot of a memory: a shared page of the pool, or a private page. No contract that callers of this crate see mentions it.
 
-ghost use Rattle.std.specs.Prelude.{◌≡◌, ◌≢◌, ◌↔◌, ◌<◌, ◌≤◌, ℕ, length, slice_set, IsTrue, IfNone, IfSome, OnOk, OnErr, true, false};
+ghost use Rattle.std.specs.Prelude.{◌≡◌, ◌≢◌, ◌↔◌, ◌<◌, ◌≤◌, ℕ, length, slice_set};
+ghost use Rattle.std.specs.Prelude.{IsTrue, IfNone, IfSome, OnOk, OnErr, true, false};
 ghost use Rattle.risc_pages.specs.Pages.{page_of, ArePages};
-ghost use Rattle.risc_pages.specs.inner.Places.{content, base_of, TakesCopy};
+ghost use Rattle.risc_pages.specs.inner.Slots.{content, base_of, TakesCopy};
 
 use crate::page::{Blank, Page};
 use crate::pool::Pool;
@@ -10,7 +11,7 @@ use std::alloc::{AllocError, Global};
 
 /// The page in a slot of a memory.
 #[derive(Drop)]
-pub(crate) enum Place<'a> {
+pub(crate) enum Slot<'a> {
     /// The pool's page of zeros, not yet written here.
     Blank(&'a Blank),
     /// Another page of the pool, not yet written here.
@@ -26,28 +27,28 @@ pub(crate) struct Copied<'a> {
     pub(crate) base: &'a Page,
 }
 
-impl<'a> Place<'a> {
+impl<'a> Slot<'a> {
     /// Returns the page in this slot.
     #[inline(always)]
     pub(crate) fn page(&self) -> &Page
         ensures { result.now.words ≡ content self.now }
     {
         match self {
-            Place::Blank(blank) => &blank.page,
-            Place::Shared(page) => page,
-            Place::Owned(own) => &own.page,
+            Slot::Blank(blank) => &blank.page,
+            Slot::Shared(page) => page,
+            Slot::Owned(own) => &own.page,
         }
     }
 
     /// Reports whether the page in this slot has the words of the pool's page with this id.
-    pub(crate) fn is_same(&self, pool: &Pool, page_no: u32) -> bool
-        requires { page_no ≤ length pool.now }
-        ensures same { IsTrue result ↔ (content self.now ≡ page_of pool.now page_no) }
+    pub(crate) fn is_same(&self, pool: &Pool, page_id: u32) -> bool
+        requires { page_id ≤ length pool.now }
+        ensures same { IsTrue result ↔ (content self.now ≡ page_of pool.now page_id) }
         ensures pages { ArePages pool.now }
     {
-        let theirs = pool.page(page_no);
+        let theirs = pool.page(page_id);
         match self {
-            Place::Blank(_) if page_no == 0 => true,
+            Slot::Blank(_) if page_id == 0 => true,
             _ => self.has_words_of(theirs),
         }
     }
@@ -67,7 +68,7 @@ impl<'a> Place<'a> {
         ensures some { IfSome result (λ page. (page.now.words ≡ content self.now) × (content self.now ≢ base_of self.now)) }
     {
         match self {
-            Place::Owned(own) if own.page.words != own.base.words => Some(&own.page),
+            Slot::Owned(own) if own.page.words != own.base.words => Some(&own.page),
             _ => None,
         }
     }
@@ -78,28 +79,28 @@ impl<'a> Place<'a> {
 #[inline(never)]
 pub(crate) fn copy_on_write<'a>(
     alloc: Global,
-    places: &mut Vec<Place<'a>>,
-    place: usize,
+    slots: &mut Vec<Slot<'a>>,
+    slot: usize,
     base: &'a Page,
     index: usize,
-    value: u32,
+    word: u32,
 ) -> Result<(), AllocError>
-    requires place_inside { place < length places.old.items }
+    requires slot_inside { slot < length slots.old.items }
     requires index_inside { index < 256 }
-    ensures ok { OnOk result (TakesCopy places.old.items places.new.items place base.now.words (slice_set base.now.words index value)) }
-    ensures err { OnErr result (places.new ≡ places.old) }
+    ensures ok { OnOk result (TakesCopy slots.old.items slots.new.items slot base.now.words (slice_set base.now.words index word)) }
+    ensures err { OnErr result (slots.new ≡ slots.old) }
 {
     let mut page = *base;
-    page.words[index] = value;
+    page.words[index] = word;
     let own = Box::new(alloc, Copied { page, base })?;
-    put(places, place, own);
+    put(slots, slot, own);
     Ok(())
 }
 
 /// Puts a private page into a slot.
-fn put<'a>(places: &mut Vec<Place<'a>>, place: usize, own: Box<Copied<'a>>)
-    requires { place < length places.old.items }
-    ensures { places.new.items ≡ slice_set places.old.items place (Place.Owned own.entry) }
+fn put<'a>(slots: &mut Vec<Slot<'a>>, slot: usize, own: Box<Copied<'a>>)
+    requires { slot < length slots.old.items }
+    ensures { slots.new.items ≡ slice_set slots.old.items slot (Slot.Owned own.entry) }
 {
-    places[place] = Place::Owned(own);
+    slots[slot] = Slot::Owned(own);
 }

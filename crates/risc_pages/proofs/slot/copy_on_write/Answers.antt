@@ -1,8 +1,8 @@
 use Rattle.std.proofs.Common.{◌<◌, ◌^◌, length-set, refl, ap, ◌∙◌}
 use Rattle.std.proofs.lemmas.List.Elements.{All-set}
-use Rattle.risc_pages.specs.declared.place.Copied.{Copied}
-use Rattle.risc_pages.specs.declared.place.Place.TheVariants.{Owned}
-use Rattle.risc_pages.proofs.place.copy_on_write.Goals as goal
+use Rattle.risc_pages.specs.declared.slot.Copied.{Copied}
+use Rattle.risc_pages.specs.declared.slot.Slot.TheVariants.{Owned}
+use Rattle.risc_pages.proofs.slot.copy_on_write.Goals as goal
 
 pub returns-clause-ok : goal.returns-clause-ok
 returns-clause-ok c = record {
@@ -15,6 +15,6 @@ returns-clause-ok c = record {
 
 pub invariant_of-page : goal.invariant_of-page
 invariant_of-page c = record {
-  whole = length-set c.args.base.now.words c.args.index c.args.value ∙ c.args.base.now.whole;
-  fit = All-set (λ word. word < 2 ^ 32) c.args.base.now.words c.args.index c.args.value c.ranges.value.fits c.args.base.now.fit;
+  whole = length-set c.args.base.now.words c.args.index c.args.word ∙ c.args.base.now.whole;
+  fit = All-set (λ word. word < 2 ^ 32) c.args.base.now.words c.args.index c.args.word c.ranges.word.fits c.args.base.now.fit;
 }

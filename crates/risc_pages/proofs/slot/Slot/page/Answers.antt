@@ -1,5 +1,5 @@
 use Rattle.std.proofs.Common.{arith}
-use Rattle.risc_pages.proofs.place.Place.page.Goals as goal
+use Rattle.risc_pages.proofs.slot.Slot.page.Goals as goal
 
 pub returns-in-Owned : goal.returns-in-Owned
 returns-in-Owned c = search arith

@@ -1,9 +1,0 @@
-use Rattle.std.proofs.Common.{sym, ◌∙◌, arith}
-use Rattle.risc_pages.proofs.PoolLemmas.{page_of-zero}
-use Rattle.risc_pages.proofs.pool.Pool.place.Goals as goal
-
-pub returns-then-page_no-eq0-clause-words : goal.returns-then-page_no-eq0-clause-words
-returns-then-page_no-eq0-clause-words c = c.self.inside.zeros.blank ∙ sym (page_of-zero _ _ c.if-page_no-eq0.true)
-
-pub returns-else-page_no-eq0-clause-words : goal.returns-else-page_no-eq0-clause-words
-returns-else-page_no-eq0-clause-words c = search arith
