@@ -1,7 +1,7 @@
-//! What an address names. `locate` computes it.
+//! The target of an address. `locate` computes it.
 
-/// What an address names: a word of RAM, a device word, or nothing (Project Oberon 2013, hardware chapters). That addresses
-/// between RAM and the device words name nothing is this project's own choice.
+/// The target of an address, which is what it names: a word of RAM, a device word, or nothing (Project Oberon 2013, hardware
+/// chapters). That addresses between RAM and the device words name nothing is this project's own choice.
 #[derive(Clone, Copy, Debug, PartialEq, Eq)]
 pub enum Place {
     /// The word of RAM with that number, below 262,144.

@@ -3,7 +3,8 @@
 ghost use Rattle.std.specs.Prelude.{◌≡◌, false, ◌<◌, ◌≤◌, Ok, ◌-◌, ◌^◌, pos, ◌<ℤ◌, ◌↔◌, ◌≢◌};
 ghost use Rattle.risc_core.specs.declared.flags.Flags.{Flags};
 ghost use Rattle.risc_core.specs.Word.{signed, floor_div, floor_mod};
-ghost use Rattle.risc_core.specs.Arithmetic.{outcome_of, output_of, sum_output, moved_value, shifted_right, rotated, product, product_of, dividend, quotient_of, flags_word};
+ghost use Rattle.risc_core.specs.Arithmetic.{outcome_of, output_of, sum_output, moved_value, shifted_right};
+ghost use Rattle.risc_core.specs.Arithmetic.{rotated, product, product_of, dividend, quotient_of, flags_word};
 
 use crate::flags::{Flags, written};
 use crate::operations::{ADD, AND, ANN, ASR, DIV, IOR, LSL, MUL, ROR, SUB, XOR};
@@ -35,7 +36,7 @@ pub struct AluOut {
 /// Returns the stop `Float` exactly for operations 12 to 15, and `Divisor` exactly for DIV by an operand whose signed value is
 /// below 1. The stops, the rules for C and V, DIV with `u`, and MOV of the flags are this project's own choice.
 #[inline(always)]
-#[tactic(auto, unfolding(crate::specs::Arithmetic::outcome_of, crate::specs::Arithmetic::sum_of, crate::specs::Arithmetic::difference_of))]
+#[tactic(auto, unfolding(crate::specs::Arithmetic::outcome_of, crate::specs::Arithmetic::sum_of))]
 pub const fn alu(
     op: u8,
     u: bool,
@@ -161,7 +162,6 @@ const fn moved_value(u: bool, imm: bool, v: bool, c: u32, h: u32, flags: Flags) 
     }
 }
 
-/// Returns the flags as a word.
 #[inline]
 #[tactic(auto, using(crate::proofs::WordLemmas::packed_is))]
 const fn flags_word(flags: Flags) -> u32
@@ -191,7 +191,6 @@ const fn rotate(b: u32, c: u32) -> u32
     b.rotate_right(c & 31)
 }
 
-/// Returns the 64-bit product.
 #[inline(always)]
 const fn full_product(u: bool, b: u32, c: u32) -> u64
     ensures { result ≡ floor_mod (product u b c) (2 ^ 64) }

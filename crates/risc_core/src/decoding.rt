@@ -1,7 +1,8 @@
 //! Decoding of a word into its instruction ("The RISC Architecture", N. Wirth; formats F0 to F3).
 ghost use Rattle.std.specs.Prelude.{◌≡◌, ◌%◌, ◌^◌};
 ghost use Rattle.risc_core.specs.Word.{field};
-ghost use Rattle.risc_core.specs.Instruction.{extended, register_instruction, immediate_instruction, memory_instruction, branch_instruction, instruction_of, HasFields};
+ghost use Rattle.risc_core.specs.Instruction.{extended, register_instruction, immediate_instruction};
+ghost use Rattle.risc_core.specs.Instruction.{memory_instruction, branch_instruction, instruction_of, HasFields};
 
 use crate::instruction::Instr;
 use crate::word::{is_set, nibble, signed_20, signed_22};

@@ -1,5 +1,5 @@
 //! The instructions of the RISC5 processor of Project Oberon, as functions on words: how a word is decoded, what an operation
-//! computes, when a branch is taken and where it goes, and what an address names.
+//! computes, when a branch is taken and where it goes, and the target of an address.
 //!
 //! The rules are those of "The RISC Architecture" (N. Wirth) and of the hardware chapters of Project Oberon 2013. If they leave
 //! something open, this project's own choice is marked as such. Each function equals a definition in whole numbers, in `specs/`.
@@ -22,11 +22,11 @@ mod word;
 
 pub use address::Place;
 pub use arithmetic::{AluOut, alu, alu_beside_sums, multiply, quotient, simple_value};
-pub use branch::{COUNTER_END, link, reg_target, taken, target};
+pub use branch::{COUNTER_END, LINK_REGISTER, link, reg_target, taken, target};
 pub use decoding::decode;
 pub use flags::{Flags, written};
 pub use instruction::Instr;
 pub use laws::{bits_law, division_law, flags_law, instruction_law, numbers_law, width_law};
-pub use locate::place;
+pub use locate::{DEVICES, RAM_END, place};
 pub use stop::Stop;
 pub use sums::{Sum, add, subtract};

@@ -1,4 +1,4 @@
-//! The address of a base and an offset, and what it names (Project Oberon 2013, hardware chapters).
+//! The address of a base and an offset, and its target (Project Oberon 2013, hardware chapters).
 ghost use Rattle.std.specs.Prelude.{◌≡◌, ◌<◌};
 ghost use Rattle.risc_core.specs.Place.{address_of, place_of, lane_of, IsInside};
 
@@ -7,13 +7,13 @@ use crate::address::Place;
 /// Masks an address, which has 24 bits.
 const ADDRESS_MASK: u32 = 0xFF_FFFF;
 
-/// The end of RAM: 1 MB. RAM is below this address.
-const RAM_END: u32 = 0x10_0000;
+/// The address after RAM, which is 1 MiB.
+pub const RAM_END: u32 = 0x10_0000;
 
 /// The address of the first device word.
-const DEVICES: u32 = 0xFF_FFC0;
+pub const DEVICES: u32 = 0xFF_FFC0;
 
-/// Returns what the address `(base + off) mod 2^24` names, and the address's lane in its word, from 0 (bits 7 to 0) to 3.
+/// Returns the target of the address `(base + off) mod 2^24`, and the address's lane in its word, from 0 (bits 7 to 0) to 3.
 ///
 /// Words of RAM are numbered from 0 to 262,143, and device words from 0 to 15 (Project Oberon 2013, hardware chapters).
 #[inline(always)]

@@ -43,7 +43,6 @@ const fn overflows(number: i64) -> bool
     (number + HALF).cast_unsigned() >= WORDS
 }
 
-/// Returns the sum of two words.
 #[inline(always)]
 const fn plain_sum(b: u32, c: u32) -> Sum
     ensures { result ≡ sum_with 0 b c }
@@ -110,7 +109,6 @@ const fn plain_difference_overflows(b: u32, c: u32, value: u32) -> bool
     (b.cast_signed() < c.cast_signed()) != (value.cast_signed() < 0)
 }
 
-/// Returns the difference of two words.
 #[inline(always)]
 const fn plain_difference(b: u32, c: u32) -> Sum
     ensures { result ≡ difference_with 0 b c }
