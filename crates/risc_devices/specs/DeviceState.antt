@@ -1,6 +1,7 @@
 -- The state of the devices ("Project Oberon" 2013, the hardware chapters: a timer, buttons and switches, LEDs, a mouse, a serial
 -- line and a keyboard). What is this project's own choice is marked as such.
-use Rattle.std.specs.Prelude.{ℕ, ◌+◌, ◌/◌, ◌%◌, ◌^◌, ◌<◌, ◌≤◌, Bool, false, ◌==◌, nat_lt, if◌then◌else◌, IsTrue, List, [], length, All}
+use Rattle.std.specs.Prelude.{ℕ, ◌+◌, ◌/◌, ◌%◌, ◌^◌, ◌<◌, ◌≤◌, Bool, false, ◌==◌}
+use Rattle.std.specs.Prelude.{nat_lt, if◌then◌else◌, IsTrue, List, [], length, All}
 use Rattle.risc_devices.specs.InputKind.{is_mouse}
 
 -- the state of the devices. The timer counts milliseconds: `rate` is the number of instructions in a millisecond, 0 for a timer

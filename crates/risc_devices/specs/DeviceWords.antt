@@ -5,34 +5,36 @@
 use Rattle.std.specs.Prelude.{ℕ, ◌+◌, ◌%◌, ◌^◌, false, ◌==◌, if◌then◌else◌, drop, Option, Some, None}
 use Rattle.risc_devices.specs.DeviceState.{DeviceState}
 use Rattle.risc_devices.specs.KeyCodes.{oldest, key_bit}
+use Rattle.risc_devices.specs.declared.words.TheConstants.{TIMER, SWITCHES, LEDS, SERIAL_DATA, SERIAL_STATUS}
+use Rattle.risc_devices.specs.declared.words.TheConstants.{SPI_DATA, SPI_STATUS, MOUSE, KEYBOARD}
 
 -- the word that a read of a device word returns: 0 the timer, in milliseconds; 1 the buttons and switches; 2 the serial line's
 -- byte; 3 whether a byte was received (bit 0), and that one may be sent (bit 1), which is always set; 4 and 5 the constants 255
 -- and 1; 6 the mouse word, with bit 28 set if and only if a key code waits; 7 the oldest key code; 8 to 15 zero
 unfoldable pub read_value : DeviceState → ℕ → ℕ
 read_value d word =
-    if word == 0 then d.timer
-    else if word == 1 then d.switches
-    else if word == 2 then d.serial
-    else if word == 3 then 2 + (if d.received then 1 else 0)
-    else if word == 4 then 255
-    else if word == 5 then 1
-    else if word == 6 then d.mouse + key_bit d.keys
-    else if word == 7 then oldest d.keys
+    if word == TIMER then d.timer
+    else if word == SWITCHES then d.switches
+    else if word == SERIAL_DATA then d.serial
+    else if word == SERIAL_STATUS then 2 + (if d.received then 1 else 0)
+    else if word == SPI_DATA then 255
+    else if word == SPI_STATUS then 1
+    else if word == MOUSE then d.mouse + key_bit d.keys
+    else if word == KEYBOARD then oldest d.keys
     else 0
 
 -- the devices after a read of a device word: a read of word 2 clears "received" and keeps the byte, and a read of word 7 takes
 -- the oldest key code out of the queue
 unfoldable pub after_read : DeviceState → ℕ → DeviceState
 after_read d word =
-    if word == 2 then record d { received = false }
-    else if word == 7 then record d { keys = drop 1 d.keys }
+    if word == SERIAL_DATA then record d { received = false }
+    else if word == KEYBOARD then record d { keys = drop 1 d.keys }
     else d
 
 -- the devices after a write of a value to a device word: a write to word 1 sets the LEDs to bits 7 to 0 of the value
 unfoldable pub after_write : DeviceState → ℕ → ℕ → DeviceState
-after_write d word value = if word == 1 then record d { leds = value % 2 ^ 8 } else d
+after_write d word value = if word == LEDS then record d { leds = value % 2 ^ 8 } else d
 
 -- the byte that a write of a value to a device word sends: for word 2, bits 7 to 0 of the value
 unfoldable pub sent_byte : ℕ → ℕ → Option ℕ
-sent_byte word value = if word == 2 then Some (value % 2 ^ 8) else None
+sent_byte word value = if word == SERIAL_DATA then Some (value % 2 ^ 8) else None

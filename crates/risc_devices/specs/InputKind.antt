@@ -2,14 +2,15 @@
 use Rattle.std.specs.Prelude.{ℕ, ◌/◌, ◌%◌, ◌^◌, Bool, ◌&&◌, ◌||◌, ◌==◌, nat_lt, IsTrue}
 use Rattle.risc_devices.specs.declared.kind.Kind.{Kind}
 use Rattle.risc_devices.specs.declared.kind.Kind.TheVariants.{Timer, Switches, Mouse, Key, Serial}
+use Rattle.risc_devices.specs.declared.kinds.TheConstants.{TIMER, SWITCHES, MOUSE, KEY, SERIAL}
 
 -- the number of a kind
 abbrev pub kind_number : Kind → ℕ
-kind_number Timer = 1
-kind_number Switches = 2
-kind_number Mouse = 3
-kind_number Key = 4
-kind_number Serial = 5
+kind_number Timer = TIMER
+kind_number Switches = SWITCHES
+kind_number Mouse = MOUSE
+kind_number Key = KEY
+kind_number Serial = SERIAL
 
 -- a mouse word has x in bits 0 to 9, y in bits 12 to 21, three keys in bits 24 to 26, and no other bit: all its bits are in the
 -- mask 073FF3FF
@@ -20,11 +21,11 @@ is_mouse word = nat_lt (word % 2 ^ 12) (2 ^ 10) && nat_lt (word / 2 ^ 12 % 2 ^ 1
 -- mouse word is within its mask, a key code and a byte of the serial line are below 256
 unfoldable pub is_input : ℕ → ℕ → Bool
 is_input kind value =
-    (kind == 1 && nat_lt value (2 ^ 32))
-    || (kind == 2 && nat_lt value (2 ^ 12))
-    || (kind == 3 && is_mouse value)
-    || (kind == 4 && nat_lt value (2 ^ 8))
-    || (kind == 5 && nat_lt value (2 ^ 8))
+    (kind == TIMER && nat_lt value (2 ^ 32))
+    || (kind == SWITCHES && nat_lt value (2 ^ 12))
+    || (kind == MOUSE && is_mouse value)
+    || (kind == KEY && nat_lt value (2 ^ 8))
+    || (kind == SERIAL && nat_lt value (2 ^ 8))
 
 -- the same as a statement: there is an input of this kind's number and this value
 abbrev pub IsInput : ℕ → ℕ → Type 0

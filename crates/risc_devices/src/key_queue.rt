@@ -45,7 +45,6 @@ impl KeyQueue {
         self.waiting.as_slice()
     }
 
-    /// Reports whether no key code waits.
     #[inline]
     pub(crate) fn is_empty(&self) -> bool
         ensures { IsTrue result ↔ (self.now ≡ []) }
@@ -76,7 +75,6 @@ impl KeyQueue {
         self.waiting.remove(0)
     }
 
-    /// Returns a copy of the queue.
     #[cold]
     pub(crate) fn copy(&self) -> KeyQueue
         ensures { result ≡ self.now }

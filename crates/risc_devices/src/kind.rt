@@ -3,6 +3,8 @@
 ghost use Rattle.std.specs.Prelude.{◌≡◌, ℕ, false, MatchOption};
 ghost use Rattle.risc_devices.specs.InputKind.{kind_number, is_input, is_mouse};
 
+use crate::kinds::{KEY, MOUSE, SERIAL, SWITCHES, TIMER};
+
 /// The kind of an input.
 #[derive(Clone, Copy, Debug, PartialEq, Eq)]
 pub(crate) enum Kind {
@@ -14,17 +16,17 @@ pub(crate) enum Kind {
 }
 
 impl Kind {
-    /// Returns the kind with a number from 1 to 5.
+    /// Returns the kind with a number, which `kinds` names.
     #[tactic(auto, unfolding(crate::specs::InputKind::is_input))]
     pub(crate) fn from_number(number: u8) -> Option<Kind>
         ensures { MatchOption result ((value : ℕ) → is_input number value ≡ false) (λ kind. kind_number kind ≡ number) }
     {
         match number {
-            1 => Some(Kind::Timer),
-            2 => Some(Kind::Switches),
-            3 => Some(Kind::Mouse),
-            4 => Some(Kind::Key),
-            5 => Some(Kind::Serial),
+            TIMER => Some(Kind::Timer),
+            SWITCHES => Some(Kind::Switches),
+            MOUSE => Some(Kind::Mouse),
+            KEY => Some(Kind::Key),
+            SERIAL => Some(Kind::Serial),
             _ => None,
         }
     }
@@ -35,11 +37,11 @@ impl Kind {
         ensures { result ≡ kind_number self }
     {
         match self {
-            Kind::Timer => 1,
-            Kind::Switches => 2,
-            Kind::Mouse => 3,
-            Kind::Key => 4,
-            Kind::Serial => 5,
+            Kind::Timer => TIMER,
+            Kind::Switches => SWITCHES,
+            Kind::Mouse => MOUSE,
+            Kind::Key => KEY,
+            Kind::Serial => SERIAL,
         }
     }
 

@@ -28,7 +28,6 @@ pub(crate) struct Copied<'a> {
 }
 
 impl<'a> Slot<'a> {
-    /// Returns the page in this slot.
     #[inline(always)]
     pub(crate) fn page(&self) -> &Page
         ensures { result.now.words ≡ content self.now }
@@ -53,7 +52,6 @@ impl<'a> Slot<'a> {
         }
     }
 
-    /// Reports whether the page in this slot has the words of another.
     #[cold]
     #[inline(never)]
     fn has_words_of(&self, page: &Page) -> bool
