@@ -5,22 +5,22 @@ use Rattle.risc_model.specs.declared.inputs.TheConstants.{MAX_COUNT}
 
 -- the count of the input at an index
 abbrev pub count_at : List Event → ℕ → ℕ
-count_at es place = slice_index (map (λ e. e.count) es) place
+count_at es index = slice_index (map (λ e. e.count) es) index
 
 -- the count before an index, 0 before the first
 abbrev pub count_before : List Event → ℕ → ℕ
-count_before es place = if place == 0 then 0 else count_at es (place - 1)
+count_before es index = if index == 0 then 0 else count_at es (index - 1)
 
 -- the count at an index is not below the one before it, and at most `MAX_COUNT`
 abbrev pub IsRightPlace : List Event → ℕ → Type 0
-IsRightPlace es place = (count_before es place ≤ count_at es place) × (count_at es place ≤ MAX_COUNT)
+IsRightPlace es index = (count_before es index ≤ count_at es index) × (count_at es index ≤ MAX_COUNT)
 
 -- each index is right
 abbrev pub AreOrdered : List Event → Type 0
-AreOrdered es = (place : ℕ) → place < length es → IsRightPlace es place
+AreOrdered es = (index : ℕ) → index < length es → IsRightPlace es index
 
 -- the first index that is wrong
 pub record IsFirstWrong (es : List Event) (at : ℕ) : Type 0 where
   pub inside : at < length es
-  pub before : (place : ℕ) → place < at → IsRightPlace es place
+  pub before : (index : ℕ) → index < at → IsRightPlace es index
   pub wrong : ¬ (IsRightPlace es at)

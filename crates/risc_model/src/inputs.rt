@@ -78,9 +78,9 @@ fn first_wrong(list: &[Event]) -> Option<usize>
     ensures some { IfSome result (λ at. IsFirstWrong list.now at) }
 {
     let mut least = 0;
-    for (place, event) in list.iter().enumerate() {
+    for (at, event) in list.iter().enumerate() {
         if event.count < least || event.count > MAX_COUNT {
-            return Some(place);
+            return Some(at);
         }
         least = event.count;
     }

@@ -5,16 +5,16 @@ use Rattle.risc_model.specs.InputOrder.{IsRightPlace, count_at}
 use Rattle.risc_model.proofs.OrderLemmas.{count_at-is, count_before-next}
 use Rattle.risc_model.proofs.inputs.first_wrong.Goals as goal
 
-pub loop-place-preserved : goal.loop-place-preserved
-loop-place-preserved c =
+pub loop-at-preserved : goal.loop-at-preserved
+loop-at-preserved c =
     let es = c.args.list.now in
-    let place = c.loop-place.place in
-    let here : count_at es place ≡ c.index-list-place.result.count =
-    count_at-is es place c.index-list-place.result c.loop-place-test.true ∙ sym (ap (λ (e : Event). e.count) c.index-list-place.is) in
-    let right : IsRightPlace es place = (omega arith, omega arith) in
+    let at = c.loop-at.at in
+    let here : count_at es at ≡ c.index-list-at.result.count =
+    count_at-is es at c.index-list-at.result c.loop-at-test.true ∙ sym (ap (λ (e : Event). e.count) c.index-list-at.is) in
+    let right : IsRightPlace es at = (omega arith, omega arith) in
     record {
-      right = below_more (λ k. IsRightPlace es k) place c.loop-place.invariant.right right;
-      least = sym here ∙ sym (count_before-next es place);
+      right = below_more (λ k. IsRightPlace es k) at c.loop-at.invariant.right right;
+      least = sym here ∙ sym (count_before-next es at);
     }
 
 pub returns-then-event-least-clause-some : goal.returns-then-event-least-clause-some
