@@ -182,11 +182,11 @@ store-meets (Some access) n bytes is some there =
     }
 
 -- an instruction that changes a word stores to it
-changed-stored : (o : Option ℕ) (word place : ℕ) (before after : List ℕ) → ((w : ℕ) → (o ≡ Some w → ⊥) → get_or after w 0 ≡ get_or before w 0) → (bit (get_or before word 0) place ≡ bit (get_or after word 0) place → ⊥) → o ≡ Some word
-changed-stored None word place before after same differs = absurd (differs (ap (λ (w : ℕ). bit w place) (sym (same word (none-some word)))))
-changed-stored (Some w) word place before after same differs = elim (cases_eq w word) [
+changed-stored : (o : Option ℕ) (word index : ℕ) (before after : List ℕ) → ((w : ℕ) → (o ≡ Some w → ⊥) → get_or after w 0 ≡ get_or before w 0) → (bit (get_or before word 0) index ≡ bit (get_or after word 0) index → ⊥) → o ≡ Some word
+changed-stored None word index before after same differs = absurd (differs (ap (λ (w : ℕ). bit w index) (sym (same word (none-some word)))))
+changed-stored (Some w) word index before after same differs = elim (cases_eq w word) [
   | inl is ↦ ap (λ (n : ℕ). Some n) is
-  | inr other ↦ absurd (differs (ap (λ (n : ℕ). bit n place) (sym (same word (λ e. other (same-value w word e))))))
+  | inr other ↦ absurd (differs (ap (λ (n : ℕ). bit n index) (sym (same word (λ e. other (same-value w word e))))))
 ]
 
 wider : (stores : Bool) (bytes more : Span) (o : Option Access) → ((n : ℕ) → IsIn bytes n → IsIn more n) → Accesses stores bytes o → Accesses stores more o
@@ -233,9 +233,9 @@ not-loads concerns s here accesses = here.ignored.loads (subst (λ (o : Option A
 not-changes : (concerns : Concerns) (s : State) (es : List Event) (at : ℕ) (bytes : Span) (mask : ℕ) → IsUnwatched (IsIgnored concerns) s → Covers concerns (Change bytes mask) → Differ bytes mask s.words (exec (feed es at s)).0.words → ⊥
 not-changes concerns s es at bytes mask here covers d =
     let o : Option Access = next_access s.cpu s.words in
-    let is : word_stored o ≡ Some d.word = changed-stored (word_stored o) d.word d.place s.words (exec (feed es at s)).0.words (step-alone es at s) d.differs in
+    let is : word_stored o ≡ Some d.word = changed-stored (word_stored o) d.word d.index s.words (exec (feed es at s)).0.words (step-alone es at s) d.differs in
     let some : 0 < count_of o = subst (λ (x : Option Access). 0 < count_of x) (sym (access-there s here.runs here.inside)) (access-some (instruction_of (get_or s.words s.cpu.pc 0)) s.cpu.r) in
-    not-stores concerns s here (store-meets o d.word concerns.stores is some (λ m same below. covers (4 * d.word + d.place / 8) m d.byte (omega (arith, same, d.inside)) below))
+    not-stores concerns s here (store-meets o d.word concerns.stores is some (λ m same below. covers (4 * d.word + d.index / 8) m d.byte (omega (arith, same, d.inside)) below))
 
 holds-not : (condition : Condition) (concerns : Concerns) (es : List Event) (at : ℕ) (s : State) → Covers concerns condition → ((k : ℕ) → k < length es → count_at es k ≢ at) → feed es at s ≡ s → IsUnwatched (IsIgnored concerns) s
     → Holds condition es (step_from es at s) → ⊥

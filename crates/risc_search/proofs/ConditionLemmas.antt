@@ -19,17 +19,29 @@ use Rattle.risc_search.specs.Search.{IsMet, NoneHolds}
 use Rattle.risc_search.specs.Span.{IsIn}
 use Rattle.risc_search.specs.Step.{Step}
 use Rattle.risc_search.specs.inner.Due.{HasKind}
-use Rattle.risc_search.specs.inner.Observed.{AreArmed, Differs, HasStoredAlone, IsAnswer, IsArmed, IsChange, IsMetAfter, IsMetAt, IsObserved, IsOnlyChange, word_stored}
+use Rattle.risc_search.specs.inner.Observed.{AreArmed, Differs, HasStoredAlone, IsAnswer, IsArmed, IsChange, IsMetAfter, IsMetAt, IsOnlyChange, word_stored}
+
+-- what is observed of a step: its parts
+pub record IsObserved
+    (access : Option Access) (taken : List Event) (cpu : CpuState) (stored : Option StoredWord) (sent : Option ℕ)
+    (es : List Event) (step : Step)
+    : Type 0 where
+  pub access_is : access ≡ next_access step.before.cpu step.before.words
+  pub taken_is : (kind : ℕ) → HasKind kind taken ↔ HasInput kind es step.count
+  pub cpu_is : cpu ≡ step.after.cpu
+  pub change : IsChange step.before.words step.after.words stored
+  pub sent_is : sent ≡ step.sent
+  pub there : IsSome stored → IsSome (word_stored access)
 
 -- a bit of memory differs where one of the word that was stored to does
 differ-here : (bytes : Span) (mask : ℕ) (before after : List ℕ) (word : StoredWord) → IsOnlyChange before after word → Differs bytes mask word → Differ bytes mask before after
 differ-here bytes mask before after word change d = record {
   word = word.number;
-  place = d.place;
+  index = d.index;
   inside = d.inside;
   named = d.at.named;
   byte = d.at.byte;
-  differs = λ same. d.at.differs (ap (λ (w : ℕ). bit w d.place) (sym change.old) ∙ same ∙ ap (λ (w : ℕ). bit w d.place) change.new);
+  differs = λ same. d.at.differs (ap (λ (w : ℕ). bit w d.index) (sym change.old) ∙ same ∙ ap (λ (w : ℕ). bit w d.index) change.new);
 }
 
 differs-here : (bytes : Span) (mask : ℕ) (before after : List ℕ) (word : StoredWord) → IsOnlyChange before after word → Differ bytes mask before after → Differs bytes mask word
@@ -39,15 +51,15 @@ differs-here bytes mask before after word change d =
           let old : get_or before d.word 0 ≡ word.old = ap (λ (w : ℕ). get_or before w 0) same ∙ change.old in
           let new : get_or after d.word 0 ≡ word.new = ap (λ (w : ℕ). get_or after w 0) same ∙ change.new in
           record {
-            place = d.place;
+            index = d.index;
             inside = d.inside;
             at = record {
               named = d.named;
-              byte = subst (λ (w : ℕ). IsIn bytes (4 * w + d.place / 8)) same d.byte;
-              differs = λ equal. d.differs (ap (λ (w : ℕ). bit w d.place) old ∙ equal ∙ ap (λ (w : ℕ). bit w d.place) (sym new));
+              byte = subst (λ (w : ℕ). IsIn bytes (4 * w + d.index / 8)) same d.byte;
+              differs = λ equal. d.differs (ap (λ (w : ℕ). bit w d.index) old ∙ equal ∙ ap (λ (w : ℕ). bit w d.index) (sym new));
             };
           }
-      | inr other ↦ absurd (d.differs (ap (λ (w : ℕ). bit w d.place) (sym (change.others d.word other))))
+      | inr other ↦ absurd (d.differs (ap (λ (w : ℕ). bit w d.index) (sym (change.others d.word other))))
     ]
 
 pub holds-of : (condition : Condition) (access : Option Access) (taken : List Event) (cpu : CpuState) (stored : Option StoredWord) (sent : Option ℕ) (es : List Event) (step : Step)
@@ -65,7 +77,7 @@ holds-of Stops access taken cpu stored sent es step o armed met = (armed, λ sam
 
 change-met : (bytes : Span) (mask : ℕ) (before after : List ℕ) (access : Option Access) (stored : Option StoredWord) → IsChange before after stored → (IsSome stored → IsSome (word_stored access)) → Differ bytes mask before after
     → IsSome (word_stored access) × MatchOption stored ⊥ (Differs bytes mask)
-change-met bytes mask before after access None change there d = absurd (d.differs (ap (λ (w : ℕ). bit w d.place) (sym (change d.word))))
+change-met bytes mask before after access None change there d = absurd (d.differs (ap (λ (w : ℕ). bit w d.index) (sym (change d.word))))
 change-met bytes mask before after access (Some word) change there d = (there refl, differs-here bytes mask before after word change d)
 
 pub parts-of : (condition : Condition) (access : Option Access) (taken : List Event) (cpu : CpuState) (stored : Option StoredWord) (sent : Option ℕ) (es : List Event) (step : Step)
@@ -96,7 +108,7 @@ none-met conditions armed access taken cpu stored sent es step are o none = λ k
 
 -- an instruction that changes a word stores to it
 some-stored : (o : Option ℕ) (bytes : Span) (mask : ℕ) (before after : List ℕ) → ((w : ℕ) → o ≢ Some w → get_or after w 0 ≡ get_or before w 0) → Differ bytes mask before after → IsSome o
-some-stored None bytes mask before after same d = absurd (d.differs (ap (λ (w : ℕ). bit w d.place) (sym (same d.word (none-some d.word)))))
+some-stored None bytes mask before after same d = absurd (d.differs (ap (λ (w : ℕ). bit w d.index) (sym (same d.word (none-some d.word)))))
 some-stored (Some w) bytes mask before after same d = refl
 
 -- what holds is armed, whatever is known after the instruction

@@ -1,6 +1,7 @@
 -- The bytes that an instruction loads or stores, by their addresses (Project Oberon 2013, hardware chapters). Those of the device
 -- words are accessed as those of RAM are: a byte, or all four bytes of a word.
-use Rattle.std.specs.Prelude.{ℕ, ◌+◌, ◌-◌, ◌*◌, ◌^◌, ◌==◌, ◌&&◌, nat_lt, Bool, true, false, List, slice_index, Option, None, Some, if◌then◌else◌}
+use Rattle.std.specs.Prelude.{ℕ, ◌+◌, ◌-◌, ◌*◌, ◌^◌, ◌==◌, ◌&&◌, nat_lt, Bool, true, false}
+use Rattle.std.specs.Prelude.{List, slice_index, Option, None, Some, if◌then◌else◌}
 use Rattle.risc_core.specs.declared.address.Place.{Place}
 use Rattle.risc_core.specs.declared.address.Place.TheVariants.{Ram, Device, Nowhere}
 use Rattle.risc_core.specs.declared.instruction.Instr.{Instr}
@@ -17,7 +18,7 @@ part_of_word stores byte base lane =
     then record { stores = stores; first = base + lane; count = 1 }
     else record { stores = stores; first = base; count = 4 }
 
--- an access to a place: to a word of RAM, or to one of the 16 device words, which are the highest 64 bytes
+-- an access to a target: to a word of RAM, or to one of the 16 device words, which are the highest 64 bytes
 unfoldable pub access_to : Bool → Bool → Place → ℕ → Option Access
 access_to stores byte (Ram word) lane = Some (part_of_word stores byte (4 * word) lane)
 access_to stores byte (Device word) lane = Some (part_of_word stores byte (2 ^ 24 - 64 + 4 * word) lane)

@@ -7,8 +7,8 @@ use Rattle.risc_search.specs.Span.{IsIn}
 -- a bit of a byte in the range differs. Bit i of the mask names bit i of each word, and only bits that it names count
 pub record Differ (bytes : Span) (mask : ℕ) (before after : List ℕ) : Type 0 where
   pub word : ℕ
-  pub place : ℕ
-  pub inside : place < 32
-  pub named : bit mask place ≡ true
-  pub byte : IsIn bytes (4 * word + place / 8)
-  pub differs : bit (slice_index before word) place ≢ bit (slice_index after word) place
+  pub index : ℕ
+  pub inside : index < 32
+  pub named : bit mask index ≡ true
+  pub byte : IsIn bytes (4 * word + index / 8)
+  pub differs : bit (slice_index before word) index ≢ bit (slice_index after word) index

@@ -7,7 +7,8 @@ use Rattle.risc_model.specs.InputOrder.{count_at}
 use Rattle.risc_model.specs.MachineState.{CpuState}
 use Rattle.risc_search.specs.declared.access.Access.{Access}
 use Rattle.risc_search.specs.declared.condition.Condition.{Condition}
-use Rattle.risc_search.specs.declared.condition.Condition.TheVariants.{Counter, Store, Change, Load, Becomes, Sends, SendsByte, Takes, Stops}
+use Rattle.risc_search.specs.declared.condition.Condition.TheVariants.{Counter, Store, Change, Load, Becomes}
+use Rattle.risc_search.specs.declared.condition.Condition.TheVariants.{Sends, SendsByte, Takes, Stops}
 use Rattle.risc_search.specs.declared.register.Register.{Register}
 use Rattle.risc_search.specs.declared.register.Register.TheVariants.{Numbered, Auxiliary, Flags}
 use Rattle.risc_search.specs.declared.span.Span.{Span}

@@ -3,3 +3,4 @@ pub mod Due
 pub mod Observed
 pub mod Idle
 pub mod Concerns
+pub mod Wanted

@@ -5,15 +5,9 @@ ghost use Rattle.risc_model.specs.MachineState.{cpu_state};
 ghost use Rattle.risc_core.specs.Instruction.{HasFields};
 ghost use Rattle.risc_search.specs.Access.{access_at, accessed, next_access};
 
-use risc_core::{Instr, Place, decode, place};
+use risc_core::{DEVICES, Instr, Place, decode, place};
 use risc_model::Cpu;
-use risc_pages::Memory;
-
-/// The number of words of RAM.
-const RAM_WORDS: u32 = 1 << 18;
-
-/// The address of the first device word.
-const DEVICES: u32 = 0xFF_FFC0;
+use risc_pages::{MEMORY_WORDS, Memory};
 
 /// The bytes that an instruction loads or stores: one, or the four of a word.
 #[derive(Clone, Copy, Debug, PartialEq, Eq)]
@@ -32,8 +26,8 @@ pub struct Access {
 fn access_at(stores: bool, byte: bool, base: u32, off: i32) -> Option<Access>
     ensures { result ≡ access_at stores byte (address_of base off) }
 {
-    let (place, lane) = place(base, off);
-    let base = match place {
+    let (target, lane) = place(base, off);
+    let base = match target {
         Place::Ram(number) => 4 * number,
         Place::Device(number) => DEVICES + 4 * number as u32,
         Place::Nowhere => return None,
@@ -77,7 +71,7 @@ pub(crate) fn accessed(instruction: Instr, registers: &[u32; 16]) -> Option<Acce
 pub(crate) fn next_access(cpu: &Cpu, memory: &Memory<'_>) -> Option<Access>
     ensures { result ≡ next_access (cpu_state cpu.now) memory.now.words }
 {
-    if cpu.stop != 0 || cpu.pc >= RAM_WORDS {
+    if cpu.stop != 0 || cpu.pc >= MEMORY_WORDS {
         return None;
     }
     accessed(decode(memory.read(cpu.pc)), &cpu.r)

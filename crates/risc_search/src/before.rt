@@ -1,15 +1,12 @@
 //! What is known of a step before its instruction.
 ghost use Rattle.std.specs.Prelude.{◌≡◌, ◌<◌, ◌^◌, IfSome, IsSome};
-ghost use Rattle.risc_model.specs.MachineState.{State};
-ghost use Rattle.risc_search.specs.inner.Observed.{HasStoredAlone, IsBefore, IsChange, word_stored};
+ghost use Rattle.risc_search.specs.inner.Observed.{IsBefore, IsStoredSince, word_stored};
 
 use crate::access::{Access, next_access};
 use crate::stored_word::StoredWord;
+use risc_core::RAM_END;
 use risc_machine::Machine;
 use risc_pages::Memory;
-
-/// The address after RAM.
-const RAM_END: u32 = 1 << 20;
 
 /// What the next instruction of a machine accesses.
 #[derive(Clone, Copy)]
@@ -49,7 +46,7 @@ impl Before {
     /// Returns the word of RAM that the instruction stored to, now that it is done.
     #[inline(always)]
     pub(crate) fn stored(&self, memory: &Memory<'_>) -> Option<StoredWord>
-        ensures change { (s : State) → IsBefore self.now s → HasStoredAlone self.now.access s.words memory.now.words → IsChange s.words memory.now.words result }
+        ensures change { IsStoredSince self.now memory.now.words result }
         ensures there { IsSome result → IsSome (word_stored self.now.access) }
     {
         let Some(number) = word_stored(self.access) else {

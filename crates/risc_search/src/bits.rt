@@ -2,11 +2,10 @@
 ghost use Rattle.std.specs.Prelude.{◌≡◌, ◌<◌};
 ghost use Rattle.risc_core.specs.Word.{bit};
 
-/// Reports whether the bit at a place of a word is set.
 #[inline]
-pub(crate) fn is_set(word: u32, place: u32) -> bool
-    requires { place < 32 }
-    ensures { result ≡ bit word place }
+pub(crate) fn is_set(word: u32, index: u32) -> bool
+    requires { index < 32 }
+    ensures { result ≡ bit word index }
 {
-    word >> place & 1 == 1
+    word >> index & 1 == 1
 }

@@ -8,17 +8,14 @@ use crate::access::{Access, accessed};
 use crate::condition::Condition;
 use crate::register::Register;
 use crate::span::{ALL, NONE, Span};
-use risc_core::{Instr, decode};
+use risc_core::{Instr, LINK_REGISTER, decode};
 use risc_machine::Watch;
-
-/// The number of the register that a branch links to.
-const LINK_REGISTER: u8 = 15;
 
 /// The number of registers.
 const REGISTERS: u8 = 16;
 
-/// What the conditions of a search speak of, as far as an instruction and the registers before it tell. It may have more than they speak
-/// of: the instructions that it has are looked at one by one.
+/// What the conditions of a search speak of, as far as an instruction and the registers before it tell. It may have more than they
+/// speak of: the instructions that it has are looked at one by one.
 #[derive(Clone, Copy)]
 pub(crate) struct Concerns {
     /// Word numbers of instructions.

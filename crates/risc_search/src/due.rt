@@ -32,8 +32,8 @@ pub(crate) fn next_due(events: &[Event], at: u64, to: u64) -> u64
     to
 }
 
-/// Returns the count of the first input from the count `at` on, as `next_due` does, if none comes before it that was due at `due` or
-/// earlier.
+/// Returns the count of the first input from the count `at` on, as `next_due` does, if none comes before it that was due at `due`
+/// or earlier.
 #[inline(always)]
 pub(crate) fn due_after(events: &[Event], at: u64, due: u64, to: u64) -> u64
     requires order { AreOrdered events.now }
@@ -51,7 +51,6 @@ pub(crate) fn due_after(events: &[Event], at: u64, due: u64, to: u64) -> u64
     }
 }
 
-/// Returns the inputs of a count.
 pub(crate) fn inputs_at(events: &[Event], at: u64) -> &[Event]
     requires order { AreOrdered events.now }
     requires below { at < 2 ^ 64 - 1 }

@@ -3,7 +3,6 @@
 /// A count at which a condition holds.
 #[derive(Clone, Copy, Debug, PartialEq, Eq)]
 pub struct Hit {
-    /// The count.
     pub count: u64,
     /// The index of the first condition of the list that holds there.
     pub condition: usize,

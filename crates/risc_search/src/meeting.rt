@@ -4,7 +4,7 @@ ghost use Rattle.std.specs.Prelude.{◌≡◌, ◌<◌, ◌≤◌, ◌↔◌, fa
 ghost use Rattle.risc_model.specs.MachineState.{cpu_state};
 ghost use Rattle.risc_search.specs.Condition.{Accesses};
 ghost use Rattle.risc_search.specs.inner.Due.{HasKind};
-ghost use Rattle.risc_search.specs.inner.Observed.{AreArmed, IsArmed, IsMetAfter, IsMetAt};
+ghost use Rattle.risc_search.specs.inner.Observed.{AreArmed, IsArmed, IsMetAfter, IsMetAt, NoneIsMet};
 
 use crate::access::Access;
 use crate::before::word_stored;
@@ -110,8 +110,8 @@ pub(crate) fn first_met(
     requires { length conditions.now ≤ length armed.now }
     ensures inside { IfSome result (λ index. index < length conditions.now) }
     ensures met { IfSome result (IsMetAt conditions.now armed.now (cpu_state cpu.now) stored sent) }
-    ensures least { IfSome result (λ index. (k : ℕ) → k < index → ¬ (IsMetAt conditions.now armed.now (cpu_state cpu.now) stored sent k)) }
-    ensures none { IfNone result ((k : ℕ) → k < length conditions.now → ¬ (IsMetAt conditions.now armed.now (cpu_state cpu.now) stored sent k)) }
+    ensures least { IfSome result (NoneIsMet conditions.now armed.now (cpu_state cpu.now) stored sent) }
+    ensures none { IfNone result (NoneIsMet conditions.now armed.now (cpu_state cpu.now) stored sent (length conditions.now)) }
 {
     for index in 0..conditions.len() {
         if armed[index] && is_met(conditions[index], cpu, stored, sent) {

@@ -4,11 +4,11 @@ ghost use Rattle.risc_machine.specs.Allocation.{MayFail};
 ghost use Rattle.risc_model.specs.Exec.{exec};
 ghost use Rattle.risc_model.specs.Replay.{feed, run_of};
 ghost use Rattle.risc_search.specs.Search.{IsFirst, IsLast};
-ghost use Rattle.risc_search.specs.Step.{step_from};
 ghost use Rattle.risc_search.specs.inner.Concerns.{CoverAll};
 ghost use Rattle.risc_search.specs.inner.Due.{IsQuiet};
 ghost use Rattle.risc_search.specs.inner.Idle.{HasPassed};
-ghost use Rattle.risc_search.specs.inner.Observed.{IsAnswer, IsBefore};
+ghost use Rattle.risc_search.specs.inner.Observed.{IsAnswerFrom, IsBefore, IsSilentFrom};
+ghost use Rattle.risc_search.specs.inner.Wanted.{IsFirstOf, IsLastOf};
 
 use crate::before::Before;
 use crate::concerns::Concerns;
@@ -28,9 +28,7 @@ pub const MAX_CONDITIONS: usize = 64;
 /// Which of the counts a search looks for.
 #[derive(Clone, Copy, PartialEq, Eq)]
 enum Wanted {
-    /// The first.
     First,
-    /// The last.
     Last,
 }
 
@@ -68,8 +66,8 @@ impl Search<'_> {
         requires armed { length self.now.conditions.now ≤ length armed.old }
         ensures armed { length armed.new ≡ length armed.old }
         ensures state { OnOk result (machine.new.state ≡ (exec (feed self.now.inputs.now at machine.old.state)).0) }
-        ensures met { IfOk result (λ step. IsAnswer self.now.conditions.now self.now.inputs.now (step_from self.now.inputs.now at machine.old.state) step.met) }
-        ensures silent { IfOk result (λ step. step.is_silent ≡ true → (exec (feed self.now.inputs.now at machine.old.state)).1 ≡ None) }
+        ensures met { IfOk result (λ step. IsAnswerFrom self.now.conditions.now self.now.inputs.now at machine.old.state step.met) }
+        ensures silent { IfOk result (λ step. step.is_silent ≡ true → IsSilentFrom self.now.inputs.now at machine.old.state) }
         ensures cause { OnErr result (MayFail machine.new) }
     {
         let any = arm(self.conditions, machine.cpu(), before.access, &[], armed);
@@ -98,7 +96,7 @@ impl Search<'_> {
         requires armed { length self.now.conditions.now ≤ length armed.old }
         ensures armed { length armed.new ≡ length armed.old }
         ensures state { OnOk result (machine.new.state ≡ (exec (feed self.now.inputs.now at machine.old.state)).0) }
-        ensures met { IfOk result (IsAnswer self.now.conditions.now self.now.inputs.now (step_from self.now.inputs.now at machine.old.state)) }
+        ensures met { IfOk result (IsAnswerFrom self.now.conditions.now self.now.inputs.now at machine.old.state) }
         ensures cause { OnErr result (MayFail machine.new) }
     {
         let before = Before::of(machine);
@@ -119,7 +117,7 @@ impl Search<'_> {
         requires armed { length self.now.conditions.now ≤ length armed.old }
         ensures armed { length armed.new ≡ length armed.old }
         ensures state { OnOk result (machine.new.state ≡ (exec (feed self.now.inputs.now at machine.old.state)).0) }
-        ensures met { IfOk result (IsAnswer self.now.conditions.now self.now.inputs.now (step_from self.now.inputs.now at machine.old.state)) }
+        ensures met { IfOk result (IsAnswerFrom self.now.conditions.now self.now.inputs.now at machine.old.state) }
         ensures cause { OnErr result (MayFail machine.new) }
     {
         let before = Before::of(machine);
@@ -134,8 +132,8 @@ impl Search<'_> {
         Ok(first_met(self.conditions, armed, machine.cpu(), stored, sent))
     }
 
-    /// Goes on from a count that is before that of the next input, or at it: by the instructions that concern no condition, by one step, or
-    /// by more if the machine is in an idle loop.
+    /// Goes on from a count that is before that of the next input, or at it: by the instructions that concern no condition, by one
+    /// step, or by more if the machine is in an idle loop.
     #[inline(always)]
     fn advance(
         &self,
@@ -153,7 +151,7 @@ impl Search<'_> {
         ensures armed { length armed.new ≡ length armed.old }
         ensures further { IfOk result (λ passed. at < passed.at) }
         ensures inside { IfOk result (λ passed. passed.at ≤ max due (at + 1)) }
-        ensures state { IfOk result (λ passed. machine.new.state ≡ run_of self.now.inputs.now at (passed.at - at) machine.old.state) }
+        ensures state { IfOk result (λ p. machine.new.state ≡ run_of self.now.inputs.now at (p.at - at) machine.old.state) }
         ensures passed { IfOk result (HasPassed self.now.conditions.now self.now.inputs.now at machine.old.state) }
         ensures cause { OnErr result (MayFail machine.new) }
     {
@@ -191,8 +189,8 @@ impl Search<'_> {
         requires forward { from ≤ to }
         requires few { length self.now.conditions.now ≤ MAX_CONDITIONS }
         requires concerns { CoverAll self.now.concerns self.now.conditions.now }
-        ensures first { self.now.wanted ≡ Wanted.First → IfOk result (IsFirst self.now.conditions.now self.now.inputs.now from to machine.old.state) }
-        ensures last { self.now.wanted ≡ Wanted.Last → IfOk result (IsLast self.now.conditions.now self.now.inputs.now from to machine.old.state) }
+        ensures first { self.now.wanted ≡ Wanted.First → IfOk result (IsFirstOf self.now from to machine.old.state) }
+        ensures last { self.now.wanted ≡ Wanted.Last → IfOk result (IsLastOf self.now from to machine.old.state) }
         ensures cause { OnErr result (MayFail machine.new) }
     {
         let events = self.inputs.events();

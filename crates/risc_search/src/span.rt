@@ -12,7 +12,6 @@ pub struct Span {
 }
 
 impl Span {
-    /// Reports whether a number is in the range.
     #[inline(always)]
     pub(crate) fn contains(self, number: u32) -> bool
         ensures { IsTrue result ↔ IsIn self number }

@@ -7,7 +7,6 @@ use crate::span::Span;
 /// A word of RAM that an instruction stores to.
 #[derive(Clone, Copy)]
 pub(crate) struct StoredWord {
-    /// Its number.
     pub(crate) number: u32,
     /// Its value before the instruction.
     pub(crate) old: u32,
@@ -24,22 +23,22 @@ impl StoredWord {
     pub(crate) fn differs(self, bytes: Span, mask: u32) -> bool
         ensures { IsTrue result ↔ Differs bytes mask self }
     {
-        for place in 0..32 {
-            if self.differs_at(bytes, mask, place) {
+        for index in 0..32 {
+            if self.differs_at(bytes, mask, index) {
                 return true;
             }
         }
         false
     }
 
-    /// Reports whether the bit at a place of the word is such.
+    /// Reports whether the bit at an index of the word is such.
     #[inline]
-    fn differs_at(self, bytes: Span, mask: u32, place: u32) -> bool
-        requires { place < 32 }
-        ensures { IsTrue result ↔ DiffersAt bytes mask self place }
+    fn differs_at(self, bytes: Span, mask: u32, index: u32) -> bool
+        requires { index < 32 }
+        ensures { IsTrue result ↔ DiffersAt bytes mask self index }
     {
-        is_set(mask, place)
-            && bytes.contains(4 * self.number + place / 8)
-            && is_set(self.old, place) != is_set(self.new, place)
+        is_set(mask, index)
+            && bytes.contains(4 * self.number + index / 8)
+            && is_set(self.old, index) != is_set(self.new, index)
     }
 }

@@ -1,11 +1,13 @@
 -- What the watch of a search ignores: instructions that concern none of its conditions.
-use Rattle.std.specs.Prelude.{ℕ, ◌≡◌, ◌<◌, ◌/◌, ◌^◌, Bool, true, false, List, length, slice_index_or, Option, None, Some, IfSome, ⊤, ◌⊎◌, if◌then◌else◌}
+use Rattle.std.specs.Prelude.{ℕ, ◌≡◌, ◌<◌, ◌/◌, ◌^◌, Bool, true, false, List, length}
+use Rattle.std.specs.Prelude.{slice_index_or, Option, None, Some, IfSome, ⊤, ◌⊎◌, if◌then◌else◌}
 use Rattle.risc_core.specs.declared.instruction.Instr.{Instr}
 use Rattle.risc_core.specs.declared.instruction.Instr.TheVariants.{Reg, Imm, Load, Store, BranchReg, BranchOff}
 use Rattle.risc_core.specs.Instruction.{instruction_of}
 use Rattle.risc_search.specs.declared.concerns.Concerns.{Concerns}
 use Rattle.risc_search.specs.declared.condition.Condition.{Condition}
-use Rattle.risc_search.specs.declared.condition.Condition.TheVariants.{Counter, Store as Stored, Change, Load as Loaded, Becomes, Sends, SendsByte, Takes, Stops}
+use Rattle.risc_search.specs.declared.condition.Condition.TheVariants.{Counter, Store as Stored, Change, Load as Loaded}
+use Rattle.risc_search.specs.declared.condition.Condition.TheVariants.{Becomes, Sends, SendsByte, Takes, Stops}
 use Rattle.risc_search.specs.declared.register.Register.{Register}
 use Rattle.risc_search.specs.declared.register.Register.TheVariants.{Numbered, Auxiliary, Flags}
 use Rattle.risc_search.specs.Access.{accessed}

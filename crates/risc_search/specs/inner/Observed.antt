@@ -1,19 +1,23 @@
 -- What a search knows of a step, before its instruction and after it.
-use Rattle.std.specs.Prelude.{ℕ, ◌≡◌, ◌≢◌, ◌<◌, ◌+◌, ◌*◌, ◌/◌, ◌^◌, ◌↔◌, ◌&&◌, nat_lt, Bool, true, false, List, length, slice_index, slice_index_or, slice_set, Option, None, Some, IfSome, IsSome, IsTrue, MatchOption, ⊤, if◌then◌else◌}
+use Rattle.std.specs.Prelude.{ℕ, ◌≡◌, ◌≢◌, ◌<◌, ◌+◌, ◌*◌, ◌/◌, ◌^◌, ◌↔◌, ◌&&◌, nat_lt, Bool, true, false, List, length, slice_index}
+use Rattle.std.specs.Prelude.{slice_index_or, slice_set, Option, None, Some, IfSome, IsSome, IsTrue, MatchOption, ⊤, if◌then◌else◌}
 use Rattle.risc_core.specs.Word.{bit}
 use Rattle.risc_model.specs.declared.event.Event.{Event}
+use Rattle.risc_model.specs.Exec.{exec}
 use Rattle.risc_model.specs.MachineState.{CpuState, State}
+use Rattle.risc_model.specs.Replay.{feed}
 use Rattle.risc_search.specs.declared.access.Access.{Access}
 use Rattle.risc_search.specs.declared.before.Before.{Before}
 use Rattle.risc_search.specs.declared.condition.Condition.{Condition}
-use Rattle.risc_search.specs.declared.condition.Condition.TheVariants.{Counter, Store, Change, Load, Becomes, Sends, SendsByte, Takes, Stops}
+use Rattle.risc_search.specs.declared.condition.Condition.TheVariants.{Counter, Store, Change, Load, Becomes}
+use Rattle.risc_search.specs.declared.condition.Condition.TheVariants.{Sends, SendsByte, Takes, Stops}
 use Rattle.risc_search.specs.declared.stored_word.StoredWord.{StoredWord}
 use Rattle.risc_search.specs.declared.span.Span.{Span}
 use Rattle.risc_search.specs.Access.{next_access}
-use Rattle.risc_search.specs.Condition.{Accesses, HasInput, register_value}
+use Rattle.risc_search.specs.Condition.{Accesses, register_value}
 use Rattle.risc_search.specs.Search.{IsMet, NoneHolds}
 use Rattle.risc_search.specs.Span.{IsIn}
-use Rattle.risc_search.specs.Step.{Step}
+use Rattle.risc_search.specs.Step.{Step, step_from}
 use Rattle.risc_search.specs.inner.Due.{HasKind}
 
 -- the number of the word of RAM that an access stores to
@@ -44,22 +48,27 @@ IsChange before after stored = MatchOption stored (AreSame before after) (IsOnly
 abbrev pub HasStoredAlone : Option Access → List ℕ → List ℕ → Type 0
 HasStoredAlone access before after = (w : ℕ) → word_stored access ≢ Some w → slice_index after w ≡ slice_index before w
 
+-- what an instruction stored, by what was known before it and by the words after it
+abbrev pub IsStoredSince : Before → List ℕ → Option StoredWord → Type 0
+IsStoredSince before after stored =
+    (s : State) → IsBefore before s → HasStoredAlone before.access s.words after → IsChange s.words after stored
+
 -- the words before and after an instruction that stores to the word of RAM with this number, if any
 abbrev pub HasStored : Option ℕ → List ℕ → List ℕ → Type 0
 HasStored None before after = after ≡ before
 HasStored (Some number) before after = (value : ℕ) × (after ≡ slice_set before number value)
 
 -- a bit of the word differs, is named by the mask, and is in a byte in the range
-pub record DiffersAt (bytes : Span) (mask : ℕ) (word : StoredWord) (place : ℕ) : Type 0 where
-  pub named : bit mask place ≡ true
-  pub byte : IsIn bytes (4 * word.number + place / 8)
-  pub differs : bit word.old place ≢ bit word.new place
+pub record DiffersAt (bytes : Span) (mask : ℕ) (word : StoredWord) (index : ℕ) : Type 0 where
+  pub named : bit mask index ≡ true
+  pub byte : IsIn bytes (4 * word.number + index / 8)
+  pub differs : bit word.old index ≢ bit word.new index
 
 -- one of its bits is so
 pub record Differs (bytes : Span) (mask : ℕ) (word : StoredWord) : Type 0 where
-  pub place : ℕ
-  pub inside : place < 32
-  pub at : DiffersAt bytes mask word place
+  pub index : ℕ
+  pub inside : index < 32
+  pub at : DiffersAt bytes mask word index
 
 -- a condition is armed: by what is known before the instruction, it may hold
 abbrev pub IsArmed : Condition → CpuState → Option Access → List Event → Type 0
@@ -88,22 +97,26 @@ IsMetAfter Stops cpu stored sent = cpu.stop ≢ 0
 -- which conditions of a list are armed
 abbrev pub AreArmed : List Condition → CpuState → Option Access → List Event → List Bool → Type 0
 AreArmed conditions cpu access taken armed =
-    (k : ℕ) (d : Condition) → k < length conditions → IsTrue (slice_index_or armed k false) ↔ IsArmed (slice_index_or conditions k d) cpu access taken
+    (k : ℕ) (d : Condition) → k < length conditions
+    → IsTrue (slice_index_or armed k false) ↔ IsArmed (slice_index_or conditions k d) cpu access taken
 
 -- a condition of the list is armed and met
 abbrev pub IsMetAt : List Condition → List Bool → CpuState → Option StoredWord → Option ℕ → ℕ → Type 0
 IsMetAt conditions armed cpu stored sent k =
     (d : Condition) → IsTrue (slice_index_or armed k false) × IsMetAfter (slice_index_or conditions k d) cpu stored sent
 
--- the parts of a step
-pub record IsObserved (access : Option Access) (taken : List Event) (cpu : CpuState) (stored : Option StoredWord) (sent : Option ℕ) (es : List Event) (step : Step) : Type 0 where
-  pub access_is : access ≡ next_access step.before.cpu step.before.words
-  pub taken_is : (kind : ℕ) → HasKind kind taken ↔ HasInput kind es step.count
-  pub cpu_is : cpu ≡ step.after.cpu
-  pub change : IsChange step.before.words step.after.words stored
-  pub sent_is : sent ≡ step.sent
-  pub there : IsSome stored → IsSome (word_stored access)
+-- no condition of the list before the index is armed and met
+abbrev pub NoneIsMet : List Condition → List Bool → CpuState → Option StoredWord → Option ℕ → ℕ → Type 0
+NoneIsMet conditions armed cpu stored sent index = (k : ℕ) → k < index → ¬ (IsMetAt conditions armed cpu stored sent k)
 
 -- the first condition of a list that holds at a step, or that none does
 abbrev pub IsAnswer : List Condition → List Event → Step → Option ℕ → Type 0
 IsAnswer conditions es step met = MatchOption met (NoneHolds conditions es step) (IsMet conditions es step)
+
+-- the same of the step of a count from a state
+abbrev pub IsAnswerFrom : List Condition → List Event → ℕ → State → Option ℕ → Type 0
+IsAnswerFrom conditions es n s met = IsAnswer conditions es (step_from es n s) met
+
+-- that step sends nothing
+abbrev pub IsSilentFrom : List Event → ℕ → State → Type 0
+IsSilentFrom es n s = (exec (feed es n s)).1 ≡ None
