@@ -3,3 +3,4 @@
 pub mod Own
 pub mod Book
 pub mod Steps
+pub mod Shown

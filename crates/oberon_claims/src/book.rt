@@ -39,7 +39,7 @@ pub struct View {
 pub struct Plan {
     /// The number of jobs, at most 4,096.
     pub jobs: u32,
-    /// The number of passes, 1 to 64.
+    /// The number of passes, 1 to `MAX_WORKERS`.
     pub workers: u32,
 }
 

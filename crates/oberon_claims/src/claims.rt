@@ -15,9 +15,12 @@ use atomic_table::Table;
 use std::alloc::{AllocError, Global};
 use std::marker::Model;
 
+/// The most passes that a book has, and so the most workers that share it (this project's own choice).
+pub const MAX_WORKERS: u32 = 64;
+
 /// A book of jobs, numbered from 0, which threads share by reference.
 ///
-/// Contracts see its identity, its number of jobs and its number of passes, which is 1 to 64.
+/// Contracts see its identity, its number of jobs and its number of passes, which is 1 to `MAX_WORKERS`.
 #[derive(Drop)]
 pub struct Claims {
     table: Table<u8, View, Plan, Legal, Global>,
@@ -26,24 +29,24 @@ pub struct Claims {
 }
 
 impl Model for Claims {
-    ghost use Rattle.std.specs.Prelude.{◌≡◌, ◌≤◌, ◌∷◌, []};
-    ghost use Rattle.oberon_claims.specs.inner.Book.{own_view};
     ghost use Rattle.oberon_claims.specs.Pass.{BookId};
 
     ghost Value = { BookId };
 
-    ghost view = { λ c. record { table = c.table.shared.table_id; jobs = c.jobs; workers = c.table.shared.key.workers } };
+    ghost use Rattle.oberon_claims.specs.inner.Shown.{shown_book, IsBook};
 
-    ghost invariant = { λ c. (c.table.shared.key.jobs ≡ c.jobs) × (c.table.shared.table_id.words ≡ 2) × (c.table.shared.table_id.slots ≡ 0) × (c.own.table ≡ c.table.shared.table_id) × (c.own.views ≡ own_view c.table.shared.key 0 ∷ []) × (1 ≤ c.table.shared.key.workers) × (c.table.shared.key.workers ≤ 64) };
+    ghost view = { shown_book };
+
+    ghost invariant = { IsBook };
 }
 
 impl Claims {
-    /// Makes a book of `jobs` jobs, at most 4,096, and `workers` fresh passes of it, 1 to 64.
+    /// Makes a book of `jobs` jobs, at most 4,096, and `workers` fresh passes of it, 1 to `MAX_WORKERS`.
     ///
     /// It fails only if memory runs out.
     pub fn new(alloc: Global, jobs: u32, workers: u32) -> Result<(Claims, Vec<Pass>), AllocError>
         requires jobs { jobs ≤ 4096 }
-        requires workers { (1 ≤ workers) × (workers ≤ 64) }
+        requires workers { (1 ≤ workers) × (workers ≤ MAX_WORKERS) }
         ensures jobs { IfOk result (λ r. r.0.jobs ≡ jobs) }
         ensures workers { IfOk result (λ r. r.0.workers ≡ workers) }
         ensures passes { IfOk result (λ r. r.1.items ≡ replicate workers (fresh_pass r.0)) }
@@ -128,7 +131,7 @@ impl Claims {
         ensures shown { All (λ x. Contains (all_reported passes.items) x) (all_shown passes.items) }
         ensures not_below { IsNotBelow result.least (all_shown passes.items) }
         // A book has a pass by its type, so a caller that has all passes has one, and need not test for it.
-        ensures workers { (1 ≤ self.workers) × (self.workers ≤ 64) }
+        ensures workers { (1 ≤ self.workers) × (self.workers ≤ MAX_WORKERS) }
     {
         let Claims { table, own, jobs } = self;
         let mut own = own.into_seat();

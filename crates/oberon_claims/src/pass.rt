@@ -16,13 +16,13 @@ pub struct Pass {
 }
 
 impl Model for Pass {
-    ghost use Rattle.std.specs.Prelude.{◌≡◌, [], if◌then◌else◌};
     ghost use Rattle.oberon_claims.specs.Pass.{PassRecord};
 
     ghost Value = { PassRecord };
 
-    ghost view = { λ p. record { book = record { table = p.seat.table_id; jobs = p.seat.me.0.jobs; workers = p.seat.me.0.workers }; taken = p.seat.me.0.taken; reported = p.seat.me.0.reported; shown = p.seat.me.0.shown; ended = p.answered_none } };
+    ghost use Rattle.oberon_claims.specs.inner.Shown.{shown_pass, IsTicket};
 
-    // It holds no slot, represents itself, and has made one claim past the end if its mark is set, and none otherwise.
-    ghost invariant = { λ p. (p.seat.me.1 ≡ []) × (p.seat.me.0.passes ≡ 1) × (p.seat.me.0.ends ≡ (if p.answered_none then 1 else 0)) };
+    ghost view = { shown_pass };
+
+    ghost invariant = { IsTicket };
 }
