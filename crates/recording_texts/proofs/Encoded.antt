@@ -3,7 +3,7 @@ use Rattle.std.proofs.Common.{◌≡◌, ◌<◌, ◌+◌, ◌++◌, ◌∷◌, 
 use Rattle.std.specs.List.{fold}
 use Rattle.std.proofs.Math.Seq.{take-suc}
 use Rattle.std.proofs.lemmas.List.{length-take-le}
-use Rattle.recording_texts.specs.Claims.{first_bytes, page_numbers, second_bytes}
+use Rattle.recording_texts.specs.Claims.{first_bytes, page_ids, second_bytes}
 use Rattle.recording_texts.specs.Layout.{first_claims, second_claims}
 use Rattle.recording_texts.specs.Spots.{replaced_first, replaced_second}
 use Rattle.recording_texts.specs.declared.claim.Claim.{Claim}
@@ -12,7 +12,7 @@ use Rattle.recording_texts.proofs.Lists.{one_more}
 
 -- the table of the last of these checkpoints, or the one before them all
 abbrev pub table_after : List ℕ → List Claim → List ℕ
-table_after before claims = fold (λ (table : List ℕ) (claim : Claim). page_numbers claim) before claims
+table_after before claims = fold (λ (table : List ℕ) (claim : Claim). page_ids claim) before claims
 
 first_snoc : (replaced : List (Spot × ℕ)) (k : ℕ) (claims : List Claim) (claim : Claim) →
     first_claims replaced k (claims ++ claim ∷ []) ≡ first_claims replaced k claims
@@ -29,9 +29,9 @@ second_snoc : (replaced : List (Spot × ℕ)) (k : ℕ) (before : List ℕ) (cla
 second_snoc replaced k before [] claim =
     append-nil _ ∙ ap (λ (n : ℕ). replaced_second n replaced (second_bytes before claim)) (omega arith)
 second_snoc replaced k before (c ∷ cs) claim =
-    ap (λ (rest : List ℕ). replaced_second k replaced (second_bytes before c) ++ rest) (second_snoc replaced (suc k) (page_numbers c) cs claim
-    ∙ ap (λ (n : ℕ). second_claims replaced (suc k) (page_numbers c) cs
-    ++ replaced_second n replaced (second_bytes (table_after (page_numbers c) cs) claim)) (omega arith))
+    ap (λ (rest : List ℕ). replaced_second k replaced (second_bytes before c) ++ rest) (second_snoc replaced (suc k) (page_ids c) cs claim
+    ∙ ap (λ (n : ℕ). second_claims replaced (suc k) (page_ids c) cs
+    ++ replaced_second n replaced (second_bytes (table_after (page_ids c) cs) claim)) (omega arith))
     ∙ sym (append_assoc (replaced_second k replaced (second_bytes before c)) _ _)
 
 next : (k : ℕ) → k + 1 ≡ suc k
@@ -59,10 +59,10 @@ one_second_more replaced before claims k d near =
     ++ replaced_second n replaced (second_bytes (table_after before (take k claims)) (get_or claims k d))) (number k claims near)
 
 pub table_of_one_more : (before : List ℕ) (claims : List Claim) (k : ℕ) (d : Claim) → k < length claims →
-    table_after before (take (k + 1) claims) ≡ page_numbers (get_or claims k d)
+    table_after before (take (k + 1) claims) ≡ page_ids (get_or claims k d)
 table_of_one_more before claims k d near =
     ap (λ (n : ℕ). table_after before (take n claims)) (next k)
-    ∙ one_more (λ (table : List ℕ) (claim : Claim). page_numbers claim) before claims k d near
+    ∙ one_more (λ (table : List ℕ) (claim : Claim). page_ids claim) before claims k d near
 
 -- a checkpoint of version 1 after those before
 pub first_after : (start bytes part new : List ℕ) (replaced : List (Spot × ℕ)) (claims : List Claim) (k : ℕ) (d : Claim) → k < length claims →

@@ -30,6 +30,6 @@ set_numbers words numbers = fold (λ ws n. slice_set ws n.0 n.1) words numbers
 
 -- the file with the four bytes of a number at an offset, as far as the file goes
 abbrev pub put_word : List ℕ → ℕ → ℕ → List ℕ
-put_word text place word =
+put_word file at word =
     let byte : ℕ → ℕ = λ i. slice_index_or (word_bytes word) i 0 in
-    slice_set (slice_set (slice_set (slice_set text place (byte 0)) (place + 1) (byte 1)) (place + 2) (byte 2)) (place + 3) (byte 3)
+    slice_set (slice_set (slice_set (slice_set file at (byte 0)) (at + 1) (byte 1)) (at + 2) (byte 2)) (at + 3) (byte 3)

@@ -3,12 +3,13 @@ use Rattle.std.specs.Prelude.{ℕ, ◌+◌, ◌*◌, ◌==◌, List, Option, Som
 use Rattle.std.specs.List.{fold}
 use Rattle.recording_texts.specs.Bytes.{put_word}
 use Rattle.recording_texts.specs.declared.spot.Spot.{Spot}
-use Rattle.recording_texts.specs.declared.spot.Spot.TheVariants.{Word, Register, H, Flags, Stop, Leds, Waiting, Keys, Rate, Phase, Place}
+use Rattle.recording_texts.specs.declared.spot.Spot.TheVariants.{Word, Register, H, Flags, Stop, Leds}
+use Rattle.recording_texts.specs.declared.spot.Spot.TheVariants.{Waiting, Keys, Rate, Phase, Place}
 
 -- the offset, in the file, of a number of a page
-abbrev pub place_in_pages : Spot → Option ℕ
-place_in_pages (Word page word) = Some (24 + 1024 * page + 4 * word)
-place_in_pages _ = None
+abbrev pub offset_in_pages : Spot → Option ℕ
+offset_in_pages (Word page word) = Some (24 + 1024 * page + 4 * word)
+offset_in_pages _ = None
 
 -- the offset, if the number is one of checkpoint k
 abbrev pub offset_if : ℕ → ℕ → ℕ → Option ℕ
@@ -27,7 +28,7 @@ offset_in_both _ k = None
 
 -- the offset from the start of checkpoint k, in version 1
 abbrev pub offset_in_first : Spot → ℕ → Option ℕ
-offset_in_first (Place of place) k = offset_if of k (132 + 4 * place)
+offset_in_first (Place of slot) k = offset_if of k (132 + 4 * slot)
 offset_in_first spot k = offset_in_both spot k
 
 -- the offset from the start of checkpoint k, in version 2
@@ -38,12 +39,12 @@ offset_in_second spot k = offset_in_both spot k
 
 -- the bytes with a number written at the offset, if there is one
 abbrev pub put_if : List ℕ → Option ℕ → ℕ → List ℕ
-put_if bytes (Some place) word = put_word bytes place word
+put_if bytes (Some offset) word = put_word bytes offset word
 put_if bytes None word = bytes
 
 -- a file up to the end of its pages, with each number of a page at its offset
 abbrev pub replaced_pages : List (Spot × ℕ) → List ℕ → List ℕ
-replaced_pages replaced text = fold (λ bytes n. put_if bytes (place_in_pages n.0) n.1) text replaced
+replaced_pages replaced file = fold (λ bytes n. put_if bytes (offset_in_pages n.0) n.1) file replaced
 
 -- checkpoint k of version 1, with each of its numbers at its offset
 abbrev pub replaced_first : ℕ → List (Spot × ℕ) → List ℕ → List ℕ

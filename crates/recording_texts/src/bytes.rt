@@ -6,27 +6,26 @@ ghost use Rattle.recording_texts.specs.Bytes.{length_number, long_bytes, put_wor
 use std::alloc::AllocError;
 
 /// Appends a number of four bytes.
-pub(crate) fn push_word(text: &mut Vec<u8>, word: u32) -> Result<(), AllocError>
-    ensures { OnOk result (text.new.items ≡ text.old.items ++ word_bytes word) }
+pub(crate) fn push_word(file: &mut Vec<u8>, word: u32) -> Result<(), AllocError>
+    ensures { OnOk result (file.new.items ≡ file.old.items ++ word_bytes word) }
 {
-    text.extend_from_slice(&word.to_le_bytes())
+    file.extend_from_slice(&word.to_le_bytes())
 }
 
-/// Appends numbers of four bytes.
-pub(crate) fn push_words(text: &mut Vec<u8>, words: &[u32]) -> Result<(), AllocError>
-    ensures { OnOk result (text.new.items ≡ text.old.items ++ words_bytes words.now) }
+pub(crate) fn push_words(file: &mut Vec<u8>, words: &[u32]) -> Result<(), AllocError>
+    ensures { OnOk result (file.new.items ≡ file.old.items ++ words_bytes words.now) }
 {
     for word in words {
-        push_word(text, *word)?;
+        push_word(file, *word)?;
     }
     Ok(())
 }
 
 /// Appends a number of eight bytes.
-pub(crate) fn push_long(text: &mut Vec<u8>, number: u64) -> Result<(), AllocError>
-    ensures { OnOk result (text.new.items ≡ text.old.items ++ long_bytes number) }
+pub(crate) fn push_long(file: &mut Vec<u8>, number: u64) -> Result<(), AllocError>
+    ensures { OnOk result (file.new.items ≡ file.old.items ++ long_bytes number) }
 {
-    text.extend_from_slice(&number.to_le_bytes())
+    file.extend_from_slice(&number.to_le_bytes())
 }
 
 /// Returns a length, capped to the greatest number of four bytes.
@@ -37,24 +36,24 @@ pub(crate) fn number_of(length: usize) -> u32
 }
 
 /// Writes a number of four bytes at an offset, as far as the file goes.
-pub(crate) fn put_word(text: &mut [u8], place: usize, word: u32)
-    requires { place < 2 ^ 32 }
-    ensures { text.new ≡ put_word text.old place word }
+pub(crate) fn put_word(file: &mut [u8], at: usize, word: u32)
+    requires { at < 2 ^ 32 }
+    ensures { file.new ≡ put_word file.old at word }
 {
     let [first, second, third, fourth] = word.to_le_bytes();
-    put(text, place, first);
-    put(text, place + 1, second);
-    put(text, place + 2, third);
-    put(text, place + 3, fourth);
+    put(file, at, first);
+    put(file, at + 1, second);
+    put(file, at + 2, third);
+    put(file, at + 3, fourth);
 }
 
 /// Writes a byte at an offset, if there is such an offset.
 #[tactic(auto, using(crate::proofs::Lists::past))]
-fn put(text: &mut [u8], place: usize, byte: u8)
-    ensures { text.new ≡ slice_set text.old place byte }
+fn put(file: &mut [u8], at: usize, byte: u8)
+    ensures { file.new ≡ slice_set file.old at byte }
 {
-    if place < text.len() {
-        text[place] = byte;
+    if at < file.len() {
+        file[at] = byte;
     }
 }
 
@@ -63,17 +62,17 @@ fn put(text: &mut [u8], place: usize, byte: u8)
 pub(crate) fn set_numbers(words: &mut [u32], numbers: &[(u16, u32)])
     ensures { words.new ≡ set_numbers words.old numbers.now }
 {
-    for (place, number) in numbers {
-        set_number(words, usize::from(*place), *number);
+    for (index, number) in numbers {
+        set_number(words, usize::from(*index), *number);
     }
 }
 
 /// Sets a word, if there is such an index.
 #[tactic(auto, using(crate::proofs::Lists::past))]
-fn set_number(words: &mut [u32], place: usize, number: u32)
-    ensures { words.new ≡ slice_set words.old place number }
+fn set_number(words: &mut [u32], index: usize, number: u32)
+    ensures { words.new ≡ slice_set words.old index number }
 {
-    if place < words.len() {
-        words[place] = number;
+    if index < words.len() {
+        words[index] = number;
     }
 }

@@ -2,7 +2,8 @@
 
 ghost use Rattle.std.specs.Prelude.{◌≡◌, ◌++◌, ◌+◌, ◌<◌, ◌≤◌, IfOk, OnOk, slice_index_or, vec_len};
 ghost use Rattle.recording_texts.specs.Bytes.{padded};
-ghost use Rattle.recording_texts.specs.Claims.{change_at, changes_below, device_bytes, fields_bytes, first_bytes, key_bytes, page_numbers, processor_bytes, second_bytes};
+ghost use Rattle.recording_texts.specs.Claims.{change_at, changes_below, device_bytes, fields_bytes, first_bytes};
+ghost use Rattle.recording_texts.specs.Claims.{key_bytes, page_ids, processor_bytes, second_bytes};
 
 use crate::bytes::{number_of, push_long, push_word, push_words, set_numbers};
 use std::alloc::{AllocError, Global};
@@ -65,7 +66,7 @@ impl Claim<'_> {
         ensures { IfOk result (λ bytes. bytes.items ≡ first_bytes self.now) }
     {
         let mut bytes = self.fields(alloc)?;
-        push_words(&mut bytes, &self.page_numbers())?;
+        push_words(&mut bytes, &self.page_ids())?;
         Ok(bytes)
     }
 
@@ -74,7 +75,7 @@ impl Claim<'_> {
     pub(crate) fn second(&self, alloc: Global, before: &[u32; 1024]) -> Result<Vec<u8>, AllocError>
         ensures { IfOk result (λ bytes. bytes.items ≡ second_bytes before.now self.now) }
     {
-        let mut changes = changes(alloc, before, &self.page_numbers())?;
+        let mut changes = changes(alloc, before, &self.page_ids())?;
         let mut bytes = self.fields(alloc)?;
         push_words(
             &mut bytes,
@@ -124,9 +125,8 @@ impl Claim<'_> {
         push_keys(bytes, self.keys)
     }
 
-    /// Returns the page ids of all slots.
-    pub(crate) fn page_numbers(&self) -> [u32; 1024]
-        ensures { result ≡ page_numbers self.now }
+    pub(crate) fn page_ids(&self) -> [u32; 1024]
+        ensures { result ≡ page_ids self.now }
     {
         let mut numbers = [0; 1024];
         set_numbers(&mut numbers, self.table);
@@ -143,7 +143,6 @@ fn push_keys(bytes: &mut Vec<u8>, keys: &[u8]) -> Result<(), AllocError>
     push_sixteen(bytes, keys)
 }
 
-/// Appends 16 keys.
 fn push_sixteen(bytes: &mut Vec<u8>, keys: &[u8]) -> Result<(), AllocError>
     ensures { OnOk result (bytes.new.items ≡ bytes.old.items ++ padded keys.now 16) }
 {
@@ -165,8 +164,8 @@ fn changes(alloc: Global, before: &[u32; 1024], after: &[u32; 1024]) -> Result<V
     ensures len { IfOk result (λ changes. vec_len changes ≤ 8192) }
 {
     let mut changes = Vec::new(alloc);
-    for place in 0..1024 {
-        push_change(&mut changes, before, after, place)?;
+    for slot in 0..1024 {
+        push_change(&mut changes, before, after, slot)?;
     }
     Ok(changes)
 }
@@ -176,14 +175,14 @@ fn push_change(
     changes: &mut Vec<u8>,
     before: &[u32; 1024],
     after: &[u32; 1024],
-    place: usize,
+    slot: usize,
 ) -> Result<(), AllocError>
-    requires { place < 1024 }
-    ensures change { OnOk result (changes.new.items ≡ changes.old.items ++ change_at before.now after.now place) }
+    requires { slot < 1024 }
+    ensures change { OnOk result (changes.new.items ≡ changes.old.items ++ change_at before.now after.now slot) }
     ensures len { OnOk result (vec_len changes.new ≤ vec_len changes.old + 8) }
 {
-    if before[place] == after[place] {
+    if before[slot] == after[slot] {
         return Ok(());
     }
-    push_words(changes, &[place as u32, after[place]])
+    push_words(changes, &[slot as u32, after[slot]])
 }

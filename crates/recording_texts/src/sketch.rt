@@ -5,7 +5,8 @@ ghost use Rattle.std.specs.List.{flat_map};
 ghost use Rattle.recording_texts.specs.Claims.{first_bytes, second_bytes};
 ghost use Rattle.recording_texts.specs.Header.{header_bytes};
 ghost use Rattle.recording_texts.specs.Spots.{replaced_first, replaced_second};
-ghost use Rattle.recording_texts.specs.Layout.{event_bytes, first_claims, first_file, prefix_bytes, output_bytes, page_bytes, pages_bytes, second_claims, second_file};
+ghost use Rattle.recording_texts.specs.Layout.{event_bytes, first_claims, first_file, prefix_bytes, output_bytes};
+ghost use Rattle.recording_texts.specs.Layout.{page_bytes, pages_bytes, second_claims, second_file};
 
 use crate::bytes::{number_of, push_long, push_word, push_words};
 use crate::claim::Claim;
@@ -48,12 +49,12 @@ impl<'a> Sketch<'a> {
     /// Returns the file of version 1, in which these numbers replace the claimed ones.
     #[tactic(auto, unfolding(crate::specs::Layout::first_file))]
     pub fn first_file(&self, alloc: Global, replaced: &[(Spot, u32)]) -> Result<Vec<u8>, AllocError>
-        ensures { IfOk result (λ text. text.items ≡ first_file self.now replaced.now) }
+        ensures { IfOk result (λ file. file.items ≡ first_file self.now replaced.now) }
     {
-        let mut text = self.prefix(alloc, 1, replaced)?;
-        push_first_claims(alloc, &mut text, self.claims, replaced)?;
-        push_output(&mut text, self.claims)?;
-        Ok(text)
+        let mut file = self.prefix(alloc, 1, replaced)?;
+        push_first_claims(alloc, &mut file, self.claims, replaced)?;
+        push_output(&mut file, self.claims)?;
+        Ok(file)
     }
 
     /// Returns the file of version 2, in which these numbers replace the claimed ones.
@@ -63,12 +64,12 @@ impl<'a> Sketch<'a> {
         alloc: Global,
         replaced: &[(Spot, u32)],
     ) -> Result<Vec<u8>, AllocError>
-        ensures { IfOk result (λ text. text.items ≡ second_file self.now replaced.now) }
+        ensures { IfOk result (λ file. file.items ≡ second_file self.now replaced.now) }
     {
-        let mut text = self.prefix(alloc, 2, replaced)?;
-        push_second_claims(alloc, &mut text, self.claims, replaced)?;
-        push_output(&mut text, self.claims)?;
-        Ok(text)
+        let mut file = self.prefix(alloc, 2, replaced)?;
+        push_second_claims(alloc, &mut file, self.claims, replaced)?;
+        push_output(&mut file, self.claims)?;
+        Ok(file)
     }
 
     /// Returns the header, the pages and the events.
@@ -78,44 +79,44 @@ impl<'a> Sketch<'a> {
         version: u32,
         replaced: &[(Spot, u32)],
     ) -> Result<Vec<u8>, AllocError>
-        ensures { IfOk result (λ text. text.items ≡ prefix_bytes version self.now replaced.now) }
+        ensures { IfOk result (λ file. file.items ≡ prefix_bytes version self.now replaced.now) }
     {
-        let mut text = self.with_pages(alloc, version)?;
-        replace_pages(&mut text, replaced);
-        push_events(&mut text, self.events)?;
-        Ok(text)
+        let mut file = self.with_pages(alloc, version)?;
+        replace_pages(&mut file, replaced);
+        push_events(&mut file, self.events)?;
+        Ok(file)
     }
 
     /// Returns the header and the pages.
     #[tactic(auto, unfolding(crate::specs::Layout::pages_bytes))]
     fn with_pages(&self, alloc: Global, version: u32) -> Result<Vec<u8>, AllocError>
-        ensures { IfOk result (λ text. text.items ≡ pages_bytes version self.now) }
+        ensures { IfOk result (λ file. file.items ≡ pages_bytes version self.now) }
     {
         let pages = number_of(self.pages.len());
         let events = number_of(self.events.len());
         let checkpoints = number_of(self.claims.len());
-        let mut text = header(alloc, version, pages, events, checkpoints)?;
-        push_pages(&mut text, self.pages)?;
-        Ok(text)
+        let mut file = header(alloc, version, pages, events, checkpoints)?;
+        push_pages(&mut file, self.pages)?;
+        Ok(file)
     }
 }
 
 /// Appends the pages.
-fn push_pages(text: &mut Vec<u8>, pages: &[&[u32]]) -> Result<(), AllocError>
-    ensures { OnOk result (text.new.items ≡ text.old.items ++ flat_map (λ page. page_bytes page.now) pages.now) }
+fn push_pages(file: &mut Vec<u8>, pages: &[&[u32]]) -> Result<(), AllocError>
+    ensures { OnOk result (file.new.items ≡ file.old.items ++ flat_map (λ page. page_bytes page.now) pages.now) }
 {
     for page in pages {
-        push_page(text, page)?;
+        push_page(file, page)?;
     }
     Ok(())
 }
 
 /// Appends a page, with zeros up to its end.
-fn push_page(text: &mut Vec<u8>, words: &[u32]) -> Result<(), AllocError>
-    ensures { OnOk result (text.new.items ≡ text.old.items ++ page_bytes words.now) }
+fn push_page(file: &mut Vec<u8>, words: &[u32]) -> Result<(), AllocError>
+    ensures { OnOk result (file.new.items ≡ file.old.items ++ page_bytes words.now) }
 {
     for i in 0..256 {
-        push_word(text, word_at(words, i))?;
+        push_word(file, word_at(words, i))?;
     }
     Ok(())
 }
@@ -142,28 +143,28 @@ fn second_claim(
 }
 
 /// Appends the events.
-fn push_events(text: &mut Vec<u8>, events: &[Event]) -> Result<(), AllocError>
-    ensures { OnOk result (text.new.items ≡ text.old.items ++ flat_map event_bytes events.now) }
+fn push_events(file: &mut Vec<u8>, events: &[Event]) -> Result<(), AllocError>
+    ensures { OnOk result (file.new.items ≡ file.old.items ++ flat_map event_bytes events.now) }
 {
     for event in events {
-        push_event(text, event)?;
+        push_event(file, event)?;
     }
     Ok(())
 }
 
-fn push_event(text: &mut Vec<u8>, event: &Event) -> Result<(), AllocError>
-    ensures { OnOk result (text.new.items ≡ text.old.items ++ event_bytes event.now) }
+fn push_event(file: &mut Vec<u8>, event: &Event) -> Result<(), AllocError>
+    ensures { OnOk result (file.new.items ≡ file.old.items ++ event_bytes event.now) }
 {
-    push_long(text, event.count)?;
-    push_words(text, &[event.kind, event.value])
+    push_long(file, event.count)?;
+    push_words(file, &[event.kind, event.value])
 }
 
 /// Appends all output.
-fn push_output(text: &mut Vec<u8>, claims: &[Claim]) -> Result<(), AllocError>
-    ensures { OnOk result (text.new.items ≡ text.old.items ++ output_bytes claims.now) }
+fn push_output(file: &mut Vec<u8>, claims: &[Claim]) -> Result<(), AllocError>
+    ensures { OnOk result (file.new.items ≡ file.old.items ++ output_bytes claims.now) }
 {
     for claim in claims {
-        text.extend_from_slice(claim.sent)?;
+        file.extend_from_slice(claim.sent)?;
     }
     Ok(())
 }
@@ -172,15 +173,15 @@ fn push_output(text: &mut Vec<u8>, claims: &[Claim]) -> Result<(), AllocError>
 #[tactic(auto, using(crate::proofs::Encoded::one_first_more))]
 fn push_first_claims(
     alloc: Global,
-    text: &mut Vec<u8>,
+    file: &mut Vec<u8>,
     claims: &[Claim],
     replaced: &[(Spot, u32)],
 ) -> Result<(), AllocError>
-    ensures { OnOk result (text.new.items ≡ text.old.items ++ first_claims replaced.now 0 claims.now) }
+    ensures { OnOk result (file.new.items ≡ file.old.items ++ first_claims replaced.now 0 claims.now) }
 {
     for k in 0..claims.len() {
         let mut bytes = first_claim(alloc, &claims[k], k, replaced)?;
-        text.append(&mut bytes)?;
+        file.append(&mut bytes)?;
     }
     Ok(())
 }
@@ -203,17 +204,17 @@ fn first_claim(
 #[tactic(auto, using(crate::proofs::Encoded::one_second_more, crate::proofs::Encoded::table_of_one_more))]
 fn push_second_claims(
     alloc: Global,
-    text: &mut Vec<u8>,
+    file: &mut Vec<u8>,
     claims: &[Claim],
     replaced: &[(Spot, u32)],
 ) -> Result<(), AllocError>
-    ensures { OnOk result (text.new.items ≡ text.old.items ++ second_claims replaced.now 0 (replicate 1024 0) claims.now) }
+    ensures { OnOk result (file.new.items ≡ file.old.items ++ second_claims replaced.now 0 (replicate 1024 0) claims.now) }
 {
     let mut before = [0; 1024];
     for k in 0..claims.len() {
         let mut bytes = second_claim(alloc, &claims[k], &before, k, replaced)?;
-        text.append(&mut bytes)?;
-        before = claims[k].page_numbers();
+        file.append(&mut bytes)?;
+        before = claims[k].page_ids();
     }
     Ok(())
 }
@@ -226,10 +227,10 @@ pub fn header(
     events: u32,
     checkpoints: u32,
 ) -> Result<Vec<u8>, AllocError>
-    ensures { IfOk result (λ text. text.items ≡ header_bytes version pages events checkpoints) }
+    ensures { IfOk result (λ file. file.items ≡ header_bytes version pages events checkpoints) }
 {
-    let mut text = Vec::new(alloc);
-    text.extend_from_slice(b"ORSR")?;
-    push_words(&mut text, &[version, pages, events, checkpoints, 0])?;
-    Ok(text)
+    let mut file = Vec::new(alloc);
+    file.extend_from_slice(b"ORSR")?;
+    push_words(&mut file, &[version, pages, events, checkpoints, 0])?;
+    Ok(file)
 }

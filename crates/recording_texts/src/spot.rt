@@ -1,7 +1,8 @@
 //! Numbers of a file that tests replace.
 
 ghost use Rattle.std.specs.Prelude.{◌≡◌, ◌<◌, ◌^◌, IfSome};
-ghost use Rattle.recording_texts.specs.Spots.{offset_if, offset_in_both, offset_in_first, offset_in_second, place_in_pages, put_if, replaced_first, replaced_pages, replaced_second};
+ghost use Rattle.recording_texts.specs.Spots.{offset_if, offset_in_both, offset_in_first, offset_in_second};
+ghost use Rattle.recording_texts.specs.Spots.{offset_in_pages, put_if, replaced_first, replaced_pages, replaced_second};
 
 use crate::bytes::put_word;
 
@@ -32,9 +33,9 @@ use Spot::{Flags, H, Keys, Leds, Phase, Place, Rate, Register, Stop, Waiting, Wo
 
 impl Spot {
     /// Returns the offset of the number in the file, if it is one of a page.
-    pub(crate) fn place_in_pages(self) -> Option<usize>
-        ensures place { result ≡ place_in_pages self }
-        ensures bound { IfSome result (λ place. place < 2 ^ 32) }
+    pub(crate) fn offset_in_pages(self) -> Option<usize>
+        ensures offset { result ≡ offset_in_pages self }
+        ensures bound { IfSome result (λ offset. offset < 2 ^ 32) }
     {
         match self {
             Word(page, word) => Some(24 + 1024 * usize::from(page) + 4 * usize::from(word)),
@@ -47,10 +48,10 @@ impl Spot {
         ensures offset { result ≡ offset_in_first self k }
         ensures bound { IfSome result (λ offset. offset < 2 ^ 32) }
     {
-        let Place(of, place) = self else {
+        let Place(of, slot) = self else {
             return self.offset_in_both(k);
         };
-        offset_if(of, k, 132 + 4 * usize::from(place))
+        offset_if(of, k, 132 + 4 * usize::from(slot))
     }
 
     /// Returns the offset of the number in checkpoint k of a file of version 2, from the checkpoint's first byte.
@@ -97,11 +98,11 @@ fn offset_if(of: u16, k: usize, offset: usize) -> Option<usize>
 
 /// Replaces the numbers of pages, in a file that goes up to their end.
 #[tactic(auto, using(crate::proofs::Lists::one_more))]
-pub(crate) fn replace_pages(text: &mut [u8], replaced: &[(Spot, u32)])
-    ensures { text.new ≡ replaced_pages replaced.now text.old }
+pub(crate) fn replace_pages(file: &mut [u8], replaced: &[(Spot, u32)])
+    ensures { file.new ≡ replaced_pages replaced.now file.old }
 {
     for (spot, number) in replaced {
-        put_if(text, spot.place_in_pages(), *number);
+        put_if(file, spot.offset_in_pages(), *number);
     }
 }
 
@@ -126,11 +127,11 @@ pub(crate) fn replace_second(bytes: &mut [u8], k: usize, replaced: &[(Spot, u32)
 }
 
 /// Writes a number at an offset, if there is one.
-fn put_if(bytes: &mut [u8], place: Option<usize>, number: u32)
-    requires { IfSome place (λ p. p < 2 ^ 32) }
-    ensures { bytes.new ≡ put_if bytes.old place number }
+fn put_if(bytes: &mut [u8], offset: Option<usize>, number: u32)
+    requires { IfSome offset (λ p. p < 2 ^ 32) }
+    ensures { bytes.new ≡ put_if bytes.old offset number }
 {
-    if let Some(place) = place {
-        put_word(bytes, place, number);
+    if let Some(offset) = offset {
+        put_word(bytes, offset, number);
     }
 }

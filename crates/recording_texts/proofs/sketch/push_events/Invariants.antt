@@ -4,4 +4,4 @@ use Rattle.recording_texts.specs.Layout.{event_bytes}
 use Rattle.recording_texts.proofs.sketch.push_events.Given as goal
 
 abbrev pub invariant-loop-event : goal.invariant-loop-event
-invariant-loop-event l = l.text.items ≡ l.fn.text.items ++ flat_map event_bytes (take l.event-index l.events)
+invariant-loop-event l = l.file.items ≡ l.fn.file.items ++ flat_map event_bytes (take l.event-index l.events)

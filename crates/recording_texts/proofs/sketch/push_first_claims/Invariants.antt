@@ -3,4 +3,4 @@ use Rattle.recording_texts.specs.Layout.{first_claims}
 use Rattle.recording_texts.proofs.sketch.push_first_claims.Given as goal
 
 abbrev pub invariant-loop-k : goal.invariant-loop-k
-invariant-loop-k l = l.text.items ≡ l.fn.text.items ++ first_claims l.replaced 0 (take l.k l.claims)
+invariant-loop-k l = l.file.items ≡ l.fn.file.items ++ first_claims l.replaced 0 (take l.k l.claims)

@@ -3,4 +3,4 @@ use Rattle.recording_texts.specs.Layout.{output_bytes}
 use Rattle.recording_texts.proofs.sketch.push_output.Given as goal
 
 abbrev pub invariant-loop-claim : goal.invariant-loop-claim
-invariant-loop-claim l = l.text.items ≡ l.fn.text.items ++ output_bytes (take l.claim-index l.claims)
+invariant-loop-claim l = l.file.items ≡ l.fn.file.items ++ output_bytes (take l.claim-index l.claims)

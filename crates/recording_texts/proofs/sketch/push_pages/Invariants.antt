@@ -4,4 +4,4 @@ use Rattle.recording_texts.specs.Layout.{page_bytes}
 use Rattle.recording_texts.proofs.sketch.push_pages.Given as goal
 
 abbrev pub invariant-loop-page : goal.invariant-loop-page
-invariant-loop-page l = l.text.items ≡ l.fn.text.items ++ flat_map (λ page. page_bytes page.now) (take l.page-index l.pages)
+invariant-loop-page l = l.file.items ≡ l.fn.file.items ++ flat_map (λ page. page_bytes page.now) (take l.page-index l.pages)
