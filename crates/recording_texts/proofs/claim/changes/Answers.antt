@@ -1,5 +1,5 @@
-use Rattle.std.proofs.Common.{◌≡◌, ◌++◌, ◌∙◌, List, ℕ, ap, sym, arith}
-use Rattle.recording_texts.specs.Claims.{change_at, changes_below}
+use Rattle.std.proofs.Common.{◌++◌, ◌∙◌, List, ℕ, ap, sym, arith}
+use Rattle.recording_texts.specs.Claims.{change_at}
 use Rattle.recording_texts.proofs.Lists.{no_change, one_change_more}
 use Rattle.recording_texts.proofs.claim.changes.Goals as goal
 
