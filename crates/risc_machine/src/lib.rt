@@ -4,10 +4,9 @@
 //! devices are in the crates below. This crate puts them together and keeps the loop fast.
 #![tactic(auto)]
 
-mod act;
 mod board;
+mod bus;
 mod clocked;
-mod condition;
 mod decode_cache;
 mod decoded_op;
 mod destination;
@@ -21,16 +20,14 @@ mod lines;
 mod machine;
 mod old_word;
 mod operand;
-mod operation;
+mod perform;
 mod predecode;
 mod processor;
 mod ram;
 mod registers;
-mod row_index;
 mod run_exit;
 mod schedule;
 mod sink;
-mod slow_step;
 mod status;
 mod store_log;
 mod watch;
