@@ -15,15 +15,15 @@ pub(crate) fn first_from(events: &[Event], at: u64) -> usize
     events.partition_point(|event| event.count < at)
 }
 
-/// Takes the inputs of the count `at`, which begin at the index `place`. Returns the index after them.
+/// Takes the inputs of the count `at`, which begin at the index `index`. Returns the index after them.
 #[cold]
 #[inline(never)]
-pub(crate) fn take_inputs(devices: &mut Devices, events: &[Event], place: usize, at: u64) -> usize
-    requires { IsNextAt events.now place at }
+pub(crate) fn take_inputs(devices: &mut Devices, events: &[Event], index: usize, at: u64) -> usize
+    requires { IsNextAt events.now index at }
     ensures devices { devices.new ≡ fed events.now at devices.old }
     ensures next { IsNextAt events.now result (at + 1) }
 {
-    for next in place..events.len() {
+    for next in index..events.len() {
         let event = events[next];
         if event.count != at {
             return next;
@@ -33,16 +33,16 @@ pub(crate) fn take_inputs(devices: &mut Devices, events: &[Event], place: usize,
     events.len()
 }
 
-/// Returns the count up to which no input comes: that of the input at the index `place`, or `to` if this is earlier.
-pub(crate) fn quiet_until(events: &[Event], place: usize, at: u64, to: u64) -> u64
-    requires next { IsNextAt events.now place (at + 1) }
+/// Returns the count up to which no input comes: that of the input at the index `index`, or `to` if this is earlier.
+pub(crate) fn quiet_until(events: &[Event], index: usize, at: u64, to: u64) -> u64
+    requires next { IsNextAt events.now index (at + 1) }
     requires more { at < to }
     ensures later { at < result }
     ensures inside { result ≤ to }
-    ensures next { IsNextAt events.now place result }
+    ensures next { IsNextAt events.now index result }
 {
-    if place < events.len() {
-        let due = events[place].count;
+    if index < events.len() {
+        let due = events[index].count;
         if due < to {
             return due;
         }

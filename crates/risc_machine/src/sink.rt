@@ -1,5 +1,5 @@
 //! Sinks of the bytes that a machine sends: a vector, or a comparison with expected bytes.
-ghost use Rattle.std.specs.Prelude.{◌≡◌, ◌++◌, ◌∷◌, [], List, ℕ, Bool, true, false, IsTrue, OnOk, OnErr, ◌+◌, ◌<◌, ◌≤◌, length, ◌↔◌};
+ghost use Rattle.std.specs.Prelude.{◌≡◌, ◌++◌, ◌∷◌, [], List, ℕ, Bool, true, false, IsTrue, OnOk, OnErr, ◌↔◌};
 ghost use Rattle.risc_machine.specs.inner.Matched.{HasMatched};
 
 use std::alloc::AllocError;
@@ -40,7 +40,7 @@ impl Sink for Vec<u8> {
 #[derive(Drop)]
 pub(crate) struct Matching<'a> {
     expected: &'a [u8],
-    place: usize,
+    taken: usize,
     same: bool,
 }
 
@@ -54,8 +54,8 @@ impl<'a> Sink for Matching<'a> {
     #[inline]
     fn put(&mut self, byte: u8) -> Result<(), AllocError> {
         if self.same {
-            if self.place < self.expected.len() && self.expected[self.place] == byte {
-                self.place += 1;
+            if self.taken < self.expected.len() && self.expected[self.taken] == byte {
+                self.taken += 1;
             } else {
                 self.same = false;
             }
@@ -72,7 +72,7 @@ impl<'a> Matching<'a> {
     {
         Matching {
             expected,
-            place: 0,
+            taken: 0,
             same: true,
         }
     }
@@ -81,6 +81,6 @@ impl<'a> Matching<'a> {
     pub(crate) fn is_whole(&self) -> bool
         ensures { (l : List ℕ) → HasMatched self.now l → (IsTrue result ↔ (l ≡ self.now.expected.now)) }
     {
-        self.same && self.place == self.expected.len()
+        self.same && self.taken == self.expected.len()
     }
 }

@@ -6,12 +6,12 @@ use Rattle.risc_machine.proofs.due.quiet_until.Goals as goal
 pub returns-then-due-to-clause-next : goal.returns-then-due-to-clause-next
 returns-then-due-to-clause-next c =
     let es = c.args.events.now in
-    let here = count_at-is es c.args.place c.index-events-place.result c.if-place-events.true in
-    let rest = c.requires.next.rest c.args.place (omega arith) c.if-place-events.true in
-    next-up_to es c.args.place c.args.at _ c.requires.next (omega arith) (λ _. omega arith)
+    let here = count_at-is es c.args.index c.index-events-index.result c.if-index-events.true in
+    let rest = c.requires.next.rest c.args.index (omega arith) c.if-index-events.true in
+    next-up_to es c.args.index c.args.at _ c.requires.next (omega arith) (λ _. omega arith)
 
 pub returns-else-due-to-clause-next : goal.returns-else-due-to-clause-next
 returns-else-due-to-clause-next c =
     let es = c.args.events.now in
-    next-up_to es c.args.place c.args.at c.args.to c.requires.next c.requires.more
-    (λ inside. let here = count_at-is es c.args.place c.index-events-place.result inside in let late = c.if-due-to.false in omega arith)
+    next-up_to es c.args.index c.args.at c.args.to c.requires.next c.requires.more
+    (λ inside. let here = count_at-is es c.args.index c.index-events-index.result inside in let late = c.if-due-to.false in omega arith)
