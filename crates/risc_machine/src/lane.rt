@@ -6,7 +6,6 @@ ghost use Rattle.risc_model.specs.Exec.{loaded_value, stored_word, stored_value}
 /// Masks the lowest byte of a word.
 const BYTE_MASK: u32 = 0xFF;
 
-/// Returns the byte of `word` in a lane.
 #[inline(always)]
 fn byte_in(lane: u8, word: u32) -> u32
     requires { lane < 4 }
