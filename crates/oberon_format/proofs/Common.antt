@@ -38,26 +38,27 @@ unfoldable pub use Rattle.risc_pages.specs.Pages.{page_of}
 pub use Rattle.risc_pages.specs.Pages.{ArePages, IsPage, zero_page}
 unfoldable pub use Rattle.risc_pages.specs.Tables.{zero_numbers}
 pub use Rattle.risc_pages.specs.Tables.{IsTable}
-unfoldable pub use Rattle.oberon_format.specs.Changes.{changes, changes_below, no_change, number_after}
+pub use Rattle.risc_pages.specs.declared.sizes.TheConstants.{PAGE_SLOTS}
+unfoldable pub use Rattle.oberon_format.specs.Changes.{changes, changes_below, no_change, page_id_after}
 pub use Rattle.oberon_format.specs.CheckpointParts.{CheckpointParts, checkpoint_parts, key_bytes, no_checkpoint}
-unfoldable pub use Rattle.oberon_format.specs.Encoding.{change_bytes, checkpoint_bytes, checkpoints_bytes, clock_words, common_bytes, encoding, event_bytes, field_words, header_bytes, later_words, long_bytes, tail_bytes, word_bytes, words_bytes}
+unfoldable pub use Rattle.oberon_format.specs.Encoding.{change_bytes, checkpoint_bytes, checkpoints_bytes, rate_and_phase, common_bytes, encoding, event_bytes, field_words, header_bytes, tail_words, long_bytes, tail_bytes, word_bytes, words_bytes}
 unfoldable pub use Rattle.oberon_format.specs.Fields.{total}
 pub use Rattle.oberon_format.specs.Fields.{EventFields, Fields, sent_below}
 unfoldable pub use Rattle.oberon_format.specs.FirstFault.{each, first_broken, Rule}
 pub use Rattle.oberon_format.specs.Formed.{AreFormed, AreWritable, IsFormed, IsWritable}
-unfoldable pub use Rattle.oberon_format.specs.Layout.{change_count, change_offset, checkpoint_size, checkpoints, event_offset, event_start, events, later_word, long_at, output_offset, page_number_offset, page_offset, pages, start, version, word_at}
+unfoldable pub use Rattle.oberon_format.specs.Layout.{change_count, change_offset, checkpoint_size, checkpoints, event_offset, event_start, events, word_since_2, long_at, output_offset, page_id_offset, page_offset, pages, start, version, word_at}
 pub use Rattle.oberon_format.specs.Line.{IsNamedFault}
 unfoldable pub use Rattle.oberon_format.specs.PartFields.{changes_in, checkpoint_fields, event_fields, fault_of_parts, fields_in, no_event, start_in}
 pub use Rattle.oberon_format.specs.Ranges.{are_keys, in_ranges, is_change, is_checkpoint, is_count, is_event, is_output, is_version}
 pub use Rattle.oberon_format.specs.Recording.{IsFit, IsLawful, RecordingParts, checkpoint_at, output_of, parts_of, table_before}
-unfoldable pub use Rattle.oberon_format.specs.Rules.{change_rules, changed_rules, checkpoint_rules, count_before, end_rules, event_floor, event_rules, field_rules, header_rules, limit_rules, named_len, offset_of_event, page_number_rules, place_floor, prior_number, whole, whole_rules}
-pub use Rattle.oberon_format.specs.Text.{AreBytes, IsUnclocked, Text, TextIn}
-unfoldable pub use Rattle.oberon_format.specs.TextFields.{change_at, change_of, checkpoint_of, event_of, fields_of, first_fault_of, number_before, page_number_of}
+unfoldable pub use Rattle.oberon_format.specs.Rules.{change_rules, changed_rules, checkpoint_rules, count_before, end_rules, event_floor, event_rules, field_rules, header_rules, limit_rules, named_len, offset_of_event, page_id_rules, slot_floor, prior_page_id, file_len, whole_rules}
+pub use Rattle.oberon_format.specs.Text.{AreBytes, HasStillTimer, Text, TextIn}
+unfoldable pub use Rattle.oberon_format.specs.TextFields.{change_at, change_of, checkpoint_of, event_of, fields_of, first_fault_of, page_id_before, page_id_of}
 pub use Rattle.oberon_format.specs.declared.change.Change.{Change}
 pub use Rattle.oberon_format.specs.declared.checkpoint.Checkpoint.{Checkpoint}
 pub use Rattle.oberon_format.specs.declared.fault.Fault.{Fault}
 pub use Rattle.oberon_format.specs.declared.fields.CheckpointFields.{CheckpointFields}
-pub use Rattle.oberon_format.specs.declared.layout.TheConstants.{AUXILIARY_AT, CHANGES_AT, CHANGE_COUNT_AT, CHANGE_LEN, CHECKPOINTS_AT, CHECKPOINT_LEN, COMMON_LEN, COUNTER_AT, EVENTS_AT, EVENT_LEN, FIRST_VERSION, FLAGS_AT, HEADER_LEN, KEYS_AT, KIND_AT, LAST_AT, LEDS_AT, LONGEST_TEXT, MAGIC, MAGIC_AT, MOUSE_AT, NUMBER_AT, PAGES_AT, PAGE_LEN, PHASE_AT, PLACES, RATE_AT, REGISTERS_AT, SENT_AT, SERIAL_AT, STOP_AT, SWITCHES_AT, TABLE_AT, TIMER_AT, VALUE_AT, VERSION, VERSION_AT, WAITING_AT}
+pub use Rattle.oberon_format.specs.declared.layout.TheConstants.{AUXILIARY_AT, CHANGES_AT, CHANGE_COUNT_AT, CHANGE_LEN, CHECKPOINTS_AT, CHECKPOINT_LEN, COMMON_LEN, COUNTER_AT, EVENTS_AT, EVENT_LEN, FIRST_VERSION, FLAGS_AT, HEADER_LEN, KEYS_AT, KIND_AT, LAST_AT, LEDS_AT, LONGEST_TEXT, MAGIC, MAGIC_AT, MOUSE_AT, PAGE_ID_AT, PAGES_AT, PAGE_LEN, PHASE_AT, RATE_AT, REGISTERS_AT, SENT_AT, SERIAL_AT, STOP_AT, SWITCHES_AT, TABLE_AT, TIMER_AT, VALUE_AT, VERSION, VERSION_AT, WAITING_AT}
 pub use Rattle.oberon_format.specs.declared.ranges.TheConstants.{FLAGS_END, LEDS_END, MAX_CHECKPOINTS, MAX_KEYS, MAX_STOP, SERIAL_END, SWITCHES_END}
 unfoldable pub use Rattle.oberon_format.specs.inner.Decoded.{checkpoints_at, decoded, EachAt, IsEventAt, page_at, pages_at, table_at, words_from}
-pub use Rattle.oberon_format.specs.inner.Tested.{HasNumbers, IsSized, Meets, encoded_change_rules}
+pub use Rattle.oberon_format.specs.inner.Tested.{HasPageIds, IsSized, Meets, encoded_change_rules}

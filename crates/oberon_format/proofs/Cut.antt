@@ -1,5 +1,5 @@
 -- How long the file of a recording can be, and that a file that is cut after that many bytes has the first fault of the whole.
-use Rattle.oberon_format.proofs.Common.{[], ap, ap₂, arith, Bool, cases_lt, change_at, change_count, CHANGE_COUNT_AT, CHANGE_LEN, change_of, change_offset, CHANGES_AT, checkpoint_of, checkpoint_rules, checkpoint_size, CheckpointFields, checkpoints, CHECKPOINTS_AT, COUNTER_AT, drop, drop-take, each, eqb-true, EVENT_LEN, event_of, event_offset, event_start, events, EVENTS_AT, false, Fields, fields_of, first_broken, first_fault_of, FIRST_VERSION, FLAGS_AT, HEADER_LEN, if◌then◌else◌, inl, inr, KEYS_AT, KIND_AT, LAST_AT, later_word, le-leb, LEDS_AT, length, length-take, List, little_from-take, long_at, LONGEST_TEXT, MAGIC_AT, MAX_OUTPUT, MOUSE_AT, named_len, nat_le, ne_eqb, None, number_after, NUMBER_AT, number_before, page_number_of, page_number_offset, PAGES_AT, PHASE_AT, PLACES, RATE_AT, RecordingParts, refl, SENT_AT, sent_below, SERIAL_AT, slice_range, Some, start, STOP_AT, subst, suc, SWITCHES_AT, sym, take, take-take, Text, total, true, VALUE_AT, version, VERSION_AT, WAITING_AT, whole, word_at, zero, ℕ, ◌*◌, ◌+◌, ◌-◌, ◌<◌, ◌==◌, ◌∙◌, ◌∷◌, ◌≡◌, ◌≤◌}
+use Rattle.oberon_format.proofs.Common.{[], ap, ap₂, arith, Bool, cases_lt, change_at, change_count, CHANGE_COUNT_AT, CHANGE_LEN, change_of, change_offset, CHANGES_AT, checkpoint_of, checkpoint_rules, checkpoint_size, CheckpointFields, checkpoints, CHECKPOINTS_AT, COUNTER_AT, drop, drop-take, each, eqb-true, EVENT_LEN, event_of, event_offset, event_start, events, EVENTS_AT, false, Fields, fields_of, first_broken, first_fault_of, FIRST_VERSION, FLAGS_AT, HEADER_LEN, if◌then◌else◌, inl, inr, KEYS_AT, KIND_AT, LAST_AT, word_since_2, le-leb, LEDS_AT, length, length-take, List, little_from-take, long_at, LONGEST_TEXT, MAGIC_AT, MAX_OUTPUT, MOUSE_AT, named_len, nat_le, ne_eqb, None, page_id_after, PAGE_ID_AT, page_id_before, page_id_of, page_id_offset, PAGES_AT, PHASE_AT, PAGE_SLOTS, RATE_AT, RecordingParts, refl, SENT_AT, sent_below, SERIAL_AT, slice_range, Some, start, STOP_AT, subst, suc, SWITCHES_AT, sym, take, take-take, Text, total, true, VALUE_AT, version, VERSION_AT, WAITING_AT, file_len, word_at, zero, ℕ, ◌*◌, ◌+◌, ◌-◌, ◌<◌, ◌==◌, ◌∙◌, ◌∷◌, ◌≡◌, ◌≤◌}
 use Rattle.oberon_format.proofs.ChangeLemmas.{after-same}
 use Rattle.oberon_format.proofs.Encoded.{length-encoding}
 use Rattle.oberon_format.proofs.LawfulLemmas.{lawful_formed}
@@ -10,77 +10,77 @@ use Rattle.oberon_format.proofs.SameFields.{AreFew, Same, SameCheckpoint, SameFi
 use Rattle.oberon_format.specs.declared.fault.Fault.TheVariants as fault
 
 -- numbers in bytes before the cut
-word_at-take : (n : ℕ) (text : List ℕ) (offset : ℕ) → offset + 4 ≤ n → word_at (take n text) offset ≡ word_at text offset
+word_at-take : (n : ℕ) (bytes : List ℕ) (offset : ℕ) → offset + 4 ≤ n → word_at (take n bytes) offset ≡ word_at bytes offset
 unfolding word_at
-word_at-take n text offset within = little_from-take offset 4 n text within
+word_at-take n bytes offset within = little_from-take offset 4 n bytes within
 
-long_at-take : (n : ℕ) (text : List ℕ) (offset : ℕ) → offset + 8 ≤ n → long_at (take n text) offset ≡ long_at text offset
+long_at-take : (n : ℕ) (bytes : List ℕ) (offset : ℕ) → offset + 8 ≤ n → long_at (take n bytes) offset ≡ long_at bytes offset
 unfolding long_at
-long_at-take n text offset within = little_from-take offset 8 n text within
+long_at-take n bytes offset within = little_from-take offset 8 n bytes within
 
-event_of-take : (n : ℕ) (text : List ℕ) (offset : ℕ) → offset + EVENT_LEN ≤ n → event_of (take n text) offset ≡ event_of text offset
-event_of-take n text offset within =
-    let count = long_at-take n text offset (omega arith) in
-    let kind = word_at-take n text (offset + KIND_AT) (omega arith) in
-    let value = word_at-take n text (offset + VALUE_AT) (omega arith) in
+event_of-take : (n : ℕ) (bytes : List ℕ) (offset : ℕ) → offset + EVENT_LEN ≤ n → event_of (take n bytes) offset ≡ event_of bytes offset
+event_of-take n bytes offset within =
+    let count = long_at-take n bytes offset (omega arith) in
+    let kind = word_at-take n bytes (offset + KIND_AT) (omega arith) in
+    let value = word_at-take n bytes (offset + VALUE_AT) (omega arith) in
     rw (count, kind, value) refl
 
-slice_range-take : (n : ℕ) (text : List ℕ) (from to : ℕ) → to ≤ n → slice_range (take n text) from to ≡ slice_range text from to
-slice_range-take n text from to within =
+slice_range-take : (n : ℕ) (bytes : List ℕ) (from to : ℕ) → to ≤ n → slice_range (take n bytes) from to ≡ slice_range bytes from to
+slice_range-take n bytes from to within =
     elim (cases_lt n from) [
       | inl past ↦ let none : to - from ≡ 0 = omega arith in rw none refl
       | inr here ↦
           let split : n ≡ from + (n - from) = omega arith in
-          ap (λ m. take (to - from) (drop from (take m text))) split ∙ ap (take (to - from)) (drop-take from (n - from) text)
-          ∙ take-take (to - from) (n - from) (drop from text) (omega arith)
+          ap (λ m. take (to - from) (drop from (take m bytes))) split ∙ ap (take (to - from)) (drop-take from (n - from) bytes)
+          ∙ take-take (to - from) (n - from) (drop from bytes) (omega arith)
     ]
 
 -- a file that is cut after the header has the version of the whole
-version-take : (n : ℕ) (text : List ℕ) → LONGEST_TEXT < n → version (take n text) ≡ version text
-version-take n text over = word_at-take n text VERSION_AT (omega arith)
+version-take : (n : ℕ) (bytes : List ℕ) → LONGEST_TEXT < n → version (take n bytes) ≡ version bytes
+version-take n bytes over = word_at-take n bytes VERSION_AT (omega arith)
 
-later_word-take : (n : ℕ) (text : List ℕ) (offset : ℕ) → LONGEST_TEXT < n → offset + 4 ≤ n → later_word (take n text) offset ≡ later_word text offset
-later_word-take n text offset over within =
-    ap₂ (λ (v word : ℕ). if v == FIRST_VERSION then 0 else word) (version-take n text over) (word_at-take n text offset within)
+word_since_2-take : (n : ℕ) (bytes : List ℕ) (offset : ℕ) → LONGEST_TEXT < n → offset + 4 ≤ n → word_since_2 (take n bytes) offset ≡ word_since_2 bytes offset
+word_since_2-take n bytes offset over within =
+    ap₂ (λ (v word : ℕ). if v == FIRST_VERSION then 0 else word) (version-take n bytes over) (word_at-take n bytes offset within)
 
-checkpoint_of-take : (n : ℕ) (text : List ℕ) (offset : ℕ) → LONGEST_TEXT < n → offset + CHANGES_AT ≤ n → checkpoint_of (take n text) offset ≡ checkpoint_of text offset
-checkpoint_of-take n text offset over within =
+checkpoint_of-take : (n : ℕ) (bytes : List ℕ) (offset : ℕ) → LONGEST_TEXT < n → offset + CHANGES_AT ≤ n → checkpoint_of (take n bytes) offset ≡ checkpoint_of bytes offset
+checkpoint_of-take n bytes offset over within =
     λ i. record {
-      count = long_at-take n text offset (omega arith) i;
-      pc = word_at-take n text (offset + COUNTER_AT) (omega arith) i;
-      flags = word_at-take n text (offset + FLAGS_AT) (omega arith) i;
-      stop = word_at-take n text (offset + STOP_AT) (omega arith) i;
-      switches = word_at-take n text (offset + SWITCHES_AT) (omega arith) i;
-      leds = word_at-take n text (offset + LEDS_AT) (omega arith) i;
-      mouse = word_at-take n text (offset + MOUSE_AT) (omega arith) i;
-      serial = word_at-take n text (offset + SERIAL_AT) (omega arith) i;
-      waiting = word_at-take n text (offset + WAITING_AT) (omega arith) i;
-      keys = slice_range-take n text (offset + KEYS_AT) (offset + SENT_AT) (omega arith) i;
-      output = word_at-take n text (offset + SENT_AT) (omega arith) i;
-      rate = later_word-take n text (offset + RATE_AT) over (omega arith) i;
-      phase = later_word-take n text (offset + PHASE_AT) over (omega arith) i;
-      changes = later_word-take n text (offset + CHANGE_COUNT_AT) over (omega arith) i;
+      count = long_at-take n bytes offset (omega arith) i;
+      pc = word_at-take n bytes (offset + COUNTER_AT) (omega arith) i;
+      flags = word_at-take n bytes (offset + FLAGS_AT) (omega arith) i;
+      stop = word_at-take n bytes (offset + STOP_AT) (omega arith) i;
+      switches = word_at-take n bytes (offset + SWITCHES_AT) (omega arith) i;
+      leds = word_at-take n bytes (offset + LEDS_AT) (omega arith) i;
+      mouse = word_at-take n bytes (offset + MOUSE_AT) (omega arith) i;
+      serial = word_at-take n bytes (offset + SERIAL_AT) (omega arith) i;
+      waiting = word_at-take n bytes (offset + WAITING_AT) (omega arith) i;
+      keys = slice_range-take n bytes (offset + KEYS_AT) (offset + SENT_AT) (omega arith) i;
+      output = word_at-take n bytes (offset + SENT_AT) (omega arith) i;
+      rate = word_since_2-take n bytes (offset + RATE_AT) over (omega arith) i;
+      phase = word_since_2-take n bytes (offset + PHASE_AT) over (omega arith) i;
+      changes = word_since_2-take n bytes (offset + CHANGE_COUNT_AT) over (omega arith) i;
     }
 
-change_at-take : (n : ℕ) (text : List ℕ) (offset : ℕ) → offset + CHANGE_LEN ≤ n → change_at (take n text) offset ≡ change_at text offset
-change_at-take n text offset within =
-    let at = word_at-take n text offset (omega arith) in
-    let number = word_at-take n text (offset + NUMBER_AT) (omega arith) in
-    λ i. record { place = at i; number = number i }
+change_at-take : (n : ℕ) (bytes : List ℕ) (offset : ℕ) → offset + CHANGE_LEN ≤ n → change_at (take n bytes) offset ≡ change_at bytes offset
+change_at-take n bytes offset within =
+    let at = word_at-take n bytes offset (omega arith) in
+    let number = word_at-take n bytes (offset + PAGE_ID_AT) (omega arith) in
+    λ i. record { slot = at i; page_id = number i }
 
 -- how far a file reaches at most up to checkpoint k: no checkpoint is longer than one of version 2 that changes each slot
 abbrev most : List ℕ → ℕ → ℕ
-most text k = event_offset text (events text) + (CHANGES_AT + CHANGE_LEN * PLACES) * k
+most bytes k = event_offset bytes (events bytes) + (CHANGES_AT + CHANGE_LEN * PAGE_SLOTS) * k
 
 -- the length that the header asks for
-named_most : (text : List ℕ) → AreFew (fields_of text) → named_len (fields_of text) ≤ LONGEST_TEXT
-named_most text few = go (version text == FIRST_VERSION) refl
+named_most : (bytes : List ℕ) → AreFew (fields_of bytes) → named_len (fields_of bytes) ≤ LONGEST_TEXT
+named_most bytes few = go (version bytes == FIRST_VERSION) refl
   where
-    go : (b : Bool) → (version text == FIRST_VERSION) ≡ b → named_len (fields_of text) ≤ LONGEST_TEXT
-    go true is = omega (arith, few.pages, few.events, few.checkpoints, start_none text, named_first text (eqb-true (version text) FIRST_VERSION is))
+    go : (b : Bool) → (version bytes == FIRST_VERSION) ≡ b → named_len (fields_of bytes) ≤ LONGEST_TEXT
+    go true is = omega (arith, few.pages, few.events, few.checkpoints, start_none bytes, named_first bytes (eqb-true (version bytes) FIRST_VERSION is))
     go false is =
-        let named : named_len (fields_of text) ≡ start text 0 = rw is refl in
-        omega (arith, few.pages, few.events, start_none text)
+        let named : named_len (fields_of bytes) ≡ start bytes 0 = rw is refl in
+        omega (arith, few.pages, few.events, start_none bytes)
 
 -- a file is longer than it must be
 too_long : (end long : ℕ) → end < long → first_broken ((nat_le end long, fault.Short long) ∷ (long == end, fault.Trailing end) ∷ []) ≡ Some (fault.Trailing end)
@@ -97,89 +97,89 @@ both_long f g m n over over' low low' =
     rw (there, there') refl
 
 -- a cut file, and the whole
-module _ (n : ℕ) (text : List ℕ) (over : LONGEST_TEXT < n) (within : n ≤ length text) where
+module _ (n : ℕ) (bytes : List ℕ) (over : LONGEST_TEXT < n) (within : n ≤ length bytes) where
   abbrev cut : List ℕ
-  cut = take n text
+  cut = take n bytes
 
   abbrev f : Fields
   f = fields_of cut
 
   abbrev g : Fields
-  g = fields_of text
+  g = fields_of bytes
 
   long : length cut ≡ n
   long = simp length-take (omega arith)
 
   -- checkpoint k begins no later than it may, and all before it agrees
   record Below (k : ℕ) : Type 0 where
-    place : start cut k ≡ start text k
-    near : start text k ≤ most text k
+    begins : start cut k ≡ start bytes k
+    near : start bytes k ≤ most bytes k
     sent : sent_below g k ≤ MAX_OUTPUT
-    numbers : (p : ℕ) → p < PLACES → number_before cut k p ≡ number_before text k p
+    numbers : (p : ℕ) → p < PAGE_SLOTS → page_id_before cut k p ≡ page_id_before bytes k p
 
   begins : Below 0
-  unfolding start total number_before
+  unfolding start total page_id_before
   begins = record {
-    place = ap₂ event_start (word_at-take n text PAGES_AT (omega arith)) (word_at-take n text EVENTS_AT (omega arith));
+    begins = ap₂ event_start (word_at-take n bytes PAGES_AT (omega arith)) (word_at-take n bytes EVENTS_AT (omega arith));
     near = omega arith;
     sent = omega arith;
     numbers = λ p inside. refl;
   }
 
-  module _ (few : AreFew g) (k : ℕ) (less : k < checkpoints text) (below : Below k) where
+  module _ (few : AreFew g) (k : ℕ) (less : k < checkpoints bytes) (below : Below k) where
     -- there is room for the longest checkpoint
-    room : start text k + (CHANGES_AT + CHANGE_LEN * PLACES) ≤ LONGEST_TEXT
+    room : start bytes k + (CHANGES_AT + CHANGE_LEN * PAGE_SLOTS) ≤ LONGEST_TEXT
     room = omega (arith, few.pages, few.events, few.checkpoints, below.near)
 
     -- what is in checkpoint k
     fields_here : f.checkpoint k ≡ g.checkpoint k
-    fields_here = ap (checkpoint_of cut) below.place ∙ checkpoint_of-take n text (start text k) over (omega (arith, room))
+    fields_here = ap (checkpoint_of cut) below.begins ∙ checkpoint_of-take n bytes (start bytes k) over (omega (arith, room))
 
-    count_here : change_count cut (start cut k) ≡ change_count text (start text k)
+    count_here : change_count cut (start cut k) ≡ change_count bytes (start bytes k)
     count_here = ap (λ (c : CheckpointFields). c.changes) fields_here
 
-    change_here : (i : ℕ) → i < PLACES → f.change k i ≡ g.change k i
-    change_here i inside = ap (λ (offset : ℕ). change_of cut offset i) below.place ∙ change_at-take n text (change_offset (start text k) i) (omega (arith, room))
+    change_here : (i : ℕ) → i < PAGE_SLOTS → f.change k i ≡ g.change k i
+    change_here i inside = ap (λ (offset : ℕ). change_of cut offset i) below.begins ∙ change_at-take n bytes (change_offset (start bytes k) i) (omega (arith, room))
 
     -- the offset of the next checkpoint
-    next_start : start cut (suc k) ≡ start text (suc k)
+    next_start : start cut (suc k) ≡ start bytes (suc k)
     unfolding start
-    next_start = ap₂ (λ (offset size : ℕ). offset + size) below.place (ap₂ checkpoint_size (version-take n text over) count_here)
+    next_start = ap₂ (λ (offset size : ℕ). offset + size) below.begins (ap₂ checkpoint_size (version-take n bytes over) count_here)
 
-    module _ (few_changes : change_count text (start text k) ≤ PLACES) where
-      near_next : start text (suc k) ≤ most text (suc k)
+    module _ (few_changes : change_count bytes (start bytes k) ≤ PAGE_SLOTS) where
+      near_next : start bytes (suc k) ≤ most bytes (suc k)
       unfolding start
-      near_next = omega (arith, below.near, size_few (version text) (change_count text (start text k)) few_changes)
+      near_next = omega (arith, below.near, size_few (version bytes) (change_count bytes (start bytes k)) few_changes)
 
       -- its page ids, in version 2 and in either
-      changed_here : (p : ℕ) → p < PLACES → number_before cut (suc k) p ≡ number_before text (suc k) p
-      unfolding number_before
+      changed_here : (p : ℕ) → p < PAGE_SLOTS → page_id_before cut (suc k) p ≡ page_id_before bytes (suc k) p
+      unfolding page_id_before
       changed_here p inside =
-          ap (λ (m : ℕ). number_after (change_of cut (start cut k)) (number_before cut k) m p) count_here
-          ∙ after-same (change_of cut (start cut k)) (change_of text (start text k)) (number_before cut k) (number_before text k) (change_count text (start text k)) p
+          ap (λ (m : ℕ). page_id_after (change_of cut (start cut k)) (page_id_before cut k) m p) count_here
+          ∙ after-same (change_of cut (start cut k)) (change_of bytes (start bytes k)) (page_id_before cut k) (page_id_before bytes k) (change_count bytes (start bytes k)) p
           (λ i under. change_here i (omega arith)) (below.numbers p inside)
 
-      number_here : (p : ℕ) → p < PLACES → page_number_of cut k p ≡ page_number_of text k p
+      number_here : (p : ℕ) → p < PAGE_SLOTS → page_id_of cut k p ≡ page_id_of bytes k p
       number_here p inside =
-          let own = ap (λ (offset : ℕ). word_at cut (page_number_offset offset p)) below.place ∙ word_at-take n text (page_number_offset (start text k) p) (omega (arith, room)) in
-          let version_here = version-take n text over in let changed = changed_here p inside in
+          let own = ap (λ (offset : ℕ). word_at cut (page_id_offset offset p)) below.begins ∙ word_at-take n bytes (page_id_offset (start bytes k) p) (omega (arith, room)) in
+          let version_here = version-take n bytes over in let changed = changed_here p inside in
           λ i. if version_here i == FIRST_VERSION then own i else changed i
 
     -- what rules look at in it
     here : SameCheckpoint f g k
     here =
-        let at = below.place in
+        let at = below.begins in
         record {
-          room = both_long f g (start cut k + CHANGES_AT) (start text k + CHANGES_AT) (omega (arith, long)) (omega arith) (omega (arith, room)) (omega (arith, room));
+          room = both_long f g (start cut k + CHANGES_AT) (start bytes k + CHANGES_AT) (omega (arith, long)) (omega arith) (omega (arith, room)) (omega (arith, room));
           fields = fields_here;
           rest = λ few_changes.
-              let next = next_start in let size = size_few (version text) (change_count text (start text k)) few_changes in
-              let more = start_next text k in
+              let next = next_start in let size = size_few (version bytes) (change_count bytes (start bytes k)) few_changes in
+              let more = start_next bytes k in
               record {
                 next = next;
-                ends = both_long f g (start cut (suc k)) (start text (suc k)) (omega (arith, long)) (omega arith) (omega (arith, room)) (omega (arith, room));
+                ends = both_long f g (start cut (suc k)) (start bytes (suc k)) (omega (arith, long)) (omega arith) (omega (arith, room)) (omega (arith, room));
                 change = λ i under. change_here i (omega arith);
-                page_number = number_here few_changes;
+                page_id = number_here few_changes;
               };
         }
 
@@ -188,10 +188,10 @@ module _ (n : ℕ) (text : List ℕ) (over : LONGEST_TEXT < n) (within : n ≤ l
     unfolding total
     next met =
         let ranges = fields_hold g k met in
-        record { place = next_start; near = near_next ranges.changes; sent = ranges.within; numbers = changed_here ranges.changes }
+        record { begins = next_start; near = near_next ranges.changes; sent = ranges.within; numbers = changed_here ranges.changes }
 
   -- so all before each checkpoint agrees, if the rules of those before it are met
-  below_met : AreFew g → (k : ℕ) → k ≤ checkpoints text → first_broken (each k (checkpoint_rules g)) ≡ None → Below k
+  below_met : AreFew g → (k : ℕ) → k ≤ checkpoints bytes → first_broken (each k (checkpoint_rules g)) ≡ None → Below k
   unfolding each
   below_met few zero le met = begins
   below_met few (suc k) le met =
@@ -200,57 +200,57 @@ module _ (n : ℕ) (text : List ℕ) (over : LONGEST_TEXT < n) (within : n ≤ l
 
   few_cut : AreFew g → AreFew f
   few_cut few =
-      let of_pages = word_at-take n text PAGES_AT (omega arith) in
-      let of_events = word_at-take n text EVENTS_AT (omega arith) in
-      let of_checkpoints = word_at-take n text CHECKPOINTS_AT (omega arith) in
+      let of_pages = word_at-take n bytes PAGES_AT (omega arith) in
+      let of_events = word_at-take n bytes EVENTS_AT (omega arith) in
+      let of_checkpoints = word_at-take n bytes CHECKPOINTS_AT (omega arith) in
       record { pages = omega (arith, few.pages); events = omega (arith, few.events); checkpoints = omega (arith, few.checkpoints) }
 
-  event_same : AreFew g → (i : ℕ) → i < events text → f.event i ≡ g.event i
+  event_same : AreFew g → (i : ℕ) → i < events bytes → f.event i ≡ g.event i
   event_same few i less =
-      let of_pages = word_at-take n text PAGES_AT (omega arith) in
-      event_of-take n text (event_offset cut i) (omega (arith, few.pages, few.events)) ∙ ap (λ (p : ℕ). event_of text (event_start p i)) of_pages
+      let of_pages = word_at-take n bytes PAGES_AT (omega arith) in
+      event_of-take n bytes (event_offset cut i) (omega (arith, few.pages, few.events)) ∙ ap (λ (p : ℕ). event_of bytes (event_start p i)) of_pages
 
   agree : SameFields f g
   agree = record {
-    first = word_at-take n text MAGIC_AT (omega arith);
-    version = version-take n text over;
-    pages = word_at-take n text PAGES_AT (omega arith);
-    events = word_at-take n text EVENTS_AT (omega arith);
-    checkpoints = word_at-take n text CHECKPOINTS_AT (omega arith);
-    last = word_at-take n text LAST_AT (omega arith);
+    first = word_at-take n bytes MAGIC_AT (omega arith);
+    version = version-take n bytes over;
+    pages = word_at-take n bytes PAGES_AT (omega arith);
+    events = word_at-take n bytes EVENTS_AT (omega arith);
+    checkpoints = word_at-take n bytes CHECKPOINTS_AT (omega arith);
+    last = word_at-take n bytes LAST_AT (omega arith);
     header = both_long f g HEADER_LEN HEADER_LEN (omega (arith, long)) (omega arith) (omega arith) (omega arith);
     parts = λ few. record {
       named = both_long f g (named_len (mixed f g)) (named_len g) (omega (arith, long)) (omega arith)
           (subst (λ (m : ℕ). m ≤ LONGEST_TEXT)
-          (ap₂ (λ (v k : ℕ). if v == FIRST_VERSION then start cut k else start cut 0) (version-take n text over) (word_at-take n text CHECKPOINTS_AT (omega arith)))
+          (ap₂ (λ (v k : ℕ). if v == FIRST_VERSION then start cut k else start cut 0) (version-take n bytes over) (word_at-take n bytes CHECKPOINTS_AT (omega arith)))
           (named_most cut (few_cut few)))
-          (named_most text few);
+          (named_most bytes few);
       event = event_same few;
-      start = begins.place;
+      start = begins.begins;
       checkpoint = λ k less met. here few k less (below_met few k (omega arith) met);
       ends = λ met so_far.
-          let below = below_met few (checkpoints text) (omega arith) met in
+          let below = below_met few (checkpoints bytes) (omega arith) met in
           let end = so_far.start in let sent = so_far.sent in
-          let bounds : (start text (checkpoints text) + sent_below g (checkpoints text)) ≤ LONGEST_TEXT = omega (arith, few.pages, few.events, few.checkpoints, below.near, below.sent) in
-          too_long (start cut (checkpoints text) + sent_below f (checkpoints text)) (length cut) (omega (arith, long))
-          ∙ ap₂ (λ (a b : ℕ). Some (fault.Trailing (a + b))) end sent ∙ sym (too_long (whole g) (length text) (omega arith));
+          let bounds : (start bytes (checkpoints bytes) + sent_below g (checkpoints bytes)) ≤ LONGEST_TEXT = omega (arith, few.pages, few.events, few.checkpoints, below.near, below.sent) in
+          too_long (start cut (checkpoints bytes) + sent_below f (checkpoints bytes)) (length cut) (omega (arith, long))
+          ∙ ap₂ (λ (a b : ℕ). Some (fault.Trailing (a + b))) end sent ∙ sym (too_long (file_len g) (length bytes) (omega arith));
     };
   }
 
 -- a file that is cut there has the first fault of the whole
-pub first_fault_of-take : (n : ℕ) (text : List ℕ) → LONGEST_TEXT < n → n ≤ length text → first_fault_of (take n text) ≡ first_fault_of text
-first_fault_of-take n text over within = same_rules (fields_of (take n text)) (fields_of text) (agree n text over within)
+pub first_fault_of-take : (n : ℕ) (bytes : List ℕ) → LONGEST_TEXT < n → n ≤ length bytes → first_fault_of (take n bytes) ≡ first_fault_of bytes
+first_fault_of-take n bytes over within = same_rules (fields_of (take n bytes)) (fields_of bytes) (agree n bytes over within)
 
 -- the longest file has a header, 65,536 pages, 1,000,000 events, 4,097 checkpoints that change each
 -- slot of the table, and the output
-pub text_within : (text : List ℕ) (r : RecordingParts) → Text text r → length text ≤ LONGEST_TEXT
-text_within text r some =
+pub text_within : (bytes : List ℕ) (r : RecordingParts) → Text bytes r → length bytes ≤ LONGEST_TEXT
+text_within bytes r some =
     let lawful = some.is.lawful in
     let long = ap (λ (l : List ℕ). length l) some.is.is ∙ length-encoding some.version r lawful.pool (lawful_formed r lawful) in
     omega (arith, start_in_within some.version r (length r.checkpoints), lawful.pages, lawful.events, lawful.few, lawful.output)
 
 -- so no file of a recording is cut there
-pub cut_is_no_text : (n : ℕ) (text : List ℕ) (r : RecordingParts) → LONGEST_TEXT < n → n ≤ length text → Text (take n text) r → ⊥
-cut_is_no_text n text r over within is =
-    let short : length (take n text) ≤ LONGEST_TEXT = text_within (take n text) r is in
+pub cut_is_no_text : (n : ℕ) (bytes : List ℕ) (r : RecordingParts) → LONGEST_TEXT < n → n ≤ length bytes → Text (take n bytes) r → ⊥
+cut_is_no_text n bytes r over within is =
+    let short : length (take n bytes) ≤ LONGEST_TEXT = text_within (take n bytes) r is in
     omega (arith, simp length-take at short)

@@ -1,5 +1,5 @@
 -- The parts of an encoding at their offsets.
-use Rattle.oberon_format.proofs.Common.{[], All-from_recursion, ap, AreFormed, ArePages, AreWritable, arith, Bool, cases_lt, Change, change_bytes, CHANGE_LEN, changes, CHANGES_AT, changes_in, checkpoint_at, checkpoint_bytes, CHECKPOINT_LEN, checkpoint_size, CheckpointParts, checkpoints_bytes, common_bytes, COMMON_LEN, cond, DeviceState, drop, drop_at, EachAt, encoding, Event, event_bytes, EVENT_LEN, event_start, false, field_words, FIRST_VERSION, flat_map, get_or, get_or_default, header_bytes, HEADER_LEN, inl, inr, is_phase, is_version, IsFormed, IsLawful, IsPhase, IsTable, IsWritable, key_bytes, later_words, length, length-append, length-replicate, List, MAGIC, MAX_KEYS, mouse_word_fits, nat_tests, no_change, no_checkpoint, output_of, PAGE_LEN, page_offset, RecordingParts, refl, start_in, subst, suc, sym, table_before, tail_bytes, take, take-append-drop, TextIn, true, VERSION, words_bytes, zero, ℕ, ◌*◌, ◌++◌, ◌+◌, ◌<◌, ◌==◌, ◌^◌, ◌∙◌, ◌∷◌, ◌≡◌, ◌≤◌}
+use Rattle.oberon_format.proofs.Common.{[], All-from_recursion, ap, AreFormed, ArePages, AreWritable, arith, Bool, cases_lt, Change, change_bytes, CHANGE_LEN, changes, CHANGES_AT, changes_in, checkpoint_at, checkpoint_bytes, CHECKPOINT_LEN, checkpoint_size, CheckpointParts, checkpoints_bytes, common_bytes, COMMON_LEN, cond, DeviceState, drop, drop_at, EachAt, encoding, Event, event_bytes, EVENT_LEN, event_start, false, field_words, FIRST_VERSION, flat_map, get_or, get_or_default, header_bytes, HEADER_LEN, inl, inr, is_phase, is_version, IsFormed, IsLawful, IsPhase, IsTable, IsWritable, key_bytes, tail_words, length, length-append, length-replicate, List, MAGIC, MAX_KEYS, mouse_word_fits, nat_tests, no_change, no_checkpoint, output_of, PAGE_LEN, page_offset, RecordingParts, refl, start_in, subst, suc, sym, table_before, tail_bytes, take, take-append-drop, TextIn, true, VERSION, words_bytes, zero, ℕ, ◌*◌, ◌++◌, ◌+◌, ◌<◌, ◌==◌, ◌^◌, ◌∙◌, ◌∷◌, ◌≡◌, ◌≤◌}
 use Rattle.oberon_format.proofs.Bytes.{AreWide, HasBytes, HaveLength, bytes_whole, bytes_join, bytes_left, bytes_right, length-long_bytes, length-parts, length-word_bytes, length-words_bytes, parts_back, parts_read}
 use Rattle.oberon_format.proofs.ChangeLemmas.{change_in, changes-lawful, changes-new}
 use Rattle.oberon_format.proofs.LawfulLemmas.{flags_fit, lawful_formed, serial_fits}
@@ -34,7 +34,7 @@ length-common_bytes c formed =
 pub length-checkpoint_bytes : (v : ℕ) (before : List ℕ) (c : CheckpointParts) → IsFormed c → length (checkpoint_bytes v before c) ≡ checkpoint_size v (changes_in v before c)
 unfolding checkpoint_bytes tail_bytes
 length-checkpoint_bytes v before c formed = go (v == FIRST_VERSION) where
-  go : (b : Bool) → length (common_bytes c ++ cond b (words_bytes c.table) (words_bytes (later_words before c) ++ flat_map change_bytes (changes before c.table)))
+  go : (b : Bool) → length (common_bytes c ++ cond b (words_bytes c.table) (words_bytes (tail_words before c) ++ flat_map change_bytes (changes before c.table)))
       ≡ cond b CHECKPOINT_LEN (CHANGES_AT + CHANGE_LEN * cond b 0 (length (changes before c.table)))
   go true =
       let front = length-common_bytes c formed in let table = formed.table.count in
@@ -49,12 +49,12 @@ abbrev pub bytes_of : ℕ → RecordingParts → ℕ → List ℕ
 bytes_of v r k = checkpoint_bytes v (table_before r.checkpoints k) (checkpoint_at r k)
 
 -- parts are in a file at the offsets that they have in an encoding
-pub record AreAt (v : ℕ) (text : List ℕ) (r : RecordingParts) : Type 0 where
-  pub header : HasBytes text 0 (header_bytes v r)
-  pub pages : EachAt (λ p page. HasBytes text (page_offset p) (words_bytes page)) r.pool
-  pub events : EachAt (λ i e. HasBytes text (event_start (length r.pool) i) (event_bytes e)) r.inputs
-  pub checkpoints : (k : ℕ) → k < length r.checkpoints → HasBytes text (start_in v r k) (bytes_of v r k)
-  pub output : drop (start_in v r (length r.checkpoints)) text ≡ output_of r.checkpoints
+pub record AreAt (v : ℕ) (bytes : List ℕ) (r : RecordingParts) : Type 0 where
+  pub header : HasBytes bytes 0 (header_bytes v r)
+  pub pages : EachAt (λ p page. HasBytes bytes (page_offset p) (words_bytes page)) r.pool
+  pub events : EachAt (λ i e. HasBytes bytes (event_start (length r.pool) i) (event_bytes e)) r.inputs
+  pub checkpoints : (k : ℕ) → k < length r.checkpoints → HasBytes bytes (start_in v r k) (bytes_of v r k)
+  pub output : drop (start_in v r (length r.checkpoints)) bytes ≡ output_of r.checkpoints
 
 module _ (v : ℕ) (r : RecordingParts) (paged : ArePages r.pool) (formed : AreFormed r.checkpoints) where
   abbrev H : List ℕ
@@ -77,27 +77,27 @@ module _ (v : ℕ) (r : RecordingParts) (paged : ArePages r.pool) (formed : AreF
       let so_far = length-blocks n (omega arith) in
       omega (arith, length-checkpoint_bytes v (table_before r.checkpoints n) (checkpoint_at r n) (formed n no_checkpoint (omega arith)), length-append (checkpoints_bytes v r.checkpoints n) (bytes_of v r n))
 
-  blocks_read : (text : List ℕ) (n : ℕ) → n ≤ length r.checkpoints → HasBytes text (start_in v r 0) (checkpoints_bytes v r.checkpoints n)
-      → (k : ℕ) → k < n → HasBytes text (start_in v r k) (bytes_of v r k)
+  blocks_read : (bytes : List ℕ) (n : ℕ) → n ≤ length r.checkpoints → HasBytes bytes (start_in v r 0) (checkpoints_bytes v r.checkpoints n)
+      → (k : ℕ) → k < n → HasBytes bytes (start_in v r k) (bytes_of v r k)
   unfolding checkpoints_bytes
-  blocks_read text zero le s k lt = absurd (omega arith)
-  blocks_read text (suc n) le s k lt =
+  blocks_read bytes zero le s k lt = absurd (omega arith)
+  blocks_read bytes (suc n) le s k lt =
       let so_far = checkpoints_bytes v r.checkpoints n in
       elim (cases_lt k n) [
-        | inl less ↦ blocks_read text n (omega arith) (bytes_left text (start_in v r 0) so_far (bytes_of v r n) s) k less
+        | inl less ↦ blocks_read bytes n (omega arith) (bytes_left bytes (start_in v r 0) so_far (bytes_of v r n) s) k less
         | inr more ↦
             let e : n ≡ k = omega arith in
-            subst (λ (i : ℕ). HasBytes text (start_in v r i) (bytes_of v r i)) e
-            (bytes_right text (start_in v r 0) (start_in v r n) so_far (bytes_of v r n) (length-blocks n (omega arith)) s)
+            subst (λ (i : ℕ). HasBytes bytes (start_in v r i) (bytes_of v r i)) e
+            (bytes_right bytes (start_in v r 0) (start_in v r n) so_far (bytes_of v r n) (length-blocks n (omega arith)) s)
       ]
 
-  blocks_back : (text : List ℕ) (n : ℕ) → n ≤ length r.checkpoints → ((k : ℕ) → k < n → HasBytes text (start_in v r k) (bytes_of v r k))
-      → HasBytes text (start_in v r 0) (checkpoints_bytes v r.checkpoints n)
+  blocks_back : (bytes : List ℕ) (n : ℕ) → n ≤ length r.checkpoints → ((k : ℕ) → k < n → HasBytes bytes (start_in v r k) (bytes_of v r k))
+      → HasBytes bytes (start_in v r 0) (checkpoints_bytes v r.checkpoints n)
   unfolding checkpoints_bytes
-  blocks_back text zero le each = record { is = refl }
-  blocks_back text (suc n) le each =
-      bytes_join text (start_in v r 0) (start_in v r n) (checkpoints_bytes v r.checkpoints n) (bytes_of v r n) (length-blocks n (omega arith))
-      (blocks_back text n (omega arith) (λ k lt. each k (omega arith))) (each n (omega arith))
+  blocks_back bytes zero le each = record { is = refl }
+  blocks_back bytes (suc n) le each =
+      bytes_join bytes (start_in v r 0) (start_in v r n) (checkpoints_bytes v r.checkpoints n) (bytes_of v r n) (length-blocks n (omega arith))
+      (blocks_back bytes n (omega arith) (λ k lt. each k (omega arith))) (each n (omega arith))
 
   -- where each group of parts ends
   record Ends : Type 0 where
@@ -118,16 +118,16 @@ module _ (v : ℕ) (r : RecordingParts) (paged : ArePages r.pool) (formed : AreF
   pub encoding_parts : AreAt v (encoding v r) r
   unfolding encoding
   encoding_parts =
-      let text = H ++ P ++ E ++ C ++ output_of r.checkpoints in
-      let s4 = bytes_left text 0 (H ++ P ++ E ++ C) (output_of r.checkpoints) (bytes_whole text) in
-      let s3 = bytes_left text 0 (H ++ P ++ E) C s4 in
-      let s2 = bytes_left text 0 (H ++ P) E s3 in
+      let bytes = H ++ P ++ E ++ C ++ output_of r.checkpoints in
+      let s4 = bytes_left bytes 0 (H ++ P ++ E ++ C) (output_of r.checkpoints) (bytes_whole bytes) in
+      let s3 = bytes_left bytes 0 (H ++ P ++ E) C s4 in
+      let s2 = bytes_left bytes 0 (H ++ P) E s3 in
       record {
-        header = bytes_left text 0 H P s2;
-        pages = parts_read words_bytes PAGE_LEN text HEADER_LEN r.pool (length-pages r.pool paged) (bytes_right text 0 HEADER_LEN H P (omega (arith, length-header_bytes v r)) s2);
-        events = parts_read event_bytes EVENT_LEN text (page_offset (length r.pool)) r.inputs (length-events r.inputs)
-            (bytes_right text 0 (page_offset (length r.pool)) (H ++ P) E (omega (arith, ends.pages)) s3);
-        checkpoints = blocks_read text (length r.checkpoints) (omega arith) (bytes_right text 0 (start_in v r 0) (H ++ P ++ E) C (omega (arith, ends.events)) s4);
+        header = bytes_left bytes 0 H P s2;
+        pages = parts_read words_bytes PAGE_LEN bytes HEADER_LEN r.pool (length-pages r.pool paged) (bytes_right bytes 0 HEADER_LEN H P (omega (arith, length-header_bytes v r)) s2);
+        events = parts_read event_bytes EVENT_LEN bytes (page_offset (length r.pool)) r.inputs (length-events r.inputs)
+            (bytes_right bytes 0 (page_offset (length r.pool)) (H ++ P) E (omega (arith, ends.pages)) s3);
+        checkpoints = blocks_read bytes (length r.checkpoints) (omega arith) (bytes_right bytes 0 (start_in v r 0) (H ++ P ++ E) C (omega (arith, ends.events)) s4);
         output = drop_at (H ++ P ++ E ++ C) (output_of r.checkpoints) (start_in v r (length r.checkpoints)) (sym ends.checkpoints);
       }
 
@@ -137,17 +137,17 @@ module _ (v : ℕ) (r : RecordingParts) (paged : ArePages r.pool) (formed : AreF
   length-encoding = let all = ends.checkpoints in omega (arith, length-append (H ++ P ++ E ++ C) (output_of r.checkpoints))
 
   -- a file in which they are is the encoding
-  pub parts_encoding : (text : List ℕ) → AreAt v text r → text ≡ encoding v r
+  pub parts_encoding : (bytes : List ℕ) → AreAt v bytes r → bytes ≡ encoding v r
   unfolding encoding
-  parts_encoding text are =
+  parts_encoding bytes are =
       let n = start_in v r (length r.checkpoints) in
-      let p = parts_back words_bytes PAGE_LEN text HEADER_LEN r.pool (length-pages r.pool paged) are.pages in
-      let e = parts_back event_bytes EVENT_LEN text (page_offset (length r.pool)) r.inputs (length-events r.inputs) are.events in
-      let c = blocks_back text (length r.checkpoints) (omega arith) are.checkpoints in
-      let hp = bytes_join text 0 HEADER_LEN H P (omega (arith, length-header_bytes v r)) are.header p in
-      let hpe = bytes_join text 0 (page_offset (length r.pool)) (H ++ P) E (omega (arith, ends.pages)) hp e in
-      let all = bytes_join text 0 (start_in v r 0) (H ++ P ++ E) C (omega (arith, ends.events)) hpe c in
-      sym (take-append-drop n text) ∙ ap (λ (m : ℕ). take m text ++ drop n text) ends.checkpoints ∙ ap (λ (l : List ℕ). l ++ drop n text) all.is
+      let p = parts_back words_bytes PAGE_LEN bytes HEADER_LEN r.pool (length-pages r.pool paged) are.pages in
+      let e = parts_back event_bytes EVENT_LEN bytes (page_offset (length r.pool)) r.inputs (length-events r.inputs) are.events in
+      let c = blocks_back bytes (length r.checkpoints) (omega arith) are.checkpoints in
+      let hp = bytes_join bytes 0 HEADER_LEN H P (omega (arith, length-header_bytes v r)) are.header p in
+      let hpe = bytes_join bytes 0 (page_offset (length r.pool)) (H ++ P) E (omega (arith, ends.pages)) hp e in
+      let all = bytes_join bytes 0 (start_in v r 0) (H ++ P ++ E) C (omega (arith, ends.events)) hpe c in
+      sym (take-append-drop n bytes) ∙ ap (λ (m : ℕ). take m bytes ++ drop n bytes) ends.checkpoints ∙ ap (λ (l : List ℕ). l ++ drop n bytes) all.is
       ∙ ap (λ (l : List ℕ). H ++ P ++ E ++ C ++ l) are.output
 
 -- a phase is a number of four bytes, as its rate is
@@ -162,10 +162,10 @@ fields_wide c fits =
     All-from_recursion (λ x. x < 2 ^ 32) (field_words c)
     (omega (arith, fits, devices, flags_fit c.cpu, mouse_word_fits c.devices.mouse devices.mouse, serial_fits c.devices devices))
 
-pub later_wide : (before : List ℕ) (c : CheckpointParts) → IsWritable c → length (changes before c.table) < 2 ^ 32 → AreWide (later_words before c)
+pub later_wide : (before : List ℕ) (c : CheckpointParts) → IsWritable c → length (changes before c.table) < 2 ^ 32 → AreWide (tail_words before c)
 later_wide before c fits few =
     let devices = fits.formed.devices in
-    All-from_recursion (λ x. x < 2 ^ 32) (later_words before c) (omega (arith, devices, phase_fits c.devices.rate c.devices.phase devices.rate devices.phase, few))
+    All-from_recursion (λ x. x < 2 ^ 32) (tail_words before c) (omega (arith, devices, phase_fits c.devices.rate c.devices.phase devices.rate devices.phase, few))
 
 abbrev pub header_words : ℕ → RecordingParts → List ℕ
 header_words v r = MAGIC ∷ v ∷ length r.pool ∷ length r.inputs ∷ length r.checkpoints ∷ 0 ∷ []
@@ -176,13 +176,13 @@ header_wide v r known fits =
     All-from_recursion (λ x. x < 2 ^ 32) (header_words v r) (omega (arith, small, fits))
 
 abbrev pub change_words : Change → List ℕ
-change_words change = change.place ∷ change.number ∷ []
+change_words change = change.slot ∷ change.page_id ∷ []
 
 pub change_wide : (before table : List ℕ) → IsTable table → (i : ℕ) (d : Change) → i < length (changes before table) → AreWide (change_words (get_or (changes before table) i d))
 change_wide before table fits i d lt =
     let change = change_in before table i in
     let inside = (changes-lawful before table).inside i lt in
-    let small = fits.fit change.place 0 (omega (arith, inside, fits.count)) in
+    let small = fits.fit change.slot 0 (omega (arith, inside, fits.count)) in
     subst (λ (c : Change). AreWide (change_words c)) (get_or_default (changes before table) i no_change d lt)
     (All-from_recursion (λ x. x < 2 ^ 32) (change_words change) (omega (arith, inside, small, changes-new before table i lt)))
 
@@ -207,8 +207,8 @@ writable r p = record {
 
 -- a lawful recording has an encoding in the current version
 pub encoded : (r : RecordingParts) → IsLawful r → TextIn VERSION (encoding VERSION r) r
-encoded r lawful = record { lawful = lawful; known = refl; unclocked = λ first. absurd (omega arith); is = refl }
+encoded r lawful = record { lawful = lawful; known = refl; still = λ first. absurd (omega arith); is = refl }
 
 -- the parts of a file's recording are in it
-pub text_parts : (v : ℕ) (text : List ℕ) (r : RecordingParts) → TextIn v text r → AreAt v text r
-text_parts v text r is = subst (λ (bytes : List ℕ). AreAt v bytes r) (sym is.is) (encoding_parts v r is.lawful.pool (lawful_formed r is.lawful))
+pub text_parts : (v : ℕ) (bytes : List ℕ) (r : RecordingParts) → TextIn v bytes r → AreAt v bytes r
+text_parts v bytes r is = subst (λ (bytes : List ℕ). AreAt v bytes r) (sym is.is) (encoding_parts v r is.lawful.pool (lawful_formed r is.lawful))

@@ -1,5 +1,5 @@
 -- Worked examples of the definitions: each computes to the value that the format asks for.
-use Rattle.oberon_format.proofs.Common.{[], are_keys, Change, change_bytes, change_offset, change_rules, changes_below, checkpoint_fields, checkpoint_rules, checkpoint_size, CheckpointParts, common_bytes, COMMON_LEN, COUNTER_AT, each, end_rules, event_start, false, fault_of_parts, Fields, fields_in, first_broken, first_fault_of, header_bytes, is_count, is_event, is_output, is_phase, length, List, long_at, long_bytes, LONGEST_TEXT, MAGIC, map, no_checkpoint, None, number_after, number_before, page_number_offset, page_number_rules, refl, replicate, slice_index, Some, start, start_in, suc, take, total, true, VERSION, word_at, word_bytes, words_bytes, zero, zero_numbers, ℕ, ◌*◌, ◌++◌, ◌+◌, ◌^◌, ◌∷◌, ◌≡◌}
+use Rattle.oberon_format.proofs.Common.{[], are_keys, Change, change_bytes, change_offset, change_rules, changes_below, checkpoint_fields, checkpoint_rules, checkpoint_size, CheckpointParts, common_bytes, COMMON_LEN, COUNTER_AT, each, end_rules, event_start, false, fault_of_parts, Fields, fields_in, first_broken, first_fault_of, header_bytes, is_count, is_event, is_output, is_phase, length, List, long_at, long_bytes, LONGEST_TEXT, MAGIC, map, no_checkpoint, None, page_id_after, page_id_before, page_id_offset, page_id_rules, refl, replicate, slice_index, Some, start, start_in, suc, take, total, true, VERSION, word_at, word_bytes, words_bytes, zero, zero_numbers, ℕ, ◌*◌, ◌++◌, ◌+◌, ◌^◌, ◌∷◌, ◌≡◌}
 use Rattle.oberon_format.specs.Rules.{rules}
 use Rattle.risc_devices.specs.Input as input
 use Rattle.oberon_format.specs.declared.fault.Fault.TheVariants as fault
@@ -65,13 +65,13 @@ unfolding total start_in
 ends-of-files = refl
 
 -- page ids over a pool of one page: the second slot names page 2
-unknown-page : first_broken (each 3 (page_number_rules 1 5276 (slice_index (1 ∷ 2 ∷ 0 ∷ [])))) ≡ Some (fault.Page 5412)
+unknown-page : first_broken (each 3 (page_id_rules 1 5276 (slice_index (1 ∷ 2 ∷ 0 ∷ [])))) ≡ Some (fault.Page 5412)
 unfolding each
 unknown-page = refl
 
 -- the page ids after a checkpoint of version 2 that changes slot 3 to page 7
-numbers-after-a-checkpoint : Answers (number_before (with_changes (0 ∷ 0 ∷ 1 ∷ 3 ∷ 7 ∷ [])) 1) ((3, 7) ∷ (4, 0) ∷ [])
-unfolding number_before number_after start word_at word_bytes
+numbers-after-a-checkpoint : Answers (page_id_before (with_changes (0 ∷ 0 ∷ 1 ∷ 3 ∷ 7 ∷ [])) 1) ((3, 7) ∷ (4, 0) ∷ [])
+unfolding page_id_before page_id_after start word_at word_bytes
 numbers-after-a-checkpoint = refl
 
 -- the page ids before: slots 3 and 4 have pages 0 and 1
@@ -80,8 +80,8 @@ had = slice_index (0 ∷ 0 ∷ 0 ∷ 0 ∷ 1 ∷ [])
 
 -- a change of the first slot to the first page id, and then one of the second to the second
 abbrev two_of : ℕ → ℕ → ℕ → ℕ → ℕ → Change
-two_of p m q n zero = record { place = p; number = m }
-two_of p m q n (suc i) = record { place = q; number = n }
+two_of p m q n zero = record { slot = p; page_id = m }
+two_of p m q n (suc i) = record { slot = q; page_id = n }
 
 -- over a pool of one page: lawful ones, slot 3 after slot 4, slot 3 twice, a slot that no table has, a page that is not there, and
 -- the page that was there
@@ -96,12 +96,12 @@ unfolding each
 rules-of-changes = refl
 
 -- the page ids after the lawful ones
-numbers-after-changes : Answers (number_after (two_of 3 1 4 0) had 2) ((3, 1) ∷ (5, 0) ∷ [])
-unfolding number_after
+numbers-after-changes : Answers (page_id_after (two_of 3 1 4 0) had 2) ((3, 1) ∷ (5, 0) ∷ [])
+unfolding page_id_after
 numbers-after-changes = refl
 
 -- and the changes between two tables, up to slot 2
-changes-between : changes_below 3 (5 ∷ 6 ∷ 7 ∷ 8 ∷ []) (5 ∷ 9 ∷ 0 ∷ 1 ∷ []) ≡ record { place = 1; number = 9 } ∷ record { place = 2; number = 0 } ∷ []
+changes-between : changes_below 3 (5 ∷ 6 ∷ 7 ∷ 8 ∷ []) (5 ∷ 9 ∷ 0 ∷ 1 ∷ []) ≡ record { slot = 1; page_id = 9 } ∷ record { slot = 2; page_id = 0 } ∷ []
 unfolding changes_below
 changes-between = refl
 
@@ -135,7 +135,7 @@ sixteen-keys = refl
 -- its second change, and the length of the longest file
 offsets : Answers (λ (x : ℕ). x) (
     (event_start 1 0 + checkpoint_size 1 0, 5276)
-    ∷ (page_number_offset 5276 0, 5408)
+    ∷ (page_id_offset 5276 0, 5408)
     ∷ (event_start 1 0 + checkpoint_size 2 3, 1216)
     ∷ (change_offset 1048 1, 1200)
     ∷ (event_start 65536 1000000 + checkpoint_size 2 1024 * 4097 + 1048576, LONGEST_TEXT) ∷ [])
@@ -147,7 +147,7 @@ bytes : Answers (λ (x : List ℕ). x) (
     (word_bytes 0x40000005, 5 ∷ 0 ∷ 0 ∷ 0x40 ∷ [])
     ∷ (long_bytes 100, 100 ∷ 0 ∷ 0 ∷ 0 ∷ 0 ∷ 0 ∷ 0 ∷ 0 ∷ [])
     ∷ (header_bytes VERSION (record { pool = []; inputs = []; checkpoints = no_checkpoint ∷ [] }), 0x4F ∷ 0x52 ∷ 0x53 ∷ 0x52 ∷ 2 ∷ 0 ∷ 0 ∷ 0 ∷ 0 ∷ 0 ∷ 0 ∷ 0 ∷ 0 ∷ 0 ∷ 0 ∷ 0 ∷ 1 ∷ 0 ∷ 0 ∷ 0 ∷ 0 ∷ 0 ∷ 0 ∷ 0 ∷ [])
-    ∷ (change_bytes (record { place = 0; number = 1 }), 0 ∷ 0 ∷ 0 ∷ 0 ∷ 1 ∷ 0 ∷ 0 ∷ 0 ∷ []) ∷ [])
+    ∷ (change_bytes (record { slot = 0; page_id = 1 }), 0 ∷ 0 ∷ 0 ∷ 0 ∷ 1 ∷ 0 ∷ 0 ∷ 0 ∷ []) ∷ [])
 unfolding header_bytes word_bytes long_bytes change_bytes
 bytes = refl
 

@@ -1,5 +1,5 @@
 -- The laws of recordings and their files. A file without a fault is that of a recording.
-use Rattle.oberon_format.proofs.Common.{[], All-append, All-cons, All-nil, All-replicate, ap, AreBytes, AreFormed, AreWritable, arith, byte_at, bytes_low_first, change_bytes, changes, checkpoint_bytes, CheckpointParts, checkpoints, checkpoints_at, checkpoints_bytes, common_bytes, EachAt, encoding, Event, event_bytes, event_offset, events, Fault, field_words, first_fault_of, flat_map, get_or, header_bytes, input_of, IsEventAt, IsFormed, KIND_AT, kind_of, kind_of-input_of, later_words, length, length-append, List, long_at, long_bytes, MatchOption, Meets, no_checkpoint, None, Option, pages, pages_at, RecordingParts, refl, slice_index_or, Some, suc, sym, table_before, tail_bytes, Text, VALUE_AT, value_of, value_of-input_of, VERSION, word_at, word_bytes, words_bytes, zero, ℕ, ◌++◌, ◌+◌, ◌-◌, ◌<◌, ◌^◌, ◌∙◌, ◌∷◌, ◌≡◌, ◌≤◌}
+use Rattle.oberon_format.proofs.Common.{[], All-append, All-cons, All-nil, All-replicate, ap, AreBytes, AreFormed, AreWritable, arith, byte_at, bytes_low_first, change_bytes, changes, checkpoint_bytes, CheckpointParts, checkpoints, checkpoints_at, checkpoints_bytes, common_bytes, EachAt, encoding, Event, event_bytes, event_offset, events, Fault, field_words, first_fault_of, flat_map, get_or, header_bytes, input_of, IsEventAt, IsFormed, KIND_AT, kind_of, kind_of-input_of, tail_words, length, length-append, List, long_at, long_bytes, MatchOption, Meets, no_checkpoint, None, Option, pages, pages_at, RecordingParts, refl, slice_index_or, Some, suc, sym, table_before, tail_bytes, Text, VALUE_AT, value_of, value_of-input_of, VERSION, word_at, word_bytes, words_bytes, zero, ℕ, ◌++◌, ◌+◌, ◌-◌, ◌<◌, ◌^◌, ◌∙◌, ◌∷◌, ◌≡◌, ◌≤◌}
 use Rattle.oberon_format.proofs.Agree.{encoding_agrees}
 use Rattle.oberon_format.proofs.Decode.{decoded_is, long_fits}
 use Rattle.oberon_format.proofs.Bytes.{each_push}
@@ -8,46 +8,46 @@ use Rattle.oberon_format.proofs.LawfulLemmas.{lawful_faultless}
 use Rattle.oberon_format.proofs.RuleLemmas.{none_meets, event_input}
 
 -- the first n events
-record Events (text : List ℕ) (n : ℕ) : Type 0 where
+record Events (bytes : List ℕ) (n : ℕ) : Type 0 where
   list : List Event
   count : length list ≡ n
-  stand : EachAt (IsEventAt text) list
+  stand : EachAt (IsEventAt bytes) list
 
-event_made : (text : List ℕ) (i : ℕ) → AreBytes text → Meets text → i < events text → (e : Event) × IsEventAt text i e
-event_made text i bytes meets lt =
-    let offset = event_offset text i in let kind = word_at text (offset + KIND_AT) in
-    let value = word_at text (offset + VALUE_AT) in
-    let lawful = event_input text i meets lt in (
-      record { count = long_at text offset; input = input_of kind value lawful; range = long_fits text offset bytes },
+event_made : (bytes : List ℕ) (i : ℕ) → AreBytes bytes → Meets bytes → i < events bytes → (e : Event) × IsEventAt bytes i e
+event_made bytes i are_bytes meets lt =
+    let offset = event_offset bytes i in let kind = word_at bytes (offset + KIND_AT) in
+    let value = word_at bytes (offset + VALUE_AT) in
+    let lawful = event_input bytes i meets lt in (
+      record { count = long_at bytes offset; input = input_of kind value lawful; range = long_fits bytes offset are_bytes },
       record { count = refl; kind = sym (kind_of-input_of kind value lawful); value = sym (value_of-input_of kind value lawful) },
     )
 
-events_of : (text : List ℕ) (n : ℕ) → AreBytes text → Meets text → n ≤ events text → Events text n
-events_of text zero bytes meets le = record { list = []; count = refl; stand = λ i d lt. absurd (omega arith) }
-events_of text (suc n) bytes meets le =
-    let so_far = events_of text n bytes meets (omega arith) in let count = so_far.count in
-    let made = event_made text n bytes meets (omega arith) in
+events_of : (bytes : List ℕ) (n : ℕ) → AreBytes bytes → Meets bytes → n ≤ events bytes → Events bytes n
+events_of bytes zero are_bytes meets le = record { list = []; count = refl; stand = λ i d lt. absurd (omega arith) }
+events_of bytes (suc n) are_bytes meets le =
+    let so_far = events_of bytes n are_bytes meets (omega arith) in let count = so_far.count in
+    let made = event_made bytes n are_bytes meets (omega arith) in
     record {
       list = so_far.list ++ made.0 ∷ [];
       count = omega (arith, length-append so_far.list (made.0 ∷ []));
-      stand = each_push (IsEventAt text) so_far.list n made.0 so_far.count so_far.stand made.1;
+      stand = each_push (IsEventAt bytes) so_far.list n made.0 so_far.count so_far.stand made.1;
     }
 
 -- a file without a fault has a recording
-has_recording : (text : List ℕ) → AreBytes text → Meets text → (r : RecordingParts) × Text text r
-has_recording text bytes meets =
-    let es = events_of text (events text) bytes meets (omega arith) in (
-      record { pool = pages_at text (pages text); inputs = es.list; checkpoints = checkpoints_at text (checkpoints text) },
-      (decoded_is text bytes meets es.list es.count es.stand).1,
+has_recording : (bytes : List ℕ) → AreBytes bytes → Meets bytes → (r : RecordingParts) × Text bytes r
+has_recording bytes are_bytes meets =
+    let es = events_of bytes (events bytes) are_bytes meets (omega arith) in (
+      record { pool = pages_at bytes (pages bytes); inputs = es.list; checkpoints = checkpoints_at bytes (checkpoints bytes) },
+      (decoded_is bytes are_bytes meets es.list es.count es.stand).1,
     )
 
 -- a file has a recording or a first fault
-pub by_fault : (text : List ℕ) (o : Option Fault) → AreBytes text → first_fault_of text ≡ o
-    → MatchOption o ((r : RecordingParts) × Text text r) (λ fault. (r : RecordingParts) → ¬ (Text text r))
-by_fault text None bytes e = has_recording text bytes (none_meets text e)
-by_fault text (Some f) bytes e = λ r is.
+pub by_fault : (bytes : List ℕ) (o : Option Fault) → AreBytes bytes → first_fault_of bytes ≡ o
+    → MatchOption o ((r : RecordingParts) × Text bytes r) (λ fault. (r : RecordingParts) → ¬ (Text bytes r))
+by_fault bytes None are_bytes e = has_recording bytes are_bytes (none_meets bytes e)
+by_fault bytes (Some f) are_bytes e = λ r is.
     let file = is.is in
-    let none : first_fault_of text ≡ None = ap first_fault_of file.is ∙ encoding_agrees is.version r file.known file.unclocked (writable r file.lawful) ∙ lawful_faultless is.version r file.known file.lawful in
+    let none : first_fault_of bytes ≡ None = ap first_fault_of file.is ∙ encoding_agrees is.version r file.known file.still (writable r file.lawful) ∙ lawful_faultless is.version r file.known file.lawful in
     absurd cc
 
 -- the bytes of numbers are bytes
@@ -82,7 +82,7 @@ common_are c fits =
 
 checkpoint_are : (before : List ℕ) (c : CheckpointParts) → IsFormed c → AreBytes (checkpoint_bytes VERSION before c)
 unfolding checkpoint_bytes tail_bytes change_bytes
-checkpoint_are before c fits = join _ _ (common_are c fits) (join _ _ (words_are (later_words before c)) (all_are change_bytes (changes before c.table) (λ i d lt. let change = get_or (changes before c.table) i d in words_are (change.place ∷ change.number ∷ []))))
+checkpoint_are before c fits = join _ _ (common_are c fits) (join _ _ (words_are (tail_words before c)) (all_are change_bytes (changes before c.table) (λ i d lt. let change = get_or (changes before c.table) i d in words_are (change.slot ∷ change.page_id ∷ []))))
 
 checkpoints_are : (cs : List CheckpointParts) → AreFormed cs → (n : ℕ) → n ≤ length cs → AreBytes (checkpoints_bytes VERSION cs n)
 unfolding checkpoints_bytes
@@ -91,9 +91,9 @@ checkpoints_are cs formed (suc n) le =
     join _ _ (checkpoints_are cs formed n (omega arith)) (checkpoint_are (table_before cs n) (slice_index_or cs n no_checkpoint) (formed n no_checkpoint (omega arith)))
 
 -- parts whose numbers fit are encoded in bytes
-pub text_of_parts : (r : RecordingParts) → AreWritable r → AreBytes (encoding VERSION r)
+pub file_of_parts : (r : RecordingParts) → AreWritable r → AreBytes (encoding VERSION r)
 unfolding encoding header_bytes event_bytes
-text_of_parts r fits =
+file_of_parts r fits =
     let formed : AreFormed r.checkpoints = λ i d lt. (fits.checkpoints i d lt).formed in
     let pages = all_are words_bytes r.pool (λ i d lt. words_are (get_or r.pool i d)) in
     let events = all_are event_bytes r.inputs (λ i d lt. let e = get_or r.inputs i d in join _ _ (long_are e.count) (words_are (kind_of e.input ∷ value_of e.input ∷ []))) in

@@ -1,5 +1,5 @@
 -- Parts are lawful if and only if the file that encodes them has no fault, in either version.
-use Rattle.oberon_format.proofs.Common.{[], add-one, ap, are_keys, AreFormed, AreOrdered, ArePages, arith, before_count, Bool, changes, CHANGES_AT, changes_in, checkpoint_at, checkpoint_fields, checkpoint_rules, CheckpointParts, count_before, COUNTER_END, CpuState, DeviceState, drop_at, each, eq-eqb, eqb, Event, event_fields, event_floor, event_rules, Fault, fault_of_parts, Fields, fields_in, first_broken, FLAGS_END, flags_number, get_or, get_or_default, HEADER_LEN, header_rules, IfNone, if◌then◌else◌, in_ranges, inl, inr, is_change, is_checkpoint, is_count, is_input, is_output, is_version, IsDeviceState, IsFormed, IsLawful, LAST_AT, le-leb, length, limit_rules, List, list_all, lt-ltb, MAGIC, MAGIC_AT, map, MAX_CHECKPOINTS, MAX_COUNT, MAX_EVENTS, MAX_KEYS, MAX_PAGES, MAX_STOP, named_len, nat_le, nat_lt, nat_tests, nil_from_length, no_checkpoint, no_event, None, number_below, Option, option_or, output_of, place_floor, PLACES, prior_number, RecordingParts, refl, replicate, Rule, sent_below, SERIAL_END, serial_number, slice_index, Some, start_in, subst, suc, sym, table_before, total, true, VERSION, VERSION_AT, zero, zero_number, ℕ, ◌&&◌, ◌++◌, ◌+◌, ◌-◌, ◌<◌, ◌==◌, ◌∙◌, ◌∷◌, ◌≡◌, ◌≤◌}
+use Rattle.oberon_format.proofs.Common.{[], add-one, ap, are_keys, AreFormed, AreOrdered, ArePages, arith, before_count, Bool, changes, CHANGES_AT, changes_in, checkpoint_at, checkpoint_fields, checkpoint_rules, CheckpointParts, count_before, COUNTER_END, CpuState, DeviceState, drop_at, each, eq-eqb, eqb, Event, event_fields, event_floor, event_rules, Fault, fault_of_parts, Fields, fields_in, first_broken, FLAGS_END, flags_number, get_or, get_or_default, HEADER_LEN, header_rules, IfNone, if◌then◌else◌, in_ranges, inl, inr, is_change, is_checkpoint, is_count, is_input, is_output, is_version, IsDeviceState, IsFormed, IsLawful, LAST_AT, le-leb, length, limit_rules, List, list_all, lt-ltb, MAGIC, MAGIC_AT, map, MAX_CHECKPOINTS, MAX_COUNT, MAX_EVENTS, MAX_KEYS, MAX_PAGES, MAX_STOP, named_len, nat_le, nat_lt, nat_tests, nil_from_length, no_checkpoint, no_event, None, number_below, Option, option_or, output_of, slot_floor, PAGE_SLOTS, prior_page_id, RecordingParts, refl, replicate, Rule, sent_below, SERIAL_END, serial_number, slice_index, Some, start_in, subst, suc, sym, table_before, total, true, VERSION, VERSION_AT, zero, zero_number, ℕ, ◌&&◌, ◌++◌, ◌+◌, ◌-◌, ◌<◌, ◌==◌, ◌∙◌, ◌∷◌, ◌≡◌, ◌≤◌}
 use Rattle.oberon_format.specs.Recording.{count_at}
 use Rattle.oberon_format.specs.Rules.{rules}
 use Rattle.oberon_format.proofs.ChangeLemmas.{change_in, after-bounded, changes-lawful, changes-make, changes-new}
@@ -90,20 +90,20 @@ first_output : (sent own : ℕ) → is_output 0 sent own ≡ true → own ≡ 0
 first_output sent own h = grind (arith, nat_tests)
 
 -- the page ids of a table of version 2 are those before, or those of lawful changes
-changed_numbers : (v : ℕ) (r : RecordingParts) (k p : ℕ) → v ≡ VERSION → ChangedMet (fields_in v r) k → p < PLACES
+changed_numbers : (v : ℕ) (r : RecordingParts) (k p : ℕ) → v ≡ VERSION → ChangedMet (fields_in v r) k → p < PAGE_SLOTS
     → slice_index (table_before r.checkpoints k) p ≤ length r.pool → slice_index (checkpoint_at r k).table p ≤ length r.pool
 changed_numbers v r k p later met lt old =
     let before = table_before r.checkpoints k in
     let table = (checkpoint_at r k).table in
     let few : changes_in v before (checkpoint_at r k) ≡ length (changes before table) = rw later refl in
-    let new : (i : ℕ) → i < length (changes before table) → (change_in before table i).number ≤ length r.pool = λ i less.
-    change_named (length r.pool) (place_floor (change_in before table) i) (prior_number (fields_in v r) k) (change_in before table i) (met.each_change i (omega arith)) in
+    let new : (i : ℕ) → i < length (changes before table) → (change_in before table i).page_id ≤ length r.pool = λ i less.
+    change_named (length r.pool) (slot_floor (change_in before table) i) (prior_page_id (fields_in v r) k) (change_in before table i) (met.each_change i (omega arith)) in
     subst (λ (n : ℕ). n ≤ length r.pool) (changes-make before table p lt)
     (after-bounded (change_in before table) (slice_index before) (length (changes before table)) p (length r.pool) new old)
 
 -- so the page ids of all tables name pages
 before_named : (v : ℕ) (r : RecordingParts) (k p : ℕ) → is_version v ≡ true → first_broken (each (length r.checkpoints) (checkpoint_rules (fields_in v r))) ≡ None
-    → k ≤ length r.checkpoints → p < PLACES → slice_index (table_before r.checkpoints k) p ≤ length r.pool
+    → k ≤ length r.checkpoints → p < PAGE_SLOTS → slice_index (table_before r.checkpoints k) p ≤ length r.pool
 before_named v r zero p known met le lt = omega (arith, zero_number p)
 before_named v r (suc k) p known met le lt =
     let f = fields_in v r in
@@ -142,7 +142,7 @@ met_lawful v r known pages ordered formed met =
             devices = own.devices;
             table = own.table;
             named = λ j d less.
-                let inside : j < PLACES = subst (λ (i : ℕ). j < i) own.table.count less in
+                let inside : j < PAGE_SLOTS = subst (λ (i : ℕ). j < i) own.table.count less in
                 let named = subst (λ (table : List ℕ). slice_index table j ≤ length r.pool) (table_next r.checkpoints k) (before_named v r (suc k) j known met.checkpoints lt inside) in
                 subst (λ (x : ℕ). x ≤ length r.pool) (get_or_default (checkpoint_at r k).table j 0 d less) named;
             bytes = own.bytes;
@@ -187,7 +187,7 @@ output_met v r (suc k) lawful lt =
     grind (arith, nat_tests)
 
 -- the page ids of a lawful recording
-numbers_met : (r : RecordingParts) (k p : ℕ) → IsLawful r → k < length r.checkpoints → p < PLACES → slice_index (checkpoint_at r k).table p ≤ length r.pool
+numbers_met : (r : RecordingParts) (k p : ℕ) → IsLawful r → k < length r.checkpoints → p < PAGE_SLOTS → slice_index (checkpoint_at r k).table p ≤ length r.pool
 numbers_met r k p lawful lt less =
     let fit = lawful.fit k lt in
     fit.named p 0 (subst (λ (m : ℕ). p < m) (sym fit.table.count) less)
@@ -195,14 +195,14 @@ numbers_met r k p lawful lt less =
 -- the changes of a lawful recording
 change_met : (v : ℕ) (r : RecordingParts) (k i : ℕ) → IsLawful r → k < length r.checkpoints
     → i < length (changes (table_before r.checkpoints k) (checkpoint_at r k).table)
-    → is_change (length r.pool) (place_floor (change_in (table_before r.checkpoints k) (checkpoint_at r k).table) i)
-    (prior_number (fields_in v r) k) (change_in (table_before r.checkpoints k) (checkpoint_at r k).table i) ≡ true
+    → is_change (length r.pool) (slot_floor (change_in (table_before r.checkpoints k) (checkpoint_at r k).table) i)
+    (prior_page_id (fields_in v r) k) (change_in (table_before r.checkpoints k) (checkpoint_at r k).table i) ≡ true
 change_met v r k i lawful lt less =
     let before = table_before r.checkpoints k in let table = (checkpoint_at r k).table in
     let c = change_in before table i in
-    let inside : c.place < PLACES = (changes-lawful before table).inside i less in
-    let named : c.number ≤ length r.pool = subst (λ (n : ℕ). n ≤ length r.pool) (sym (changes-new before table i less)) (numbers_met r k c.place lawful lt inside) in
-    change_same (length r.pool) (place_floor (change_in before table) i) (prior_number (fields_in v r) k) (slice_index before) c (λ p above lt. prior_encoded v r k p lt)
+    let inside : c.slot < PAGE_SLOTS = (changes-lawful before table).inside i less in
+    let named : c.page_id ≤ length r.pool = subst (λ (n : ℕ). n ≤ length r.pool) (sym (changes-new before table i less)) (numbers_met r k c.slot lawful lt inside) in
+    change_same (length r.pool) (slot_floor (change_in before table) i) (prior_page_id (fields_in v r) k) (slice_index before) c (λ p above lt. prior_encoded v r k p lt)
     ∙ number_tested (length r.pool) i before table less ∙ le-leb _ _ named
 
 checkpoint_rules_met : (v : ℕ) (r : RecordingParts) (k : ℕ) → is_version v ≡ true → AreFormed r.checkpoints → IsLawful r → k < length r.checkpoints

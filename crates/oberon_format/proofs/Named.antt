@@ -1,5 +1,5 @@
 -- No rule is broken with an allocation failure.
-use Rattle.oberon_format.proofs.Common.{[], Bool, changed_rules, checkpoint_rules, each, end_rules, event_rules, false, Fault, fault_of_parts, Fields, fields_in, fields_of, first_broken, first_fault_of, FIRST_VERSION, header_rules, IfSome, if◌then◌else◌, IsNamedFault, List, PLACES, RecordingParts, Rule, true, VERSION, whole_rules, ℕ, ◌++◌, ◌==◌, ◌∷◌}
+use Rattle.oberon_format.proofs.Common.{[], Bool, changed_rules, checkpoint_rules, each, end_rules, event_rules, false, Fault, fault_of_parts, Fields, fields_in, fields_of, first_broken, first_fault_of, FIRST_VERSION, header_rules, IfSome, if◌then◌else◌, IsNamedFault, List, PAGE_SLOTS, RecordingParts, Rule, true, VERSION, whole_rules, ℕ, ◌++◌, ◌==◌, ◌∷◌}
 use Rattle.oberon_format.specs.Rules.{rules}
 use Rattle.oberon_format.proofs.RuleLemmas.{each_rule-each, each_rule-append, EachRule}
 
@@ -17,7 +17,7 @@ named_checkpoint : (f : Fields) (k : ℕ) → AreNamed (checkpoint_rules f k)
 unfolding checkpoint_rules
 named_checkpoint f k = go (f.version == FIRST_VERSION) where
   go : (b : Bool) → AreNamed (if b then whole_rules f k else changed_rules f k)
-  go true = (tt, named_each PLACES _ (λ j. (tt, tt)))
+  go true = (tt, named_each PAGE_SLOTS _ (λ j. (tt, tt)))
   go false = (tt, (tt, (tt, named_each (f.checkpoint k).changes _ (λ i. (tt, tt)))))
 
 rules_named : (f : Fields) → AreNamed (rules f)
@@ -35,8 +35,8 @@ first_named [] named = tt
 first_named ((true, fault) ∷ rules) named = first_named rules named.1
 first_named ((false, fault) ∷ rules) named = named.0
 
-pub text_named : (text : List ℕ) → IfSome (first_fault_of text) IsNamedFault
-text_named text = first_named (rules (fields_of text)) (rules_named (fields_of text))
+pub text_named : (bytes : List ℕ) → IfSome (first_fault_of bytes) IsNamedFault
+text_named bytes = first_named (rules (fields_of bytes)) (rules_named (fields_of bytes))
 
 pub parts_named : (r : RecordingParts) → IfSome (fault_of_parts r) IsNamedFault
 parts_named r = first_named (rules (fields_in VERSION r)) (rules_named (fields_in VERSION r))

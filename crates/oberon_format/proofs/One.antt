@@ -1,5 +1,5 @@
 -- A file is that of at most one recording: an encoding determines what it encodes, and where it ends.
-use Rattle.oberon_format.proofs.Common.{[], All, ap, AreWritable, arith, checkpoint_at, CheckpointParts, clock_words, DeviceState, drop, drop_at, Event, field_words, FIRST_VERSION, Flags, flags_back, flags_number, flags_of, get_or, get_or_default, Input, is_version, IsUnclocked, key_bytes, length, List, MAX_KEYS, no_checkpoint, output_of, props, RecordingParts, refl, replicate, same_devices, same_input, same_lists, slice_index, start, start_in, subst, suc, sym, take, take_at, Text, TextIn, true, version, zero, ℕ, ◌-◌, ◌<◌, ◌^◌, ◌∙◌, ◌∷◌, ◌≡◌}
+use Rattle.oberon_format.proofs.Common.{[], All, ap, AreWritable, arith, checkpoint_at, CheckpointParts, rate_and_phase, DeviceState, drop, drop_at, Event, field_words, FIRST_VERSION, Flags, flags_back, flags_number, flags_of, get_or, get_or_default, Input, is_version, HasStillTimer, key_bytes, length, List, MAX_KEYS, no_checkpoint, output_of, props, RecordingParts, refl, replicate, same_devices, same_input, same_lists, slice_index, start, start_in, subst, suc, sym, take, take_at, Text, TextIn, true, version, zero, ℕ, ◌-◌, ◌<◌, ◌^◌, ◌∙◌, ◌∷◌, ◌≡◌}
 use Rattle.oberon_format.proofs.Agree.{version_of, pages_are, events_are, checkpoints_are, page_is, event_is, start_is, later, common, numbers_agree}
 use Rattle.oberon_format.proofs.Encoded.{AreAt, text_parts, writable}
 
@@ -39,26 +39,26 @@ same_sent (c ∷ cs) (d ∷ ds) len each same (suc i) lt =
     same_sent cs ds (omega arith) (λ k less. each (suc k) (omega arith)) rest i (omega arith)
 
 -- what a file has at its offsets is that of one recording
-module _ (v : ℕ) (text : List ℕ) (r s : RecordingParts) (known : is_version v ≡ true) (unclocked : v ≡ FIRST_VERSION → All IsUnclocked r.checkpoints)
-    (unclocked' : v ≡ FIRST_VERSION → All IsUnclocked s.checkpoints) (fr : AreWritable r) (fs : AreWritable s) (a : AreAt v text r) (b : AreAt v text s) where
+module _ (v : ℕ) (bytes : List ℕ) (r s : RecordingParts) (known : is_version v ≡ true) (still : v ≡ FIRST_VERSION → All HasStillTimer r.checkpoints)
+    (still' : v ≡ FIRST_VERSION → All HasStillTimer s.checkpoints) (fr : AreWritable r) (fs : AreWritable s) (a : AreAt v bytes r) (b : AreAt v bytes s) where
   pages_len : length r.pool ≡ length s.pool
-  pages_len = sym (pages_are v text r known fr a) ∙ pages_are v text s known fs b
+  pages_len = sym (pages_are v bytes r known fr a) ∙ pages_are v bytes s known fs b
 
   events_len : length r.inputs ≡ length s.inputs
-  events_len = sym (events_are v text r known fr a) ∙ events_are v text s known fs b
+  events_len = sym (events_are v bytes r known fr a) ∙ events_are v bytes s known fs b
 
   len : length r.checkpoints ≡ length s.checkpoints
-  len = sym (checkpoints_are v text r known fr a) ∙ checkpoints_are v text s known fs b
+  len = sym (checkpoints_are v bytes r known fr a) ∙ checkpoints_are v bytes s known fs b
 
   outputs : output_of r.checkpoints ≡ output_of s.checkpoints
   outputs =
       let end : start_in v r (length r.checkpoints) ≡ start_in v s (length s.checkpoints) =
-      sym (start_is v text r known fr a unclocked (length r.checkpoints) (omega arith)) ∙ ap (start text) len ∙ start_is v text s known fs b unclocked' (length s.checkpoints) (omega arith) in
-      sym a.output ∙ ap (λ (p : ℕ). drop p text) end ∙ b.output
+      sym (start_is v bytes r known fr a still (length r.checkpoints) (omega arith)) ∙ ap (start bytes) len ∙ start_is v bytes s known fs b still' (length s.checkpoints) (omega arith) in
+      sym a.output ∙ ap (λ (p : ℕ). drop p bytes) end ∙ b.output
 
   sent : (k : ℕ) → k < length r.checkpoints → (checkpoint_at r k).sent ≡ (checkpoint_at s k).sent
   sent = same_sent r.checkpoints s.checkpoints len
-      (λ k lt. sym (common v text r known fr a unclocked k lt).sent ∙ (common v text s known fs b unclocked' k (subst (λ (n : ℕ). k < n) len lt)).sent) outputs
+      (λ k lt. sym (common v bytes r known fr a still k lt).sent ∙ (common v bytes s known fs b still' k (subst (λ (n : ℕ). k < n) len lt)).sent) outputs
 
   checkpoint_same : (k : ℕ) → k < length r.checkpoints → checkpoint_at r k ≡ checkpoint_at s k
   checkpoint_same k lt =
@@ -66,12 +66,12 @@ module _ (v : ℕ) (text : List ℕ) (r s : RecordingParts) (known : is_version 
       let c = checkpoint_at r k in let d = checkpoint_at s k in
       let fc = (fr.checkpoints k no_checkpoint lt).formed in
       let fd = (fs.checkpoints k no_checkpoint lt').formed in
-      let x = common v text r known fr a unclocked k lt in
-      let y = common v text s known fs b unclocked' k lt' in
-      let later_x = later v text r known fr a unclocked k lt in
-      let later_y = later v text s known fs b unclocked' k lt' in
+      let x = common v bytes r known fr a still k lt in
+      let y = common v bytes s known fs b still' k lt' in
+      let later_x = later v bytes r known fr a still k lt in
+      let later_y = later v bytes s known fs b still' k lt' in
       let field : (i : ℕ) → slice_index (field_words c) i ≡ slice_index (field_words d) i = λ i. ap (λ (ws : List ℕ). slice_index ws i) (sym x.fields ∙ y.fields) in
-      let clock : (i : ℕ) → i < length (clock_words c.devices) → slice_index (clock_words c.devices) i ≡ slice_index (clock_words d.devices) i = λ i less.
+      let clock : (i : ℕ) → i < length (rate_and_phase c.devices) → slice_index (rate_and_phase c.devices) i ≡ slice_index (rate_and_phase d.devices) i = λ i less.
       sym (later_x.clock i less) ∙ later_y.clock i less in
       let registers = sym x.registers ∙ y.registers in
       let flags = same_flags c.cpu.flags d.cpu.flags (field 2) in
@@ -79,7 +79,7 @@ module _ (v : ℕ) (text : List ℕ) (r s : RecordingParts) (known : is_version 
       (field 5) (field 6) (field 7) (field 8) (same_keys c.devices d.devices (field 9) (sym x.keys ∙ y.keys)) in
       let count = fc.table.count in
       let table = same_lists c.table d.table (fc.table.count ∙ sym fd.table.count) (λ p e less.
-      get_or_default c.table p e 0 less ∙ sym (numbers_agree v text r known fr a unclocked k p lt (omega arith)) ∙ numbers_agree v text s known fs b unclocked' k p lt' (omega arith)
+      get_or_default c.table p e 0 less ∙ sym (numbers_agree v bytes r known fr a still k p lt (omega arith)) ∙ numbers_agree v bytes s known fs b still' k p lt' (omega arith)
       ∙ get_or_default d.table p 0 e (omega (arith, fd.table.count))) in
       let own = sent k lt in let counts = sym x.count ∙ y.count in
       λ i. record {
@@ -93,28 +93,28 @@ module _ (v : ℕ) (text : List ℕ) (r s : RecordingParts) (known : is_version 
   same_event_at : (i : ℕ) (d : Event) → i < length r.inputs → get_or r.inputs i d ≡ get_or s.inputs i d
   same_event_at i d lt =
       let e = get_or r.inputs i d in let f = get_or s.inputs i d in
-      let fields = sym (event_is v text r known fr a i d lt) ∙ event_is v text s known fs b i d (subst (λ (n : ℕ). i < n) events_len lt) in
+      let fields = sym (event_is v bytes r known fr a i d lt) ∙ event_is v bytes s known fs b i d (subst (λ (n : ℕ). i < n) events_len lt) in
       same_event e f (ap (λ x. x.count) fields) (same_input e.input f.input (ap (λ x. x.kind) fields) (ap (λ x. x.value) fields))
 
   same_parts : r ≡ s
   same_parts =
-      let pool = same_lists r.pool s.pool pages_len (λ i d lt. sym (page_is v text r known fr a i d lt) ∙ page_is v text s known fs b i d (subst (λ (n : ℕ). i < n) pages_len lt)) in
+      let pool = same_lists r.pool s.pool pages_len (λ i d lt. sym (page_is v bytes r known fr a i d lt) ∙ page_is v bytes s known fs b i d (subst (λ (n : ℕ). i < n) pages_len lt)) in
       let inputs = same_lists r.inputs s.inputs events_len same_event_at in
       let checkpoints = same_lists r.checkpoints s.checkpoints len (λ i d lt.
       get_or_default r.checkpoints i d no_checkpoint lt ∙ checkpoint_same i lt ∙ get_or_default s.checkpoints i no_checkpoint d (subst (λ (n : ℕ). i < n) len lt)) in
       λ i. record { pool = pool i; inputs = inputs i; checkpoints = checkpoints i }
 
 -- the version of a file is its own
-pub in_version : (v : ℕ) (text : List ℕ) (r : RecordingParts) → version text ≡ v → Text text r → TextIn v text r
-in_version v text r is some =
+pub in_version : (v : ℕ) (bytes : List ℕ) (r : RecordingParts) → version bytes ≡ v → Text bytes r → TextIn v bytes r
+in_version v bytes r is some =
     let w = some.version in
     let own = version_of w r some.is.known (writable r some.is.lawful) in
-    subst (λ (n : ℕ). TextIn n text r) (sym own ∙ ap version (sym some.is.is) ∙ is) some.is
+    subst (λ (n : ℕ). TextIn n bytes r) (sym own ∙ ap version (sym some.is.is) ∙ is) some.is
 
 -- a file is that of one recording
-pub same_recording : (text : List ℕ) (r s : RecordingParts) → Text text r → Text text s → r ≡ s
-same_recording text r s is_r is_s =
-    let v = version text in
-    let a = in_version v text r refl is_r in
-    let b = in_version v text s refl is_s in
-    same_parts v text r s a.known a.unclocked b.unclocked (writable r a.lawful) (writable s b.lawful) (text_parts v text r a) (text_parts v text s b)
+pub same_recording : (bytes : List ℕ) (r s : RecordingParts) → Text bytes r → Text bytes s → r ≡ s
+same_recording bytes r s is_r is_s =
+    let v = version bytes in
+    let a = in_version v bytes r refl is_r in
+    let b = in_version v bytes s refl is_s in
+    same_parts v bytes r s a.known a.still b.still (writable r a.lawful) (writable s b.lawful) (text_parts v bytes r a) (text_parts v bytes s b)

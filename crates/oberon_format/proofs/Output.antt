@@ -23,37 +23,37 @@ range-drop xs a n c le =
     let sum : c - a ≡ n + (c - (a + n)) = omega arith in
     ap (λ (k : ℕ). drop n (take k (drop a xs))) sum ∙ drop-take n (c - (a + n)) (drop a xs) ∙ ap (take (c - (a + n))) (drop-drop n a xs)
 
-pub keys-are_at : (text : List ℕ) (offset : ℕ) → offset + CHANGES_AT ≤ length text → are_keys (checkpoint_of text offset) ≡ true
-    → slice_range text (offset + KEYS_AT) (offset + SENT_AT) ≡ slice_range text (offset + KEYS_AT) (offset + KEYS_AT + word_at text (offset + WAITING_AT)) ++ replicate (MAX_KEYS - word_at text (offset + WAITING_AT)) 0
-keys-are_at text offset room h =
-    let n = word_at text (offset + WAITING_AT) in
+pub keys-are_at : (bytes : List ℕ) (offset : ℕ) → offset + CHANGES_AT ≤ length bytes → are_keys (checkpoint_of bytes offset) ≡ true
+    → slice_range bytes (offset + KEYS_AT) (offset + SENT_AT) ≡ slice_range bytes (offset + KEYS_AT) (offset + KEYS_AT + word_at bytes (offset + WAITING_AT)) ++ replicate (MAX_KEYS - word_at bytes (offset + WAITING_AT)) 0
+keys-are_at bytes offset room h =
+    let n = word_at bytes (offset + WAITING_AT) in
     let few : n ≤ MAX_KEYS = leb-true n MAX_KEYS (and_left _ _ h) in
-    let rest : drop n (slice_range text (offset + KEYS_AT) (offset + SENT_AT)) ≡ slice_range text (offset + KEYS_AT + n) (offset + SENT_AT) = range-drop text (offset + KEYS_AT) n (offset + SENT_AT) (omega arith) in
-    let zeros = zeros-are (slice_range text (offset + KEYS_AT + n) (offset + SENT_AT)) (subst (λ (l : List ℕ). list_all (λ b. eqb b 0) l ≡ true) rest (and_right (nat_le n MAX_KEYS) _ h)) in
-    let len : length (slice_range text (offset + KEYS_AT + n) (offset + SENT_AT)) ≡ MAX_KEYS - n = length-between text (offset + KEYS_AT + n) (offset + SENT_AT) (omega arith) ∙ omega arith in
-    range-split text (offset + KEYS_AT) (offset + KEYS_AT + n) (offset + SENT_AT) (omega arith) (omega arith)
-    ∙ ap (λ (r : List ℕ). slice_range text (offset + KEYS_AT) (offset + KEYS_AT + n) ++ r) (zeros ∙ ap (λ (m : ℕ). replicate m 0) len)
+    let rest : drop n (slice_range bytes (offset + KEYS_AT) (offset + SENT_AT)) ≡ slice_range bytes (offset + KEYS_AT + n) (offset + SENT_AT) = range-drop bytes (offset + KEYS_AT) n (offset + SENT_AT) (omega arith) in
+    let zeros = zeros-are (slice_range bytes (offset + KEYS_AT + n) (offset + SENT_AT)) (subst (λ (l : List ℕ). list_all (λ b. eqb b 0) l ≡ true) rest (and_right (nat_le n MAX_KEYS) _ h)) in
+    let len : length (slice_range bytes (offset + KEYS_AT + n) (offset + SENT_AT)) ≡ MAX_KEYS - n = length-between bytes (offset + KEYS_AT + n) (offset + SENT_AT) (omega arith) ∙ omega arith in
+    range-split bytes (offset + KEYS_AT) (offset + KEYS_AT + n) (offset + SENT_AT) (omega arith) (omega arith)
+    ∙ ap (λ (r : List ℕ). slice_range bytes (offset + KEYS_AT) (offset + KEYS_AT + n) ++ r) (zeros ∙ ap (λ (m : ℕ). replicate m 0) len)
 
-pub output_below_le : (text : List ℕ) (i n : ℕ) → i ≤ n → output_below text i ≤ output_below text n
+pub output_below_le : (bytes : List ℕ) (i n : ℕ) → i ≤ n → output_below bytes i ≤ output_below bytes n
 unfolding total
-output_below_le text = rises (output_below text) (λ k. omega arith)
+output_below_le bytes = rises (output_below bytes) (λ k. omega arith)
 
 pub output_of_push : (cs : List CheckpointParts) (c : CheckpointParts) → output_of (cs ++ c ∷ []) ≡ output_of cs ++ c.sent
 output_of_push cs c = sym (flat_map_more (λ (x : CheckpointParts). x.sent) [] cs c)
 
-pub output_fits : (text : List ℕ) (k : ℕ) → Meets text → k < checkpoints text → output_offset text + output_below text k + word_at text (start text k + SENT_AT) ≤ length text
-output_fits text k meets lt = omega (arith, output_below_more text k, output_below_le text (k + 1) (checkpoints text) (omega arith), meets.whole_is)
+pub output_fits : (bytes : List ℕ) (k : ℕ) → Meets bytes → k < checkpoints bytes → output_offset bytes + output_below bytes k + word_at bytes (start bytes k + SENT_AT) ≤ length bytes
+output_fits bytes k meets lt = omega (arith, output_below_more bytes k, output_below_le bytes (k + 1) (checkpoints bytes) (omega arith), meets.len_is)
 
-pub output_more : (text : List ℕ) (k from : ℕ) (cs : List CheckpointParts) (c : CheckpointParts) → Meets text → k < checkpoints text → from ≡ output_offset text + output_below text k
-    → slice_range text (output_offset text) from ≡ output_of cs → c.sent ≡ slice_range text from (from + word_at text (start text k + SENT_AT))
-    → slice_range text (output_offset text) (from + word_at text (start text k + SENT_AT)) ≡ output_of (cs ++ c ∷ [])
-output_more text k from cs c meets lt is so_far sent =
-    let n = word_at text (start text k + SENT_AT) in
-    range-split text (output_offset text) from (from + n) (omega arith) (omega arith) ∙ ap (λ (l : List ℕ). l ++ slice_range text from (from + n)) so_far
+pub output_more : (bytes : List ℕ) (k from : ℕ) (cs : List CheckpointParts) (c : CheckpointParts) → Meets bytes → k < checkpoints bytes → from ≡ output_offset bytes + output_below bytes k
+    → slice_range bytes (output_offset bytes) from ≡ output_of cs → c.sent ≡ slice_range bytes from (from + word_at bytes (start bytes k + SENT_AT))
+    → slice_range bytes (output_offset bytes) (from + word_at bytes (start bytes k + SENT_AT)) ≡ output_of (cs ++ c ∷ [])
+output_more bytes k from cs c meets lt is so_far sent =
+    let n = word_at bytes (start bytes k + SENT_AT) in
+    range-split bytes (output_offset bytes) from (from + n) (omega arith) (omega arith) ∙ ap (λ (l : List ℕ). l ++ slice_range bytes from (from + n)) so_far
     ∙ ap (λ (l : List ℕ). output_of cs ++ l) (sym sent) ∙ sym (output_of_push cs c)
 
 -- all output, after every checkpoint is read
-pub output_all : (text : List ℕ) (k from : ℕ) (cs : List CheckpointParts) → Meets text → k ≡ checkpoints text → from ≡ output_offset text + output_below text k
-    → slice_range text (output_offset text) from ≡ output_of cs → drop (output_offset text) text ≡ output_of cs
-output_all text k from cs meets is at so_far =
-    sym (between_to_end text (output_offset text) from (omega (arith, ap (output_below text) is, meets.whole_is))) ∙ so_far
+pub output_all : (bytes : List ℕ) (k from : ℕ) (cs : List CheckpointParts) → Meets bytes → k ≡ checkpoints bytes → from ≡ output_offset bytes + output_below bytes k
+    → slice_range bytes (output_offset bytes) from ≡ output_of cs → drop (output_offset bytes) bytes ≡ output_of cs
+output_all bytes k from cs meets is at so_far =
+    sym (between_to_end bytes (output_offset bytes) from (omega (arith, ap (output_below bytes) is, meets.len_is))) ∙ so_far

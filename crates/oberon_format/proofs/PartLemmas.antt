@@ -1,5 +1,5 @@
 -- The fields of parts, member by member, at the offsets of their checkpoints, and the sums of their outputs.
-use Rattle.oberon_format.proofs.Common.{[], add-one, ap, arith, CHANGE_LEN, changes, CHANGES_AT, changes_in, checkpoint_at, checkpoint_size, CheckpointParts, count_before, end_rules, eq-eqb, Event, event_fields, event_start, false, Fields, fields_in, first_broken, get_or, get_or-map, le-leb, length, length-append, List, nat_le, nat_tests, ne_eqb, no_checkpoint, no_event, None, output_of, PLACES, prior_number, RecordingParts, refl, sent_below, slice_index, slice_index_or, start_in, suc, sym, table_before, total, true, VERSION, whole, zero, zero_number, ℕ, ◌*◌, ◌+◌, ◌-◌, ◌<◌, ◌==◌, ◌∙◌, ◌∷◌, ◌≡◌, ◌≤◌}
+use Rattle.oberon_format.proofs.Common.{[], add-one, ap, arith, CHANGE_LEN, changes, CHANGES_AT, changes_in, checkpoint_at, checkpoint_size, CheckpointParts, count_before, end_rules, eq-eqb, Event, event_fields, event_start, false, Fields, fields_in, first_broken, get_or, get_or-map, le-leb, length, length-append, List, nat_le, nat_tests, ne_eqb, no_checkpoint, no_event, None, output_of, PAGE_SLOTS, prior_page_id, RecordingParts, refl, sent_below, slice_index, slice_index_or, start_in, suc, sym, table_before, total, true, VERSION, file_len, zero, zero_number, ℕ, ◌*◌, ◌+◌, ◌-◌, ◌<◌, ◌==◌, ◌∙◌, ◌∷◌, ◌≡◌, ◌≤◌}
 use Rattle.oberon_format.proofs.ChangeLemmas.{changes_few}
 use Rattle.oberon_format.proofs.RuleLemmas.{rises}
 
@@ -17,7 +17,7 @@ event_here v r i e lt = get_or-map event_fields r.inputs i e no_event lt
 pub before_next : (f : Fields) (k : ℕ) → count_before f (suc k) ≡ (f.checkpoint k).count
 before_next f k = grind (arith, nat_tests)
 
-pub prior_more : (f : Fields) (k p : ℕ) → prior_number f (suc k) p ≡ f.page_number k p
+pub prior_more : (f : Fields) (k p : ℕ) → prior_page_id f (suc k) p ≡ f.page_id k p
 prior_more f k p = grind (arith, nat_tests)
 
 -- the table before each checkpoint but the first is that of the one before
@@ -27,7 +27,7 @@ table_next cs k =
     rw (later, back) refl
 
 -- the page ids before a checkpoint of parts are those of the table before it
-pub prior_encoded : (v : ℕ) (r : RecordingParts) (k p : ℕ) → p < PLACES → prior_number (fields_in v r) k p ≡ slice_index (table_before r.checkpoints k) p
+pub prior_encoded : (v : ℕ) (r : RecordingParts) (k p : ℕ) → p < PAGE_SLOTS → prior_page_id (fields_in v r) k p ≡ slice_index (table_before r.checkpoints k) p
 prior_encoded v r zero p lt = sym (zero_number p)
 prior_encoded v r (suc k) p lt = prior_more (fields_in v r) k p ∙ ap (λ (table : List ℕ). slice_index table p) (sym (table_next r.checkpoints k))
 
@@ -46,11 +46,11 @@ unfolding total
 total_rises f = rises (total f) (λ k. omega arith)
 
 -- a checkpoint has at most as many changes as a table has slots
-pub changes_in_few : (v : ℕ) (before : List ℕ) (c : CheckpointParts) → changes_in v before c ≤ PLACES
+pub changes_in_few : (v : ℕ) (before : List ℕ) (c : CheckpointParts) → changes_in v before c ≤ PAGE_SLOTS
 changes_in_few v before c = let few = changes_few before c.table in grind arith
 
 -- and so it is at most this long
-pub size_few : (v changes : ℕ) → changes ≤ PLACES → checkpoint_size v changes ≤ CHANGES_AT + CHANGE_LEN * PLACES
+pub size_few : (v changes : ℕ) → changes ≤ PAGE_SLOTS → checkpoint_size v changes ≤ CHANGES_AT + CHANGE_LEN * PAGE_SLOTS
 size_few v changes few = grind (arith, nat_tests)
 
 -- the offset of checkpoint 0 of parts, and of the one after each
@@ -73,7 +73,7 @@ changed_room r k = let next = start_in_next VERSION r k in omega arith
 
 -- no further than as many of the longest checkpoints reach
 pub start_in_within : (v : ℕ) (r : RecordingParts) (k : ℕ)
-    → start_in v r k ≤ event_start (length r.pool) (length r.inputs) + (CHANGES_AT + CHANGE_LEN * PLACES) * k
+    → start_in v r k ≤ event_start (length r.pool) (length r.inputs) + (CHANGES_AT + CHANGE_LEN * PAGE_SLOTS) * k
 start_in_within v r zero = omega (arith, start_in_first v r)
 start_in_within v r (suc k) =
     let few = changes_in_few v (table_before r.checkpoints k) (checkpoint_at r k) in
@@ -99,7 +99,7 @@ sent_all v r = output_total r.checkpoints
 pub ends_met : (v : ℕ) (r : RecordingParts) → first_broken (end_rules (fields_in v r)) ≡ None
 ends_met v r =
     let f = fields_in v r in
-    let same : whole f ≡ f.long = ap (λ (n : ℕ). start_in v r (length r.checkpoints) + n) (sent_all v r) in
-    let a : nat_le (whole f) f.long ≡ true = le-leb _ _ (omega arith) in
-    let b : (f.long == whole f) ≡ true = eq-eqb _ _ (sym same) in
+    let same : file_len f ≡ f.long = ap (λ (n : ℕ). start_in v r (length r.checkpoints) + n) (sent_all v r) in
+    let a : nat_le (file_len f) f.long ≡ true = le-leb _ _ (omega arith) in
+    let b : (f.long == file_len f) ≡ true = eq-eqb _ _ (sym same) in
     rw (a, b) refl

@@ -1,5 +1,5 @@
 -- The rules of a checkpoint of parts, as the code tests them: the lengths are right, and changes are those between two tables.
-use Rattle.oberon_format.proofs.Common.{add-one, ap, arith, change_rules, changes, CHANGES_AT, Checkpoint, checkpoint_at, checkpoint_fields, checkpoint_parts, checkpoint_rules, checkpoint_size, CheckpointFields, CheckpointParts, count_before, each, encoded_change_rules, Event, Fault, field_rules, fields_in, first_broken, get_or, le-leb, length, length-map, List, LONGEST_TEXT, map, MAX_CHECKPOINTS, MAX_EVENTS, MAX_PAGES, nat_le, None, Option, option_or, parts_of, prior_number, RecordingParts, refl, Rule, sent_below, slice_index, Some, start_in, suc, sym, table_before, VERSION, ℕ, ◌++◌, ◌+◌, ◌<◌, ◌∙◌, ◌∷◌, ◌≡◌, ◌≤◌}
+use Rattle.oberon_format.proofs.Common.{add-one, ap, arith, change_rules, changes, CHANGES_AT, Checkpoint, checkpoint_at, checkpoint_fields, checkpoint_parts, checkpoint_rules, checkpoint_size, CheckpointFields, CheckpointParts, count_before, each, encoded_change_rules, Event, Fault, field_rules, fields_in, first_broken, get_or, le-leb, length, length-map, List, LONGEST_TEXT, map, MAX_CHECKPOINTS, MAX_EVENTS, MAX_PAGES, nat_le, None, Option, option_or, parts_of, prior_page_id, RecordingParts, refl, Rule, sent_below, slice_index, Some, start_in, suc, sym, table_before, VERSION, ℕ, ◌++◌, ◌+◌, ◌<◌, ◌∙◌, ◌∷◌, ◌≡◌, ◌≤◌}
 use Rattle.oberon_format.proofs.ChangeLemmas.{change_in}
 use Rattle.oberon_format.proofs.CheckpointLemmas.{checkpoint_at-is}
 use Rattle.oberon_format.proofs.PartLemmas.{start_in_rises, start_in_next, start_in_within, changed_room, prior_encoded}
@@ -22,10 +22,10 @@ rules_encoded r k lt =
     let offset = start_in VERSION r k in let room = changed_room r k in
     let up = start_in_rises VERSION r (suc k) (length r.checkpoints) (omega arith) in
     let fields : List (Rule Fault) = field_rules offset k (count_before f k) (sent_below f k) (f.checkpoint k) in
-    let tested = each n (change_rules (length r.pool) offset (prior_number f k) (change_in old new)) in
+    let tested = each n (change_rules (length r.pool) offset (prior_page_id f k) (change_in old new)) in
     let ends = (nat_le (start_in VERSION r (suc k)) f.long, fault.Short f.long) ∷ tested in
     let same = rule_met (nat_le (start_in VERSION r (suc k)) f.long) (fault.Short f.long) tested (le-leb _ _ (omega arith))
-    ∙ changes_same (length r.pool) offset n (prior_number f k) (slice_index old) (change_in old new) (change_in old new) (λ p less. prior_encoded VERSION r k p less) (λ i less. refl) in
+    ∙ changes_same (length r.pool) offset n (prior_page_id f k) (slice_index old) (change_in old new) (change_in old new) (λ p less. prior_encoded VERSION r k p less) (λ i less. refl) in
     ap (λ (xs : List (Rule Fault)). first_broken xs) (rules_changed f k refl)
     ∙ rule_met (nat_le (offset + CHANGES_AT) f.long) (fault.Short f.long) (fields ++ ends) (le-leb _ _ (omega arith)) ∙ first_append fields ends
     ∙ ap (option_or (first_broken fields)) same
@@ -63,6 +63,6 @@ next_offset r k offset size fields at are long =
     ∙ sym (start_in_next VERSION r k) ∙ ap (start_in VERSION r) (sym (add-one k))
 
 -- no checkpoint within the limits begins after the longest file
-pub place_small : (r : RecordingParts) (k : ℕ) → length r.pool ≤ MAX_PAGES → length r.inputs ≤ MAX_EVENTS → k ≤ MAX_CHECKPOINTS
+pub offset_small : (r : RecordingParts) (k : ℕ) → length r.pool ≤ MAX_PAGES → length r.inputs ≤ MAX_EVENTS → k ≤ MAX_CHECKPOINTS
     → start_in VERSION r k ≤ LONGEST_TEXT
-place_small r k pages events few = let within = start_in_within VERSION r k in omega arith
+offset_small r k pages events few = let within = start_in_within VERSION r k in omega arith

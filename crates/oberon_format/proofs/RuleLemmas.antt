@@ -1,5 +1,5 @@
 -- The first broken rule of lists of rules, and what a file has if some of its rules are met.
-use Rattle.oberon_format.proofs.Common.{[], add-one, ap, are_keys, arith, Bool, cases_lt, change_rules, changed_rules, CHANGES_AT, checkpoint_of, checkpoint_rules, CheckpointFields, checkpoints, count_before, COUNTER_END, each, end_rules, eq-eqb, eqb-true, event_offset, event_rules, events, false, Fault, Fields, fields_of, first_broken, first_fault_of, FIRST_VERSION, FLAGS_END, header_rules, if◌then◌else◌, in_ranges, inl, inr, is_change, is_checkpoint, is_count, is_input, is_mouse, is_output, is_phase, is_version, IsSized, KIND_AT, le-leb, leb-true, LEDS_END, List, long_at, ltb-true, MAX_KEYS, MAX_OUTPUT, MAX_STOP, Meets, nat_tests, None, Option, option_or, or_cases, page_number_rules, place_floor, PLACES, prior_number, refl, Rule, SENT_AT, sent_below, SERIAL_END, Some, start, suc, SWITCHES_END, sym, total, true, VALUE_AT, VERSION, whole_rules, word_at, zero, ℕ, ◌&&◌, ◌++◌, ◌+◌, ◌<◌, ◌==◌, ◌∙◌, ◌∷◌, ◌≡◌, ◌≤◌, ◌⊎◌}
+use Rattle.oberon_format.proofs.Common.{[], add-one, ap, are_keys, arith, Bool, cases_lt, change_rules, changed_rules, CHANGES_AT, checkpoint_of, checkpoint_rules, CheckpointFields, checkpoints, count_before, COUNTER_END, each, end_rules, eq-eqb, eqb-true, event_offset, event_rules, events, false, Fault, Fields, fields_of, first_broken, first_fault_of, FIRST_VERSION, FLAGS_END, header_rules, if◌then◌else◌, in_ranges, inl, inr, is_change, is_checkpoint, is_count, is_input, is_mouse, is_output, is_phase, is_version, IsSized, KIND_AT, le-leb, leb-true, LEDS_END, List, long_at, ltb-true, MAX_KEYS, MAX_OUTPUT, MAX_STOP, Meets, nat_tests, None, Option, option_or, or_cases, page_id_rules, slot_floor, PAGE_SLOTS, prior_page_id, refl, Rule, SENT_AT, sent_below, SERIAL_END, Some, start, suc, SWITCHES_END, sym, total, true, VALUE_AT, VERSION, whole_rules, word_at, zero, ℕ, ◌&&◌, ◌++◌, ◌+◌, ◌<◌, ◌==◌, ◌∙◌, ◌∷◌, ◌≡◌, ◌≤◌, ◌⊎◌}
 use Rattle.oberon_format.specs.Rules.{rules}
 
 -- the first fault of two lists is that of the first one, or else that of the second
@@ -40,18 +40,18 @@ each_unmet holds fault i n lt h e = each_broken (λ k. (holds k, fault k) ∷ []
 
 -- the length of the output of the checkpoints of a file before checkpoint k
 abbrev pub output_below : List ℕ → ℕ → ℕ
-output_below text k = sent_below (fields_of text) k
+output_below bytes k = sent_below (fields_of bytes) k
 
-pub output_below_none : (text : List ℕ) → output_below text 0 ≡ 0
+pub output_below_none : (bytes : List ℕ) → output_below bytes 0 ≡ 0
 unfolding total
-output_below_none text = refl
+output_below_none bytes = refl
 
-pub output_below_more : (text : List ℕ) (k : ℕ) → output_below text (k + 1) ≡ output_below text k + word_at text (start text k + SENT_AT)
+pub output_below_more : (bytes : List ℕ) (k : ℕ) → output_below bytes (k + 1) ≡ output_below bytes k + word_at bytes (start bytes k + SENT_AT)
 unfolding total
-output_below_more text k = rw (add-one k) refl
+output_below_more bytes k = rw (add-one k) refl
 
-pub count_before_more : (text : List ℕ) (k : ℕ) → count_before (fields_of text) (k + 1) ≡ long_at text (start text k)
-count_before_more text k = grind (arith, nat_tests)
+pub count_before_more : (bytes : List ℕ) (k : ℕ) → count_before (fields_of bytes) (k + 1) ≡ long_at bytes (start bytes k)
+count_before_more bytes k = grind (arith, nat_tests)
 
 -- the first fault of all rules is that of the header, or else of the events, of the checkpoints, or of the end
 abbrev pub in_order : Option Fault → Option Fault → Option Fault → Option Fault → Option Fault
@@ -67,10 +67,10 @@ rules_first x =
     ∙ ap (λ (o : Option Fault). option_or o (first_broken (end_rules x))) (first_append (h ++ e) c ∙ ap (λ (o : Option Fault). option_or o (first_broken c)) (first_append h e))
 
 -- for a file, whose variables `grind` can see
-pub fault_first : (text : List ℕ) → first_fault_of text
-    ≡ in_order (first_broken (header_rules (fields_of text))) (first_broken (each (events text) (event_rules (fields_of text))))
-    (first_broken (each (checkpoints text) (checkpoint_rules (fields_of text)))) (first_broken (end_rules (fields_of text)))
-fault_first text = rules_first (fields_of text)
+pub fault_first : (bytes : List ℕ) → first_fault_of bytes
+    ≡ in_order (first_broken (header_rules (fields_of bytes))) (first_broken (each (events bytes) (event_rules (fields_of bytes))))
+    (first_broken (each (checkpoints bytes) (checkpoint_rules (fields_of bytes)))) (first_broken (end_rules (fields_of bytes)))
+fault_first bytes = rules_first (fields_of bytes)
 
 -- a rule of a list that is met
 pub met_left : (xs ys : List (Rule Fault)) → first_broken (xs ++ ys) ≡ None → first_broken xs ≡ None
@@ -120,8 +120,8 @@ hold_none [] all = refl
 hold_none ((true, f) ∷ rules) all = hold_none rules all.1
 hold_none ((false, f) ∷ rules) all = let wrong = all.0 in absurd cc
 
-pub header_sized : (text : List ℕ) → first_broken (header_rules (fields_of text)) ≡ None → IsSized text
-header_sized text h = record {
+pub header_sized : (bytes : List ℕ) → first_broken (header_rules (fields_of bytes)) ≡ None → IsSized bytes
+header_sized bytes h = record {
   header = grind (arith, nat_tests);
   known = grind (arith, nat_tests);
   pages = grind (arith, nat_tests);
@@ -160,10 +160,10 @@ unfolding each
 each_all rules zero h = refl
 each_all rules (suc n) h = met-append (each n rules) (rules n) (each_all rules n (λ i lt. h i (omega arith))) ∙ h n (omega arith)
 
-pub none_meets : (text : List ℕ) → first_fault_of text ≡ None → Meets text
-none_meets text h =
-    let are = met_parts (fields_of text) h in
-    let sized = header_sized text are.header in let header = are.header in let ends = are.ends in
+pub none_meets : (bytes : List ℕ) → first_fault_of bytes ≡ None → Meets bytes
+none_meets bytes h =
+    let are = met_parts (fields_of bytes) h in
+    let sized = header_sized bytes are.header in let header = are.header in let ends = are.ends in
     record {
       faultless = h;
       magic_is = grind (arith, nat_tests);
@@ -171,7 +171,7 @@ none_meets text h =
       sized = sized;
       events_meet = are.events;
       checkpoints_meet = are.checkpoints;
-      whole_is = grind (arith, nat_tests);
+      len_is = grind (arith, nat_tests);
     }
 
 -- the parts of a test
@@ -183,10 +183,10 @@ pub and_right : (a b : Bool) → (a && b) ≡ true → b ≡ true
 and_right true b h = h
 and_right false b h = absurd cc
 
-pub event_input : (text : List ℕ) (i : ℕ) → Meets text → i < events text → is_input (word_at text (event_offset text i + KIND_AT)) (word_at text (event_offset text i + VALUE_AT)) ≡ true
-event_input text i meets lt =
-    let one = each_holds (event_rules (fields_of text)) (events text) i lt meets.events_meet in
-    and_right _ _ (none_hold (event_rules (fields_of text) i) one).0
+pub event_input : (bytes : List ℕ) (i : ℕ) → Meets bytes → i < events bytes → is_input (word_at bytes (event_offset bytes i + KIND_AT)) (word_at bytes (event_offset bytes i + VALUE_AT)) ≡ true
+event_input bytes i meets lt =
+    let one = each_holds (event_rules (fields_of bytes)) (events bytes) i lt meets.events_meet in
+    and_right _ _ (none_hold (event_rules (fields_of bytes) i) one).0
 
 -- the known versions
 pub version_cases : (v : ℕ) → is_version v ≡ true → (v ≡ FIRST_VERSION) ⊎ (v ≡ VERSION)
@@ -222,14 +222,14 @@ rules_changed f k is = rw (is_later f.version is) refl
 -- a checkpoint of version 1 that meets its rules
 pub record WholeMet (f : Fields) (k : ℕ) : Type 0 where
   pub fields : is_checkpoint k (count_before f k) (sent_below f k) (f.checkpoint k) ≡ true
-  pub numbers : (j : ℕ) → j < PLACES → f.page_number k j ≤ f.pages
+  pub numbers : (j : ℕ) → j < PAGE_SLOTS → f.page_id k j ≤ f.pages
 
 -- one of version 2
 pub record ChangedMet (f : Fields) (k : ℕ) : Type 0 where
   pub room : f.start k + CHANGES_AT ≤ f.long
   pub fields : is_checkpoint k (count_before f k) (sent_below f k) (f.checkpoint k) ≡ true
   pub ends : f.start (suc k) ≤ f.long
-  pub each_change : (i : ℕ) → i < (f.checkpoint k).changes → is_change f.pages (place_floor (f.change k) i) (prior_number f k) (f.change k i) ≡ true
+  pub each_change : (i : ℕ) → i < (f.checkpoint k).changes → is_change f.pages (slot_floor (f.change k) i) (prior_page_id f k) (f.change k i) ≡ true
 
 -- a list of rules whose first one is met has the first fault of the rest
 pub rule_met : (b : Bool) (f : Fault) (xs : List (Rule Fault)) → b ≡ true → first_broken ((b, f) ∷ xs) ≡ first_broken xs
@@ -237,23 +237,23 @@ rule_met b f xs is = rw is refl
 
 pub whole_met : (f : Fields) (k : ℕ) → f.version ≡ FIRST_VERSION → first_broken (checkpoint_rules f k) ≡ None → WholeMet f k
 whole_met f k is met =
-    let numbers = page_number_rules f.pages (f.start k) (f.page_number k) in
+    let numbers = page_id_rules f.pages (f.start k) (f.page_id k) in
     let all = none_hold (whole_rules f k) (ap (λ (xs : List (Rule Fault)). first_broken xs) (sym (rules_whole f k is)) ∙ met) in
     record {
       fields = all.0;
-      numbers = λ j lt. leb-true (f.page_number k j) f.pages (none_hold (numbers j) (each_holds numbers PLACES j lt (hold_none (each PLACES numbers) all.1))).0;
+      numbers = λ j lt. leb-true (f.page_id k j) f.pages (none_hold (numbers j) (each_holds numbers PAGE_SLOTS j lt (hold_none (each PAGE_SLOTS numbers) all.1))).0;
     }
 
 pub whole_meets : (f : Fields) (k : ℕ) → f.version ≡ FIRST_VERSION → WholeMet f k → first_broken (checkpoint_rules f k) ≡ None
 whole_meets f k is met =
-    let numbers = page_number_rules f.pages (f.start k) (f.page_number k) in
-    let each_number = each_all numbers PLACES (λ j lt. hold_none (numbers j) (le-leb _ _ (met.numbers j lt), tt)) in
-    ap (λ (xs : List (Rule Fault)). first_broken xs) (rules_whole f k is) ∙ hold_none (whole_rules f k) (met.fields, none_hold (each PLACES numbers) each_number)
+    let numbers = page_id_rules f.pages (f.start k) (f.page_id k) in
+    let each_number = each_all numbers PAGE_SLOTS (λ j lt. hold_none (numbers j) (le-leb _ _ (met.numbers j lt), tt)) in
+    ap (λ (xs : List (Rule Fault)). first_broken xs) (rules_whole f k is) ∙ hold_none (whole_rules f k) (met.fields, none_hold (each PAGE_SLOTS numbers) each_number)
 
 pub changed_met : (f : Fields) (k : ℕ) → f.version ≡ VERSION → first_broken (checkpoint_rules f k) ≡ None → ChangedMet f k
 changed_met f k is met =
     let n = (f.checkpoint k).changes in
-    let changes = change_rules f.pages (f.start k) (prior_number f k) (f.change k) in
+    let changes = change_rules f.pages (f.start k) (prior_page_id f k) (f.change k) in
     let all = none_hold (changed_rules f k) (ap (λ (xs : List (Rule Fault)). first_broken xs) (sym (rules_changed f k is)) ∙ met) in
     record {
       room = leb-true _ _ all.0;
@@ -265,7 +265,7 @@ changed_met f k is met =
 pub changed_meets : (f : Fields) (k : ℕ) → f.version ≡ VERSION → ChangedMet f k → first_broken (checkpoint_rules f k) ≡ None
 changed_meets f k is met =
     let n = (f.checkpoint k).changes in
-    let changes = change_rules f.pages (f.start k) (prior_number f k) (f.change k) in
+    let changes = change_rules f.pages (f.start k) (prior_page_id f k) (f.change k) in
     let each_change = each_all changes n (λ i lt. hold_none (changes i) (met.each_change i lt, tt)) in
     ap (λ (xs : List (Rule Fault)). first_broken xs) (rules_changed f k is)
     ∙ hold_none (changed_rules f k) (le-leb _ _ met.room, (met.fields, (le-leb _ _ met.ends, none_hold (each n changes) each_change)))
@@ -285,7 +285,7 @@ pub record FieldsMet (k before sent : ℕ) (c : CheckpointFields) : Type 0 where
   pub leds : c.leds < LEDS_END
   pub mouse : is_mouse c.mouse ≡ true
   pub serial : c.serial < SERIAL_END
-  pub changes : c.changes ≤ PLACES
+  pub changes : c.changes ≤ PAGE_SLOTS
   pub waiting : c.waiting ≤ MAX_KEYS
 
 pub fields_met : (k before sent : ℕ) (c : CheckpointFields) → is_checkpoint k before sent c ≡ true → FieldsMet k before sent c
@@ -302,8 +302,8 @@ fields_true f k = go (f.version == FIRST_VERSION) where
 pub fields_hold : (f : Fields) (k : ℕ) → first_broken (checkpoint_rules f k) ≡ None → FieldsMet k (count_before f k) (sent_below f k) (f.checkpoint k)
 fields_hold f k met = fields_met k (count_before f k) (sent_below f k) (f.checkpoint k) (fields_true f k met)
 
-pub checkpoint_holds : (text : List ℕ) (k : ℕ) → Meets text → k < checkpoints text → FieldsMet k (count_before (fields_of text) k) (output_below text k) (checkpoint_of text (start text k))
-checkpoint_holds text k meets lt = fields_hold (fields_of text) k (each_holds (checkpoint_rules (fields_of text)) (checkpoints text) k lt meets.checkpoints_meet)
+pub checkpoint_holds : (bytes : List ℕ) (k : ℕ) → Meets bytes → k < checkpoints bytes → FieldsMet k (count_before (fields_of bytes) k) (output_below bytes k) (checkpoint_of bytes (start bytes k))
+checkpoint_holds bytes k meets lt = fields_hold (fields_of bytes) k (each_holds (checkpoint_rules (fields_of bytes)) (checkpoints bytes) k lt meets.checkpoints_meet)
 
 -- a function that grows at each step
 pub rises : (f : ℕ → ℕ) → ((k : ℕ) → f k ≤ f (suc k)) → (i n : ℕ) → i ≤ n → f i ≤ f n

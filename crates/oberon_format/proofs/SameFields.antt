@@ -1,5 +1,5 @@
 -- Fields that agree as far as rules look have the same first fault.
-use Rattle.oberon_format.proofs.Common.{[], ap, ap₂, arith, Bool, Change, change_offset, change_rules, changed_rules, CHANGES_AT, checkpoint_rules, CheckpointFields, count_before, each, end_rules, event_rules, EventFields, false, Fault, field_rules, Fields, first_broken, FIRST_VERSION, HEADER_LEN, header_rules, if◌then◌else◌, is_change, is_event, is_version, LAST_AT, limit_rules, List, MAGIC, MAGIC_AT, MAX_CHECKPOINTS, MAX_EVENTS, MAX_PAGES, named_len, nat_le, nat_tests, None, offset_of_event, Option, page_number_offset, page_number_rules, place_floor, PLACES, prior_number, refl, Rule, sent_below, Some, suc, sym, total, true, VERSION_AT, whole_rules, zero, ℕ, ◌++◌, ◌+◌, ◌-◌, ◌<◌, ◌==◌, ◌∙◌, ◌∷◌, ◌≡◌, ◌≤◌}
+use Rattle.oberon_format.proofs.Common.{[], ap, ap₂, arith, Bool, Change, change_offset, change_rules, changed_rules, CHANGES_AT, checkpoint_rules, CheckpointFields, count_before, each, end_rules, event_rules, EventFields, false, Fault, field_rules, Fields, first_broken, FIRST_VERSION, HEADER_LEN, header_rules, if◌then◌else◌, is_change, is_event, is_version, LAST_AT, limit_rules, List, MAGIC, MAGIC_AT, MAX_CHECKPOINTS, MAX_EVENTS, MAX_PAGES, named_len, nat_le, nat_tests, None, offset_of_event, Option, page_id_offset, page_id_rules, slot_floor, PAGE_SLOTS, prior_page_id, refl, Rule, sent_below, Some, suc, sym, total, true, VERSION_AT, whole_rules, zero, ℕ, ◌++◌, ◌+◌, ◌-◌, ◌<◌, ◌==◌, ◌∙◌, ◌∷◌, ◌≡◌, ◌≤◌}
 use Rattle.oberon_format.specs.Rules.{rules}
 use Rattle.oberon_format.proofs.ChangeLemmas.{floor_same}
 use Rattle.oberon_format.proofs.PartLemmas.{before_next, prior_more}
@@ -32,26 +32,26 @@ same_each : (n : ℕ) (f g : ℕ → List (Rule Fault)) → ((i : ℕ) → i < n
 same_each n f g h = same_while n f g (λ i lt _. h i lt)
 
 -- the page ids of a checkpoint of version 1
-pub numbers_same : (pages offset : ℕ) (m n : ℕ → ℕ) → ((j : ℕ) → j < PLACES → m j ≡ n j)
-    → first_broken (each PLACES (page_number_rules pages offset m)) ≡ first_broken (each PLACES (page_number_rules pages offset n))
+pub numbers_same : (pages offset : ℕ) (m n : ℕ → ℕ) → ((j : ℕ) → j < PAGE_SLOTS → m j ≡ n j)
+    → first_broken (each PAGE_SLOTS (page_id_rules pages offset m)) ≡ first_broken (each PAGE_SLOTS (page_id_rules pages offset n))
 numbers_same pages offset m n h =
-    same_each PLACES (page_number_rules pages offset m) (page_number_rules pages offset n)
-    (λ j lt. ap (λ (v : ℕ). first_broken ((nat_le v pages, fault.Page (page_number_offset offset j)) ∷ [])) (h j lt))
+    same_each PAGE_SLOTS (page_id_rules pages offset m) (page_id_rules pages offset n)
+    (λ j lt. ap (λ (v : ℕ). first_broken ((nat_le v pages, fault.Page (page_id_offset offset j)) ∷ [])) (h j lt))
 
 -- the changes of a checkpoint of version 2
-pub changes_same : (pages offset n : ℕ) (s t : ℕ → ℕ) (a b : ℕ → Change) → ((p : ℕ) → p < PLACES → s p ≡ t p) → ((i : ℕ) → i < n → a i ≡ b i)
+pub changes_same : (pages offset n : ℕ) (s t : ℕ → ℕ) (a b : ℕ → Change) → ((p : ℕ) → p < PAGE_SLOTS → s p ≡ t p) → ((i : ℕ) → i < n → a i ≡ b i)
     → first_broken (each n (change_rules pages offset s a)) ≡ first_broken (each n (change_rules pages offset t b))
 changes_same pages offset n s t a b stands same =
     same_each n (change_rules pages offset s a) (change_rules pages offset t b) (λ i lt.
-    let floor : place_floor a i ≡ place_floor b i = floor_same a b i (λ j less. same j (omega arith)) in
-    let test : is_change pages (place_floor a i) s (a i) ≡ is_change pages (place_floor b i) t (b i) =
-    ap (λ (m : ℕ). is_change pages m s (a i)) floor ∙ ap (λ (c : Change). is_change pages (place_floor b i) s c) (same i lt)
-    ∙ change_same pages (place_floor b i) s t (b i) (λ p above less. stands p less) in
+    let floor : slot_floor a i ≡ slot_floor b i = floor_same a b i (λ j less. same j (omega arith)) in
+    let test : is_change pages (slot_floor a i) s (a i) ≡ is_change pages (slot_floor b i) t (b i) =
+    ap (λ (m : ℕ). is_change pages m s (a i)) floor ∙ ap (λ (c : Change). is_change pages (slot_floor b i) s c) (same i lt)
+    ∙ change_same pages (slot_floor b i) s t (b i) (λ p above less. stands p less) in
     ap (λ (holds : Bool). first_broken ((holds, fault.Page (change_offset offset i)) ∷ [])) test)
 
 -- fields with the numbers of one and the members of the other
 abbrev pub mixed : Fields → Fields → Fields
-mixed f g = record g { long = f.long; event = f.event; start = f.start; checkpoint = f.checkpoint; change = f.change; page_number = f.page_number }
+mixed f g = record g { long = f.long; event = f.event; start = f.start; checkpoint = f.checkpoint; change = f.change; page_id = f.page_id }
 
 -- the rule that a file has n bytes
 abbrev pub size_rules : ℕ → Fields → List (Rule Fault)
@@ -68,19 +68,19 @@ pub record SoFar (f g : Fields) (k : ℕ) : Type 0 where
   pub start : f.start k ≡ g.start k
   pub before : count_before f k ≡ count_before g k
   pub sent : sent_below f k ≡ sent_below g k
-  pub prior : (p : ℕ) → p < PLACES → prior_number f k p ≡ prior_number g k p
+  pub prior : (p : ℕ) → p < PAGE_SLOTS → prior_page_id f k p ≡ prior_page_id g k p
 
 -- what the rules of a checkpoint look at, at first and if its changes are within their limit
 pub record SameRest (f g : Fields) (k : ℕ) : Type 0 where
   pub next : f.start (suc k) ≡ g.start (suc k)
   pub ends : Same (size_rules (f.start (suc k)) f) (size_rules (g.start (suc k)) g)
   pub change : (i : ℕ) → i < (g.checkpoint k).changes → f.change k i ≡ g.change k i
-  pub page_number : (p : ℕ) → p < PLACES → f.page_number k p ≡ g.page_number k p
+  pub page_id : (p : ℕ) → p < PAGE_SLOTS → f.page_id k p ≡ g.page_id k p
 
 pub record SameCheckpoint (f g : Fields) (k : ℕ) : Type 0 where
   pub room : Same (size_rules (f.start k + CHANGES_AT) f) (size_rules (g.start k + CHANGES_AT) g)
   pub fields : f.checkpoint k ≡ g.checkpoint k
-  pub rest : (g.checkpoint k).changes ≤ PLACES → SameRest f g k
+  pub rest : (g.checkpoint k).changes ≤ PAGE_SLOTS → SameRest f g k
 
 -- what those after the header look at, each after the rules before it are met
 pub record SameParts (f g : Fields) : Type 0 where
@@ -108,7 +108,7 @@ so_far_next f g k so_far fields rest = record {
   start = rest.next;
   before = before_next f k ∙ ap (λ (c : CheckpointFields). c.count) fields ∙ sym (before_next g k);
   sent = ap₂ (λ (below own : ℕ). below + own) so_far.sent (ap (λ (c : CheckpointFields). c.output) fields);
-  prior = λ p lt. prior_more f k p ∙ rest.page_number p lt ∙ sym (prior_more g k p);
+  prior = λ p lt. prior_more f k p ∙ rest.page_id p lt ∙ sym (prior_more g k p);
 }
 
 same_so_far : (f g : Fields) → SameParts f g → (k : ℕ) → k ≤ g.checkpoints → first_broken (each k (checkpoint_rules g)) ≡ None → SoFar f g k
@@ -133,30 +133,30 @@ rules_of_fields f k = field_rules (f.start k) k (count_before f k) (sent_below f
 fields_same : (f g : Fields) (k : ℕ) → SoFar f g k → SameCheckpoint f g k → Same (rules_of_fields f k) (rules_of_fields g k)
 fields_same f g k so_far same = λ i. first_broken (field_rules (so_far.start i) k (so_far.before i) (so_far.sent i) (same.fields i))
 
-changes_few : (g : Fields) (k : ℕ) → first_broken (rules_of_fields g k) ≡ None → (g.checkpoint k).changes ≤ PLACES
+changes_few : (g : Fields) (k : ℕ) → first_broken (rules_of_fields g k) ≡ None → (g.checkpoint k).changes ≤ PAGE_SLOTS
 changes_few g k met = (fields_met k (count_before g k) (sent_below g k) (g.checkpoint k) (none_hold (rules_of_fields g k) met).0).changes
 
 -- a checkpoint of version 1
 whole_same : (f g : Fields) (k : ℕ) → SoFar f g k → SameCheckpoint f g k → Same (whole_rules (mixed f g) k) (whole_rules g k)
 whole_same f g k so_far same =
-    same_then (rules_of_fields f k) (rules_of_fields g k) (each PLACES (page_number_rules g.pages (f.start k) (f.page_number k)))
-    (each PLACES (page_number_rules g.pages (g.start k) (g.page_number k))) (fields_same f g k so_far same) (λ met.
-    ap (λ (n : ℕ). first_broken (each PLACES (page_number_rules g.pages n (f.page_number k)))) so_far.start
-    ∙ numbers_same g.pages (g.start k) (f.page_number k) (g.page_number k) (same.rest (changes_few g k met)).page_number)
+    same_then (rules_of_fields f k) (rules_of_fields g k) (each PAGE_SLOTS (page_id_rules g.pages (f.start k) (f.page_id k)))
+    (each PAGE_SLOTS (page_id_rules g.pages (g.start k) (g.page_id k))) (fields_same f g k so_far same) (λ met.
+    ap (λ (n : ℕ). first_broken (each PAGE_SLOTS (page_id_rules g.pages n (f.page_id k)))) so_far.start
+    ∙ numbers_same g.pages (g.start k) (f.page_id k) (g.page_id k) (same.rest (changes_few g k met)).page_id)
 
 -- a checkpoint of version 2
 changed_same : (f g : Fields) (k : ℕ) → SoFar f g k → SameCheckpoint f g k → Same (changed_rules (mixed f g) k) (changed_rules g k)
 changed_same f g k so_far same =
-    let changes = each (f.checkpoint k).changes (change_rules g.pages (f.start k) (prior_number f k) (f.change k)) in
-    let changes' = each (g.checkpoint k).changes (change_rules g.pages (g.start k) (prior_number g k) (g.change k)) in
+    let changes = each (f.checkpoint k).changes (change_rules g.pages (f.start k) (prior_page_id f k) (f.change k)) in
+    let changes' = each (g.checkpoint k).changes (change_rules g.pages (g.start k) (prior_page_id g k) (g.change k)) in
     let tail = size_rules (f.start (suc k)) f ++ changes in
     let tail' = size_rules (g.start (suc k)) g ++ changes' in
     same_append (size_rules (f.start k + CHANGES_AT) f) (size_rules (g.start k + CHANGES_AT) g) (rules_of_fields f k ++ tail) (rules_of_fields g k ++ tail') same.room
     (same_then (rules_of_fields f k) (rules_of_fields g k) tail tail' (fields_same f g k so_far same) (λ met.
     let rest = same.rest (changes_few g k met) in
     same_append (size_rules (f.start (suc k)) f) (size_rules (g.start (suc k)) g) changes changes' rest.ends
-    (ap₂ (λ (c : CheckpointFields) (n : ℕ). first_broken (each c.changes (change_rules g.pages n (prior_number f k) (f.change k)))) same.fields so_far.start
-    ∙ changes_same g.pages (g.start k) (g.checkpoint k).changes (prior_number f k) (prior_number g k) (f.change k) (g.change k) so_far.prior rest.change)))
+    (ap₂ (λ (c : CheckpointFields) (n : ℕ). first_broken (each c.changes (change_rules g.pages n (prior_page_id f k) (f.change k)))) same.fields so_far.start
+    ∙ changes_same g.pages (g.start k) (g.checkpoint k).changes (prior_page_id f k) (prior_page_id g k) (f.change k) (g.change k) so_far.prior rest.change)))
 
 checkpoint_same : (f g : Fields) (k : ℕ) → SoFar f g k → SameCheckpoint f g k → Same (checkpoint_rules (mixed f g) k) (checkpoint_rules g k)
 unfolding checkpoint_rules

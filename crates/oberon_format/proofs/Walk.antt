@@ -1,54 +1,54 @@
 -- The changes between two tables, found slot by slot, and a table while changes are made in place.
-use Rattle.oberon_format.proofs.Common.{[], add-one, ap, append-nil, append_assoc, arith, Bool, cases_eq, cases_lt, Change, change_offset, change_rules, changes, changes_below, eq-eqb, false, first_broken, get_or, get_or-set_other, get_or-set_same, get_or_append_left, get_or_push, HasNumbers, if◌then◌else◌, is_change, le-leb, leb-true, length, length-append, List, lt-ltb, ltb-true, nat_le, nat_lt, ne_eqb, no_change, not, number_after, place_floor, PLACES, refl, set, slice_index, slice_set, suc, sym, true, zero, ℕ, ⊎_elim, ◌&&◌, ◌++◌, ◌+◌, ◌<◌, ◌==◌, ◌∙◌, ◌∷◌, ◌≡◌, ◌≢◌, ◌≤◌}
+use Rattle.oberon_format.proofs.Common.{[], add-one, ap, append-nil, append_assoc, arith, Bool, cases_eq, cases_lt, Change, change_offset, change_rules, changes, changes_below, eq-eqb, false, first_broken, get_or, get_or-set_other, get_or-set_same, get_or_append_left, get_or_push, HasPageIds, if◌then◌else◌, is_change, le-leb, leb-true, length, length-append, List, lt-ltb, ltb-true, nat_le, nat_lt, ne_eqb, no_change, not, page_id_after, slot_floor, PAGE_SLOTS, refl, set, slice_index, slice_set, suc, sym, true, zero, ℕ, ⊎_elim, ◌&&◌, ◌++◌, ◌+◌, ◌<◌, ◌==◌, ◌∙◌, ◌∷◌, ◌≡◌, ◌≢◌, ◌≤◌}
 use Rattle.oberon_format.proofs.ChangeLemmas.{after_here, after_next, after_other, member_of, change_in, change_to, are_below, below_same, below_more, changes-lawful}
 use Rattle.oberon_format.proofs.RuleLemmas.{and_left, and_right}
 use Rattle.oberon_format.specs.declared.fault.Fault.TheVariants as fault
 
 -- a change that is made in a table
-pub change_made : (change : ℕ → Change) (prior_number : ℕ → ℕ) (n : ℕ) (table : List ℕ) → length table ≡ PLACES → (change n).place < PLACES → HasNumbers table (number_after change prior_number n)
-    → HasNumbers (slice_set table (change n).place (change n).number) (number_after change prior_number (n + 1))
-change_made change prior_number n table len inside was p lt =
-    ⊎_elim (λ (here : (change n).place ≡ p).
-    ap (λ (q : ℕ). get_or (set table (change n).place (change n).number) q 0) (sym here)
-    ∙ get_or-set_same table (change n).place (change n).number 0 (omega arith)
-    ∙ sym (after_next change prior_number n p ∙ after_here change prior_number n p here))
-    (λ (other : (change n).place ≢ p).
-    get_or-set_other table (change n).place p (change n).number 0 (λ e. other (sym e)) ∙ was p lt
-    ∙ sym (after_next change prior_number n p ∙ after_other change prior_number n p other))
-    (cases_eq (change n).place p)
+pub change_made : (change : ℕ → Change) (prior : ℕ → ℕ) (n : ℕ) (table : List ℕ) → length table ≡ PAGE_SLOTS → (change n).slot < PAGE_SLOTS → HasPageIds table (page_id_after change prior n)
+    → HasPageIds (slice_set table (change n).slot (change n).page_id) (page_id_after change prior (n + 1))
+change_made change prior n table len inside was p lt =
+    ⊎_elim (λ (here : (change n).slot ≡ p).
+    ap (λ (q : ℕ). get_or (set table (change n).slot (change n).page_id) q 0) (sym here)
+    ∙ get_or-set_same table (change n).slot (change n).page_id 0 (omega arith)
+    ∙ sym (after_next change prior n p ∙ after_here change prior n p here))
+    (λ (other : (change n).slot ≢ p).
+    get_or-set_other table (change n).slot p (change n).page_id 0 (λ e. other (sym e)) ∙ was p lt
+    ∙ sym (after_next change prior n p ∙ after_other change prior n p other))
+    (cases_eq (change n).slot p)
 
 -- whether a change is lawful depends on the page id in its slot, if that is a slot that it may have
-by_place : (a b x y : Bool) → (a ≡ true → x ≡ y) → (a && b && x) ≡ (a && b && y)
-by_place true b x y same = ap (λ (z : Bool). b && z) (same refl)
-by_place false b x y same = refl
+by_slot : (a b x y : Bool) → (a ≡ true → x ≡ y) → (a && b && x) ≡ (a && b && y)
+by_slot true b x y same = ap (λ (z : Bool). b && z) (same refl)
+by_slot false b x y same = refl
 
-pub change_same : (pages floor : ℕ) (s t : ℕ → ℕ) (change : Change) → ((p : ℕ) → floor ≤ p → p < PLACES → s p ≡ t p) → is_change pages floor s change ≡ is_change pages floor t change
+pub change_same : (pages floor : ℕ) (s t : ℕ → ℕ) (change : Change) → ((p : ℕ) → floor ≤ p → p < PAGE_SLOTS → s p ≡ t p) → is_change pages floor s change ≡ is_change pages floor t change
 change_same pages floor s t change same =
-    by_place (nat_le floor change.place && nat_lt change.place PLACES) (nat_le change.number pages) (not (change.number == s change.place)) (not (change.number == t change.place))
-    (λ here. ap (λ (n : ℕ). not (change.number == n)) (same change.place (leb-true _ _ (and_left _ _ here)) (ltb-true _ _ (and_right _ _ here))))
+    by_slot (nat_le floor change.slot && nat_lt change.slot PAGE_SLOTS) (nat_le change.page_id pages) (not (change.page_id == s change.slot)) (not (change.page_id == t change.slot))
+    (λ here. ap (λ (n : ℕ). not (change.page_id == n)) (same change.slot (leb-true _ _ (and_left _ _ here)) (ltb-true _ _ (and_right _ _ here))))
 
 -- it is tested in a table in which the changes before it are made
-pub change_tested : (pages floor i : ℕ) (prior_number now : ℕ → ℕ) (change : ℕ → Change) (read : Change) → read ≡ change i → floor ≡ place_floor change i
-    → ((p : ℕ) → floor ≤ p → p < PLACES → now p ≡ prior_number p) → is_change pages floor now read ≡ is_change pages (place_floor change i) prior_number (change i)
-change_tested pages floor i prior_number now change read same at rest =
-    ap (λ (c : Change). is_change pages floor now c) same ∙ change_same pages floor now prior_number (change i) rest
-    ∙ ap (λ (n : ℕ). is_change pages n prior_number (change i)) at
+pub change_tested : (pages floor i : ℕ) (prior now : ℕ → ℕ) (change : ℕ → Change) (read : Change) → read ≡ change i → floor ≡ slot_floor change i
+    → ((p : ℕ) → floor ≤ p → p < PAGE_SLOTS → now p ≡ prior p) → is_change pages floor now read ≡ is_change pages (slot_floor change i) prior (change i)
+change_tested pages floor i prior now change read same at rest =
+    ap (λ (c : Change). is_change pages floor now c) same ∙ change_same pages floor now prior (change i) rest
+    ∙ ap (λ (n : ℕ). is_change pages n prior (change i)) at
 
 -- the slot of a lawful change rises, and is one of the table's
-pub change_rises : (pages floor : ℕ) (prior_number : ℕ → ℕ) (change : Change) → is_change pages floor prior_number change ≡ true → floor ≤ change.place
-change_rises pages floor prior_number change is = leb-true _ _ (and_left _ _ (and_left _ _ (and_left _ _ is)))
+pub change_rises : (pages floor : ℕ) (prior : ℕ → ℕ) (change : Change) → is_change pages floor prior change ≡ true → floor ≤ change.slot
+change_rises pages floor prior change is = leb-true _ _ (and_left _ _ (and_left _ _ (and_left _ _ is)))
 
-pub change_inside : (pages floor : ℕ) (prior_number : ℕ → ℕ) (change : Change) → is_change pages floor prior_number change ≡ true → change.place < PLACES
-change_inside pages floor prior_number change is = ltb-true _ _ (and_right _ _ (and_left _ _ (and_left _ _ is)))
+pub change_inside : (pages floor : ℕ) (prior : ℕ → ℕ) (change : Change) → is_change pages floor prior change ≡ true → change.slot < PAGE_SLOTS
+change_inside pages floor prior change is = ltb-true _ _ (and_right _ _ (and_left _ _ (and_left _ _ is)))
 
 -- its page id is that of a page, and another one was there
-pub change_named : (pages floor : ℕ) (prior_number : ℕ → ℕ) (change : Change) → is_change pages floor prior_number change ≡ true → change.number ≤ pages
-change_named pages floor prior_number change is = leb-true _ _ (and_right _ _ (and_left _ _ is))
+pub change_named : (pages floor : ℕ) (prior : ℕ → ℕ) (change : Change) → is_change pages floor prior change ≡ true → change.page_id ≤ pages
+change_named pages floor prior change is = leb-true _ _ (and_right _ _ (and_left _ _ is))
 
-pub change_differs : (pages floor : ℕ) (prior_number : ℕ → ℕ) (change : Change) → is_change pages floor prior_number change ≡ true → change.number ≢ prior_number change.place
-change_differs pages floor prior_number change is e =
-    let same = eq-eqb change.number (prior_number change.place) e in
-    let other = and_right (nat_le floor change.place && nat_lt change.place PLACES && nat_le change.number pages) _ is in
+pub change_differs : (pages floor : ℕ) (prior : ℕ → ℕ) (change : Change) → is_change pages floor prior change ≡ true → change.page_id ≢ prior change.slot
+change_differs pages floor prior change is e =
+    let same = eq-eqb change.page_id (prior change.slot) e in
+    let other = and_right (nat_le floor change.slot && nat_lt change.slot PAGE_SLOTS && nat_le change.page_id pages) _ is in
     absurd cc
 
 -- the changes of slots below a number of the code
@@ -84,10 +84,10 @@ pub record IsNext (p : ℕ) (before table : List ℕ) : Type 0 where
   pub inside : length (changes_below p before table) < length (changes before table)
   pub is : change_in before table (length (changes_below p before table)) ≡ change_to table p
 
-next_change : (p : ℕ) (before table : List ℕ) → p < PLACES → slice_index before p ≢ slice_index table p → IsNext p before table
+next_change : (p : ℕ) (before table : List ℕ) → p < PAGE_SLOTS → slice_index before p ≢ slice_index table p → IsNext p before table
 next_change p before table lt ne =
     let cs = changes_below p before table in let c = change_to table p in
-    let first = below_first (suc p) PLACES before table (omega arith) in
+    let first = below_first (suc p) PAGE_SLOTS before table (omega arith) in
     let all : changes before table ≡ (cs ++ c ∷ []) ++ first.0 = first.1 ∙ ap (λ (ds : List Change). ds ++ first.0) (below_more p before table ne) in
     let long = ap (λ (ds : List Change). length ds) all in
     let own = length-append cs (c ∷ []) in
@@ -102,18 +102,18 @@ third_left a b true d ha hb hd = rw (ha, hb, hd) refl
 third_left a b false d ha hb hd = rw (ha, hb) refl
 
 pub number_tested : (pages i : ℕ) (before table : List ℕ) → i < length (changes before table)
-    → is_change pages (place_floor (change_in before table) i) (slice_index before) (change_in before table i) ≡ nat_le (change_in before table i).number pages
+    → is_change pages (slot_floor (change_in before table) i) (slice_index before) (change_in before table i) ≡ nat_le (change_in before table i).page_id pages
 number_tested pages i before table lt =
     let c = change_in before table i in let are = changes-lawful before table in
-    let differs : (c.number == slice_index before c.place) ≡ false = ne_eqb _ _ (are.differs i lt) in
-    third_left _ _ (nat_le c.number pages) _ (le-leb _ _ (are.rises i lt)) (lt-ltb _ _ (are.inside i lt)) (ap not differs)
+    let differs : (c.page_id == slice_index before c.slot) ≡ false = ne_eqb _ _ (are.differs i lt) in
+    third_left _ _ (nat_le c.page_id pages) _ (le-leb _ _ (are.rises i lt)) (lt-ltb _ _ (are.inside i lt)) (ap not differs)
 
 -- the rule of the change of a slot in which the tables differ
-pub next_rule : (pages offset p : ℕ) (before table : List ℕ) → p < PLACES → slice_index before p ≢ slice_index table p
+pub next_rule : (pages offset p : ℕ) (before table : List ℕ) → p < PAGE_SLOTS → slice_index before p ≢ slice_index table p
     → (length (changes_below p before table) < length (changes before table))
     × (first_broken (change_rules pages offset (slice_index before) (change_in before table) (length (changes_below p before table)))
     ≡ first_broken ((nat_le (slice_index table p) pages, fault.Page (change_offset offset (length (changes_below p before table)))) ∷ []))
 next_rule pages offset p before table lt ne =
     let m = length (changes_below p before table) in let next = next_change p before table lt ne in
-    let test = number_tested pages m before table next.inside ∙ ap (λ (c : Change). nat_le c.number pages) next.is in
+    let test = number_tested pages m before table next.inside ∙ ap (λ (c : Change). nat_le c.page_id pages) next.is in
     (next.inside, ap (λ (holds : Bool). first_broken ((holds, fault.Page (change_offset offset m)) ∷ [])) test)

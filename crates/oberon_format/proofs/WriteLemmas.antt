@@ -15,9 +15,9 @@ pub changes_skipped : (before table start out : List ℕ) (p : ℕ) → slice_in
 changes_skipped before table start out p same so_far = so_far ∙ ap (λ (cs : List Change). start ++ flat_map change_bytes cs) (sym (below_stays p before table same))
 
 pub changes_next : (before table start out more : List ℕ) (p : ℕ) → slice_index before p ≢ slice_index table p → out ≡ start ++ flat_map change_bytes (changes_below p before table)
-    → more ≡ out ++ change_bytes (record { place = p; number = slice_index table p }) → more ≡ start ++ flat_map change_bytes (changes_below (p + 1) before table)
+    → more ≡ out ++ change_bytes (record { slot = p; page_id = slice_index table p }) → more ≡ start ++ flat_map change_bytes (changes_below (p + 1) before table)
 changes_next before table start out more p other so_far now =
-    let here : Change = record { place = p; number = slice_index table p } in
+    let here : Change = record { slot = p; page_id = slice_index table p } in
     let below = changes_below p before table in
     now ∙ ap (λ (l : List ℕ). l ++ change_bytes here) so_far ∙ flat_map_more change_bytes start below here
     ∙ ap (λ (cs : List Change). start ++ flat_map change_bytes cs) (sym (below_grows p before table other))

@@ -16,7 +16,13 @@ pub record CheckpointParts : Type 0 where
 
 -- the parts of a `Checkpoint`
 abbrev pub checkpoint_parts : Checkpoint → CheckpointParts
-checkpoint_parts c = record { count = c.count; cpu = cpu_state c.cpu; devices = c.devices; sent = c.sent.items; table = c.table.numbers }
+checkpoint_parts c = record {
+  count = c.count;
+  cpu = cpu_state c.cpu;
+  devices = c.devices;
+  sent = c.sent.items;
+  table = c.table.numbers;
+}
 
 -- the default where there is no checkpoint
 abbrev pub no_checkpoint : CheckpointParts

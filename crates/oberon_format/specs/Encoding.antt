@@ -44,23 +44,29 @@ field_words c =
 -- what begins a checkpoint in either version: its count, the registers, the fields, the keys and the length of its output
 unfoldable pub common_bytes : CheckpointParts → List ℕ
 common_bytes c =
-    long_bytes c.count ++ words_bytes c.cpu.r ++ words_bytes (field_words c) ++ key_bytes c.devices ++ words_bytes (length c.sent ∷ [])
+    long_bytes c.count
+    ++ words_bytes c.cpu.r
+    ++ words_bytes (field_words c)
+    ++ key_bytes c.devices
+    ++ words_bytes (length c.sent ∷ [])
 
 unfoldable pub change_bytes : Change → List ℕ
-change_bytes change = words_bytes (change.place ∷ change.number ∷ [])
+change_bytes change = words_bytes (change.slot ∷ change.page_id ∷ [])
 
 -- the parts of the devices that only version 2 has a word for: the rate and the phase of the timer
-abbrev pub clock_words : DeviceState → List ℕ
-clock_words d = d.rate ∷ d.phase ∷ []
+abbrev pub rate_and_phase : DeviceState → List ℕ
+rate_and_phase d = d.rate ∷ d.phase ∷ []
 
--- the fields that only version 2 has: these words, and the number of changes from a table
-abbrev pub later_words : List ℕ → CheckpointParts → List ℕ
-later_words before c = clock_words c.devices ++ (length (changes before c.table) ∷ [])
+-- the words that begin the tail of a checkpoint in version 2: these, and the number of changes from a table
+abbrev pub tail_words : List ℕ → CheckpointParts → List ℕ
+tail_words before c = rate_and_phase c.devices ++ (length (changes before c.table) ∷ [])
 
--- the rest of a checkpoint: its table in version 1; in version 2 these fields, and the changes from the table before
+-- the tail of a checkpoint: its table in version 1; in version 2 these words, and the changes from the table before
 unfoldable pub tail_bytes : ℕ → List ℕ → CheckpointParts → List ℕ
 tail_bytes version before c =
-    if version == FIRST_VERSION then words_bytes c.table else words_bytes (later_words before c) ++ flat_map change_bytes (changes before c.table)
+    if version == FIRST_VERSION
+    then words_bytes c.table
+    else words_bytes (tail_words before c) ++ flat_map change_bytes (changes before c.table)
 
 unfoldable pub checkpoint_bytes : ℕ → List ℕ → CheckpointParts → List ℕ
 checkpoint_bytes version before c = common_bytes c ++ tail_bytes version before c

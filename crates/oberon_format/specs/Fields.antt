@@ -23,7 +23,7 @@ pub record Fields : Type 0 where
   pub start : ℕ → ℕ
   pub checkpoint : ℕ → CheckpointFields
   pub change : ℕ → ℕ → Change
-  pub page_number : ℕ → ℕ → ℕ
+  pub page_id : ℕ → ℕ → ℕ
 
 -- f 0 + f 1 + .. + f (k - 1)
 unfoldable pub total : (ℕ → ℕ) → ℕ → ℕ

@@ -15,53 +15,61 @@ use Rattle.oberon_format.specs.TextFields.{first_fault_of}
 
 -- a file is that of at most one recording
 abbrev pub HasOneRecording : Type 0
-HasOneRecording = (text : List ℕ) (r s : RecordingParts) → Text text r → Text text s → r ≡ s
+HasOneRecording = (bytes : List ℕ) (r s : RecordingParts) → Text bytes r → Text bytes s → r ≡ s
 
 -- a recording has at most one file in each version
-abbrev pub HasOneTextAtMost : Type 0
-HasOneTextAtMost = (version : ℕ) (r : RecordingParts) (text other : List ℕ) → TextIn version text r → TextIn version other r → other ≡ text
+abbrev pub HasOneFileAtMost : Type 0
+HasOneFileAtMost =
+    (version : ℕ) (r : RecordingParts) (bytes other : List ℕ) → TextIn version bytes r → TextIn version other r → other ≡ bytes
 
 -- a lawful recording has a file in the current version
-abbrev pub HasOneText : Type 0
-HasOneText = (r : RecordingParts) → IsLawful r → (text : List ℕ) × AreBytes text × TextIn VERSION text r
+abbrev pub HasOneFile : Type 0
+HasOneFile = (r : RecordingParts) → IsLawful r → (bytes : List ℕ) × AreBytes bytes × TextIn VERSION bytes r
 
 -- reading what is written of a recording returns that recording
 abbrev pub HasReadBack : Type 0
-HasReadBack = (r s : RecordingParts) (text : List ℕ) → TextIn VERSION text r → Text text s → s ≡ r
+HasReadBack = (r s : RecordingParts) (bytes : List ℕ) → TextIn VERSION bytes r → Text bytes s → s ≡ r
 
 -- writing what was read returns the file that was read, if that has the current version
 abbrev pub HasWrittenBack : Type 0
-HasWrittenBack = (text other : List ℕ) (r : RecordingParts) → version text ≡ VERSION → Text text r → TextIn VERSION other r → other ≡ text
+HasWrittenBack =
+    (bytes other : List ℕ) (r : RecordingParts) → version bytes ≡ VERSION → Text bytes r → TextIn VERSION other r
+    → other ≡ bytes
 
 -- migration is idempotent: a migrated file is its own migration
 abbrev pub IsMigratedOnce : Type 0
-IsMigratedOnce = (text migrated again : List ℕ) → IsMigrated text migrated → IsMigrated migrated again → again ≡ migrated
+IsMigratedOnce = (bytes migrated again : List ℕ) → IsMigrated bytes migrated → IsMigrated migrated again → again ≡ migrated
 
 -- a byte string is the file of a recording if and only if it has no first fault
-abbrev pub HasTextOrFault : Type 0
-HasTextOrFault = (text : List ℕ) → AreBytes text → MatchOption (first_fault_of text) ((r : RecordingParts) × Text text r) (λ fault. (r : RecordingParts) → ¬ (Text text r))
+abbrev pub HasFileOrFault : Type 0
+HasFileOrFault =
+    (bytes : List ℕ) → AreBytes bytes
+    → MatchOption (first_fault_of bytes) ((r : RecordingParts) × Text bytes r) (λ fault. (r : RecordingParts) → ¬ (Text bytes r))
 
 -- the first fault of a file is one of the eight, and never an allocation failure
 abbrev pub HasNamedFault : Type 0
-HasNamedFault = (text : List ℕ) → IfSome (first_fault_of text) IsNamedFault
+HasNamedFault = (bytes : List ℕ) → IfSome (first_fault_of bytes) IsNamedFault
 
 -- parts whose numbers fit their fields, lawful or not, have an encoding in bytes
-abbrev pub HasTextOfParts : Type 0
-HasTextOfParts = (r : RecordingParts) → AreWritable r → AreBytes (encoding VERSION r)
+abbrev pub HasFileOfParts : Type 0
+HasFileOfParts = (r : RecordingParts) → AreWritable r → AreBytes (encoding VERSION r)
 
 -- their encoding has the first fault of the parts
 abbrev pub HasFaultOfParts : Type 0
 HasFaultOfParts = (r : RecordingParts) → AreWritable r → first_fault_of (encoding VERSION r) ≡ fault_of_parts r
 
 -- no file of a recording is longer than the longest file
-abbrev pub HasLongestText : Type 0
-HasLongestText = (text : List ℕ) (r : RecordingParts) → Text text r → length text ≤ LONGEST_TEXT
+abbrev pub HasLongestFile : Type 0
+HasLongestFile = (bytes : List ℕ) (r : RecordingParts) → Text bytes r → length bytes ≤ LONGEST_TEXT
 
 -- a longer file has the same first fault as when it is cut anywhere after that many bytes: it has a fault within them, and no
 -- rule looks at a later byte
 abbrev pub HasFaultWithin : Type 0
-HasFaultWithin = (n : ℕ) (text : List ℕ) → LONGEST_TEXT < n → n ≤ length text → first_fault_of (take n text) ≡ first_fault_of text
+HasFaultWithin =
+    (n : ℕ) (bytes : List ℕ) → LONGEST_TEXT < n → n ≤ length bytes → first_fault_of (take n bytes) ≡ first_fault_of bytes
 
 -- parts are lawful if and only if they have no fault
 abbrev pub IsMadeOfParts : Type 0
-IsMadeOfParts = (r : RecordingParts) → ArePages r.pool → AreOrdered r.inputs → AreFormed r.checkpoints → (fault_of_parts r ≡ None) ↔ IsLawful r
+IsMadeOfParts =
+    (r : RecordingParts) → ArePages r.pool → AreOrdered r.inputs → AreFormed r.checkpoints
+    → (fault_of_parts r ≡ None) ↔ IsLawful r

@@ -2,11 +2,13 @@
 use Rattle.std.specs.Prelude.{ℕ, List, [], ◌++◌, codes}
 use Rattle.std.specs.Fmt.{decimal}
 use Rattle.oberon_format.specs.declared.fault.Fault.{Fault}
-use Rattle.oberon_format.specs.declared.fault.Fault.TheVariants.{Short, Magic, Version, Limit, Event, Checkpoint, Page, Trailing, Memory}
+use Rattle.oberon_format.specs.declared.fault.Fault.TheVariants.{Short, Magic, Version, Limit, Event, Checkpoint, Page, Trailing}
+use Rattle.oberon_format.specs.declared.fault.Fault.TheVariants.{Memory}
 
 -- `refused f name at byte o`, numbers in decimal, and a line feed
 abbrev pub refused_line : ℕ → List ℕ → ℕ → List ℕ
-refused_line number name byte = codes "refused " ++ (decimal number ++ (codes " " ++ (name ++ (codes " at byte " ++ (decimal byte ++ codes "\n")))))
+refused_line number name byte =
+    codes "refused " ++ (decimal number ++ (codes " " ++ (name ++ (codes " at byte " ++ (decimal byte ++ codes "\n")))))
 
 -- the line of a fault. An allocation failure is no fault of the file, and has no line
 abbrev pub fault_line : Fault → List ℕ

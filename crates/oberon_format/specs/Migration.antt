@@ -5,7 +5,7 @@ use Rattle.oberon_format.specs.Recording.{RecordingParts}
 use Rattle.oberon_format.specs.Text.{Text, TextIn}
 
 -- the file, in the current version, of the recording of a file
-pub record IsMigrated (text migrated : List ℕ) : Type 0 where
+pub record IsMigrated (bytes migrated : List ℕ) : Type 0 where
   pub recording : RecordingParts
-  pub read : Text text recording
+  pub read : Text bytes recording
   pub written : TextIn VERSION migrated recording

@@ -3,8 +3,16 @@
 use Rattle.std.specs.Prelude.{◌≡◌, ◌^◌}
 use Rattle.risc_core.specs.declared.branch.TheConstants.{COUNTER_END}
 use Rattle.risc_model.specs.declared.inputs.TheConstants.{MAX_COUNT}
-use Rattle.oberon_format.specs.declared.layout.TheConstants.{MAGIC, FIRST_VERSION, VERSION, HEADER_LEN, PAGE_LEN, EVENT_LEN, CHECKPOINT_LEN, COMMON_LEN, CHANGE_LEN, PLACES, LONGEST_TEXT, MAGIC_AT, VERSION_AT, PAGES_AT, EVENTS_AT, CHECKPOINTS_AT, LAST_AT, KIND_AT, VALUE_AT, NUMBER_AT, REGISTERS_AT, AUXILIARY_AT, COUNTER_AT, FLAGS_AT, STOP_AT, TIMER_AT, SWITCHES_AT, LEDS_AT, MOUSE_AT, SERIAL_AT, WAITING_AT, KEYS_AT, SENT_AT, TABLE_AT, RATE_AT, PHASE_AT, CHANGE_COUNT_AT, CHANGES_AT}
-use Rattle.oberon_format.specs.declared.ranges.TheConstants.{MAX_CHECKPOINTS, FLAGS_END, MAX_STOP, SWITCHES_END, LEDS_END, SERIAL_END, MAX_KEYS}
+use Rattle.risc_pages.specs.declared.sizes.TheConstants.{PAGE_SLOTS}
+use Rattle.oberon_format.specs.declared.layout.TheConstants.{MAGIC, FIRST_VERSION, VERSION, HEADER_LEN, PAGE_LEN, EVENT_LEN}
+use Rattle.oberon_format.specs.declared.layout.TheConstants.{CHECKPOINT_LEN, COMMON_LEN, CHANGE_LEN, LONGEST_TEXT, MAGIC_AT}
+use Rattle.oberon_format.specs.declared.layout.TheConstants.{VERSION_AT, PAGES_AT, EVENTS_AT, CHECKPOINTS_AT, LAST_AT, KIND_AT}
+use Rattle.oberon_format.specs.declared.layout.TheConstants.{VALUE_AT, PAGE_ID_AT, REGISTERS_AT, AUXILIARY_AT, COUNTER_AT, FLAGS_AT}
+use Rattle.oberon_format.specs.declared.layout.TheConstants.{STOP_AT, TIMER_AT, SWITCHES_AT, LEDS_AT, MOUSE_AT, SERIAL_AT}
+use Rattle.oberon_format.specs.declared.layout.TheConstants.{WAITING_AT, KEYS_AT, SENT_AT, TABLE_AT, RATE_AT, PHASE_AT}
+use Rattle.oberon_format.specs.declared.layout.TheConstants.{CHANGE_COUNT_AT, CHANGES_AT}
+use Rattle.oberon_format.specs.declared.ranges.TheConstants.{MAX_CHECKPOINTS, FLAGS_END, MAX_STOP, SWITCHES_END, LEDS_END}
+use Rattle.oberon_format.specs.declared.ranges.TheConstants.{SERIAL_END, MAX_KEYS}
 
 -- the magic, the versions, and the lengths of the parts of a file
 pub record HasLengths : Type 0 where
@@ -17,7 +25,7 @@ pub record HasLengths : Type 0 where
   pub checkpoint_len : CHECKPOINT_LEN ≡ 4228
   pub common_len : COMMON_LEN ≡ 132
   pub change_len : CHANGE_LEN ≡ 8
-  pub places : PLACES ≡ 1024
+  pub page_slots : PAGE_SLOTS ≡ 1024
   pub longest_text : LONGEST_TEXT ≡ 118310056
 
 -- the offsets of the numbers of a header, and of the fields of an event and of a change from their starts
@@ -30,7 +38,7 @@ pub record HasHeaderOffsets : Type 0 where
   pub last_at : LAST_AT ≡ 20
   pub kind_at : KIND_AT ≡ 8
   pub value_at : VALUE_AT ≡ 12
-  pub number_at : NUMBER_AT ≡ 4
+  pub page_id_at : PAGE_ID_AT ≡ 4
 
 -- the offsets of the fields of a checkpoint, from its start
 pub record HasCheckpointOffsets : Type 0 where

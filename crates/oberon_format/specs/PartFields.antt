@@ -64,7 +64,7 @@ fields_in version r = record {
   start = start_in version r;
   checkpoint = λ k. checkpoint_fields version (table_before r.checkpoints k) (checkpoint_at r k);
   change = λ k i. slice_index_or (changes (table_before r.checkpoints k) (checkpoint_at r k).table) i no_change;
-  page_number = λ k. slice_index (checkpoint_at r k).table;
+  page_id = λ k. slice_index (checkpoint_at r k).table;
 }
 
 -- the first fault of the file of these parts in the current version, if it has one

@@ -7,7 +7,8 @@ use Rattle.risc_devices.specs.DeviceState.{is_phase}
 use Rattle.risc_devices.specs.InputKind.{is_input, is_mouse}
 use Rattle.oberon_format.specs.declared.change.Change.{Change}
 use Rattle.oberon_format.specs.declared.fields.CheckpointFields.{CheckpointFields}
-use Rattle.oberon_format.specs.declared.layout.TheConstants.{FIRST_VERSION, VERSION, PLACES}
+use Rattle.risc_pages.specs.declared.sizes.TheConstants.{PAGE_SLOTS}
+use Rattle.oberon_format.specs.declared.layout.TheConstants.{FIRST_VERSION, VERSION}
 use Rattle.risc_model.specs.declared.inputs.TheConstants.{MAX_COUNT}
 use Rattle.oberon_format.specs.declared.ranges.TheConstants.{FLAGS_END, MAX_STOP, SWITCHES_END, LEDS_END, SERIAL_END, MAX_KEYS}
 use Rattle.recording_limits.specs.declared.limits.TheConstants.{MAX_OUTPUT}
@@ -44,14 +45,17 @@ in_ranges c =
     && nat_lt c.leds LEDS_END
     && is_mouse c.mouse
     && nat_lt c.serial SERIAL_END
-    && nat_le c.changes PLACES
+    && nat_le c.changes PAGE_SLOTS
 
 -- all fields of checkpoint k, after a checkpoint of count `before` and `sent` bytes of output
 abbrev pub is_checkpoint : ℕ → ℕ → ℕ → CheckpointFields → Bool
 is_checkpoint k before sent c = is_count k before c.count && in_ranges c && are_keys c && is_output k sent c.output
 
 -- a change is lawful if its slot is at least `floor` and one of the table's, and its page id is that of a page and differs from
--- the slot's page id before the change
+-- `prior`, the slot's page id before the change
 abbrev pub is_change : ℕ → ℕ → (ℕ → ℕ) → Change → Bool
-is_change pages floor prior_number change =
-    nat_le floor change.place && nat_lt change.place PLACES && nat_le change.number pages && not (change.number == prior_number change.place)
+is_change pages floor prior change =
+    nat_le floor change.slot
+    && nat_lt change.slot PAGE_SLOTS
+    && nat_le change.page_id pages
+    && not (change.page_id == prior change.slot)

@@ -5,12 +5,14 @@ use Rattle.oberon_format.specs.declared.change.Change.{Change}
 use Rattle.oberon_format.specs.declared.fault.Fault.{Fault}
 use Rattle.oberon_format.specs.declared.fault.Fault.TheVariants as fault
 use Rattle.oberon_format.specs.declared.fields.CheckpointFields.{CheckpointFields}
-use Rattle.oberon_format.specs.declared.layout.TheConstants.{MAGIC, FIRST_VERSION, HEADER_LEN, PLACES, MAGIC_AT, VERSION_AT, PAGES_AT, EVENTS_AT, CHECKPOINTS_AT, LAST_AT, CHANGES_AT}
+use Rattle.risc_pages.specs.declared.sizes.TheConstants.{PAGE_SLOTS}
+use Rattle.oberon_format.specs.declared.layout.TheConstants.{MAGIC, FIRST_VERSION, HEADER_LEN, MAGIC_AT, VERSION_AT, PAGES_AT}
+use Rattle.oberon_format.specs.declared.layout.TheConstants.{EVENTS_AT, CHECKPOINTS_AT, LAST_AT, CHANGES_AT}
 use Rattle.oberon_format.specs.declared.ranges.TheConstants.{MAX_CHECKPOINTS}
 use Rattle.recording_limits.specs.declared.limits.TheConstants.{MAX_EVENTS, MAX_PAGES}
 use Rattle.oberon_format.specs.Fields.{Fields, sent_below}
 use Rattle.oberon_format.specs.FirstFault.{Rule, each}
-use Rattle.oberon_format.specs.Layout.{event_start, page_number_offset, change_offset}
+use Rattle.oberon_format.specs.Layout.{event_start, page_id_offset, change_offset}
 use Rattle.oberon_format.specs.Ranges.{is_version, is_event, is_checkpoint, is_change}
 
 -- the offset of event i
@@ -62,27 +64,27 @@ abbrev pub field_rules : ℕ → ℕ → ℕ → ℕ → CheckpointFields → Li
 field_rules offset k before sent c = (is_checkpoint k before sent c, fault.Checkpoint offset) ∷ []
 
 -- entry j of the table of a checkpoint at an offset is at most the number of pages
-abbrev pub page_number_rules : ℕ → ℕ → (ℕ → ℕ) → ℕ → List (Rule Fault)
-page_number_rules pages offset number j = (nat_le (number j) pages, fault.Page (page_number_offset offset j)) ∷ []
+abbrev pub page_id_rules : ℕ → ℕ → (ℕ → ℕ) → ℕ → List (Rule Fault)
+page_id_rules pages offset page_id j = (nat_le (page_id j) pages, fault.Page (page_id_offset offset j)) ∷ []
 
 -- the least slot that change i may have: slots rise
-abbrev pub place_floor : (ℕ → Change) → ℕ → ℕ
-place_floor change i = if i == 0 then 0 else (change (i - 1)).place + 1
+abbrev pub slot_floor : (ℕ → Change) → ℕ → ℕ
+slot_floor change i = if i == 0 then 0 else (change (i - 1)).slot + 1
 
 -- change i of a checkpoint at an offset is lawful, given the page ids before the checkpoint
 abbrev pub change_rules : ℕ → ℕ → (ℕ → ℕ) → (ℕ → Change) → ℕ → List (Rule Fault)
-change_rules pages offset prior_number change i =
-    (is_change pages (place_floor change i) prior_number (change i), fault.Page (change_offset offset i)) ∷ []
+change_rules pages offset prior change i =
+    (is_change pages (slot_floor change i) prior (change i), fault.Page (change_offset offset i)) ∷ []
 
 -- the page id in a slot before checkpoint k: at first 0
-abbrev pub prior_number : Fields → ℕ → ℕ → ℕ
-prior_number f k p = if k == 0 then 0 else f.page_number (k - 1) p
+abbrev pub prior_page_id : Fields → ℕ → ℕ → ℕ
+prior_page_id f k p = if k == 0 then 0 else f.page_id (k - 1) p
 
 -- checkpoint k of version 1: its fields, and then each of its page ids
 abbrev pub whole_rules : Fields → ℕ → List (Rule Fault)
 whole_rules f k =
     field_rules (f.start k) k (count_before f k) (sent_below f k) (f.checkpoint k)
-    ++ each PLACES (page_number_rules f.pages (f.start k) (f.page_number k))
+    ++ each PAGE_SLOTS (page_id_rules f.pages (f.start k) (f.page_id k))
 
 -- checkpoint k of version 2: the bytes before its changes are there, its fields are in range, the bytes of its changes are there,
 -- and each change is lawful
@@ -91,21 +93,21 @@ changed_rules f k =
     (nat_le (f.start k + CHANGES_AT) f.long, fault.Short f.long)
     ∷ (field_rules (f.start k) k (count_before f k) (sent_below f k) (f.checkpoint k)
     ++ ((nat_le (f.start (suc k)) f.long, fault.Short f.long)
-    ∷ each (f.checkpoint k).changes (change_rules f.pages (f.start k) (prior_number f k) (f.change k))))
+    ∷ each (f.checkpoint k).changes (change_rules f.pages (f.start k) (prior_page_id f k) (f.change k))))
 
 -- checkpoint k
 unfoldable pub checkpoint_rules : Fields → ℕ → List (Rule Fault)
 checkpoint_rules f k = if f.version == FIRST_VERSION then whole_rules f k else changed_rules f k
 
 -- the length that the file must have
-abbrev pub whole : Fields → ℕ
-whole f = offset_of_output f + sent_below f f.checkpoints
+abbrev pub file_len : Fields → ℕ
+file_len f = offset_of_output f + sent_below f f.checkpoints
 
 -- the output is there, and nothing after it
 abbrev pub end_rules : Fields → List (Rule Fault)
 end_rules f =
-    (nat_le (whole f) f.long, fault.Short f.long)
-    ∷ (f.long == whole f, fault.Trailing (whole f))
+    (nat_le (file_len f) f.long, fault.Short f.long)
+    ∷ (f.long == file_len f, fault.Trailing (file_len f))
     ∷ []
 
 -- all rules

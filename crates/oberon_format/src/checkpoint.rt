@@ -17,9 +17,7 @@ use risc_pages::Table;
 pub struct Checkpoint {
     /// The number of instructions before it.
     pub count: u64,
-    /// The processor.
     pub cpu: Cpu,
-    /// The devices.
     pub devices: Devices,
     /// The bytes sent since the checkpoint before.
     pub sent: Vec<u8>,

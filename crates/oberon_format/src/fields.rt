@@ -14,7 +14,7 @@ use crate::checkpoint::Checkpoint;
 use crate::fault::Fault;
 use crate::layout::{
     CHANGE_COUNT_AT, CHANGES_AT, COUNTER_AT, FLAGS_AT, KEYS_AT, LEDS_AT, MOUSE_AT, PHASE_AT,
-    PLACES, RATE_AT, SENT_AT, SERIAL_AT, STOP_AT, SWITCHES_AT, VERSION, WAITING_AT, later_word,
+    RATE_AT, SENT_AT, SERIAL_AT, STOP_AT, SWITCHES_AT, VERSION, WAITING_AT, word_since_2,
 };
 use crate::number::{u32_at, u64_at};
 use crate::ranges::{
@@ -23,30 +23,24 @@ use crate::ranges::{
 use recording_limits::MAX_OUTPUT;
 use risc_core::COUNTER_END;
 use risc_devices::{Devices, is_mouse_word, is_phase_at};
-use risc_pages::Table;
+use risc_pages::{PAGE_SLOTS, Table};
 
 /// The fields of a checkpoint that have a range. Each may be out of range.
 #[derive(Drop)]
 pub(crate) struct CheckpointFields {
     /// The number of instructions before the checkpoint.
     pub(crate) count: u64,
-    /// The program counter.
     pub(crate) pc: u32,
     /// The number of the flags.
     pub(crate) flags: u32,
-    /// The stop.
     pub(crate) stop: u32,
-    /// The switches.
     pub(crate) switches: u32,
-    /// The LEDs.
     pub(crate) leds: u32,
-    /// The mouse.
     pub(crate) mouse: u32,
     /// The serial byte, with "received" in bit 8.
     pub(crate) serial: u32,
     /// The number of keys.
     pub(crate) waiting: u32,
-    /// The key bytes.
     pub(crate) keys: [u8; MAX_KEYS],
     /// The length of the output, in bytes.
     pub(crate) output: u64,
@@ -67,27 +61,27 @@ impl CheckpointFields {
 
     /// Returns the fields of the checkpoint at an offset of a file. In either version 144 bytes are there, though not all of them
     /// are read.
-    pub(crate) fn of_text(text: &[u8], offset: usize) -> CheckpointFields
-        requires { offset + CHANGES_AT ≤ length text.now }
-        ensures { result ≡ checkpoint_of text.now offset }
+    pub(crate) fn of_bytes(bytes: &[u8], offset: usize) -> CheckpointFields
+        requires { offset + CHANGES_AT ≤ length bytes.now }
+        ensures { result ≡ checkpoint_of bytes.now offset }
     {
         let mut keys = [0; MAX_KEYS];
-        keys.copy_from_slice(&text[offset + KEYS_AT..offset + SENT_AT]);
+        keys.copy_from_slice(&bytes[offset + KEYS_AT..offset + SENT_AT]);
         CheckpointFields {
-            count: u64_at(text, offset),
-            pc: u32_at(text, offset + COUNTER_AT),
-            flags: u32_at(text, offset + FLAGS_AT),
-            stop: u32_at(text, offset + STOP_AT),
-            switches: u32_at(text, offset + SWITCHES_AT),
-            leds: u32_at(text, offset + LEDS_AT),
-            mouse: u32_at(text, offset + MOUSE_AT),
-            serial: u32_at(text, offset + SERIAL_AT),
-            waiting: u32_at(text, offset + WAITING_AT),
+            count: u64_at(bytes, offset),
+            pc: u32_at(bytes, offset + COUNTER_AT),
+            flags: u32_at(bytes, offset + FLAGS_AT),
+            stop: u32_at(bytes, offset + STOP_AT),
+            switches: u32_at(bytes, offset + SWITCHES_AT),
+            leds: u32_at(bytes, offset + LEDS_AT),
+            mouse: u32_at(bytes, offset + MOUSE_AT),
+            serial: u32_at(bytes, offset + SERIAL_AT),
+            waiting: u32_at(bytes, offset + WAITING_AT),
             keys,
-            output: u32_at(text, offset + SENT_AT) as u64,
-            rate: later_word(text, offset + RATE_AT),
-            phase: later_word(text, offset + PHASE_AT),
-            changes: later_word(text, offset + CHANGE_COUNT_AT),
+            output: u32_at(bytes, offset + SENT_AT) as u64,
+            rate: word_since_2(bytes, offset + RATE_AT),
+            phase: word_since_2(bytes, offset + PHASE_AT),
+            changes: word_since_2(bytes, offset + CHANGE_COUNT_AT),
         }
     }
 
@@ -114,7 +108,6 @@ impl CheckpointFields {
         }
     }
 
-    /// Reports whether each field is in its own range.
     fn in_ranges(&self) -> bool
         ensures { result ≡ in_ranges self.now }
     {
@@ -126,7 +119,7 @@ impl CheckpointFields {
             && self.leds < LEDS_END
             && is_mouse_word(self.mouse)
             && self.serial < SERIAL_END
-            && self.changes <= PLACES as u32
+            && self.changes <= PAGE_SLOTS as u32
     }
 
     /// Reports whether the keys are at most sixteen, with zeros after them.
@@ -158,7 +151,6 @@ pub(crate) fn key_bytes(devices: &Devices) -> [u8; MAX_KEYS]
     bytes
 }
 
-/// Reports whether all bytes are 0.
 fn are_zeros(bytes: &[u8]) -> bool
     ensures { result ≡ list_all (λ b. b == 0) bytes.now }
 {
@@ -176,7 +168,7 @@ pub(crate) fn fields_fault(
     requires { sent ≤ MAX_OUTPUT }
     ensures fault { result ≡ first_broken (field_rules offset k before sent fields.now) }
     ensures small { IfNone result (sent + fields.now.output ≤ MAX_OUTPUT) }
-    ensures few { IfNone result (fields.now.changes ≤ PLACES) }
+    ensures few { IfNone result (fields.now.changes ≤ PAGE_SLOTS) }
 {
     if fields.is_checkpoint(k, before, sent) {
         None

@@ -1,7 +1,9 @@
 //! Laws of the format, over its definitions alone. Each is the contract of a function that does nothing.
 
 ghost use Rattle.oberon_format.specs.Numbers.{HasNumbers};
-ghost use Rattle.oberon_format.specs.Laws.{HasOneRecording, HasOneText, HasOneTextAtMost, HasReadBack, HasWrittenBack, IsMigratedOnce, HasTextOrFault, HasFaultOfParts, HasTextOfParts, HasNamedFault, HasLongestText, HasFaultWithin, IsMadeOfParts};
+ghost use Rattle.oberon_format.specs.Laws.{HasOneRecording, HasOneFile, HasOneFileAtMost, HasReadBack, HasWrittenBack};
+ghost use Rattle.oberon_format.specs.Laws.{IsMigratedOnce, HasFileOrFault, HasFaultOfParts, HasFileOfParts, HasNamedFault};
+ghost use Rattle.oberon_format.specs.Laws.{HasLongestFile, HasFaultWithin, IsMadeOfParts};
 
 /// States each length, offset and limit by its value.
 pub fn numbers_law()
@@ -14,13 +16,13 @@ pub fn one_recording_law()
 {}
 
 /// States that a lawful recording has a file of version 2.
-pub fn one_text_law()
-    ensures { HasOneText }
+pub fn one_file_law()
+    ensures { HasOneFile }
 {}
 
 /// States that a recording has at most one file of each version.
-pub fn one_text_at_most_law()
-    ensures { HasOneTextAtMost }
+pub fn one_file_at_most_law()
+    ensures { HasOneFileAtMost }
 {}
 
 /// States that reading what is written of a recording returns that recording: `read(write(r)) = r`.
@@ -39,8 +41,8 @@ pub fn migrated_again_law()
 {}
 
 /// States that each byte string has a recording or a first fault, and not both.
-pub fn text_or_fault_law()
-    ensures { HasTextOrFault }
+pub fn file_or_fault_law()
+    ensures { HasFileOrFault }
 {}
 
 /// States that the first fault of a file is never an allocation failure.
@@ -49,18 +51,18 @@ pub fn named_fault_law()
 {}
 
 /// States that the file of a recording has at most `LONGEST_TEXT` bytes.
-pub fn longest_text_law()
-    ensures { HasLongestText }
+pub fn longest_file_law()
+    ensures { HasLongestFile }
 {}
 
 /// States that a file longer than `LONGEST_TEXT` bytes has the same first fault if it is cut after them.
-pub fn cut_text_law()
+pub fn cut_file_law()
     ensures { HasFaultWithin }
 {}
 
 /// States that parts whose numbers fit their fields, lawful or not, have an encoding in bytes.
-pub fn text_of_parts_law()
-    ensures { HasTextOfParts }
+pub fn file_of_parts_law()
+    ensures { HasFileOfParts }
 {}
 
 /// States that the encoding of parts whose numbers fit their fields, lawful or not, has the first fault of these parts.

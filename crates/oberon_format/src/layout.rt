@@ -3,10 +3,12 @@
 //! Each offset and each length has its one name here, which definitions, contracts and code use. All are in bytes.
 
 ghost use Rattle.std.specs.Prelude.{◌≡◌, ◌≤◌, ◌+◌, ◌==◌, length};
-ghost use Rattle.oberon_format.specs.Layout.{page_offset, event_start, checkpoint_size, version, pages, events, checkpoints, start, later_word};
+ghost use Rattle.oberon_format.specs.Layout.{page_offset, event_start, checkpoint_size, version, pages, events, checkpoints, start};
+ghost use Rattle.oberon_format.specs.Layout.{word_since_2};
 
 use crate::number::u32_at;
 use recording_limits::{MAX_EVENTS, MAX_PAGES};
+use risc_pages::{PAGE_SLOTS, PAGE_WORDS};
 
 /// `ORSR`, the four bytes that begin each file, as a number.
 pub(crate) const MAGIC: u32 = 0x5253_524F;
@@ -17,13 +19,10 @@ pub(crate) const FIRST_VERSION: u32 = 1;
 /// The current version: a checkpoint has the changes from the table before it.
 pub const VERSION: u32 = 2;
 
-/// The length of a header.
 pub(crate) const HEADER_LEN: usize = 24;
 
-/// The length of a page.
-pub(crate) const PAGE_LEN: usize = 1024;
+pub(crate) const PAGE_LEN: usize = 4 * PAGE_WORDS as usize;
 
-/// The length of an event.
 pub(crate) const EVENT_LEN: usize = 16;
 
 /// The length of a checkpoint of version 1: its common fields, and the table.
@@ -36,24 +35,16 @@ pub(crate) const CHANGE_LEN: usize = 8;
 /// from the one before in all slots.
 pub const LONGEST_TEXT: usize = 118_310_056;
 
-/// The number of slots of a table, each of which has a page id of four bytes.
-pub(crate) const PLACES: usize = 1024;
-
 // Offsets of the numbers of a header.
 
-/// The magic of a header.
 pub(crate) const MAGIC_AT: usize = 0;
 
-/// The version of a header.
 pub(crate) const VERSION_AT: usize = 4;
 
-/// The number of pages of a header.
 pub(crate) const PAGES_AT: usize = 8;
 
-/// The number of events of a header.
 pub(crate) const EVENTS_AT: usize = 12;
 
-/// The number of checkpoints of a header.
 pub(crate) const CHECKPOINTS_AT: usize = 16;
 
 /// The last number of a header, which is 0.
@@ -61,10 +52,8 @@ pub(crate) const LAST_AT: usize = 20;
 
 // Offsets of the fields of an event, from its start. Its count begins it.
 
-/// The kind of an event.
 pub(crate) const KIND_AT: usize = 8;
 
-/// The value of an event.
 pub(crate) const VALUE_AT: usize = 12;
 
 // Offsets of the fields of a checkpoint, from its start. Its count begins it. The fields up to the length of the output are
@@ -76,25 +65,18 @@ pub(crate) const REGISTERS_AT: usize = 8;
 /// H.
 pub(crate) const AUXILIARY_AT: usize = 72;
 
-/// The program counter.
 pub(crate) const COUNTER_AT: usize = 76;
 
-/// The flags.
 pub(crate) const FLAGS_AT: usize = 80;
 
-/// The stop.
 pub(crate) const STOP_AT: usize = 84;
 
-/// The timer.
 pub(crate) const TIMER_AT: usize = 88;
 
-/// The switches.
 pub(crate) const SWITCHES_AT: usize = 92;
 
-/// The LEDs.
 pub(crate) const LEDS_AT: usize = 96;
 
-/// The mouse.
 pub(crate) const MOUSE_AT: usize = 100;
 
 /// The serial byte, and whether it was received.
@@ -114,29 +96,22 @@ pub(crate) const COMMON_LEN: usize = 132;
 
 // In version 1 the table follows the common fields.
 
-/// The table.
 pub(crate) const TABLE_AT: usize = 132;
 
 // In version 2 these numbers and the changes follow them.
 
-/// The rate of the timer.
 pub(crate) const RATE_AT: usize = 132;
 
-/// The phase of the timer.
 pub(crate) const PHASE_AT: usize = 136;
 
-/// The number of changes.
 pub(crate) const CHANGE_COUNT_AT: usize = 140;
 
-/// The changes.
 pub(crate) const CHANGES_AT: usize = 144;
 
 // Offsets of the fields of a change, from its start. Its slot begins it.
 
-/// The page id of a change.
-pub(crate) const NUMBER_AT: usize = 4;
+pub(crate) const PAGE_ID_AT: usize = 4;
 
-/// Returns the offset of page p.
 #[inline]
 pub(crate) fn page_start(p: usize) -> usize
     requires { p ≤ MAX_PAGES }
@@ -158,68 +133,63 @@ pub(crate) fn event_start(pages: u32, i: usize) -> usize
 /// Returns the length of a checkpoint of the current version, from its number of changes.
 #[inline]
 pub(crate) fn changed_len(changes: u32) -> usize
-    requires { changes ≤ PLACES }
+    requires { changes ≤ PAGE_SLOTS }
     ensures { result ≡ checkpoint_size VERSION changes }
 {
     CHANGES_AT + CHANGE_LEN * changes as usize
 }
 
-/// Reports whether a file has version 1.
 #[inline]
-pub(crate) fn is_first_version(text: &[u8]) -> bool
-    requires { HEADER_LEN ≤ length text.now }
-    ensures { result ≡ (version text.now == FIRST_VERSION) }
+pub(crate) fn is_first_version(bytes: &[u8]) -> bool
+    requires { HEADER_LEN ≤ length bytes.now }
+    ensures { result ≡ (version bytes.now == FIRST_VERSION) }
 {
-    u32_at(text, VERSION_AT) == FIRST_VERSION
+    u32_at(bytes, VERSION_AT) == FIRST_VERSION
 }
 
-/// Returns the number of pages in the header of a file.
 #[inline]
-pub(crate) fn page_count(text: &[u8]) -> u32
-    requires { HEADER_LEN ≤ length text.now }
-    ensures { result ≡ pages text.now }
+pub(crate) fn page_count(bytes: &[u8]) -> u32
+    requires { HEADER_LEN ≤ length bytes.now }
+    ensures { result ≡ pages bytes.now }
 {
-    u32_at(text, PAGES_AT)
+    u32_at(bytes, PAGES_AT)
 }
 
-/// Returns the number of events in the header of a file.
 #[inline]
-pub(crate) fn event_count(text: &[u8]) -> u32
-    requires { HEADER_LEN ≤ length text.now }
-    ensures { result ≡ events text.now }
+pub(crate) fn event_count(bytes: &[u8]) -> u32
+    requires { HEADER_LEN ≤ length bytes.now }
+    ensures { result ≡ events bytes.now }
 {
-    u32_at(text, EVENTS_AT)
+    u32_at(bytes, EVENTS_AT)
 }
 
-/// Returns the number of checkpoints in the header of a file.
 #[inline]
-pub(crate) fn checkpoint_count(text: &[u8]) -> u32
-    requires { HEADER_LEN ≤ length text.now }
-    ensures { result ≡ checkpoints text.now }
+pub(crate) fn checkpoint_count(bytes: &[u8]) -> u32
+    requires { HEADER_LEN ≤ length bytes.now }
+    ensures { result ≡ checkpoints bytes.now }
 {
-    u32_at(text, CHECKPOINTS_AT)
+    u32_at(bytes, CHECKPOINTS_AT)
 }
 
-/// Returns the offset of checkpoint 0 of a file.
 #[tactic(auto, using(crate::proofs::Room::start_none))]
 #[inline]
-pub(crate) fn first_checkpoint(text: &[u8]) -> usize
-    requires header { HEADER_LEN ≤ length text.now }
-    requires pages { pages text.now ≤ MAX_PAGES }
-    requires events { events text.now ≤ MAX_EVENTS }
-    ensures { result ≡ start text.now 0 }
+pub(crate) fn first_checkpoint(bytes: &[u8]) -> usize
+    requires header { HEADER_LEN ≤ length bytes.now }
+    requires pages { pages bytes.now ≤ MAX_PAGES }
+    requires events { events bytes.now ≤ MAX_EVENTS }
+    ensures { result ≡ start bytes.now 0 }
 {
-    event_start(page_count(text), event_count(text) as usize)
+    event_start(page_count(bytes), event_count(bytes) as usize)
 }
 
 /// Returns the length of a checkpoint of a file, from its number of changes.
 #[inline]
-pub(crate) fn checkpoint_len(text: &[u8], changes: u32) -> usize
-    requires header { HEADER_LEN ≤ length text.now }
-    requires changes { changes ≤ PLACES }
-    ensures { result ≡ checkpoint_size (version text.now) changes }
+pub(crate) fn checkpoint_len(bytes: &[u8], changes: u32) -> usize
+    requires header { HEADER_LEN ≤ length bytes.now }
+    requires changes { changes ≤ PAGE_SLOTS }
+    ensures { result ≡ checkpoint_size (version bytes.now) changes }
 {
-    if is_first_version(text) {
+    if is_first_version(bytes) {
         CHECKPOINT_LEN
     } else {
         changed_len(changes)
@@ -229,14 +199,14 @@ pub(crate) fn checkpoint_len(text: &[u8], changes: u32) -> usize
 /// Returns a word after the common fields of a checkpoint of version 2, by its offset; 0 in a file of version 1, which has no
 /// such word.
 #[inline]
-pub(crate) fn later_word(text: &[u8], offset: usize) -> u32
-    requires header { HEADER_LEN ≤ length text.now }
-    requires room { offset + 4 ≤ length text.now }
-    ensures { result ≡ later_word text.now offset }
+pub(crate) fn word_since_2(bytes: &[u8], offset: usize) -> u32
+    requires header { HEADER_LEN ≤ length bytes.now }
+    requires room { offset + 4 ≤ length bytes.now }
+    ensures { result ≡ word_since_2 bytes.now offset }
 {
-    if is_first_version(text) {
+    if is_first_version(bytes) {
         0
     } else {
-        u32_at(text, offset)
+        u32_at(bytes, offset)
     }
 }

@@ -28,9 +28,9 @@ mod writing;
 pub use checkpoint::Checkpoint;
 pub use fault::Fault;
 pub use laws::{
-    cut_text_law, fault_of_parts_law, lawful_parts_law, longest_text_law, migrated_again_law,
-    named_fault_law, numbers_law, one_recording_law, one_text_at_most_law, one_text_law,
-    read_back_law, text_of_parts_law, text_or_fault_law, written_back_law,
+    cut_file_law, fault_of_parts_law, file_of_parts_law, file_or_fault_law, lawful_parts_law,
+    longest_file_law, migrated_again_law, named_fault_law, numbers_law, one_file_at_most_law,
+    one_file_law, one_recording_law, read_back_law, written_back_law,
 };
 pub use layout::{LONGEST_TEXT, VERSION};
 pub use line::refusal;

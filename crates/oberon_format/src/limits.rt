@@ -10,7 +10,6 @@ use crate::layout::{CHECKPOINTS_AT, EVENTS_AT, PAGES_AT};
 use crate::ranges::MAX_CHECKPOINTS;
 use recording_limits::{MAX_EVENTS, MAX_PAGES};
 
-/// Returns the first fault of the numbers of pages, events and checkpoints.
 pub(crate) fn limits_fault(pages: usize, events: usize, checkpoints: usize) -> Option<Fault>
     ensures fault { result ≡ first_broken (limit_rules pages events checkpoints) }
     ensures pages { IfNone result (pages ≤ MAX_PAGES) }

@@ -27,10 +27,9 @@ pub fn refusal(alloc: Global, f: &Fault) -> Result<Vec<u8>, AllocError>
     }
 }
 
-/// Returns the line of a fault's number, its name and a byte.
 fn named_line(alloc: Global, number: u8, name: &str, byte: u64) -> Result<Vec<u8>, AllocError>
     ensures { IfOk result (λ line. line.items ≡ refused_line number name.now byte) }
 {
-    let text = format!(in alloc; "refused {number} {name} at byte {byte}\n")?;
-    Ok(text.into_bytes())
+    let line = format!(in alloc; "refused {number} {name} at byte {byte}\n")?;
+    Ok(line.into_bytes())
 }

@@ -12,11 +12,11 @@ use std::alloc::Global;
 /// file without a fault, as `read` does.
 pub fn migrate(alloc: Global, bytes: &[u8]) -> Result<Vec<u8>, Fault>
     // A file without a fault yields the file of its recording, or an allocation failed; any other yields its first fault.
-    ensures { AnswersText bytes.now (λ text. IsMigrated bytes.now text.items) result }
+    ensures { AnswersText bytes.now (λ migrated. IsMigrated bytes.now migrated.items) result }
 {
     let recording = read(alloc, bytes)?;
     match write(alloc, &recording) {
-        Ok(text) => Ok(text),
+        Ok(migrated) => Ok(migrated),
         Err(_) => Err(Fault::Memory),
     }
 }

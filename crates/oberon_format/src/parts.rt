@@ -15,14 +15,12 @@ use crate::checkpoint::{Checkpoint, table_before};
 use crate::fault::Fault;
 use crate::fields::{CheckpointFields, fields_fault};
 use crate::formed::all_formed_law;
-use crate::layout::{
-    CHANGE_LEN, CHANGES_AT, LONGEST_TEXT, PLACES, VERSION, changed_len, event_start,
-};
+use crate::layout::{CHANGE_LEN, CHANGES_AT, LONGEST_TEXT, VERSION, changed_len, event_start};
 use crate::limits::limits_fault;
 use crate::ranges::MAX_CHECKPOINTS;
 use recording_limits::{MAX_EVENTS, MAX_PAGES};
 use risc_model::Inputs;
-use risc_pages::{Pool, Table};
+use risc_pages::{PAGE_SLOTS, Pool, Table};
 
 /// Returns the first fault of the file of these parts.
 pub(crate) fn parts_fault(pool: &Pool, inputs: &Inputs, checkpoints: &[Checkpoint]) -> Option<Fault>
@@ -39,7 +37,6 @@ pub(crate) fn parts_fault(pool: &Pool, inputs: &Inputs, checkpoints: &[Checkpoin
     checkpoints_fault(pool, inputs, checkpoints)
 }
 
-/// Returns the first fault of the counts of parts.
 fn counts_fault(pool: &Pool, inputs: &Inputs, checkpoints: &[Checkpoint]) -> Option<Fault>
     ensures fault { result ≡ first_broken (header_rules (fields_in VERSION (parts_of pool.now inputs.now checkpoints.now))) }
     ensures pages { IfNone result (length pool.now ≤ MAX_PAGES) }
@@ -60,7 +57,7 @@ fn changes_fault(pages: u32, offset: usize, before: &Table, table: &Table) -> Op
     ensures { result ≡ first_broken (encoded_change_rules pages offset before.now.numbers table.now.numbers) }
 {
     let mut change_offset = offset + CHANGES_AT;
-    for p in 0..PLACES as u16 {
+    for p in 0..PAGE_SLOTS {
         if before.entry(p) != table.entry(p) {
             if table.entry(p) > pages {
                 return Some(Fault::Page(change_offset as u64));
@@ -71,13 +68,13 @@ fn changes_fault(pages: u32, offset: usize, before: &Table, table: &Table) -> Op
     None
 }
 
-/// Returns the first fault of the checkpoints.
-#[tactic(auto, using(crate::proofs::PartRules::place_small, crate::proofs::RuleLemmas::each_none, crate::proofs::PartLemmas::start_in_first, crate::proofs::PartLemmas::sent_none))]
+#[tactic(auto, using(crate::proofs::PartRules::offset_small, crate::proofs::RuleLemmas::each_none, crate::proofs::PartLemmas::start_in_first, crate::proofs::PartLemmas::sent_none))]
 fn checkpoints_fault(pool: &Pool, inputs: &Inputs, checkpoints: &[Checkpoint]) -> Option<Fault>
     requires pages { length pool.now ≤ MAX_PAGES }
     requires events { length inputs.now ≤ MAX_EVENTS }
     requires few { length checkpoints.now ≤ MAX_CHECKPOINTS }
-    ensures { result ≡ first_broken (encoded_checkpoint_rules (length checkpoints.now) (parts_of pool.now inputs.now checkpoints.now)) }
+    ensures { result ≡ first_broken
+        (encoded_checkpoint_rules (length checkpoints.now) (parts_of pool.now inputs.now checkpoints.now)) }
 {
     let pages = pool.len();
     let zeros = Table::zeros();

@@ -1,8 +1,9 @@
 //! The ranges of fields, tested on numbers, whatever their offsets.
 //!
-//! Each limit has its one name, which definitions, contracts and code use: here, or in a crate below that other crates share. The
-//! limits of whole recordings are in `recording_limits`, `MAX_COUNT` of counts is in `risc_model`, and `COUNTER_END` of program
-//! counters in `risc_core`. All are this project's own choice, except the end of program counters.
+//! A name in `_END` is the first number after a range. Each limit has its one name, which definitions, contracts and code use:
+//! here, or in a crate below that other crates share. The limits of whole recordings are in `recording_limits`, `MAX_COUNT` of
+//! counts is in `risc_model`, and `COUNTER_END` of program counters in `risc_core`. All are this project's own choice, except the
+//! end of program counters.
 
 ghost use Rattle.std.specs.Prelude.{◌≡◌, ◌≤◌};
 ghost use Rattle.risc_devices.specs.InputKind.{is_input};
@@ -15,22 +16,17 @@ use risc_model::MAX_COUNT;
 /// The largest number of checkpoints, checkpoint 0 among them.
 pub(crate) const MAX_CHECKPOINTS: u32 = LAST_CHECKPOINT + 1;
 
-/// The number of a processor's flags is below this.
 pub(crate) const FLAGS_END: u32 = 16;
 
-/// The largest stop.
 pub(crate) const MAX_STOP: u32 = 4;
 
-/// The switches are below this.
 pub(crate) const SWITCHES_END: u32 = 4_096;
 
-/// The LEDs are below this.
 pub(crate) const LEDS_END: u32 = 256;
 
 /// The serial byte with its "received" bit is below this.
 pub(crate) const SERIAL_END: u32 = 512;
 
-/// The largest number of waiting keys.
 pub(crate) const MAX_KEYS: usize = 16;
 
 /// Reports whether a number is that of a kind of input that may have the value.

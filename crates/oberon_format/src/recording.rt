@@ -20,7 +20,9 @@ use std::marker::Model;
 /// | inputs | at most 1,000,000, their counts not falling and at most 2^40 |
 /// | checkpoints | from 1 to 4,097: the first at count 0 with no output, their counts rising and at most 2^40 |
 /// | output in all | at most 1,048,576 bytes |
-/// | each checkpoint | a program counter below 2^22, a stop of at most 4, a phase below the timer's rate or 0 at rate 0, page ids of the pool |
+/// | processor of a checkpoint | its program counter below 2^22, its stop at most 4 |
+/// | timer of a checkpoint | its phase below its rate, or 0 at rate 0 |
+/// | table of a checkpoint | page ids of the pool |
 ///
 /// All limits are this project's own choice. In contracts a recording is the record of its parts.
 #[derive(Drop)]
@@ -69,7 +71,6 @@ impl Recording {
         Ok(Recording::from_lawful(pool, inputs, checkpoints))
     }
 
-    /// Makes the recording of parts that are known to be lawful.
     pub(crate) fn from_lawful(pool: Pool, inputs: Inputs, checkpoints: Vec<Checkpoint>) -> Recording
         requires { IsLawful (parts_of pool inputs checkpoints.items) }
         ensures { result ≡ parts_of pool inputs checkpoints.items }
@@ -118,7 +119,6 @@ impl Recording {
         self.checkpoints.len() as u32
     }
 
-    /// Returns all checkpoints, in order.
     pub(crate) fn checkpoints(&self) -> &[Checkpoint]
         ensures checkpoints { map checkpoint_parts result.now ≡ self.now.checkpoints }
         ensures count { length result.now ≡ length self.now.checkpoints }

@@ -6,35 +6,35 @@ ghost use Rattle.oberon_format.specs.Changes.{changes};
 ghost use Rattle.oberon_format.specs.CheckpointParts.{checkpoint_parts};
 ghost use Rattle.oberon_format.specs.PartFields.{start_in};
 ghost use Rattle.oberon_format.specs.Recording.{IsLawful, output_of};
-ghost use Rattle.oberon_format.specs.Encoding.{word_bytes, long_bytes, words_bytes, event_bytes, field_words, common_bytes, change_bytes, checkpoint_bytes, checkpoints_bytes, header_bytes, encoding};
+ghost use Rattle.oberon_format.specs.Encoding.{word_bytes, long_bytes, words_bytes, event_bytes, field_words, common_bytes};
+ghost use Rattle.oberon_format.specs.Encoding.{change_bytes, checkpoint_bytes, checkpoints_bytes, header_bytes, encoding};
 ghost use Rattle.oberon_format.specs.Text.{TextIn};
 
 use crate::change::change_count;
 use crate::checkpoint::{Checkpoint, table_before};
 use crate::fields::key_bytes;
-use crate::layout::{MAGIC, PLACES, VERSION, changed_len, event_start};
+use crate::layout::{MAGIC, VERSION, changed_len, event_start};
 use crate::recording::Recording;
 use byteorder::{ByteOrder, LittleEndian};
 use recording_limits::MAX_OUTPUT;
 use risc_model::Event;
-use risc_pages::{Pool, Table};
+use risc_pages::{PAGE_SLOTS, Pool, Table};
 use std::alloc::{AllocError, Global};
 
 /// Returns the one file of a recording in version 2. Its capacity is allocated at once.
 pub fn write(alloc: Global, r: &Recording) -> Result<Vec<u8>, AllocError>
-    ensures { IfOk result (λ text. TextIn VERSION text.items r.now) }
+    ensures { IfOk result (λ bytes. TextIn VERSION bytes.items r.now) }
 {
-    let text = encode(alloc, r)?;
-    Ok(text)
+    let bytes = encode(alloc, r)?;
+    Ok(bytes)
 }
 
-/// Returns the bytes of a recording, one part after another.
 #[tactic(auto, unfolding(crate::specs::Encoding::encoding))]
 fn encode(alloc: Global, r: &Recording) -> Result<Vec<u8>, AllocError>
-    ensures bytes { IfOk result (λ text. text.items ≡ encoding VERSION r.now) }
+    ensures bytes { IfOk result (λ bytes. bytes.items ≡ encoding VERSION r.now) }
     ensures lawful { IfOk result (λ _. IsLawful r.now) }
 {
-    let mut out = Vec::with_capacity(alloc, text_len(r))?;
+    let mut out = Vec::with_capacity(alloc, encoded_len(r))?;
     push_header(&mut out, r)?;
     push_pool(&mut out, r.pool())?;
     push_events(&mut out, r.inputs().events())?;
@@ -43,9 +43,8 @@ fn encode(alloc: Global, r: &Recording) -> Result<Vec<u8>, AllocError>
     Ok(out)
 }
 
-/// Returns the length of the file of a recording.
-#[tactic(auto, using(crate::proofs::ChangeLemmas::changes_few, crate::proofs::PartLemmas::start_in_first, crate::proofs::PartRules::place_small))]
-fn text_len(r: &Recording) -> usize
+#[tactic(auto, using(crate::proofs::ChangeLemmas::changes_few, crate::proofs::PartLemmas::start_in_first, crate::proofs::PartRules::offset_small))]
+fn encoded_len(r: &Recording) -> usize
     ensures { result ≡ start_in VERSION r.now (length r.now.checkpoints) + length (output_of r.now.checkpoints) }
 {
     let zeros = Table::zeros();
@@ -57,7 +56,6 @@ fn text_len(r: &Recording) -> usize
     len + output_len(r)
 }
 
-/// Returns the length of all output.
 fn output_len(r: &Recording) -> usize
     ensures { result ≡ length (output_of r.now.checkpoints) }
 {
@@ -88,7 +86,6 @@ fn push_long(out: &mut Vec<u8>, number: u64) -> Result<(), AllocError>
     out.extend_from_slice(&bytes)
 }
 
-/// Appends the bytes of each number.
 fn push_words(out: &mut Vec<u8>, numbers: &[u32]) -> Result<(), AllocError>
     ensures { OnOk result (out.new.items ≡ out.old.items ++ words_bytes numbers.now) }
 {
@@ -98,7 +95,6 @@ fn push_words(out: &mut Vec<u8>, numbers: &[u32]) -> Result<(), AllocError>
     Ok(())
 }
 
-/// Appends the header.
 #[tactic(auto, unfolding(crate::specs::Encoding::header_bytes))]
 fn push_header(out: &mut Vec<u8>, r: &Recording) -> Result<(), AllocError>
     ensures { OnOk result (out.new.items ≡ out.old.items ++ header_bytes VERSION r.now) }
@@ -108,7 +104,6 @@ fn push_header(out: &mut Vec<u8>, r: &Recording) -> Result<(), AllocError>
     push_words(out, &[MAGIC, VERSION, pages, events, r.count(), 0])
 }
 
-/// Appends the pages.
 fn push_pool(out: &mut Vec<u8>, pool: &Pool) -> Result<(), AllocError>
     ensures { OnOk result (out.new.items ≡ out.old.items ++ flat_map words_bytes pool.now) }
 {
@@ -118,7 +113,6 @@ fn push_pool(out: &mut Vec<u8>, pool: &Pool) -> Result<(), AllocError>
     Ok(())
 }
 
-/// Appends an event.
 #[tactic(auto, unfolding(crate::specs::Encoding::event_bytes))]
 fn push_event(out: &mut Vec<u8>, event: &Event) -> Result<(), AllocError>
     ensures { OnOk result (out.new.items ≡ out.old.items ++ event_bytes event.now) }
@@ -127,7 +121,6 @@ fn push_event(out: &mut Vec<u8>, event: &Event) -> Result<(), AllocError>
     push_words(out, &[event.input.kind() as u32, event.input.value()])
 }
 
-/// Appends the events.
 fn push_events(out: &mut Vec<u8>, events: &[Event]) -> Result<(), AllocError>
     ensures { OnOk result (out.new.items ≡ out.old.items ++ flat_map event_bytes events.now) }
 {
@@ -157,7 +150,7 @@ fn field_words(checkpoint: &Checkpoint) -> [u32; 10]
     ]
 }
 
-/// Appends what begins a checkpoint.
+/// Appends what a checkpoint has in both versions.
 #[tactic(auto, unfolding(crate::specs::Encoding::common_bytes))]
 fn push_common(out: &mut Vec<u8>, checkpoint: &Checkpoint) -> Result<(), AllocError>
     requires { length checkpoint.now.sent.items ≤ MAX_OUTPUT }
@@ -170,11 +163,10 @@ fn push_common(out: &mut Vec<u8>, checkpoint: &Checkpoint) -> Result<(), AllocEr
     push_words(out, &[checkpoint.sent.len() as u32])
 }
 
-/// Appends the changes from one table to another.
 fn push_changes(out: &mut Vec<u8>, before: &Table, table: &Table) -> Result<(), AllocError>
     ensures { OnOk result (out.new.items ≡ out.old.items ++ flat_map change_bytes (changes before.now.numbers table.now.numbers)) }
 {
-    for p in 0..PLACES as u16 {
+    for p in 0..PAGE_SLOTS {
         if before.entry(p) != table.entry(p) {
             push_change(out, p as u32, table.entry(p))?;
         }
@@ -182,12 +174,11 @@ fn push_changes(out: &mut Vec<u8>, before: &Table, table: &Table) -> Result<(), 
     Ok(())
 }
 
-/// Appends a change.
 #[tactic(auto, unfolding(crate::specs::Encoding::change_bytes))]
-fn push_change(out: &mut Vec<u8>, place: u32, number: u32) -> Result<(), AllocError>
-    ensures { OnOk result (out.new.items ≡ out.old.items ++ change_bytes (record { place = place; number = number })) }
+fn push_change(out: &mut Vec<u8>, slot: u32, page_id: u32) -> Result<(), AllocError>
+    ensures { OnOk result (out.new.items ≡ out.old.items ++ change_bytes (record { slot = slot; page_id = page_id })) }
 {
-    push_words(out, &[place, number])
+    push_words(out, &[slot, page_id])
 }
 
 /// Appends a checkpoint after a table, without its output.
@@ -197,7 +188,8 @@ fn push_checkpoint(
     checkpoint: &Checkpoint,
 ) -> Result<(), AllocError>
     requires { length checkpoint.now.sent.items ≤ MAX_OUTPUT }
-    ensures { OnOk result (out.new.items ≡ out.old.items ++ checkpoint_bytes VERSION before.now.numbers (checkpoint_parts checkpoint.now)) }
+    ensures { OnOk result (out.new.items
+        ≡ out.old.items ++ checkpoint_bytes VERSION before.now.numbers (checkpoint_parts checkpoint.now)) }
 {
     let devices = &checkpoint.devices;
     let count = change_count(before, &checkpoint.table);
@@ -206,10 +198,10 @@ fn push_checkpoint(
     push_changes(out, before, &checkpoint.table)
 }
 
-/// Appends the checkpoints.
 #[tactic(auto, unfolding(crate::specs::Encoding::checkpoints_bytes))]
 fn push_checkpoints(out: &mut Vec<u8>, r: &Recording) -> Result<(), AllocError>
-    ensures { OnOk result (out.new.items ≡ out.old.items ++ checkpoints_bytes VERSION r.now.checkpoints (length r.now.checkpoints)) }
+    ensures { OnOk result (out.new.items
+        ≡ out.old.items ++ checkpoints_bytes VERSION r.now.checkpoints (length r.now.checkpoints)) }
 {
     let zeros = Table::zeros();
     for k in 0..r.count() {
@@ -222,7 +214,6 @@ fn push_checkpoints(out: &mut Vec<u8>, r: &Recording) -> Result<(), AllocError>
     Ok(())
 }
 
-/// Appends all output.
 fn push_output(out: &mut Vec<u8>, r: &Recording) -> Result<(), AllocError>
     ensures { OnOk result (out.new.items ≡ out.old.items ++ output_of r.now.checkpoints) }
 {

@@ -3,6 +3,6 @@ use Rattle.oberon_format.proofs.One.{same_recording}
 use Rattle.oberon_format.proofs.laws.migrated_again_law.Goals as goal
 
 pub returns : goal.returns
-returns c = λ text migrated again first second.
+returns c = λ bytes migrated again first second.
     let one = same_recording migrated second.recording first.recording second.read (record { version = VERSION; is = first.written }) in
     second.written.is ∙ ap (encoding VERSION) one ∙ sym first.written.is

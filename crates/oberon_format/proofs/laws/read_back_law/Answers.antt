@@ -3,4 +3,4 @@ use Rattle.oberon_format.proofs.One.{same_recording}
 use Rattle.oberon_format.proofs.laws.read_back_law.Goals as goal
 
 pub returns : goal.returns
-returns c = λ r s text written read. same_recording text s r read (record { version = VERSION; is = written })
+returns c = λ r s bytes written read. same_recording bytes s r read (record { version = VERSION; is = written })

@@ -3,4 +3,4 @@ use Rattle.oberon_format.proofs.One.{in_version}
 use Rattle.oberon_format.proofs.laws.written_back_law.Goals as goal
 
 pub returns : goal.returns
-returns c = λ text other r is read written. written.is ∙ sym (in_version VERSION text r is read).is
+returns c = λ bytes other r is read written. written.is ∙ sym (in_version VERSION bytes r is read).is

@@ -3,4 +3,4 @@ use Rattle.oberon_format.proofs.Bytes.{word_at-drop}
 use Rattle.oberon_format.proofs.number.u32_at.Goals as goal
 
 pub returns : goal.returns
-returns c = c.read_u32.ensures ∙ word_at-drop c.args.offset c.args.text.now
+returns c = c.read_u32.ensures ∙ word_at-drop c.args.offset c.args.bytes.now

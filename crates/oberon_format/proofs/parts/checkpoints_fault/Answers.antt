@@ -1,6 +1,6 @@
 use Rattle.oberon_format.proofs.Common.{add-one, ap, arith, checkpoint_rules, CheckpointFields, count_before, Event, event_start, fields_in, first_broken, length, List, parts_of, refl, sent_below, sym, VERSION, ℕ, ◌+◌, ◌∙◌, ◌≡◌}
 use Rattle.oberon_format.proofs.PartLemmas.{before_next, sent_more, sent_none, start_in_first}
-use Rattle.oberon_format.proofs.PartRules.{by_changes, by_fields, next_offset, place_small, rules_here}
+use Rattle.oberon_format.proofs.PartRules.{by_changes, by_fields, next_offset, offset_small, rules_here}
 use Rattle.oberon_format.proofs.RuleLemmas.{each_broken, each_more, each_none}
 use Rattle.oberon_format.specs.inner.Tested.{encoded_checkpoint_rules}
 use Rattle.oberon_format.proofs.parts.checkpoints_fault.Goals as goal
@@ -41,7 +41,7 @@ loop-k-init c =
 
 pub changes_fault-requires : goal.changes_fault-requires
 changes_fault-requires c =
-    let small = place_small (parts_of c.args.pool.now c.args.inputs.now c.args.checkpoints.now) c.loop-k.k c.requires.pages c.requires.events (omega arith) in
+    let small = offset_small (parts_of c.args.pool.now c.args.inputs.now c.args.checkpoints.now) c.loop-k.k c.requires.pages c.requires.events (omega arith) in
     omega (arith, c.loop-k.invariant.offset_is)
 
 pub overflow_add-sent : goal.overflow_add-sent
@@ -49,7 +49,7 @@ overflow_add-sent c = omega (arith, c.in_default.ensures.small)
 
 pub overflow_add-offset : goal.overflow_add-offset
 overflow_add-offset c =
-    let small = place_small (parts_of c.args.pool.now c.args.inputs.now c.args.checkpoints.now) c.loop-k.k c.requires.pages c.requires.events (omega arith) in
+    let small = offset_small (parts_of c.args.pool.now c.args.inputs.now c.args.checkpoints.now) c.loop-k.k c.requires.pages c.requires.events (omega arith) in
     omega (arith, c.loop-k.invariant.offset_is, c.changed_len-offset.ensures, c.in_default.ensures.few)
 
 pub returns : goal.returns

@@ -5,9 +5,9 @@ use Rattle.oberon_format.proofs.reading.advance_table.Goals as goal
 
 pub returns-else-is_first_version : goal.returns-else-is_first_version
 returns-else-is_first_version c =
-    let text = c.args.text.now in let k = c.args.k in
-    let test : (version text == FIRST_VERSION) ≡ false = sym c.is_first_version.ensures ∙ c.if-is_first_version.false in
-    let is = later_by _ c.requires.meets.sized.known test in let count = change_count text c.args.offset in
+    let bytes = c.args.bytes.now in let k = c.args.k in
+    let test : (version bytes == FIRST_VERSION) ≡ false = sym c.is_first_version.ensures ∙ c.if-is_first_version.false in
+    let is = later_by _ c.requires.meets.sized.known test in let count = change_count bytes c.args.offset in
     λ p lt.
-    numbers_next text k c.args.offset count c.args.table.now.numbers c.change_table.new.table.numbers c.requires.offset refl (λ q less. c.requires.table q less ∙ prior_is text k q is) c.change_table.ensures p lt
-    ∙ sym (number_second text k p is)
+    numbers_next bytes k c.args.offset count c.args.table.now.numbers c.change_table.new.table.numbers c.requires.offset refl (λ q less. c.requires.table q less ∙ prior_is bytes k q is) c.change_table.ensures p lt
+    ∙ sym (number_second bytes k p is)

@@ -3,12 +3,12 @@ use Rattle.oberon_format.proofs.reading.pool_of.Goals as goal
 
 pub push-requires : goal.push-requires
 push-requires c =
-    let len = ap (λ (pool : List (List ℕ)). length pool) c.loop-p.invariant ∙ length-map-range_with_len (page_at c.args.text.now) 0 c.loop-p.p in
+    let len = ap (λ (pool : List (List ℕ)). length pool) c.loop-p.invariant ∙ length-map-range_with_len (page_at c.args.bytes.now) 0 c.loop-p.p in
     omega arith
 
 pub loop-p-preserved : goal.loop-p-preserved
 loop-p-preserved c =
-    let text = c.args.text.now in let p = c.loop-p.p in
+    let bytes = c.args.bytes.now in let p = c.loop-p.p in
     c.in_ok-push.ensures.ok ∙ ap (λ (pool : List (List ℕ)). pool ++ c.words_from-words.result ∷ []) c.loop-p.invariant
-    ∙ ap (λ (page : List ℕ). pages_at text p ++ page ∷ []) (c.words_from-words.ensures ∙ ap (λ (at : ℕ). words_from text at 0 256) c.page_start.ensures)
-    ∙ sym (map-range_with_len_more (page_at text) 0 p p (omega arith))
+    ∙ ap (λ (page : List ℕ). pages_at bytes p ++ page ∷ []) (c.words_from-words.ensures ∙ ap (λ (at : ℕ). words_from bytes at 0 256) c.page_start.ensures)
+    ∙ sym (map-range_with_len_more (page_at bytes) 0 p p (omega arith))

@@ -7,8 +7,8 @@ loop-i-preserved g c =
     let words = c.loop-i.words in let i = c.loop-i.i in let lt : i < length words = omega arith in
     record {
       len = length-set words i c.u32_at.result ∙ c.loop-i.invariant.len;
-      each = each_set (λ k word. word ≡ word_at c.args.text.now (c.args.offset + (c.args.from + 4 * k))) words i c.u32_at.result lt c.loop-i.invariant.each c.u32_at.ensures;
+      each = each_set (λ k word. word ≡ word_at c.args.bytes.now (c.args.offset + (c.args.from + 4 * k))) words i c.u32_at.result lt c.loop-i.invariant.each c.u32_at.ensures;
     }
 
 pub returns : goal.returns
-returns g c = words_made c.args.text.now c.args.offset c.args.from g.row.N c.loop-i.words c.loop-i.invariant.len (λ k h. c.loop-i.invariant.each k 0 (omega arith))
+returns g c = words_made c.args.bytes.now c.args.offset c.args.from g.row.N c.loop-i.words c.loop-i.invariant.len (λ k h. c.loop-i.invariant.each k 0 (omega arith))

@@ -5,8 +5,8 @@ use Rattle.oberon_format.proofs.rules.events_fault.Goals as goal
 
 pub returns-then-not-is_event : goal.returns-then-not-is_event
 returns-then-not-is_event c =
-    let text = c.args.text.now in
-    let fails : is_event (event_floor (fields_of text) c.loop-i.i) (event_of text (event_offset text c.loop-i.i)) ≡ false = cc in
+    let bytes = c.args.bytes.now in
+    let fails : is_event (event_floor (fields_of bytes) c.loop-i.i) (event_of bytes (event_offset bytes c.loop-i.i)) ≡ false = cc in
     let lt : c.loop-i.i < c.event_count-i-end.result = c.loop-i-test.true in
-    let found = each_unmet (λ k. is_event (event_floor (fields_of text) k) (event_of text (event_offset text k))) (λ k. fault.Event (event_offset text k)) c.loop-i.i c.event_count-i-end.result lt c.loop-i.invariant fails in
+    let found = each_unmet (λ k. is_event (event_floor (fields_of bytes) k) (event_of bytes (event_offset bytes k))) (λ k. fault.Event (event_offset bytes k)) c.loop-i.i c.event_count-i-end.result lt c.loop-i.invariant fails in
     cc

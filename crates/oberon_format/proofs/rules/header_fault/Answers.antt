@@ -5,15 +5,15 @@ use Rattle.oberon_format.proofs.rules.header_fault.Goals as goal
 
 -- the rules after the limits, and the first fault of a header that is there and of a known version
 abbrev last_rules : List ℕ → List (Rule Fault)
-last_rules text = (word_at text LAST_AT == 0, fault.Limit LAST_AT) ∷ (nat_le (named_len (fields_of text)) (length text), fault.Short (length text)) ∷ []
+last_rules bytes = (word_at bytes LAST_AT == 0, fault.Limit LAST_AT) ∷ (nat_le (named_len (fields_of bytes)) (length bytes), fault.Short (length bytes)) ∷ []
 
-limited : (text : List ℕ) (p e n : ℕ) (o : Option Fault) → HEADER_LEN ≤ length text → word_at text MAGIC_AT ≡ MAGIC → is_version (version text) ≡ true
-    → p ≡ pages text → e ≡ events text → n ≡ checkpoints text → o ≡ first_broken (limit_rules p e n)
-    → first_broken (header_rules (fields_of text)) ≡ option_or o (first_broken (last_rules text))
-limited text p e n o long magic known ps es cs is =
-    rw (le-leb HEADER_LEN (length text) long, eq-eqb (word_at text MAGIC_AT) MAGIC magic, known)
-    (first_append (limit_rules (pages text) (events text) (checkpoints text)) (last_rules text))
-    ∙ ap (λ (x : Option Fault). option_or x (first_broken (last_rules text))) (sym (is ∙ (λ i. first_broken (limit_rules (ps i) (es i) (cs i)))))
+limited : (bytes : List ℕ) (p e n : ℕ) (o : Option Fault) → HEADER_LEN ≤ length bytes → word_at bytes MAGIC_AT ≡ MAGIC → is_version (version bytes) ≡ true
+    → p ≡ pages bytes → e ≡ events bytes → n ≡ checkpoints bytes → o ≡ first_broken (limit_rules p e n)
+    → first_broken (header_rules (fields_of bytes)) ≡ option_or o (first_broken (last_rules bytes))
+limited bytes p e n o long magic known ps es cs is =
+    rw (le-leb HEADER_LEN (length bytes) long, eq-eqb (word_at bytes MAGIC_AT) MAGIC magic, known)
+    (first_append (limit_rules (pages bytes) (events bytes) (checkpoints bytes)) (last_rules bytes))
+    ∙ ap (λ (x : Option Fault). option_or x (first_broken (last_rules bytes))) (sym (is ∙ (λ i. first_broken (limit_rules (ps i) (es i) (cs i)))))
 
 pub page_count-pages-requires : goal.page_count-pages-requires
 page_count-pages-requires c = omega arith
@@ -35,36 +35,36 @@ returns-then-u32_at-ne-MAGIC-clause-fault c = search arith
 
 pub returns-then-version-ne-VERSION-clause-fault : goal.returns-then-version-ne-VERSION-clause-fault
 returns-then-version-ne-VERSION-clause-fault c =
-    let text = c.args.text.now in
-    let long : nat_le HEADER_LEN (length text) ≡ true = le-leb _ _ (omega arith) in
-    let magic : (word_at text MAGIC_AT == MAGIC) ≡ true = eq-eqb _ _ (omega arith) in
-    let first : (version text == FIRST_VERSION) ≡ false = ne_eqb _ _ (λ e. omega arith) in
-    let second : (version text == VERSION) ≡ false = ne_eqb _ _ (λ e. omega arith) in
+    let bytes = c.args.bytes.now in
+    let long : nat_le HEADER_LEN (length bytes) ≡ true = le-leb _ _ (omega arith) in
+    let magic : (word_at bytes MAGIC_AT == MAGIC) ≡ true = eq-eqb _ _ (omega arith) in
+    let first : (version bytes == FIRST_VERSION) ≡ false = ne_eqb _ _ (λ e. omega arith) in
+    let second : (version bytes == VERSION) ≡ false = ne_eqb _ _ (λ e. omega arith) in
     rw (long, magic, first, second) refl
 
 pub returns-in-Some-clause-fault : goal.returns-in-Some-clause-fault
 returns-in-Some-clause-fault c =
-    sym (limited c.args.text.now _ _ _ _ (omega arith) (omega arith) (search arith) c.page_count-pages.ensures c.event_count-events.ensures
+    sym (limited c.args.bytes.now _ _ _ _ (omega arith) (omega arith) (search arith) c.page_count-pages.ensures c.event_count-events.ensures
     c.checkpoint_count-checkpoints.ensures (sym c.in-Some.is ∙ c.limits_fault.ensures.fault))
 
 pub returns-then-u32_at-ne0-clause-fault : goal.returns-then-u32_at-ne0-clause-fault
 returns-then-u32_at-ne0-clause-fault c =
-    let other : (word_at c.args.text.now LAST_AT == 0) ≡ false = ne_eqb _ _ (λ e. omega arith) in
-    sym (limited c.args.text.now _ _ _ _ (omega arith) (omega arith) (search arith) c.page_count-pages.ensures c.event_count-events.ensures
+    let other : (word_at c.args.bytes.now LAST_AT == 0) ≡ false = ne_eqb _ _ (λ e. omega arith) in
+    sym (limited c.args.bytes.now _ _ _ _ (omega arith) (omega arith) (search arith) c.page_count-pages.ensures c.event_count-events.ensures
     c.checkpoint_count-checkpoints.ensures (sym c.in_default.is ∙ c.limits_fault.ensures.fault) ∙ rw other refl)
 
-pub returns-then-text-named_len-clause-fault : goal.returns-then-text-named_len-clause-fault
-returns-then-text-named_len-clause-fault c =
-    let zero : (word_at c.args.text.now LAST_AT == 0) ≡ true = eq-eqb _ _ (omega arith) in
-    let cut : nat_le (named_len (fields_of c.args.text.now)) (length c.args.text.now) ≡ false = lt-leb _ _ (omega arith) in
-    sym (limited c.args.text.now _ _ _ _ (omega arith) (omega arith) (search arith) c.page_count-pages.ensures c.event_count-events.ensures
+pub returns-then-bytes-named_len-clause-fault : goal.returns-then-bytes-named_len-clause-fault
+returns-then-bytes-named_len-clause-fault c =
+    let zero : (word_at c.args.bytes.now LAST_AT == 0) ≡ true = eq-eqb _ _ (omega arith) in
+    let cut : nat_le (named_len (fields_of c.args.bytes.now)) (length c.args.bytes.now) ≡ false = lt-leb _ _ (omega arith) in
+    sym (limited c.args.bytes.now _ _ _ _ (omega arith) (omega arith) (search arith) c.page_count-pages.ensures c.event_count-events.ensures
     c.checkpoint_count-checkpoints.ensures (sym c.in_default.is ∙ c.limits_fault.ensures.fault) ∙ rw (zero, cut) refl)
 
 pub returns-clause-fault : goal.returns-clause-fault
 returns-clause-fault c =
-    let zero : (word_at c.args.text.now LAST_AT == 0) ≡ true = eq-eqb _ _ (omega arith) in
-    let whole : nat_le (named_len (fields_of c.args.text.now)) (length c.args.text.now) ≡ true = le-leb _ _ (omega arith) in
-    sym (limited c.args.text.now _ _ _ _ (omega arith) (omega arith) (search arith) c.page_count-pages.ensures c.event_count-events.ensures
+    let zero : (word_at c.args.bytes.now LAST_AT == 0) ≡ true = eq-eqb _ _ (omega arith) in
+    let whole : nat_le (named_len (fields_of c.args.bytes.now)) (length c.args.bytes.now) ≡ true = le-leb _ _ (omega arith) in
+    sym (limited c.args.bytes.now _ _ _ _ (omega arith) (omega arith) (search arith) c.page_count-pages.ensures c.event_count-events.ensures
     c.checkpoint_count-checkpoints.ensures (sym c.in_default.is ∙ c.limits_fault.ensures.fault) ∙ rw (zero, whole) refl)
 
 pub returns-clause-sized : goal.returns-clause-sized

@@ -3,4 +3,4 @@ use Rattle.oberon_format.proofs.Encoded.{encoded}
 use Rattle.oberon_format.proofs.writing.write.Goals as goal
 
 pub returns : goal.returns
-returns c = subst (λ (text : List ℕ). TextIn VERSION text c.args.r.now) (sym c.in_ok-text.ensures.bytes) (encoded c.args.r.now c.in_ok-text.ensures.lawful)
+returns c = subst (λ (bytes : List ℕ). TextIn VERSION bytes c.args.r.now) (sym c.in_ok-bytes.ensures.bytes) (encoded c.args.r.now c.in_ok-bytes.ensures.lawful)

@@ -1,6 +1,6 @@
 use Rattle.oberon_format.proofs.Common.{add-one, ap, arith, changes, checkpoint_at, CheckpointParts, length, List, start_in, table_before, VERSION, ℕ, ◌∙◌, ◌≡◌}
 use Rattle.oberon_format.proofs.PartLemmas.{start_in_next}
-use Rattle.oberon_format.proofs.writing.text_len.Goals as goal
+use Rattle.oberon_format.proofs.writing.encoded_len.Goals as goal
 
 pub loop-k-preserved : goal.loop-k-preserved
 loop-k-preserved c =

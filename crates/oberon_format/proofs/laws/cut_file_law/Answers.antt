@@ -1,5 +1,5 @@
 use Rattle.oberon_format.proofs.Cut.{first_fault_of-take}
-use Rattle.oberon_format.proofs.laws.cut_text_law.Goals as goal
+use Rattle.oberon_format.proofs.laws.cut_file_law.Goals as goal
 
 pub returns : goal.returns
 returns c = first_fault_of-take

@@ -1,5 +1,0 @@
-use Rattle.oberon_format.proofs.Common.{sym, ◌∙◌}
-use Rattle.oberon_format.proofs.laws.one_text_at_most_law.Goals as goal
-
-pub returns : goal.returns
-returns c = λ version r text other is also. also.is ∙ sym is.is

@@ -1,7 +1,0 @@
-use Rattle.oberon_format.proofs.Common.{encoding, VERSION}
-use Rattle.oberon_format.proofs.Encoded.{encoded, writable}
-use Rattle.oberon_format.proofs.LawLemmas.{text_of_parts}
-use Rattle.oberon_format.proofs.laws.one_text_law.Goals as goal
-
-pub returns : goal.returns
-returns c = λ r lawful. (encoding VERSION r, text_of_parts r (writable r lawful), encoded r lawful)
