@@ -19,7 +19,7 @@ use Rattle.oberon_session.specs.Stored.{Stored}
 use Rattle.oberon_session.specs.Laws.{IsTableOf}
 use Rattle.oberon_session.specs.Ranges.{timer_fits}
 use Rattle.oberon_session.specs.Recorded.{checkpoint_of, count_of, first_devices, first_stored, first_state, stored_of, numbered, output_between, output_up_to, state_at, state_of}
-use Rattle.oberon_session.specs.SessionParts.{SessionParts, places_in, IsLawful as IsLawfulSession}
+use Rattle.oberon_session.specs.SessionParts.{SessionParts, slots_in, IsLawful as IsLawfulSession}
 use Rattle.oberon_session.specs.inner.Progress.{IsContentOf, IsRecorded, checkpoints_to}
 
 -- ---- the first table
@@ -27,13 +27,13 @@ use Rattle.oberon_session.specs.inner.Progress.{IsContentOf, IsRecorded, checkpo
 pub length-numbered : (pages : List PlacedWords) (n : ℕ) → length (numbered pages n) ≡ 1024
 unfolding numbered zero_numbers
 length-numbered pages zero = length-replicate {A = ℕ} 1024 0
-length-numbered pages (suc n) = length-set (numbered pages n) (slice_index (places_in pages) n) (suc n) ∙ length-numbered pages n
+length-numbered pages (suc n) = length-set (numbered pages n) (slice_index (slots_in pages) n) (suc n) ∙ length-numbered pages n
 
 numbered-names : (pages : List PlacedWords) (n : ℕ) → All (λ number. number ≤ n) (numbered pages n)
 unfolding numbered zero_numbers
 numbered-names pages zero = All-replicate (λ number. number ≤ 0) 1024 0 (omega arith)
 numbered-names pages (suc n) =
-    All-set (λ number. number ≤ suc n) (numbered pages n) (slice_index (places_in pages) n) (suc n) (omega arith)
+    All-set (λ number. number ≤ suc n) (numbered pages n) (slice_index (slots_in pages) n) (suc n) (omega arith)
     (λ k d lt. omega (arith, numbered-names pages n k d lt))
 
 pub first-table : (pages : List PlacedWords) → IsTableOf (first_stored pages)

@@ -92,8 +92,8 @@ content-of pool table words n count whole shown =
     λ k d e lt.
     let inside : k < n = omega arith in
     let number : get_or table k d ≡ get_or table k 0 = grind (arith, common_steps) in
-    let place : get_or (range_with_len 0 n) k e ≡ k = omega (arith, get_or-range_with_len 0 n k e inside) in
-    ap (λ (m : ℕ). page_of pool m) number ∙ shown k inside ∙ ap (λ (m : ℕ). page_at words m) (sym place) in
+    let slot : get_or (range_with_len 0 n) k e ≡ k = omega (arith, get_or-range_with_len 0 n k e inside) in
+    ap (λ (m : ℕ). page_of pool m) number ∙ shown k inside ∙ ap (λ (m : ℕ). page_at words m) (sym slot) in
     flat_map-same (page_of pool) (page_at words) table (range_with_len 0 n) many each
     ∙ pages-from words 0 n ∙ take_all (256 * n) words (omega arith)
 
@@ -110,31 +110,31 @@ pub record Leads (words : List ℕ) (old new : Stored) : Type 0 where
   pub table : IsTableOf new
   pub kept : (p : ℕ) → p < 1024 → IsShown words old p → IsShown words new p
 
-module _ (words : List ℕ) (old : Stored) (place : ℕ) where
-  pub blank-is : is_blank (page_at words place) ≡ true → store_page old (place, page_at words place) ≡ record old { table = slice_set old.table place 0 }
+module _ (words : List ℕ) (old : Stored) (slot : ℕ) where
+  pub blank-is : is_blank (page_at words slot) ≡ true → store_page old (slot, page_at words slot) ≡ record old { table = slice_set old.table slot 0 }
   unfolding store_page
   blank-is blank = rw blank refl
 
-  pub other-is : is_blank (page_at words place) ≡ false
-      → store_page old (place, page_at words place) ≡ record { pool = old.pool ++ page_at words place ∷ []; table = slice_set old.table place (length old.pool + 1) }
+  pub other-is : is_blank (page_at words slot) ≡ false
+      → store_page old (slot, page_at words slot) ≡ record { pool = old.pool ++ page_at words slot ∷ []; table = slice_set old.table slot (length old.pool + 1) }
   unfolding store_page
   other-is other = rw other refl
 
-module _ (words : List ℕ) (old : Stored) (good : IsTableOf old) (place : ℕ) (inside : place < 1024) where
+module _ (words : List ℕ) (old : Stored) (good : IsTableOf old) (slot : ℕ) (inside : slot < 1024) where
   -- a slot has its page once the id of that page is set there, over a pool that has only grown
-  module _ (extra : List (List ℕ)) (number : ℕ) (fits : number ≤ length (old.pool ++ extra)) (names : page_of (old.pool ++ extra) number ≡ page_at words place) where
+  module _ (extra : List (List ℕ)) (number : ℕ) (fits : number ≤ length (old.pool ++ extra)) (names : page_of (old.pool ++ extra) number ≡ page_at words slot) where
     abbrev after : Stored
-    after = record { pool = old.pool ++ extra; table = slice_set old.table place number }
+    after = record { pool = old.pool ++ extra; table = slice_set old.table slot number }
 
-    here : IsShown words after place
-    here = ap (λ (n : ℕ). page_of (old.pool ++ extra) n) (get_or-set_at old.table place place number 0 refl (omega (arith, good.count))) ∙ names
+    here : IsShown words after slot
+    here = ap (λ (n : ℕ). page_of (old.pool ++ extra) n) (get_or-set_at old.table slot slot number 0 refl (omega (arith, good.count))) ∙ names
 
     kept : (p : ℕ) → p < 1024 → IsShown words old p → IsShown words after p
-    kept p low shown = elim (eqb_tells p place) [
+    kept p low shown = elim (eqb_tells p slot) [
       | inl same ↦ subst (λ (q : ℕ). IsShown words after q) (sym same.1) here
       | inr apart ↦
           let lt : p < length old.table = omega (arith, good.count) in
-          ap (λ (n : ℕ). page_of (old.pool ++ extra) n) (get_or-set_other old.table place p number 0 apart.1)
+          ap (λ (n : ℕ). page_of (old.pool ++ extra) n) (get_or-set_other old.table slot p number 0 apart.1)
           ∙ page_of-grown old.pool extra (slice_index old.table p) (good.named p 0 lt) ∙ shown
     ]
 
@@ -143,8 +143,8 @@ module _ (words : List ℕ) (old : Stored) (good : IsTableOf old) (place : ℕ) 
       extra = extra;
       grown = refl;
       table = record {
-        count = length-set old.table place number ∙ good.count;
-        named = All-set (λ n. n ≤ length (old.pool ++ extra)) old.table place number fits
+        count = length-set old.table slot number ∙ good.count;
+        named = All-set (λ n. n ≤ length (old.pool ++ extra)) old.table slot number fits
             (λ k d lt. omega (arith, good.named k d lt, length-append old.pool extra));
       };
       kept = kept;
@@ -152,41 +152,41 @@ module _ (words : List ℕ) (old : Stored) (good : IsTableOf old) (place : ℕ) 
 
   -- a page was stored
   abbrev IsStored : Stored → Type 0
-  IsStored new = Leads words old new × IsShown words new place
+  IsStored new = Leads words old new × IsShown words new slot
 
-  page-stored : (b : Bool) → is_blank (page_at words place) ≡ b → length words ≡ 262144 → IsStored (store_page old (place, page_at words place))
+  page-stored : (b : Bool) → is_blank (page_at words slot) ≡ b → length words ≡ 262144 → IsStored (store_page old (slot, page_at words slot))
   page-stored true blank whole =
       let same : old.pool ++ [] ≡ old.pool = append-nil old.pool in
-      let after-is : store_page old (place, page_at words place) ≡ record { pool = old.pool ++ []; table = slice_set old.table place 0 } =
-      blank-is words old place blank ∙ ap (λ (pool : List (List ℕ)). record { pool = pool; table = slice_set old.table place 0 }) (sym same) in
-      let zeros-there : page_of (old.pool ++ []) 0 ≡ page_at words place =
-      page_of-zero (old.pool ++ []) 0 refl ∙ sym (blank-page (page_at words place) (length-page_at words place whole inside) blank) in
+      let after-is : store_page old (slot, page_at words slot) ≡ record { pool = old.pool ++ []; table = slice_set old.table slot 0 } =
+      blank-is words old slot blank ∙ ap (λ (pool : List (List ℕ)). record { pool = pool; table = slice_set old.table slot 0 }) (sym same) in
+      let zeros-there : page_of (old.pool ++ []) 0 ≡ page_at words slot =
+      page_of-zero (old.pool ++ []) 0 refl ∙ sym (blank-page (page_at words slot) (length-page_at words slot whole inside) blank) in
       subst IsStored (sym after-is) (set-leads [] 0 (omega arith) zeros-there, here [] 0 (omega arith) zeros-there)
   page-stored false other whole =
-      let page : List ℕ = page_at words place in
+      let page : List ℕ = page_at words slot in
       let fits : length old.pool + 1 ≤ length (old.pool ++ page ∷ []) = omega (arith, length_push old.pool page) in
       let last = page_of-last old.pool page in
-      subst IsStored (sym (other-is words old place other)) (set-leads (page ∷ []) (length old.pool + 1) fits last, here (page ∷ []) (length old.pool + 1) fits last)
+      subst IsStored (sym (other-is words old slot other)) (set-leads (page ∷ []) (length old.pool + 1) fits last, here (page ∷ []) (length old.pool + 1) fits last)
 
 module _ (words : List ℕ) (whole : length words ≡ 262144) where
   abbrev pages-of : List ℕ → List (ℕ × List ℕ)
-  pages-of places = map (with-page words) places
+  pages-of slots = map (with-page words) slots
 
   -- pages were stored in these slots
   abbrev AreStored : Stored → List ℕ → Type 0
-  AreStored old places =
-      Leads words old (store_pages old (pages-of places)) × ((p : ℕ) → Contains places p → IsShown words (store_pages old (pages-of places)) p)
+  AreStored old slots =
+      Leads words old (store_pages old (pages-of slots)) × ((p : ℕ) → Contains slots p → IsShown words (store_pages old (pages-of slots)) p)
 
-  pages-stored : (places : List ℕ) → All (λ p. p < 1024) places → (old : Stored) → IsTableOf old → AreStored old places
+  pages-stored : (slots : List ℕ) → All (λ p. p < 1024) slots → (old : Stored) → IsTableOf old → AreStored old slots
   pages-stored [] low old good = (
     record { extra = []; grown = sym (append-nil old.pool); table = good; kept = λ p lt shown. shown },
     λ p within. absurd (omega (arith, within.1)),
   )
-  pages-stored (place ∷ places) low old good =
-      let inside : place < 1024 = low 0 place (omega arith) in
-      let first = page-stored words old good place inside (is_blank (page_at words place)) refl whole in
-      let mid : Stored = store_page old (place, page_at words place) in
-      let rest = pages-stored places (λ k d lt. low (suc k) d (omega arith)) mid first.0.table in (
+  pages-stored (slot ∷ slots) low old good =
+      let inside : slot < 1024 = low 0 slot (omega arith) in
+      let first = page-stored words old good slot inside (is_blank (page_at words slot)) refl whole in
+      let mid : Stored = store_page old (slot, page_at words slot) in
+      let rest = pages-stored slots (λ k d lt. low (suc k) d (omega arith)) mid first.0.table in (
         record {
           extra = first.0.extra ++ rest.0.extra;
           grown = rest.0.grown ∙ ap (λ (pool : List (List ℕ)). pool ++ rest.0.extra) first.0.grown ∙ append_assoc old.pool first.0.extra rest.0.extra;
@@ -196,13 +196,13 @@ module _ (words : List ℕ) (whole : length words ≡ 262144) where
         shown-in first.1 rest.0.kept rest.1,
       )
     where
-      shown-in : IsShown words (store_page old (place, page_at words place)) place
-          → ((p : ℕ) → p < 1024 → IsShown words (store_page old (place, page_at words place)) p → IsShown words (store_pages old (pages-of (place ∷ places))) p)
-          → ((p : ℕ) → Contains places p → IsShown words (store_pages old (pages-of (place ∷ places))) p)
-          → (p : ℕ) → Contains (place ∷ places) p → IsShown words (store_pages old (pages-of (place ∷ places))) p
+      shown-in : IsShown words (store_page old (slot, page_at words slot)) slot
+          → ((p : ℕ) → p < 1024 → IsShown words (store_page old (slot, page_at words slot)) p → IsShown words (store_pages old (pages-of (slot ∷ slots))) p)
+          → ((p : ℕ) → Contains slots p → IsShown words (store_pages old (pages-of (slot ∷ slots))) p)
+          → (p : ℕ) → Contains (slot ∷ slots) p → IsShown words (store_pages old (pages-of (slot ∷ slots))) p
       shown-in first kept rest p (zero, lt, is) =
-          let low-place : place < 1024 = low 0 place (omega arith) in
-          subst (λ (q : ℕ). IsShown words (store_pages old (pages-of (place ∷ places))) q) is (kept place low-place first)
+          let low-slot : slot < 1024 = low 0 slot (omega arith) in
+          subst (λ (q : ℕ). IsShown words (store_pages old (pages-of (slot ∷ slots))) q) is (kept slot low-slot first)
       shown-in first kept rest p (suc k, lt, is) = rest p (k, omega arith, is)
 
 -- a memory that is stored after another is the content of the new table over the new pool

@@ -6,7 +6,7 @@ use Rattle.std.specs.Bool.{Decides}
 use Rattle.std.specs.List.{All, list_all}
 use Rattle.std.specs.Prelude.{nat_le, nat_lt, slice_index}
 use Rattle.oberon_session.specs.Draft.{Draft, InputNumbers, PageText, Start}
-use Rattle.oberon_session.specs.Ranges.{count_fits, in_order, in_range, input_counts, input_fits, of_neighbours, page_fits, places_of, start_fits, timer_fits}
+use Rattle.oberon_session.specs.Ranges.{count_fits, in_order, in_range, input_counts, input_fits, of_neighbours, page_fits, slots_of, start_fits, timer_fits}
 use Rattle.oberon_session.specs.SessionParts.{CountFits}
 use Rattle.oberon_session.specs.inner.Tested.{InOrder, InRange, InputFits, PageFits, StartFits}
 use Rattle.risc_core.specs.declared.branch.TheConstants.{COUNTER_END}
@@ -82,6 +82,6 @@ unfolding in_order
 decides-order draft =
     Decides-like (in_order draft) (λ h. record { pages = h.0.0; inputs = h.0.1; checkpoints = h.1 }) (λ h. ((h.pages, h.inputs), h.checkpoints))
     (Decides-and _ _
-    (Decides-and _ _ (decides-neighbours nat_lt (λ a b. a < b) Decides-ltb (places_of draft.pages))
+    (Decides-and _ _ (decides-neighbours nat_lt (λ a b. a < b) Decides-ltb (slots_of draft.pages))
     (decides-neighbours nat_le (λ a b. a ≤ b) decides-le (input_counts draft.inputs)))
     (decides-neighbours nat_lt (λ a b. a < b) Decides-ltb draft.checkpoints))

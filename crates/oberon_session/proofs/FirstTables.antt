@@ -12,7 +12,7 @@ use Rattle.oberon_session.proofs.StoredPages.{numbered-none, numbered-suc}
 use Rattle.oberon_session.specs.Digits.{PlacedWords}
 use Rattle.oberon_session.specs.Laws.{FirstTableLaw}
 use Rattle.oberon_session.specs.Recorded.{numbered}
-use Rattle.oberon_session.specs.SessionParts.{places_in}
+use Rattle.oberon_session.specs.SessionParts.{slots_in}
 
 -- an earlier one of rising numbers is below a later one
 rises-to : (xs : List ℕ) → IsStrictlyIncreasing xs → (i more : ℕ) → i + suc more < length xs → slice_index xs i < slice_index xs (i + suc more)
@@ -27,35 +27,35 @@ rises-to xs rising i (suc more) inside =
 
 module _ (pages : List PlacedWords) where
   -- the slots of the first n pages have the page ids 1 to n
-  named-so : IsStrictlyIncreasing (places_in pages) → All (λ place. place < 1024) (places_in pages) → (n i : ℕ) → n ≤ length (places_in pages) → i < n
-      → slice_index (numbered pages n) (slice_index (places_in pages) i) ≡ i + 1
+  named-so : IsStrictlyIncreasing (slots_in pages) → All (λ slot. slot < 1024) (slots_in pages) → (n i : ℕ) → n ≤ length (slots_in pages) → i < n
+      → slice_index (numbered pages n) (slice_index (slots_in pages) i) ≡ i + 1
   named-so rising low zero i inside lt = absurd (omega arith)
   named-so rising low (suc n) i inside lt = elim (cases_lt i n) [
     | inl before ↦
         let gap : i + suc (n - suc i) ≡ n = omega arith in
-        let below : slice_index (places_in pages) i < slice_index (places_in pages) n =
-        subst (λ (j : ℕ). slice_index (places_in pages) i < slice_index (places_in pages) j) gap (rises-to (places_in pages) rising i (n - suc i) (omega arith)) in
-        let apart : slice_index (places_in pages) i ≢ slice_index (places_in pages) n = λ same. absurd (omega arith) in
-        ap (λ (t : List ℕ). slice_index t (slice_index (places_in pages) i)) (numbered-suc pages n)
-        ∙ get_or-set_other (numbered pages n) (slice_index (places_in pages) n) (slice_index (places_in pages) i) (suc n) 0 apart
+        let below : slice_index (slots_in pages) i < slice_index (slots_in pages) n =
+        subst (λ (j : ℕ). slice_index (slots_in pages) i < slice_index (slots_in pages) j) gap (rises-to (slots_in pages) rising i (n - suc i) (omega arith)) in
+        let apart : slice_index (slots_in pages) i ≢ slice_index (slots_in pages) n = λ same. absurd (omega arith) in
+        ap (λ (t : List ℕ). slice_index t (slice_index (slots_in pages) i)) (numbered-suc pages n)
+        ∙ get_or-set_other (numbered pages n) (slice_index (slots_in pages) n) (slice_index (slots_in pages) i) (suc n) 0 apart
         ∙ named-so rising low n i (omega arith) before
     | inr last ↦
         let same : i ≡ n = omega arith in
-        let there : slice_index (places_in pages) n < 1024 = low n 0 (omega arith) in
+        let there : slice_index (slots_in pages) n < 1024 = low n 0 (omega arith) in
         let number : suc n ≡ i + 1 = omega arith in
-        ap (λ (t : List ℕ). slice_index t (slice_index (places_in pages) i)) (numbered-suc pages n)
-        ∙ get_or-set_at (numbered pages n) (slice_index (places_in pages) n) (slice_index (places_in pages) i) (suc n) 0
-        (ap (λ (j : ℕ). slice_index (places_in pages) j) same) (omega (arith, length-numbered pages n))
+        ap (λ (t : List ℕ). slice_index t (slice_index (slots_in pages) i)) (numbered-suc pages n)
+        ∙ get_or-set_at (numbered pages n) (slice_index (slots_in pages) n) (slice_index (slots_in pages) i) (suc n) 0
+        (ap (λ (j : ℕ). slice_index (slots_in pages) j) same) (omega (arith, length-numbered pages n))
         ∙ number
   ]
 
   -- and all other slots have page id 0
-  zeros-so : (p : ℕ) → All (λ place. place ≢ p) (places_in pages) → (n : ℕ) → n ≤ length (places_in pages) → slice_index (numbered pages n) p ≡ 0
+  zeros-so : (p : ℕ) → All (λ slot. slot ≢ p) (slots_in pages) → (n : ℕ) → n ≤ length (slots_in pages) → slice_index (numbered pages n) p ≡ 0
   zeros-so p none zero inside = ap (λ (t : List ℕ). slice_index t p) (numbered-none pages) ∙ zero_number p
   zeros-so p none (suc n) inside =
-      let apart : p ≢ slice_index (places_in pages) n = λ same. none n 0 (omega arith) (sym same) in
+      let apart : p ≢ slice_index (slots_in pages) n = λ same. none n 0 (omega arith) (sym same) in
       ap (λ (t : List ℕ). slice_index t p) (numbered-suc pages n)
-      ∙ get_or-set_other (numbered pages n) (slice_index (places_in pages) n) p (suc n) 0 apart
+      ∙ get_or-set_other (numbered pages n) (slice_index (slots_in pages) n) p (suc n) 0 apart
       ∙ zeros-so p none n (omega arith)
 
 pub first-table-law : FirstTableLaw

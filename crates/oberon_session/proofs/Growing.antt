@@ -26,7 +26,7 @@ use Rattle.oberon_session.specs.declared.extend_fault.ExtendFault.TheVariants as
 use Rattle.oberon_session.specs.declared.storing.StoredPages.{StoredPages}
 use Rattle.oberon_session.specs.Stored.{Stored, new_pages}
 use Rattle.oberon_session.specs.Laws.{IsTableOf}
-use Rattle.oberon_session.specs.inner.Growing.{HasGrown, NeedsPages, checkpoint_of, last_stored, stored_on}
+use Rattle.oberon_session.specs.inner.Growing.{HasGrown, NeedsPages, claim_checkpoint, last_stored, stored_on}
 use Rattle.oberon_session.specs.inner.Progress.{stored_view}
 
 module _ (stored : Stored) (words : List ℕ) (good : IsTableOf stored) (pages : ArePages stored.pool) (whole : length words ≡ 262144) where
@@ -134,7 +134,7 @@ module _ (r : RecordingParts) (lawful : IsLawful r) (inputs all : List Event) (c
 
   grown-is : parts_of stored.pool all checkpoints ≡ grown-new
   grown-is =
-      let pushed = grown.pushed ∙ ap (λ (l : Stored). r.checkpoints ++ checkpoint_of claim l.table ∷ []) grown.stored_is in
+      let pushed = grown.pushed ∙ ap (λ (l : Stored). r.checkpoints ++ claim_checkpoint claim l.table ∷ []) grown.stored_is in
       λ i. record { pool = (grown.stored_is i).pool; inputs = joined i; checkpoints = pushed i }
 
   pub grown-extended : (made : RecordingParts) → made ≡ parts_of stored.pool all checkpoints → IsExtended r inputs claim.count (outcome_of claim) made
@@ -260,14 +260,14 @@ module _ (r : RecordingParts) (lawful : IsLawful r) (pool : List (List ℕ)) (in
   -- the recording with a claim
   pub has-grown : (claim : Claim) (stored : StoredPages) (items : List Checkpoint) (new : Checkpoint)
       → stored_view stored ≡ stored_on (record { pool = pool; table = last.table.numbers }) claim.words.now → length stored.pool ≤ MAX_PAGES → ArePages stored.pool
-      → items ≡ checkpoints ++ new ∷ [] → checkpoint_parts new ≡ checkpoint_of claim stored.table.numbers
+      → items ≡ checkpoints ++ new ∷ [] → checkpoint_parts new ≡ claim_checkpoint claim stored.table.numbers
       → IsDeviceState claim.devices → All (λ byte. byte < 2 ^ 8) claim.sent.now → HasGrown r claim (stored_view stored) (map checkpoint_parts items)
   has-grown claim stored items new stored-so few pages pushed new-so devices bytes = record {
     stored_is = stored-so ∙ ap (λ (l : Stored). stored_on l claim.words.now) last-stored-is;
     pushed =
         ap (map checkpoint_parts) pushed ∙ map-append checkpoint_parts checkpoints (new ∷ [])
         ∙ ap (λ (c : CheckpointParts). map checkpoint_parts checkpoints ++ c ∷ []) new-so
-        ∙ ap (λ (x : RecordingParts). x.checkpoints ++ checkpoint_of claim stored.table.numbers ∷ []) is;
+        ∙ ap (λ (x : RecordingParts). x.checkpoints ++ claim_checkpoint claim stored.table.numbers ∷ []) is;
     few = few;
     pages = pages;
     devices = devices;

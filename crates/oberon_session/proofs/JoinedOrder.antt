@@ -9,14 +9,14 @@ use Rattle.risc_model.specs.InputOrder.{AreOrdered, IsRightPlace, count_at, coun
 use Rattle.risc_model.specs.declared.event.Event.{Event}
 use Rattle.risc_model.specs.declared.inputs.TheConstants.{MAX_COUNT}
 
--- what holds of the count of each event holds of the count at each place
+-- what holds of the count of each event holds of the count at each index
 pub each-count : (Q : ℕ → Type 0) (es : List Event) (i : ℕ) → i < length es → All (λ (e : Event). Q e.count) es → Q (count_at es i)
 each-count Q [] i lt each = absurd (omega (arith, lt))
 each-count Q (e ∷ es) i lt each = subst Q (sym (count_at-is (e ∷ es) i e lt)) (each i e lt)
 
-right-place : (es : List Event) (place : ℕ) → count_at es place ≤ MAX_COUNT → ((p : ℕ) → p + 1 ≡ place → count_at es p ≤ count_at es place) → IsRightPlace es place
-right-place es zero bound step = (omega arith, bound)
-right-place es (suc p) bound step =
+right-index : (es : List Event) (index : ℕ) → count_at es index ≤ MAX_COUNT → ((p : ℕ) → p + 1 ≡ index → count_at es p ≤ count_at es index) → IsRightPlace es index
+right-index es zero bound step = (omega arith, bound)
+right-index es (suc p) bound step =
     let next : p + 1 ≡ suc p = omega arith in
     let before : count_before es (suc p) ≡ count_at es p = subst (λ (k : ℕ). count_before es k ≡ count_at es p) next (count_before-next es p) in
     (rw before (step p next), bound)
@@ -38,26 +38,26 @@ module _ (xs ys : List Event) where
   -- both are in order together if the first come before a count, and the others at it or later
   pub ordered-append : (m : ℕ) → AreOrdered xs → AreOrdered ys → ((i : ℕ) → i < length xs → count_at xs i < m) → ((i : ℕ) → i < length ys → m ≤ count_at ys i)
       → AreOrdered (xs ++ ys)
-  ordered-append m ordered_xs ordered_ys before after place inside =
+  ordered-append m ordered_xs ordered_ys before after index inside =
       let long = length-append xs ys in
-      elim (cases_lt place (length xs)) [
+      elim (cases_lt index (length xs)) [
         | inl less ↦
-            let at = left place less in
-            right-place (xs ++ ys) place (rw at (ordered_xs place less).1)
-            (λ p next. rw (at, left p (omega (arith, less, next))) (counts-order xs ordered_xs p place (omega (arith, next)) less))
+            let at = left index less in
+            right-index (xs ++ ys) index (rw at (ordered_xs index less).1)
+            (λ p next. rw (at, left p (omega (arith, less, next))) (counts-order xs ordered_xs p index (omega (arith, next)) less))
         | inr more ↦
-            let at = right place (omega (arith, more)) in
-            let in_ys : place - length xs < length ys = omega (arith, long, inside, more) in
-            right-place (xs ++ ys) place (rw at (ordered_ys (place - length xs) in_ys).1)
+            let at = right index (omega (arith, more)) in
+            let in_ys : index - length xs < length ys = omega (arith, long, inside, more) in
+            right-index (xs ++ ys) index (rw at (ordered_ys (index - length xs) in_ys).1)
             (λ p next.
             elim (cases_lt p (length xs)) [
               | inl less ↦
                   let low = before p less in
-                  let high = after (place - length xs) in_ys in
+                  let high = after (index - length xs) in_ys in
                   rw (at, left p less) (omega (arith, low, high))
               | inr later ↦
                   rw (at, right p (omega (arith, later)))
-                  (counts-order ys ordered_ys (p - length xs) (place - length xs) (omega (arith, next)) in_ys)
+                  (counts-order ys ordered_ys (p - length xs) (index - length xs) (omega (arith, next)) in_ys)
             ])
       ]
 
@@ -72,7 +72,7 @@ module _ (xs ys : List Event) where
       let long = length-append xs ys in
       let at = behind i inside in
       let within : length xs + i < length (xs ++ ys) = omega (arith, long, inside) in
-      right-place ys i (rw at at (ordered (length xs + i) within).1)
+      right-index ys i (rw at at (ordered (length xs + i) within).1)
       (λ p next.
       let here = behind p (omega (arith, inside, next)) in
       let rise = counts-order (xs ++ ys) ordered (length xs + p) (length xs + i) (omega (arith, next)) within in

@@ -15,9 +15,9 @@ use Rattle.oberon_session.proofs.Mapped.{unmapped}
 use Rattle.oberon_session.specs.Digits.{PlacedWords, all_placed_of, placed_of, words_of_bytes}
 use Rattle.oberon_session.specs.Parts.{placed_view, session_of_parts}
 use Rattle.oberon_session.specs.Draft.{Draft, PageText}
-use Rattle.oberon_session.specs.Ranges.{places_of}
+use Rattle.oberon_session.specs.Ranges.{slots_of}
 use Rattle.oberon_session.specs.Session.{cpu_of}
-use Rattle.oberon_session.specs.SessionParts.{IsLawful, places_in}
+use Rattle.oberon_session.specs.SessionParts.{IsLawful, slots_in}
 use Rattle.oberon_session.specs.Shape.{each}
 use Rattle.oberon_session.specs.inner.Tested.{InOrder, InRange}
 use Rattle.oberon_session.specs.declared.digits.PlacedPage.{PlacedPage}
@@ -55,8 +55,8 @@ placed-at page placed is = go (decode_of page.hex) refl is
         let bad : None ≡ Some placed = rw decoded at is in
         cc
 
-pub placed-places : (pages : List PageText) (placed : List PlacedWords) → all_placed_of pages ≡ Some placed → places_in placed ≡ places_of pages
-placed-places pages placed is = each-along placed_of (λ (page : PageText). page.at) (λ (p : PlacedWords). p.at) placed-at pages placed is
+pub placed-slots : (pages : List PageText) (placed : List PlacedWords) → all_placed_of pages ≡ Some placed → slots_in placed ≡ slots_of pages
+placed-slots pages placed is = each-along placed_of (λ (page : PageText). page.at) (λ (p : PlacedWords). p.at) placed-at pages placed is
 
 pub whole-pages : (pages : List PlacedPage) → All (λ (p : PlacedWords). IsPage p.words) (map placed_view pages)
 whole-pages pages = All-map (λ (p : PlacedWords). IsPage p.words) placed_view pages
@@ -66,11 +66,11 @@ module _ (draft : Draft) (cpu : Cpu) (rate phase : ℕ) (pages : List PlacedPage
   pub is-lawful : InRange draft → InOrder draft → AreOrdered inputs → length inputs ≡ length draft.inputs → cpu_state cpu ≡ cpu_of draft.start → rate ≡ draft.start.rate → phase ≡ draft.start.phase
       → all_placed_of draft.pages ≡ Some (map placed_view pages) → counts ≡ draft.checkpoints → IsLawful (session_of_parts cpu rate phase pages inputs counts)
   is-lawful range order ordered many cpu-is rate-is phase-is pages-are counts-are =
-      let places = placed-places draft.pages (map placed_view pages) pages-are in
-      let all-low : All (λ p. p < 1024) (places_of draft.pages) = All-map (λ p. p < 1024) (λ (page : PageText). page.at) draft.pages (λ k d lt. (range.pages.1 k d lt).0) in
-      let low : All (λ p. p < 1024) (places_in (map placed_view pages)) = rw places all-low in
+      let slots = placed-slots draft.pages (map placed_view pages) pages-are in
+      let all-low : All (λ p. p < 1024) (slots_of draft.pages) = All-map (λ p. p < 1024) (λ (page : PageText). page.at) draft.pages (λ k d lt. (range.pages.1 k d lt).0) in
+      let low : All (λ p. p < 1024) (slots_in (map placed_view pages)) = rw slots all-low in
       let as-many : length (map placed_view pages) ≡ length draft.pages =
-      sym (length-map (map placed_view pages) (λ (p : PlacedWords). p.at)) ∙ ap length places ∙ length-map draft.pages (λ (page : PageText). page.at) in
+      sym (length-map (map placed_view pages) (λ (p : PlacedWords). p.at)) ∙ ap length slots ∙ length-map draft.pages (λ (page : PageText). page.at) in
       record {
         cpu = record {
           count = cpu.count;
@@ -82,8 +82,8 @@ module _ (draft : Draft) (cpu : Cpu) (rate phase : ℕ) (pages : List PlacedPage
         timer = rw (rate-is, phase-is) range.start.4;
         running = ap (λ (s : CpuState). s.stop) cpu-is;
         few = omega (arith, range.pages.0, as-many);
-        places = unmapped (λ (p : PlacedWords). p.at) (λ p. p < 1024) (map placed_view pages) low;
-        rising = rw places order.pages;
+        slots = unmapped (λ (p : PlacedWords). p.at) (λ p. p < 1024) (map placed_view pages) low;
+        rising = rw slots order.pages;
         contents = whole-pages pages;
         events = omega (arith, range.inputs.0, many);
         ordered = ordered;

@@ -10,7 +10,7 @@ use Rattle.serde_json.specs.Data.{Data, Members, array, boolean, member, no_memb
 use Rattle.serde_json.specs.Find.{as_object, as_str, get_member}
 use Rattle.oberon_session.specs.Draft.{Draft, InputNumbers, Members as MembersOf, PageText, Start, draft_of, input_of, inputs_of, page_names, page_of, pages_of, session_names, start_names, start_of, version_of}
 use Rattle.oberon_session.specs.Shape.{◌>>=◌, are_among, each, is_among, items_of, number_of, numbers_of, text_of}
-use Rattle.oberon_session.specs.inner.Found.{draft_in, names_format, page_found, page_in, session_found, start_found, start_in, start_object, with_item, with_page_member, with_session_member, with_start_member}
+use Rattle.oberon_session.specs.inner.Found.{draft_found, names_format, page_found, page_in, session_found, start_found, start_in, start_object, with_item, with_page_member, with_session_member, with_start_member}
 
 -- what a name has after one more member
 get-put : (q k : List ℕ) (d : Data) (ms : Members) → get_member q (put k d ms) ≡ cond (bytes_eq k q) (Some d) (get_member q ms)
@@ -241,30 +241,30 @@ draft-of-parts version a b c d =
 
 module _ (ms : Members) where
   by-version : are_among session_names ms ≡ true → (format : Data) → get_member (codes "format") ms ≡ Some format → (t : List ℕ) → as_str format ≡ Some t
-      → bytes_eq t (codes "oberon-session") ≡ true → (version : Option ℕ) → get_member (codes "version") ms >>= version_of ≡ version → draft_of (object ms) ≡ draft_in (session_found ms)
+      → bytes_eq t (codes "oberon-session") ≡ true → (version : Option ℕ) → get_member (codes "version") ms >>= version_of ≡ version → draft_of (object ms) ≡ draft_found (session_found ms)
   unfolding members-of-four draft-of-four
   by-version is format f t text right None v = rw (is, f, text, right, v) refl
   by-version is format f t text right (Some version) v =
       rw (is, f, text, right, v) (draft-of-parts version (get_member (codes "start") ms) (get_member (codes "pages") ms) (get_member (codes "inputs") ms) (get_member (codes "checkpoints") ms))
 
   by-format : are_among session_names ms ≡ true → (format : Data) → get_member (codes "format") ms ≡ Some format → (t : List ℕ) → as_str format ≡ Some t
-      → (right : Bool) → bytes_eq t (codes "oberon-session") ≡ right → draft_of (object ms) ≡ draft_in (session_found ms)
+      → (right : Bool) → bytes_eq t (codes "oberon-session") ≡ right → draft_of (object ms) ≡ draft_found (session_found ms)
   by-format is format f t text false wrong = rw (is, f, text, wrong) refl
   by-format is format f t text true right = by-version is format f t text right (get_member (codes "version") ms >>= version_of) refl
 
-  by-text : are_among session_names ms ≡ true → (format : Data) → get_member (codes "format") ms ≡ Some format → (o : Option (List ℕ)) → as_str format ≡ o → draft_of (object ms) ≡ draft_in (session_found ms)
+  by-text : are_among session_names ms ≡ true → (format : Data) → get_member (codes "format") ms ≡ Some format → (o : Option (List ℕ)) → as_str format ≡ o → draft_of (object ms) ≡ draft_found (session_found ms)
   by-text is format f None text = rw (is, f, text) refl
   by-text is format f (Some t) text = by-format is format f t text (bytes_eq t (codes "oberon-session")) refl
 
-  by-member : are_among session_names ms ≡ true → (o : Option Data) → get_member (codes "format") ms ≡ o → draft_of (object ms) ≡ draft_in (session_found ms)
+  by-member : are_among session_names ms ≡ true → (o : Option Data) → get_member (codes "format") ms ≡ o → draft_of (object ms) ≡ draft_found (session_found ms)
   by-member is None f = rw (is, f) refl
   by-member is (Some format) f = by-text is format f (as_str format) refl
 
-  by-names : (only : Bool) → are_among session_names ms ≡ only → draft_of (object ms) ≡ draft_in (session_found ms)
+  by-names : (only : Bool) → are_among session_names ms ≡ only → draft_of (object ms) ≡ draft_found (session_found ms)
   by-names false is = rw is refl
   by-names true is = by-member is (get_member (codes "format") ms) refl
 
-  pub draft-of : draft_of (object ms) ≡ draft_in (session_found ms)
+  pub draft-of : draft_of (object ms) ≡ draft_found (session_found ms)
   draft-of = by-names (are_among session_names ms) refl
 
 -- ---- a list that grows

@@ -10,7 +10,7 @@ use Rattle.oberon_session.proofs.Table.{faultless}
 use Rattle.oberon_session.specs.Draft.{Draft, InputNumbers}
 use Rattle.oberon_session.specs.Laws.{IsAnswer}
 use Rattle.oberon_session.specs.Rules.{draft_in, first_fault_of}
-use Rattle.oberon_session.specs.Session.{Says, cpu_of, numbers_of_event}
+use Rattle.oberon_session.specs.Session.{Describes, cpu_of, numbers_of_event}
 use Rattle.oberon_session.specs.SessionParts.{SessionParts}
 use Rattle.oberon_session.specs.inner.Tested.{InputFits}
 use Rattle.oberon_session.specs.declared.fault.SessionFault.{SessionFault}
@@ -53,7 +53,7 @@ events-of (input ∷ inputs) fit =
 
 -- ---- the answer
 
-same-session : (draft : Draft) (a b : SessionParts) → Says draft a → Says draft b → a ≡ b
+same-session : (draft : Draft) (a b : SessionParts) → Describes draft a → Describes draft b → a ≡ b
 same-session draft a b x y =
     let cpu : a.cpu ≡ b.cpu = x.cpu ∙ sym y.cpu in
     let some : Some a.pages ≡ Some b.pages = sym x.pages ∙ y.pages in
@@ -78,13 +78,13 @@ module _ (bytes : List ℕ) where
       let same : own ≡ fault = cc in
       ap Err same
 
-  only-session : (draft : Draft) (session : SessionParts) → first_fault_of bytes ≡ None → draft_in bytes ≡ Some draft → Says draft session
+  only-session : (draft : Draft) (session : SessionParts) → first_fault_of bytes ≡ None → draft_in bytes ≡ Some draft → Describes draft session
       → (other : Result SessionParts SessionFault) → IsAnswer bytes other → other ≡ Ok session
-  only-session draft session none shape says (Ok other) h =
+  only-session draft session none shape described (Ok other) h =
       let some : Some h.1 ≡ Some draft = sym h.2 ∙ shape in
       let same : h.1 ≡ draft = cc in
-      ap Ok (same-session draft other session (subst (λ (d : Draft). Says d other) same h.3) says)
-  only-session draft session none shape says (Err fault) h =
+      ap Ok (same-session draft other session (subst (λ (d : Draft). Describes d other) same h.3) described)
+  only-session draft session none shape described (Err fault) h =
       let bad : None ≡ Some fault = sym none ∙ h in
       absurd cc
 
@@ -95,8 +95,8 @@ module _ (bytes : List ℕ) where
       let made = events-of text.draft.inputs text.range.inputs.1 in
       let start = text.draft.start in
       let session : SessionParts = record { cpu = cpu_of start; rate = start.rate; phase = start.phase; pages = text.pages; inputs = made.0; counts = text.draft.checkpoints } in
-      let says : Says text.draft session = record { cpu = refl; rate = refl; phase = refl; pages = text.placed; inputs = made.1; counts = refl } in
-      (Ok session, (none, text.draft, text.shape, says), only-session text.draft session none text.shape says)
+      let described : Describes text.draft session = record { cpu = refl; rate = refl; phase = refl; pages = text.placed; inputs = made.1; counts = refl } in
+      (Ok session, (none, text.draft, text.shape, described), only-session text.draft session none text.shape described)
 
 pub one-answer : (bytes : List ℕ) → HasAnswer bytes
 one-answer bytes = answered bytes (first_fault_of bytes) refl

@@ -27,7 +27,7 @@ falls-never es ordered = λ k lt.
 
 -- the inputs are in order if their counts never fall and none is too high
 right-at : (es : List Event) → NeverFalls (map (λ (e : Event). e.count) es) → ((k : ℕ) → k < length es → count_at es k ≤ MAX_COUNT)
-    → (place : ℕ) → place < length es → IsRightPlace es place
+    → (slot : ℕ) → slot < length es → IsRightPlace es slot
 right-at es falls bounded zero inside = (omega arith, bounded zero inside)
 right-at es falls bounded (suc k) inside =
     let more : k + 1 < length (map (λ (e : Event). e.count) es) = simp length-map (omega arith) in
@@ -48,8 +48,8 @@ module _ (es : List Event) (ns : List InputNumbers) (same : map numbers_of_event
   pub ordered-falls : AreOrdered es → NeverFalls (input_counts ns)
   ordered-falls ordered = rw (← same, counts-same es) (falls-never es ordered)
 
-  pub wrong-falls : (place : ℕ) → All InputFits ns → IsFirstWrong es place → NeverFalls (input_counts ns) → ⊥
-  wrong-falls place fit wrong falls =
+  pub wrong-falls : (slot : ℕ) → All InputFits ns → IsFirstWrong es slot → NeverFalls (input_counts ns) → ⊥
+  wrong-falls slot fit wrong falls =
       let fit' : All InputFits (map numbers_of_event es) = rw same fit in
       let falls' : NeverFalls (map (λ (e : Event). e.count) es) = rw (← counts-same es, same) falls in
-      wrong.wrong (right-at es falls' (count-fits es fit') place wrong.inside)
+      wrong.wrong (right-at es falls' (count-fits es fit') slot wrong.inside)

@@ -26,24 +26,24 @@ module _ (cpu : Cpu) (rate phase : ℕ) (pages : List PlacedPage) (inputs : List
         running = fit.0.1;
         timer = fit.1;
         few = placed.0;
-        places = placed.1;
+        slots = placed.1;
         events = fit.3;
         counts = fit.4;
       }
 
   pub range-fits : AreInRange s → PartsFit cpu rate phase pages inputs counts
   range-fits range =
-      let placed = (mapped-fit 1024 (λ (page : PlacedWords). page.at < 1024) placed_view pages).1 (range.few, range.places) in
+      let placed = (mapped-fit 1024 (λ (page : PlacedWords). page.at < 1024) placed_view pages).1 (range.few, range.slots) in
       ((range.counter, range.running), range.timer, placed, range.events, range.counts)
 
   pub in-order : RisesBy (λ (page : PlacedPage). page.at) pages × IsStrictlyIncreasing counts → AreInOrder s
   in-order rise = record {
-    places = (mapped-rises (λ (page : PlacedWords). page.at) placed_view pages).0 rise.0;
+    slots = (mapped-rises (λ (page : PlacedWords). page.at) placed_view pages).0 rise.0;
     counts = rise.1;
   }
 
   pub order-rises : AreInOrder s → RisesBy (λ (page : PlacedPage). page.at) pages × IsStrictlyIncreasing counts
-  order-rises order = ((mapped-rises (λ (page : PlacedWords). page.at) placed_view pages).1 order.places, order.counts)
+  order-rises order = ((mapped-rises (λ (page : PlacedWords). page.at) placed_view pages).1 order.slots, order.counts)
 
   pub parts-lawful : AreInRange s → AreInOrder s → AreOrdered inputs → IsLawful s
   parts-lawful range order ordered = record {
@@ -57,8 +57,8 @@ module _ (cpu : Cpu) (rate phase : ℕ) (pages : List PlacedPage) (inputs : List
     running = range.running;
     timer = range.timer;
     few = range.few;
-    places = range.places;
-    rising = order.places;
+    slots = range.slots;
+    rising = order.slots;
     contents = whole-pages pages;
     events = range.events;
     ordered = ordered;
@@ -74,13 +74,13 @@ lawful-range s lawful = record {
   running = lawful.running;
   timer = lawful.timer;
   few = lawful.few;
-  places = lawful.places;
+  slots = lawful.slots;
   events = lawful.events;
   counts = lawful.counts;
 }
 
 pub lawful-order : (s : SessionParts) → IsLawful s → AreInOrder s
-lawful-order s lawful = record { places = lawful.rising; counts = lawful.rises }
+lawful-order s lawful = record { slots = lawful.rising; counts = lawful.rises }
 
 pub breaks-unlawful : (s : SessionParts) (fault : SessionFault) → BreaksParts s fault → IsLawful s → ⊥
 breaks-unlawful s Json broken lawful = broken

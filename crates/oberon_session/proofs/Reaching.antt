@@ -19,7 +19,7 @@ use Rattle.oberon_session.proofs.Steps.{count-rises, count_of-next, stored_of-ne
 use Rattle.oberon_session.specs.Stored.{Stored, changed_pages, store, store_pages}
 use Rattle.oberon_session.specs.Recorded.{checkpoint_of, count_of, stored_of, output_between, output_up_to, record_fault_of, state_of}
 use Rattle.oberon_session.specs.SessionParts.{SessionParts, IsLawful}
-use Rattle.oberon_session.specs.inner.Progress.{IsReached, IsRecorded, checkpoints_to, page_view}
+use Rattle.oberon_session.specs.inner.Progress.{IsReached, IsRecorded, checkpoints_to, changed_page_view}
 use Rattle.oberon_session.specs.declared.running.Reached.{Reached}
 use Rattle.oberon_session.specs.declared.record_fault.RecordFault.TheVariants as fault
 
@@ -112,7 +112,7 @@ module _ {s : SessionParts} {k : ℕ} {stored : Stored} (checkpoints : List Chec
       pub refused-output : MAX_OUTPUT - sent < length (sends stored last es count) → record_fault_of s ≡ Some fault.Output
       refused-output many = too-much-output s k within so.no_fault (omega (arith, whole-output))
 
-      module _ {r : Reached} (reached : IsReached (first stored last).words (end stored last es count) (sends stored last es count) r) {stored' : Stored} (stored-so : stored' ≡ store_pages stored (map page_view r.changed.items)) where
+      module _ {r : Reached} (reached : IsReached (first stored last).words (end stored last es count) (sends stored last es count) r) {stored' : Stored} (stored-so : stored' ≡ store_pages stored (map changed_page_view r.changed.items)) where
         store-is : store (first stored last).words (end stored last es count).words stored ≡ store_pages stored (changed_pages (first stored last).words (end stored last es count).words)
         unfolding store
         store-is = refl

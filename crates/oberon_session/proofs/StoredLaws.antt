@@ -16,19 +16,19 @@ use Rattle.oberon_session.specs.Laws.{StoredLaw}
 
 module _ (words : List ℕ) where
   abbrev new-pages : List ℕ → List (List ℕ)
-  new-pages places = filter (λ page. not (is_blank page)) (map (page_at words) places)
+  new-pages slots = filter (λ page. not (is_blank page)) (map (page_at words) slots)
 
   -- the pages of these slots, stored one after another
-  pub record Steps (old new : Stored) (places : List ℕ) (n : ℕ) : Type 0 where
-    pub pool : new.pool ≡ old.pool ++ new-pages places
-    pub kept : (p : ℕ) → ¬ (Contains places p) → slice_index new.table p ≡ slice_index old.table p
-    pub zeros : (p : ℕ) → is_blank (page_at words p) ≡ true → Contains places p ⊎ (slice_index old.table p ≡ 0) → slice_index new.table p ≡ 0
-    pub fresh : (p : ℕ) → is_blank (page_at words p) ≡ false → Contains places p ⊎ (n < slice_index old.table p) → n < slice_index new.table p
+  pub record Steps (old new : Stored) (slots : List ℕ) (n : ℕ) : Type 0 where
+    pub pool : new.pool ≡ old.pool ++ new-pages slots
+    pub kept : (p : ℕ) → ¬ (Contains slots p) → slice_index new.table p ≡ slice_index old.table p
+    pub zeros : (p : ℕ) → is_blank (page_at words p) ≡ true → Contains slots p ⊎ (slice_index old.table p ≡ 0) → slice_index new.table p ≡ 0
+    pub fresh : (p : ℕ) → is_blank (page_at words p) ≡ false → Contains slots p ⊎ (n < slice_index old.table p) → n < slice_index new.table p
 
   -- in a list that begins with q, p is q or in the rest
-  first-or-rest : (q p : ℕ) (places : List ℕ) → Contains (q ∷ places) p → (q ≡ p) ⊎ Contains places p
-  first-or-rest q p places (zero, lt, is) = inl is
-  first-or-rest q p places (suc k, lt, is) = inr (k, omega arith, is)
+  first-or-rest : (q p : ℕ) (slots : List ℕ) → Contains (q ∷ slots) p → (q ≡ p) ⊎ Contains slots p
+  first-or-rest q p slots (zero, lt, is) = inl is
+  first-or-rest q p slots (suc k, lt, is) = inr (k, omega arith, is)
 
   -- one page, stored in slot q
   record One (old mid : Stored) (q n : ℕ) : Type 0 where
@@ -72,37 +72,37 @@ module _ (words : List ℕ) where
   not-there p (inl there) = absurd (omega (arith, there.1))
   not-there p (inr before) = before
 
-  steps : (places : List ℕ) → All (λ p. p < 1024) places → (old : Stored) → length old.table ≡ 1024 → (n : ℕ) → n ≤ length old.pool
-      → Steps old (store_pages old (map (with-page words) places)) places n
+  steps : (slots : List ℕ) → All (λ p. p < 1024) slots → (old : Stored) → length old.table ≡ 1024 → (n : ℕ) → n ≤ length old.pool
+      → Steps old (store_pages old (map (with-page words) slots)) slots n
   steps [] low old count n bound = record {
     pool = sym (append-nil old.pool);
     kept = λ p none. refl;
     zeros = λ p blank before. not-there p before;
     fresh = λ p other before. not-there p before;
   }
-  steps (q ∷ places) low old count n bound =
+  steps (q ∷ slots) low old count n bound =
       let first = one old count q (low 0 q (omega arith)) n bound (is_blank (page_at words q)) refl in
       let mid : Stored = store_page old (q, page_at words q) in
-      let rest = steps places (λ k d lt. low (suc k) d (omega arith)) mid first.count n first.grown in
+      let rest = steps slots (λ k d lt. low (suc k) d (omega arith)) mid first.count n first.grown in
       record {
         pool =
-            rest.pool ∙ ap (λ (pool : List (List ℕ)). pool ++ new-pages places) first.pool
-            ∙ append_assoc old.pool (new-pages (q ∷ [])) (new-pages places)
-            ∙ ap (λ (l : List (List ℕ)). old.pool ++ l) (sym (one-more (not (is_blank (page_at words q))) (page_at words q) (new-pages places)));
+            rest.pool ∙ ap (λ (pool : List (List ℕ)). pool ++ new-pages slots) first.pool
+            ∙ append_assoc old.pool (new-pages (q ∷ [])) (new-pages slots)
+            ∙ ap (λ (l : List (List ℕ)). old.pool ++ l) (sym (one-more (not (is_blank (page_at words q))) (page_at words q) (new-pages slots)));
         kept = λ p none.
             let apart : p ≢ q = λ same. none (0, omega arith, sym same) in
             rest.kept p (λ there. none (suc there.0, omega (arith, there.1), there.2)) ∙ first.other p apart;
-        zeros = λ p blank before. rest.zeros p blank (zeros-on q p places old mid first.other first.zero-there blank before);
-        fresh = λ p other before. rest.fresh p other (fresh-on q p places n old mid first.other first.new-there other before);
+        zeros = λ p blank before. rest.zeros p blank (zeros-on q p slots old mid first.other first.zero-there blank before);
+        fresh = λ p other before. rest.fresh p other (fresh-on q p slots n old mid first.other first.new-there other before);
       }
     where
-      zeros-on : (q p : ℕ) (places : List ℕ) (old mid : Stored) → ((p : ℕ) → p ≢ q → slice_index mid.table p ≡ slice_index old.table p)
+      zeros-on : (q p : ℕ) (slots : List ℕ) (old mid : Stored) → ((p : ℕ) → p ≢ q → slice_index mid.table p ≡ slice_index old.table p)
           → (is_blank (page_at words q) ≡ true → slice_index mid.table q ≡ 0) → is_blank (page_at words p) ≡ true
-          → Contains (q ∷ places) p ⊎ (slice_index old.table p ≡ 0) → Contains places p ⊎ (slice_index mid.table p ≡ 0)
-      zeros-on q p places old mid other here blank before = elim (eqb_tells p q) [
+          → Contains (q ∷ slots) p ⊎ (slice_index old.table p ≡ 0) → Contains slots p ⊎ (slice_index mid.table p ≡ 0)
+      zeros-on q p slots old mid other here blank before = elim (eqb_tells p q) [
         | inl same ↦ inr (subst (λ (x : ℕ). slice_index mid.table x ≡ 0) (sym same.1) (here (subst (λ (x : ℕ). is_blank (page_at words x) ≡ true) same.1 blank)))
         | inr apart ↦ elim before [
-          | inl there ↦ elim (first-or-rest q p places there) [
+          | inl there ↦ elim (first-or-rest q p slots there) [
             | inl same ↦ absurd (apart.1 (sym same))
             | inr later ↦ inl later
           ]
@@ -110,13 +110,13 @@ module _ (words : List ℕ) where
         ]
       ]
 
-      fresh-on : (q p : ℕ) (places : List ℕ) (n : ℕ) (old mid : Stored) → ((p : ℕ) → p ≢ q → slice_index mid.table p ≡ slice_index old.table p)
+      fresh-on : (q p : ℕ) (slots : List ℕ) (n : ℕ) (old mid : Stored) → ((p : ℕ) → p ≢ q → slice_index mid.table p ≡ slice_index old.table p)
           → (is_blank (page_at words q) ≡ false → n < slice_index mid.table q) → is_blank (page_at words p) ≡ false
-          → Contains (q ∷ places) p ⊎ (n < slice_index old.table p) → Contains places p ⊎ (n < slice_index mid.table p)
-      fresh-on q p places n old mid other here blank before = elim (eqb_tells p q) [
+          → Contains (q ∷ slots) p ⊎ (n < slice_index old.table p) → Contains slots p ⊎ (n < slice_index mid.table p)
+      fresh-on q p slots n old mid other here blank before = elim (eqb_tells p q) [
         | inl same ↦ inr (subst (λ (x : ℕ). n < slice_index mid.table x) (sym same.1) (here (subst (λ (x : ℕ). is_blank (page_at words x) ≡ false) same.1 blank)))
         | inr apart ↦ elim before [
-          | inl there ↦ elim (first-or-rest q p places there) [
+          | inl there ↦ elim (first-or-rest q p slots there) [
             | inl same ↦ absurd (apart.1 (sym same))
             | inr later ↦ inl later
           ]
@@ -127,7 +127,7 @@ module _ (words : List ℕ) where
 pub stored-law : StoredLaw
 unfolding store
 stored-law earlier words old good pages content whole =
-    let places : List ℕ = changed_below 1024 earlier words in
+    let slots : List ℕ = changed_below 1024 earlier words in
     let differences = AreDifferences-changed_below earlier words (changed_below 1024 earlier words) refl in
     let stored = steps words (changed_below 1024 earlier words) (λ k d lt. (differences.each k d lt).0) old good.count (length old.pool) (omega arith) in
     record {

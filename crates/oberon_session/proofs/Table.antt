@@ -15,19 +15,23 @@ use Rattle.oberon_session.proofs.Deciding.{decides-order, decides-range}
 use Rattle.oberon_session.specs.Digits.{PlacedWords, all_placed_of}
 use Rattle.oberon_session.specs.Draft.{Draft, draft_of}
 use Rattle.oberon_session.specs.Ranges.{in_order, in_range}
-use Rattle.oberon_session.specs.Rules.{draft_in, first_fault_of, in_digits, json_of, rules, says}
+use Rattle.oberon_session.specs.Rules.{draft_in, first_fault_of, in_digits, json_of, rules, draft_meets}
 use Rattle.oberon_session.specs.Session.{Breaks, Fits, IsSession}
 use Rattle.oberon_session.specs.SessionParts.{SessionParts}
 use Rattle.oberon_session.specs.Shape.{◌>>=◌}
-use Rattle.oberon_session.specs.inner.Tested.{BreaksDraft, BreaksIn, BreaksOf, InOrder, InRange, IsJson, IsSessionIn, IsSessionOf}
+use Rattle.oberon_session.specs.inner.Tested.{BreaksDraft, BreaksIn, BreaksOf, InOrder, InRange, IsSessionIn, IsSessionOf}
 use Rattle.oberon_session.specs.declared.fault.SessionFault.{SessionFault}
 use Rattle.oberon_session.specs.declared.fault.SessionFault.TheVariants.{Json, Shape, Range, Order, Hex, Memory}
 use Rattle.recording_limits.specs.declared.limits.TheConstants.{LONGEST_SESSION}
 
+-- `serde_json` reads the bytes as this value
+abbrev IsJson : List ℕ → Data → Type 0
+IsJson bytes json = IsUtf8 bytes × (read bytes ≡ Some json)
+
 -- the rules of bytes: whether they are few enough, their value, and its draft
 abbrev table : Bool → Option Data → Option Draft → Option SessionFault
 table fits json draft =
-    first_broken ((fits, Range) ∷ (is_some json, Json) ∷ (is_some draft, Shape) ∷ (says in_range draft, Range) ∷ (says in_order draft, Order) ∷ (says in_digits draft, Hex) ∷ [])
+    first_broken ((fits, Range) ∷ (is_some json, Json) ∷ (is_some draft, Shape) ∷ (draft_meets in_range draft, Range) ∷ (draft_meets in_order draft, Order) ∷ (draft_meets in_digits draft, Hex) ∷ [])
 
 -- the rules on the draft
 abbrev table-on : Draft → Option SessionFault
@@ -158,16 +162,16 @@ faultless bytes none =
     let hold = all-hold (rules bytes) none in
     let rule : Rule SessionFault = (true, Json) in
     let shaped : is_some (draft_in bytes) ≡ true = hold 2 rule (omega arith) in
-    let ranged : says in_range (draft_in bytes) ≡ true = hold 3 rule (omega arith) in
-    let ordered : says in_order (draft_in bytes) ≡ true = hold 4 rule (omega arith) in
-    let written : says in_digits (draft_in bytes) ≡ true = hold 5 rule (omega arith) in
+    let ranged : draft_meets in_range (draft_in bytes) ≡ true = hold 3 rule (omega arith) in
+    let ordered : draft_meets in_order (draft_in bytes) ≡ true = hold 4 rule (omega arith) in
+    let written : draft_meets in_digits (draft_in bytes) ≡ true = hold 5 rule (omega arith) in
     let found = some-of (draft_in bytes) shaped in
-    let placed = some-of (all_placed_of found.0.pages) (sym (ap (says in_digits) found.1) ∙ written) in
+    let placed = some-of (all_placed_of found.0.pages) (sym (ap (draft_meets in_digits) found.1) ∙ written) in
     record {
       draft = found.0;
       shape = found.1;
-      range = (decides-range found.0).0 (sym (ap (says in_range) found.1) ∙ ranged);
-      order = (decides-order found.0).0 (sym (ap (says in_order) found.1) ∙ ordered);
+      range = (decides-range found.0).0 (sym (ap (draft_meets in_range) found.1) ∙ ranged);
+      order = (decides-order found.0).0 (sym (ap (draft_meets in_order) found.1) ∙ ordered);
       pages = placed.0;
       placed = placed.1;
     }

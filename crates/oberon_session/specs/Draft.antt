@@ -50,7 +50,8 @@ start_names version =
     if version == 1 then codes "R" ∷ codes "H" ∷ codes "PC" ∷ codes "flags" ∷ []
     else codes "R" ∷ codes "H" ∷ codes "PC" ∷ codes "flags" ∷ codes "rate" ∷ codes "phase" ∷ []
 
--- an object of exactly these members: R, an array of sixteen numbers; the numbers H, PC and flags; in version 2 the numbers rate and phase
+-- an object of exactly these members: R, an array of sixteen numbers; the numbers H, PC and flags; in version 2 the numbers rate
+-- and phase
 abbrev pub start_of : ℕ → Data → Option Start
 start_of version json = do
   start ← only (start_names version) json

@@ -72,7 +72,8 @@ pub record HasRoom (r : RecordingParts) (inputs : List Event) (count : ℕ) (cla
   pub output_fits : FitsOutput r claim
 
 -- the recording has these inputs and one more checkpoint
-pub record IsExtended (old : RecordingParts) (inputs : List Event) (count : ℕ) (claim : Outcome) (new : RecordingParts) : Type 0 where
+pub record IsExtended (old : RecordingParts) (inputs : List Event) (count : ℕ) (claim : Outcome) (new : RecordingParts)
+    : Type 0 where
   -- the pages that changed since the last checkpoint and are not all zeros are added to the pool, in the order of their slots
   pub pool : new.pool ≡ old.pool ++ new_pages (claimed old (last_of old)).state.words claim.state.words
   pub inputs_more : new.inputs ≡ old.inputs ++ inputs

@@ -8,7 +8,7 @@ use Rattle.oberon_session.specs.Stored.{Stored, is_blank, store, new_pages}
 use Rattle.oberon_session.specs.Recorded.{numbered}
 use Rattle.oberon_session.specs.Rules.{first_fault_of}
 use Rattle.oberon_session.specs.Session.{IsSession}
-use Rattle.oberon_session.specs.SessionParts.{SessionParts, places_in}
+use Rattle.oberon_session.specs.SessionParts.{SessionParts, slots_in}
 use Rattle.oberon_session.specs.declared.fault.SessionFault.{SessionFault}
 
 -- the table names pages of the pool, one for each slot
@@ -23,9 +23,11 @@ pub record IsStoredAfter (earlier words : List ℕ) (old new : Stored) : Type 0 
   -- a slot that did not change keeps its page id
   pub kept : (p : ℕ) → p < 1024 → page_at words p ≡ page_at earlier p → slice_index new.table p ≡ slice_index old.table p
   -- one that changed to zeros has page id 0
-  pub zeros : (p : ℕ) → p < 1024 → page_at words p ≢ page_at earlier p → is_blank (page_at words p) ≡ true → slice_index new.table p ≡ 0
+  pub zeros : (p : ℕ) → p < 1024 → page_at words p ≢ page_at earlier p → is_blank (page_at words p) ≡ true
+      → slice_index new.table p ≡ 0
   -- any other that changed has the id of a new page
-  pub fresh : (p : ℕ) → p < 1024 → page_at words p ≢ page_at earlier p → is_blank (page_at words p) ≡ false → length old.pool < slice_index new.table p
+  pub fresh : (p : ℕ) → p < 1024 → page_at words p ≢ page_at earlier p → is_blank (page_at words p) ≡ false
+      → length old.pool < slice_index new.table p
   -- and the memory is the content of the new table over the new pool
   pub content : table_words new.pool new.table ≡ words
 
@@ -37,12 +39,12 @@ StoredLaw =
 
 -- in a session's first table the slot of page i has page id i + 1, and each slot without a page has page id 0
 pub record IsFirstTable (pages : List PlacedWords) (table : List ℕ) : Type 0 where
-  pub pages_named : (i : ℕ) → i < length pages → slice_index table (slice_index (places_in pages) i) ≡ i + 1
-  pub others_zero : (p : ℕ) → All (λ place. place ≢ p) (places_in pages) → slice_index table p ≡ 0
+  pub pages_named : (i : ℕ) → i < length pages → slice_index table (slice_index (slots_in pages) i) ≡ i + 1
+  pub others_zero : (p : ℕ) → All (λ slot. slot ≢ p) (slots_in pages) → slice_index table p ≡ 0
 
 abbrev pub FirstTableLaw : Type 0
 FirstTableLaw =
-    (pages : List PlacedWords) → IsStrictlyIncreasing (places_in pages) → All (λ place. place < 1024) (places_in pages)
+    (pages : List PlacedWords) → IsStrictlyIncreasing (slots_in pages) → All (λ slot. slot < 1024) (slots_in pages)
     → IsFirstTable pages (numbered pages (length pages))
 
 -- the answer to bytes, if memory suffices: their session, or the fault of the first rule that they break

@@ -9,7 +9,7 @@ use Rattle.risc_model.specs.declared.event.Event.{Event}
 use Rattle.risc_model.specs.MachineState.{cpu_state}
 use Rattle.oberon_session.specs.Digits.{PlacedWords}
 use Rattle.oberon_session.specs.Ranges.{timer_fits}
-use Rattle.oberon_session.specs.SessionParts.{CountsFit, SessionParts, places_in}
+use Rattle.oberon_session.specs.SessionParts.{CountsFit, SessionParts, slots_in}
 use Rattle.oberon_session.specs.declared.digits.PlacedPage.{PlacedPage}
 use Rattle.oberon_session.specs.declared.fault.SessionFault.{SessionFault}
 use Rattle.oberon_session.specs.declared.fault.SessionFault.TheVariants as fault
@@ -26,8 +26,10 @@ abbrev pub session_of_parts : Cpu → ℕ → ℕ → List PlacedPage → List E
 session_of_parts cpu rate phase pages inputs counts =
     record { cpu = cpu_state cpu; rate = rate; phase = phase; pages = map placed_view pages; inputs = inputs; counts = counts }
 
--- ---- the rules. They leave out what the types of the parts ensure: registers, H and the words of pages are words, and inputs are in
--- ---- their ranges and in the order of their counts
+-- ---- the rules
+
+-- The rules leave out what the types of the parts ensure: registers, H and the words of pages are words, and inputs are in their
+-- ranges and in the order of their counts.
 
 -- numbers are in their ranges, no list is too long, and the processor runs
 pub record AreInRange (s : SessionParts) : Type 0 where
@@ -35,13 +37,13 @@ pub record AreInRange (s : SessionParts) : Type 0 where
   pub running : s.cpu.stop ≡ 0
   pub timer : IsTrue (timer_fits s.rate s.phase)
   pub few : length s.pages ≤ 1024
-  pub places : All (λ page. page.at < 1024) s.pages
+  pub slots : All (λ page. page.at < 1024) s.pages
   pub events : length s.inputs ≤ MAX_EVENTS
   pub counts : CountsFit s.counts
 
 -- slots of pages and counts of checkpoints rise
 pub record AreInOrder (s : SessionParts) : Type 0 where
-  pub places : IsStrictlyIncreasing (places_in s.pages)
+  pub slots : IsStrictlyIncreasing (slots_in s.pages)
   pub counts : IsStrictlyIncreasing s.counts
 
 -- this is the fault of the first rule that the parts break: first the ranges, then the order

@@ -58,12 +58,12 @@ rises = of_neighbours nat_lt
 abbrev pub never_falls : List ℕ → Bool
 never_falls = of_neighbours nat_le
 
-abbrev pub places_of : List PageText → List ℕ
-places_of pages = map (λ page. page.at) pages
+abbrev pub slots_of : List PageText → List ℕ
+slots_of pages = map (λ page. page.at) pages
 
 abbrev pub input_counts : List InputNumbers → List ℕ
 input_counts inputs = map (λ input. input.count) inputs
 
 -- the slots of pages rise, the counts of inputs never fall, and the counts of checkpoints rise
 unfoldable pub in_order : Draft → Bool
-in_order draft = rises (places_of draft.pages) && never_falls (input_counts draft.inputs) && rises draft.checkpoints
+in_order draft = rises (slots_of draft.pages) && never_falls (input_counts draft.inputs) && rises draft.checkpoints

@@ -1,5 +1,6 @@
 -- The recording of a session, or why it has none. Limits, pages and page ids are this project's own choice.
-use Rattle.std.specs.Prelude.{ℕ, zero, suc, ◌+◌, ◌-◌, nat_lt, List, length, map, slice_index, slice_set, Option, Some, None, if◌then◌else◌}
+use Rattle.std.specs.Prelude.{ℕ, zero, suc, ◌+◌, ◌-◌, nat_lt, List, length, map, slice_index, slice_set, Option, Some, None}
+use Rattle.std.specs.Prelude.{if◌then◌else◌}
 use Rattle.std.specs.List.{range_with_len}
 use Rattle.std.specs.Option.{option_or}
 use Rattle.risc_pages.specs.Tables.{table_words, zero_numbers}
@@ -11,7 +12,7 @@ use Rattle.oberon_format.specs.CheckpointParts.{CheckpointParts}
 use Rattle.oberon_format.specs.Recording.{RecordingParts}
 use Rattle.oberon_session.specs.Digits.{PlacedWords}
 use Rattle.oberon_session.specs.Stored.{Stored, store}
-use Rattle.oberon_session.specs.SessionParts.{SessionParts, places_in}
+use Rattle.oberon_session.specs.SessionParts.{SessionParts, slots_in}
 use Rattle.oberon_session.specs.declared.record_fault.RecordFault.{RecordFault}
 use Rattle.oberon_session.specs.declared.record_fault.RecordFault.TheVariants as fault
 
@@ -20,7 +21,7 @@ use Rattle.oberon_session.specs.declared.record_fault.RecordFault.TheVariants as
 -- the table with page ids 1 to n in the slots of the first n pages, and 0 in all others
 unfoldable pub numbered : List PlacedWords → ℕ → List ℕ
 numbered pages zero = zero_numbers
-numbered pages (suc n) = slice_set (numbered pages n) (slice_index (places_in pages) n) (suc n)
+numbered pages (suc n) = slice_set (numbered pages n) (slice_index (slots_in pages) n) (suc n)
 
 -- a session's pages in their order, and the table that has page id i + 1 in the slot of page i
 unfoldable pub first_stored : List PlacedWords → Stored
@@ -32,8 +33,11 @@ first_devices rate phase = record zero_devices { rate = rate; phase = phase }
 
 -- the initial state of the session
 unfoldable pub first_state : SessionParts → State
-first_state s =
-    record { cpu = s.cpu; devices = first_devices s.rate s.phase; words = table_words (first_stored s.pages).pool (first_stored s.pages).table }
+first_state s = record {
+  cpu = s.cpu;
+  devices = first_devices s.rate s.phase;
+  words = table_words (first_stored s.pages).pool (first_stored s.pages).table;
+}
 
 -- ---- the one run from the initial state
 

@@ -22,9 +22,9 @@ abbrev pub draft_in : List ℕ → Option Draft
 draft_in bytes = json_of bytes >>= draft_of
 
 -- a rule on the draft. It holds if there is no draft, since then an earlier rule is broken
-abbrev pub says : (Draft → Bool) → Option Draft → Bool
-says test None = true
-says test (Some draft) = test draft
+abbrev pub draft_meets : (Draft → Bool) → Option Draft → Bool
+draft_meets test None = true
+draft_meets test (Some draft) = test draft
 
 -- the digits of all pages are pairs of hexadecimal digits
 abbrev pub in_digits : Draft → Bool
@@ -36,9 +36,9 @@ rules bytes =
     (nat_le (length bytes) LONGEST_SESSION, fault.Range)
     ∷ (is_some (json_of bytes), fault.Json)
     ∷ (is_some (draft_in bytes), fault.Shape)
-    ∷ (says in_range (draft_in bytes), fault.Range)
-    ∷ (says in_order (draft_in bytes), fault.Order)
-    ∷ (says in_digits (draft_in bytes), fault.Hex)
+    ∷ (draft_meets in_range (draft_in bytes), fault.Range)
+    ∷ (draft_meets in_order (draft_in bytes), fault.Order)
+    ∷ (draft_meets in_digits (draft_in bytes), fault.Hex)
     ∷ []
 
 -- the fault of the first rule that the bytes break

@@ -12,7 +12,7 @@ use Rattle.oberon_session.specs.declared.fault.SessionFault.{SessionFault}
 use Rattle.oberon_session.specs.declared.fault.SessionFault.TheVariants as fault
 use Rattle.recording_limits.specs.declared.limits.TheConstants.{LONGEST_SESSION}
 
--- ---- what a draft says
+-- ---- the session of a draft
 
 -- the processor of the initial state, which runs
 abbrev pub cpu_of : Start → CpuState
@@ -22,8 +22,8 @@ cpu_of start = record { r = start.registers; h = start.h; pc = start.pc; flags =
 abbrev pub numbers_of_event : Event → InputNumbers
 numbers_of_event e = record { count = e.count; kind = kind_of e.input; value = value_of e.input }
 
--- the draft says this session
-pub record Says (draft : Draft) (session : SessionParts) : Type 0 where
+-- the draft describes this session
+pub record Describes (draft : Draft) (session : SessionParts) : Type 0 where
   pub cpu : session.cpu ≡ cpu_of draft.start
   pub rate : session.rate ≡ draft.start.rate
   pub phase : session.phase ≡ draft.start.phase
@@ -39,10 +39,11 @@ Fits bytes = length bytes ≤ LONGEST_SESSION
 
 -- the bytes break no rule, and encode this session
 abbrev pub IsSession : List ℕ → SessionParts → Type 0
-IsSession bytes session = (first_fault_of bytes ≡ None) × (draft : Draft) × (draft_in bytes ≡ Some draft) × Says draft session
+IsSession bytes session =
+    (first_fault_of bytes ≡ None) × (draft : Draft) × (draft_in bytes ≡ Some draft) × Describes draft session
 
--- this is the fault of the first rule that the bytes break. Running out of memory is not a fault of a file, and happens only if there
--- are not too many bytes
+-- this is the fault of the first rule that the bytes break. Running out of memory is not a fault of a file, and happens only if
+-- there are not too many bytes
 abbrev pub Breaks : List ℕ → SessionFault → Type 0
 Breaks bytes fault.Memory = Fits bytes
 Breaks bytes own = first_fault_of bytes ≡ Some own

@@ -11,8 +11,8 @@ use Rattle.oberon_session.specs.Digits.{PlacedWords}
 use Rattle.oberon_session.specs.Ranges.{timer_fits}
 use Rattle.recording_limits.specs.declared.limits.TheConstants.{LAST_CHECKPOINT, MAX_EVENTS}
 
--- the processor of the initial state, its timer's rate and phase, the pages of its memory, whose other slots are zeros, the inputs with
--- their counts, and the counts of checkpoints 1 to K. Everything else in the devices of the initial state is zero
+-- the processor of the initial state, its timer's rate and phase, the pages of its memory, whose other slots are zeros, the inputs
+-- with their counts, and the counts of checkpoints 1 to K. Everything else in the devices of the initial state is zero
 pub record SessionParts : Type 0 where
   pub cpu : CpuState
   pub rate : ℕ
@@ -22,8 +22,8 @@ pub record SessionParts : Type 0 where
   pub counts : List ℕ
 
 -- the slots of the pages
-abbrev pub places_in : List PlacedWords → List ℕ
-places_in pages = map (λ page. page.at) pages
+abbrev pub slots_in : List PlacedWords → List ℕ
+slots_in pages = map (λ page. page.at) pages
 
 -- a count that a recording may have after checkpoint 0
 abbrev pub CountFits : ℕ → Type 0
@@ -40,8 +40,8 @@ pub record IsLawful (s : SessionParts) : Type 0 where
   pub running : s.cpu.stop ≡ 0
   pub timer : IsTrue (timer_fits s.rate s.phase)
   pub few : length s.pages ≤ 1024
-  pub places : All (λ page. page.at < 1024) s.pages
-  pub rising : IsStrictlyIncreasing (places_in s.pages)
+  pub slots : All (λ page. page.at < 1024) s.pages
+  pub rising : IsStrictlyIncreasing (slots_in s.pages)
   pub contents : All (λ page. IsPage page.words) s.pages
   pub events : length s.inputs ≤ MAX_EVENTS
   pub ordered : AreOrdered s.inputs

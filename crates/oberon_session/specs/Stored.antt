@@ -15,10 +15,10 @@ is_blank words = list_all (λ word. word == 0) words
 
 -- a page is stored in a slot: if it is all zeros the slot gets page id 0, otherwise that of a new page at the end of the pool
 unfoldable pub store_page : Stored → ℕ × List ℕ → Stored
-store_page stored (place, words) =
+store_page stored (slot, words) =
     if is_blank words
-    then record stored { table = slice_set stored.table place 0 }
-    else record { pool = stored.pool ++ words ∷ []; table = slice_set stored.table place (length stored.pool + 1) }
+    then record stored { table = slice_set stored.table slot 0 }
+    else record { pool = stored.pool ++ words ∷ []; table = slice_set stored.table slot (length stored.pool + 1) }
 
 -- pages are stored one after another
 abbrev pub store_pages : Stored → List (ℕ × List ℕ) → Stored
@@ -26,7 +26,7 @@ store_pages stored pages = fold store_page stored pages
 
 -- the pages in which a memory differs from an earlier one, each with its slot, in the order of the slots
 abbrev pub changed_pages : List ℕ → List ℕ → List (ℕ × List ℕ)
-changed_pages earlier words = map (λ place. (place, page_at words place)) (changed_below 1024 earlier words)
+changed_pages earlier words = map (λ slot. (slot, page_at words slot)) (changed_below 1024 earlier words)
 
 -- the pages that changed and are not all zeros, in the order of their slots
 abbrev pub new_pages : List ℕ → List ℕ → List (List ℕ)

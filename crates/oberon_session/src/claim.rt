@@ -3,14 +3,12 @@
 use risc_devices::Devices;
 use risc_model::Cpu;
 
-/// The state of a machine at a count, the words of its memory, and the bytes that it sent since the previous checkpoint.
+/// A claim: the state of a machine at a count, the words of its memory, and the bytes that it sent since the previous checkpoint.
 #[derive(Drop)]
 pub struct Claim<'a> {
     /// The number of instructions done before it.
     pub count: u64,
-    /// The processor.
     pub cpu: Cpu,
-    /// The devices.
     pub devices: Devices,
     /// The 262,144 words of the memory.
     pub words: &'a [u32],

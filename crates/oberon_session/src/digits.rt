@@ -9,11 +9,8 @@ ghost use Rattle.oberon_session.specs.Digits.{all_placed_of, placed_of, word_of_
 use crate::SessionFault;
 use crate::draft::PageDraft;
 use hex::FromHexError;
-use risc_pages::Page;
+use risc_pages::{PAGE_WORDS, Page};
 use std::alloc::Global;
-
-/// The number of page slots of a memory.
-pub const PLACES: u16 = 1_024;
 
 /// A page of a session, and its page slot `at`, from 0 to 1,023.
 #[derive(Clone, Copy)]
@@ -37,7 +34,6 @@ pub fn placed_pages(
     Ok(pages)
 }
 
-/// Decodes one page.
 fn placed_page(alloc: Global, draft: &PageDraft<'_>) -> Result<PlacedPage, SessionFault>
     requires { PageFits (page_view draft.now) }
     ensures { GivesOr SessionFault.Hex placed_view (placed_of (page_view draft.now)) result }
@@ -67,7 +63,7 @@ fn page_of(bytes: &[u8]) -> Page
     ensures { result.words ≡ words_of_bytes bytes.now }
 {
     let mut words = [0; 256];
-    for i in 0..256 {
+    for i in 0..PAGE_WORDS as usize {
         words[i] = word(bytes, i);
     }
     Page { words }
@@ -84,9 +80,9 @@ fn word(bytes: &[u8], i: usize) -> u32
 }
 
 /// Returns a byte of the page. A byte after the last digit is 0.
-fn byte(bytes: &[u8], place: usize) -> u32
-    ensures value { result ≡ slice_index bytes.now place }
+fn byte(bytes: &[u8], index: usize) -> u32
+    ensures value { result ≡ slice_index bytes.now index }
     ensures range { result < 2 ^ 8 }
 {
-    bytes.get(place).copied().map_or(0, u32::from)
+    bytes.get(index).copied().map_or(0, u32::from)
 }

@@ -11,8 +11,8 @@ pub enum ExtendFault {
     /// The recording has an input at or after its last checkpoint. A run from there would take that input, too.
     #[error("the recording has inputs at or after its last checkpoint")]
     Pending,
-    /// The count is not above that of the last checkpoint, or is above 2^40; an input is not between the two; or the counts of inputs
-    /// fall.
+    /// The count is not above that of the last checkpoint, or is above 2^40; an input is not between the two; or the counts of
+    /// inputs fall.
     #[error("the checkpoint or an input does not come next")]
     Order,
     /// More than 1,000,000 inputs.

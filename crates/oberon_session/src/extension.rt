@@ -11,7 +11,7 @@ ghost use Rattle.risc_pages.specs.Tables.{IsNamed};
 ghost use Rattle.oberon_format.specs.CheckpointParts.{checkpoint_parts};
 ghost use Rattle.oberon_format.specs.Recording.{IsLawful};
 ghost use Rattle.oberon_session.specs.Extended.{HasRoom, IsBegun, IsExtendFault, IsExtended, outcome_of};
-ghost use Rattle.oberon_session.specs.inner.Growing.{HasGrown, NeedsPages, checkpoint_of, stored_on, last_stored};
+ghost use Rattle.oberon_session.specs.inner.Growing.{HasGrown, NeedsPages, claim_checkpoint, stored_on, last_stored};
 ghost use Rattle.oberon_session.specs.inner.Progress.{stored_view};
 
 use crate::claim::Claim;
@@ -134,7 +134,8 @@ fn next_stored(
     requires whole { length words.now ≡ 262144 }
     requires named { IsNamed pool table.now.numbers }
     requires room { length pool ≤ MAX_PAGES }
-    ensures stored { IfOk result (λ stored. stored_view stored ≡ stored_on (record { pool = pool; table = table.now.numbers }) words.now) }
+    ensures stored { IfOk result (λ stored. stored_view stored
+        ≡ stored_on (record { pool = pool; table = table.now.numbers }) words.now) }
     ensures few { IfOk result (λ stored. length stored.pool ≤ MAX_PAGES) }
     ensures pages { IfOk result (λ stored. ArePages stored.pool) }
     ensures refused { IfErr result (NeedsPages (record { pool = pool; table = table.now.numbers }) words.now) }
@@ -152,7 +153,7 @@ fn next_stored(
 
 /// Returns the checkpoint that makes a claim, with this table.
 fn checkpoint_of(alloc: Global, claim: &Claim<'_>, table: &Table) -> Result<Checkpoint, AllocError>
-    ensures checkpoint { IfOk result (λ c. checkpoint_parts c ≡ checkpoint_of claim.now table.now.numbers) }
+    ensures checkpoint { IfOk result (λ c. checkpoint_parts c ≡ claim_checkpoint claim.now table.now.numbers) }
     ensures devices { IsDeviceState claim.now.devices }
     ensures bytes { All (λ byte. byte < 2 ^ 8) claim.now.sent.now }
 {

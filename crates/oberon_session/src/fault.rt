@@ -11,11 +11,11 @@ use thiserror::Error;
 /// The numbers, the names and the rules are this project's own choice.
 #[derive(Clone, Copy, Debug, PartialEq, Eq, Error)]
 pub enum SessionFault {
-    /// 1, `json`: the bytes are no JSON, as `serde_json` defines it.
-    #[error("the text is no JSON")]
+    /// 1, `json`: the bytes are not JSON, as `serde_json` defines it.
+    #[error("the bytes are not JSON")]
     Json,
     /// 2, `shape`: a member, a type, the number of registers, or one of the fixed strings and numbers is wrong.
-    #[error("the text has not the shape of a session")]
+    #[error("the JSON does not have the shape of a session")]
     Shape,
     /// 3, `range`: a number is out of its range, something is too long, or there are too many of something.
     #[error("a number of the session is out of its range")]
@@ -46,7 +46,6 @@ impl SessionFault {
         }
     }
 
-    /// Returns the fault's name.
     pub fn name(self) -> &'static str
         ensures { result.now ≡ session_fault_name self }
     {

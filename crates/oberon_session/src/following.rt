@@ -49,7 +49,6 @@ fn limit_fault(recording: &Recording, inputs: &[Event], claim: &Claim<'_>) -> Op
     None
 }
 
-/// Returns the count of a recording's last checkpoint.
 fn last_count(recording: &Recording) -> u64
     ensures count { result ≡ last_count recording.now }
     ensures lawful { IsLawful recording.now }
@@ -108,7 +107,6 @@ fn are_ordered(inputs: &[Event]) -> bool
     true
 }
 
-/// Returns the number of bytes that a recording sends.
 fn output_len(recording: &Recording) -> usize
     ensures len { result ≡ length (output_of recording.now.checkpoints) }
     ensures bound { result ≤ MAX_OUTPUT }

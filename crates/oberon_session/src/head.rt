@@ -15,7 +15,7 @@ pub enum Head<'a> {
     Object(usize),
     Array(usize),
     Text(&'a str),
-    /// A number: none if it is no whole number below 2^64.
+    /// A number: none if it is not a whole number below 2^64.
     Number(Option<u64>),
     /// `true`, `false` or `null`.
     Other,
@@ -48,8 +48,8 @@ pub fn take_head<'a>(reader: &mut Reader<'a>, depth: usize) -> Result<Head<'a>, 
     }
 }
 
-/// Returns the number that a numeral of JSON is, or none if it is not a whole number below 2^64. Refuses exactly if it is too large for
-/// a float.
+/// Returns the number that a numeral of JSON is, or none if it is not a whole number below 2^64. Refuses exactly if it is too large
+/// for a float.
 fn whole_number(digits: &str) -> Option<Option<u64>>
     ensures { result ≡ option_map as_u64 (number_of digits.now) }
 {

@@ -12,9 +12,9 @@ pub fn first_table_law()
     ensures { FirstTableLaw }
 {}
 
-/// When a memory is stored, the pages that changed and are not all zeros are added to the pool, in the order of their slots. A slot that
-/// did not change keeps its page id, one that changed to zeros gets page id 0, and any other that changed gets the id of a new page. The
-/// memory is then the content of its table.
+/// When a memory is stored, the pages that changed and are not all zeros are added to the pool, in the order of their slots. A slot
+/// that did not change keeps its page id, one that changed to zeros gets page id 0, and any other that changed gets the id of a new
+/// page. The memory is then the content of its table.
 pub fn laid_law()
     ensures { StoredLaw }
 {}

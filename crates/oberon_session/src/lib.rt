@@ -1,9 +1,9 @@
 //! Sessions of the RISC5 workstation: an initial state, inputs with their counts, and the counts at which to place checkpoints.
 //!
-//! A session is JSON in this project's own format. This crate reads sessions, or reports the first rule that the JSON breaks. It makes
-//! the recording of a session, or reports which limit the recording would exceed. `json` reads the tokens of the JSON, whose value
-//! `serde_json` defines, and `hex` the digits of pages. A session can also be made from its parts. A recording can also be made while a
-//! machine runs: it begins with any state, and is extended checkpoint by checkpoint.
+//! A session is JSON in this project's own format. This crate reads sessions, or reports the first rule that the JSON breaks. It
+//! makes the recording of a session, or reports which limit the recording would exceed. `json` reads the tokens of the JSON, whose
+//! value `serde_json` defines, and `hex` the digits of pages. A session can also be made from its parts. A recording can also be
+//! made while a machine runs: it begins with any state, and is extended checkpoint by checkpoint.
 #![tactic(auto)]
 
 mod claim;

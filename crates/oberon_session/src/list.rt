@@ -1,4 +1,5 @@
-//! Lists that JSON arrays are read into. A list is dropped at the first item of a wrong shape, and the items after it are passed over.
+//! Lists that JSON arrays are read into. A list is dropped at the first item of a wrong shape, and the items after it are passed
+//! over.
 
 ghost use Rattle.std.specs.Prelude.{◌≡◌, IfErr, IfOk, option_map};
 ghost use Rattle.oberon_session.specs.Shape.{each, list_of, number_of, numbers_of};

@@ -8,13 +8,13 @@ ghost use Rattle.oberon_session.specs.SessionParts.{IsLawful};
 ghost use Rattle.oberon_session.specs.inner.Tested.{PartsFit, PlacedFit, RisesBy};
 
 use crate::SessionFault;
-use crate::digits::{PLACES, PlacedPage};
+use crate::digits::PlacedPage;
 use crate::range::{counts_fit, rises, timer_fits};
 use oberon_format::MAX_EVENTS;
 use risc_core::COUNTER_END;
 use risc_model::{Cpu, Inputs};
+use risc_pages::PAGE_SLOTS;
 
-/// Returns the first rule that parts break.
 pub fn parts_fault(
     cpu: &Cpu,
     rate: u32,
@@ -59,7 +59,7 @@ fn are_in_range(
 fn are_in_order(pages: &[PlacedPage], counts: &[u64]) -> bool
     ensures { IsTrue result ↔ (RisesBy (λ page. page.at) pages.now × IsStrictlyIncreasing counts.now) }
 {
-    places_rise(pages) && rises(counts)
+    slots_rise(pages) && rises(counts)
 }
 
 /// Reports whether a processor runs, and its program counter is in its range.
@@ -73,11 +73,10 @@ fn runs(cpu: &Cpu) -> bool
 fn pages_fit(pages: &[PlacedPage]) -> bool
     ensures { IsTrue result ↔ PlacedFit pages.now }
 {
-    pages.len() <= PLACES as usize && pages.iter().all(|page| page.at < PLACES)
+    pages.len() <= PAGE_SLOTS as usize && pages.iter().all(|page| page.at < PAGE_SLOTS)
 }
 
-/// Reports whether the slots of pages rise.
-fn places_rise(pages: &[PlacedPage]) -> bool
+fn slots_rise(pages: &[PlacedPage]) -> bool
     ensures { IsTrue result ↔ RisesBy (λ page. page.at) pages.now }
 {
     pages.windows(2).all(|pair| pair[0].at < pair[1].at)

@@ -8,14 +8,14 @@ ghost use Rattle.oberon_session.specs.inner.Tested.{DraftPagesFit, NumbersFit, N
 ghost use Rattle.oberon_session.specs.Ranges.{timer_fits};
 ghost use Rattle.oberon_session.specs.SessionParts.{CountsFit};
 
-use crate::digits::PLACES;
 use crate::draft::{Draft, PageDraft, StartDraft};
 use oberon_format::{LAST_CHECKPOINT, MAX_COUNT};
 use risc_core::COUNTER_END;
 use risc_devices::is_phase_at;
+use risc_pages::{PAGE_SLOTS, PAGE_WORDS};
 
-/// The most digits of a page: two for each of its bytes.
-const MOST_DIGITS: usize = 2_048;
+/// The most digits of a page: two for each of its bytes, of which a word has four.
+const MOST_DIGITS: usize = 8 * PAGE_WORDS as usize;
 
 /// Reports whether the numbers of the initial state, of pages and of checkpoints are in their ranges.
 pub fn is_in_range(draft: &Draft<'_>) -> bool
@@ -28,7 +28,7 @@ pub fn is_in_range(draft: &Draft<'_>) -> bool
 pub fn is_rising(draft: &Draft<'_>) -> bool
     ensures { IsTrue result ↔ NumbersRise draft.now }
 {
-    places_rise(&draft.pages) && rises(&draft.checkpoints)
+    slots_rise(&draft.pages) && rises(&draft.checkpoints)
 }
 
 /// Reports whether registers, H, program counter, flags, and the timer's rate and phase are in their ranges.
@@ -42,14 +42,12 @@ fn start_fits(start: &StartDraft) -> bool
         && timer_fits(start.rate, start.phase)
 }
 
-/// Reports whether a timer can have this rate and this phase.
 pub fn timer_fits(rate: u64, phase: u64) -> bool
     ensures { result ≡ timer_fits rate phase }
 {
     rate < 1 << 32 && phase < 1 << 32 && is_phase_at(rate as u32, phase as u32)
 }
 
-/// Reports whether each register is a word of 32 bits.
 fn registers_fit(registers: &[u64]) -> bool
     ensures { IsTrue result ↔ All (λ register. register < 2 ^ 32) registers.now }
 {
@@ -60,8 +58,8 @@ fn registers_fit(registers: &[u64]) -> bool
 fn pages_fit(pages: &[PageDraft<'_>]) -> bool
     ensures { IsTrue result ↔ DraftPagesFit pages.now }
 {
-    pages.len() <= PLACES as usize
-        && pages.iter().all(|page| page.at < PLACES as u64 && page.hex.len() <= MOST_DIGITS)
+    pages.len() <= PAGE_SLOTS as usize
+        && pages.iter().all(|page| page.at < PAGE_SLOTS as u64 && page.hex.len() <= MOST_DIGITS)
 }
 
 /// Reports whether there are at most 4,096 checkpoints, each at a count from 1 to 2^40.
@@ -74,14 +72,12 @@ pub fn counts_fit(counts: &[u64]) -> bool
             .all(|count| 1 <= *count && *count <= MAX_COUNT)
 }
 
-/// Reports whether the slots of pages rise.
-fn places_rise(pages: &[PageDraft<'_>]) -> bool
+fn slots_rise(pages: &[PageDraft<'_>]) -> bool
     ensures { IsTrue result ↔ RisesBy (λ page. page.at) pages.now }
 {
     pages.windows(2).all(|pair| pair[0].at < pair[1].at)
 }
 
-/// Reports whether numbers rise.
 pub fn rises(numbers: &[u64]) -> bool
     ensures { IsTrue result ↔ IsStrictlyIncreasing numbers.now }
 {

@@ -3,7 +3,7 @@
 ghost use Rattle.std.specs.Prelude.{◌≡◌, ◌↔◌, ◌<◌, ◌^◌, IfOk, IfErr, IsTrue, length, slice_index};
 ghost use Rattle.risc_model.specs.MachineState.{cpu_state};
 ghost use Rattle.oberon_session.specs.inner.Drafts.{draft_view, start_view};
-ghost use Rattle.oberon_session.specs.Session.{Breaks, IsSession, Says, cpu_of};
+ghost use Rattle.oberon_session.specs.Session.{Breaks, IsSession, Describes, cpu_of};
 ghost use Rattle.oberon_session.specs.inner.Tested.{BreaksDraft, BreaksOf, InOrder, InRange, IsSessionOf, IsTested, StartFits};
 
 use crate::SessionFault;
@@ -20,10 +20,10 @@ use std::alloc::Global;
 
 /// Returns the session that the bytes encode, or the first rule that they break.
 ///
-/// The rules, in the order in which they are tested: there are at most `LONGEST_SESSION` bytes (`Range`), they are JSON (`Json`), the
-/// JSON has the shape of a session (`Shape`), and its numbers are in their ranges (`Range`); slots of pages and counts of checkpoints
-/// rise, and counts of inputs don't fall (`Order`); and pages are pairs of hexadecimal digits (`Hex`). If memory runs out, the answer
-/// is `Memory` instead, unless there are too many bytes.
+/// The rules, in the order in which they are tested: there are at most `LONGEST_SESSION` bytes (`Range`), they are JSON (`Json`),
+/// the JSON has the shape of a session (`Shape`), and its numbers are in their ranges (`Range`); slots of pages and counts of
+/// checkpoints rise, and counts of inputs don't fall (`Order`); and pages are pairs of hexadecimal digits (`Hex`). If memory runs
+/// out, the answer is `Memory` instead, unless there are too many bytes.
 ///
 /// No tree of JSON values is built. Beside the bytes it takes a buffer as long as they are, and the numbers of the session.
 pub fn read_session(alloc: Global, bytes: &[u8]) -> Result<Session, SessionFault>
@@ -53,7 +53,7 @@ fn session_in(alloc: Global, text: &str) -> Result<Session, SessionFault>
 fn session_of(alloc: Global, draft: Draft<'_>) -> Result<Session, SessionFault>
     ensures range { IfOk result (λ _. InRange (draft_view draft.entry)) }
     ensures order { IfOk result (λ _. InOrder (draft_view draft.entry)) }
-    ensures says { IfOk result (Says (draft_view draft.entry)) }
+    ensures described { IfOk result (Describes (draft_view draft.entry)) }
     ensures err { IfErr result (BreaksDraft (draft_view draft.entry)) }
 {
     let inputs = test_draft(alloc, &draft)?;
@@ -83,7 +83,6 @@ fn test_draft(alloc: Global, draft: &Draft<'_>) -> Result<Inputs, SessionFault>
     Ok(inputs)
 }
 
-/// Returns the processor of the initial state.
 fn cpu_of(start: &StartDraft) -> Cpu
     requires { StartFits (start_view start.now) }
     ensures { cpu_state result ≡ cpu_of (start_view start.now) }

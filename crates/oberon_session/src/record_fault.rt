@@ -34,7 +34,6 @@ impl RecordFault {
         }
     }
 
-    /// Returns the fault's name.
     pub fn name(self) -> &'static str
         ensures { result.now ≡ record_fault_name self }
     {

@@ -130,7 +130,6 @@ fn finish(alloc: Global, inputs: &Inputs, recorder: Recorder) -> Result<Recordin
     Ok(recording_of(recorder.stored.pool, inputs, recorder.checkpoints))
 }
 
-/// Returns the recording of lawful parts.
 pub fn recording_of(pool: Pool, inputs: Inputs, checkpoints: Vec<Checkpoint>) -> Recording
     requires { IsLawful (parts_of pool inputs checkpoints.items) }
     ensures parts { result ≡ parts_of pool inputs checkpoints.items }
@@ -142,7 +141,6 @@ pub fn recording_of(pool: Pool, inputs: Inputs, checkpoints: Vec<Checkpoint>) ->
     }
 }
 
-/// Returns a copy of inputs.
 fn copy_inputs(alloc: Global, inputs: &Inputs) -> Result<Inputs, RecordFault>
     ensures same { IfOk result (λ copy. copy ≡ inputs.now) }
     ensures memory { IfErr result (λ fault. fault ≡ RecordFault.Memory) }

@@ -90,8 +90,8 @@ fn run_in_pieces(
     Ok(sent)
 }
 
-/// Returns the count at which the piece of a run that begins at a count ends. For a stopped machine that is `to`, since no step is left
-/// to do.
+/// Returns the count at which the piece of a run that begins at a count ends. For a stopped machine that is `to`, since no step is
+/// left to do.
 fn piece_end(machine: &Machine<'_>, at: u64, to: u64) -> u64
     requires { at < to }
     ensures further { at < result }

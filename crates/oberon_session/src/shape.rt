@@ -6,7 +6,7 @@ ghost use Rattle.serde_json.specs.Data.{no_members};
 ghost use Rattle.serde_json.specs.Read.{read};
 ghost use Rattle.oberon_session.specs.Draft.{draft_of, version_of};
 ghost use Rattle.oberon_session.specs.inner.Drafts.{draft_view};
-ghost use Rattle.oberon_session.specs.inner.Found.{draft_in, is_format, session_found, with_session_member};
+ghost use Rattle.oberon_session.specs.inner.Found.{draft_found, is_format, session_found, with_session_member};
 ghost use Rattle.oberon_session.specs.inner.FoundViews.{session_found_view};
 ghost use Rattle.oberon_session.specs.inner.Taken.{GivesDraft, Takes, all_members, one_value};
 
@@ -156,7 +156,7 @@ impl<'a> SessionMembers<'a> {
 
     /// Returns the draft that they say.
     fn draft(self) -> Option<Draft<'a>>
-        ensures { option_map draft_view result ≡ draft_in (session_found_view self.entry) }
+        ensures { option_map draft_view result ≡ draft_found (session_found_view self.entry) }
     {
         if !self.only || !self.named {
             return None;

@@ -15,8 +15,8 @@ use crate::value::{finish, next_key, number, pass};
 use json::Reader;
 use std::alloc::Global;
 
-/// What the members of an initial state say that have been read, and whether no other member was among them than those of version 1, and
-/// than those of version 2.
+/// What the members of an initial state say that have been read, and whether no other member was among them than those of version
+/// 1, and than those of version 2.
 #[derive(Drop)]
 pub struct StartMembers {
     pub registers: Option<Vec<u64>>,
@@ -35,7 +35,8 @@ pub fn start(
     reader: &mut Reader<'_>,
     depth: usize,
 ) -> Result<Option<StartMembers>, SessionFault>
-    ensures { Takes (one_value depth reader.old) reader.new (λ json found. option_map start_found_view found ≡ start_object json) result }
+    ensures { Takes (one_value depth reader.old) reader.new
+        (λ json found. option_map start_found_view found ≡ start_object json) result }
 {
     match take_head(reader, depth)? {
         Head::Object(inside) => {

@@ -6,15 +6,12 @@ ghost use Rattle.oberon_session.specs.Parts.{placed_view};
 ghost use Rattle.risc_pages.specs.Tables.{IsNamed, table_words};
 ghost use Rattle.oberon_session.specs.Stored.{changed_pages, is_blank, store, store_page, store_pages};
 ghost use Rattle.oberon_session.specs.Recorded.{first_stored};
-ghost use Rattle.oberon_session.specs.inner.Progress.{stored_view, page_view};
+ghost use Rattle.oberon_session.specs.inner.Progress.{stored_view, changed_page_view};
 
 use crate::digits::PlacedPage;
 use oberon_format::MAX_PAGES;
-use risc_pages::{Memory, Page, Pool, Table};
+use risc_pages::{MEMORY_WORDS, Memory, Page, Pool, Table};
 use std::alloc::{AllocError, Global};
-
-/// The number of words of a memory.
-const WORDS: u32 = 262_144;
 
 /// The pages that were stored so far, and the table of the memory that was stored last.
 #[derive(Drop)]
@@ -26,7 +23,7 @@ pub struct StoredPages {
 /// Stores the pages of a session's initial memory in their order, each named in its slot.
 pub fn store_first(alloc: Global, pages: &[PlacedPage]) -> Result<StoredPages, AllocError>
     requires few { length pages.now ≤ 1024 }
-    requires places { All (λ page. page.at < 1024) pages.now }
+    requires slots { All (λ page. page.at < 1024) pages.now }
     ensures { IfOk result (λ stored. stored_view stored ≡ first_stored (map placed_view pages.now)) }
 {
     let mut pool = Pool::new(alloc);
@@ -42,34 +39,34 @@ pub fn store_first(alloc: Global, pages: &[PlacedPage]) -> Result<StoredPages, A
 pub fn store_pages(stored: &mut StoredPages, changed: &[(u16, Page)]) -> Result<(), AllocError>
     requires few { length changed.now ≤ 1024 }
     requires room { length stored.old.pool ≤ MAX_PAGES }
-    requires places { All (λ (c : ℕ × Page). c.0 < 1024) changed.now }
-    ensures stored { OnOk result (stored_view stored.new ≡ store_pages (stored_view stored.old) (map page_view changed.now)) }
+    requires slots { All (λ (c : ℕ × Page). c.0 < 1024) changed.now }
+    ensures stored { OnOk result (stored_view stored.new
+        ≡ store_pages (stored_view stored.old) (map changed_page_view changed.now)) }
     ensures grown { OnOk result (length stored.new.pool ≤ length stored.old.pool + length changed.now) }
 {
-    for (place, page) in changed {
-        store_page(stored, *place, page)?;
+    for (slot, page) in changed {
+        store_page(stored, *slot, page)?;
     }
     Ok(())
 }
 
 /// Stores a page in a slot: a page of zeros has the page id 0, and any other is added at the end of the pool.
 #[tactic(auto, unfolding(crate::specs::Stored::store_page))]
-fn store_page(stored: &mut StoredPages, place: u16, page: &Page) -> Result<(), AllocError>
-    requires place { place < 1024 }
+fn store_page(stored: &mut StoredPages, slot: u16, page: &Page) -> Result<(), AllocError>
+    requires slot { slot < 1024 }
     requires room { length stored.old.pool < 2 ^ 31 }
-    ensures stored { OnOk result (stored_view stored.new ≡ store_page (stored_view stored.old) (place, page.now.words)) }
+    ensures stored { OnOk result (stored_view stored.new ≡ store_page (stored_view stored.old) (slot, page.now.words)) }
     ensures grown { OnOk result (length stored.new.pool ≤ length stored.old.pool + 1) }
 {
     if is_blank(page) {
-        stored.table.set(place, 0);
+        stored.table.set(slot, 0);
         return Ok(());
     }
     stored.pool.push(*page)?;
-    stored.table.set(place, stored.pool.len());
+    stored.table.set(slot, stored.pool.len());
     Ok(())
 }
 
-/// Reports whether a page is all zeros.
 #[tactic(auto, unfolding(crate::specs::Stored::is_blank))]
 fn is_blank(page: &Page) -> bool
     ensures { result ≡ is_blank page.now.words }
@@ -83,7 +80,8 @@ pub fn store_words(alloc: Global, stored: &mut StoredPages, words: &[u32]) -> Re
     requires whole { length words.now ≡ 262144 }
     requires named { IsNamed stored.old.pool stored.old.table.numbers }
     requires room { length stored.old.pool ≤ MAX_PAGES }
-    ensures stored { OnOk result (stored_view stored.new ≡ store (table_words stored.old.pool stored.old.table.numbers) words.now (stored_view stored.old)) }
+    ensures stored { OnOk result (stored_view stored.new
+        ≡ store (table_words stored.old.pool stored.old.table.numbers) words.now (stored_view stored.old)) }
     ensures grown { OnOk result (length stored.new.pool ≤ length stored.old.pool + 1024) }
 {
     let changed = changed_pages(alloc, &stored.pool, &stored.table, words)?;
@@ -99,7 +97,8 @@ fn changed_pages(
 ) -> Result<Vec<(u16, Page)>, AllocError>
     requires whole { length words.now ≡ 262144 }
     requires named { IsNamed pool.now table.now.numbers }
-    ensures { IfOk result (λ changed. map page_view changed.items ≡ changed_pages (table_words pool.now table.now.numbers) words.now) }
+    ensures { IfOk result (λ changed. map changed_page_view changed.items
+        ≡ changed_pages (table_words pool.now table.now.numbers) words.now) }
 {
     let mut memory = Memory::from_table(alloc, pool, table)?;
     write_words(&mut memory, words)?;
@@ -115,7 +114,7 @@ fn write_words(memory: &mut Memory<'_>, words: &[u32]) -> Result<(), AllocError>
 {
     // The contract of `read` states that a memory has all its words.
     let _first = memory.read(0);
-    for word_no in 0..WORDS {
+    for word_no in 0..MEMORY_WORDS {
         write_word(memory, word_no, words[word_no as usize])?;
     }
     Ok(())

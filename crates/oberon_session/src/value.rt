@@ -1,5 +1,5 @@
-//! Readers of JSON values that don't build them. Each takes one value from the tokens of a text, whatever its kind is, and refuses exactly
-//! if there is no such value. So a session of a wrong shape costs no more memory than one of the right shape.
+//! Readers of JSON values that don't build them. Each takes one value from the tokens of a text, whatever its kind is, and refuses
+//! exactly if there is no such value. So a session of a wrong shape costs no more memory than one of the right shape.
 
 ghost use Rattle.std.specs.Prelude.{◌≡◌, IfErr, IfOk, List, None, Some, ℕ, ⊤, option_map};
 ghost use Rattle.json.specs.Json.{read_key};
@@ -83,7 +83,8 @@ pub fn number(reader: &mut Reader<'_>, depth: usize) -> Result<Option<u64>, Sess
 
 /// Takes a value, and returns it if it is a string.
 pub fn text<'a>(reader: &mut Reader<'a>, depth: usize) -> Result<Option<&'a str>, SessionFault>
-    ensures { Takes (one_value depth reader.old) reader.new (λ json found. option_map (λ text. text.now) found ≡ text_of json) result }
+    ensures { Takes (one_value depth reader.old) reader.new
+        (λ json found. option_map (λ text. text.now) found ≡ text_of json) result }
 {
     match take_head(reader, depth)? {
         Head::Text(text) => Ok(Some(text)),

@@ -1,10 +1,12 @@
 -- What the readers of JSON have found of an object, and how contracts see it.
-use Rattle.std.specs.Prelude.{◌==◌, ◌&&◌, ℕ, List, [], ◌∷◌, ◌++◌, length, Bool, false, Option, Some, None, if◌then◌else◌, codes, option_map}
+use Rattle.std.specs.Prelude.{◌==◌, ◌&&◌, ℕ, List, [], ◌∷◌, ◌++◌, length, Bool, false, Option, Some, None, if◌then◌else◌, codes}
+use Rattle.std.specs.Prelude.{option_map}
 use Rattle.std.specs.Option.{is_some}
 use Rattle.std.specs.Str.{bytes_eq}
 use Rattle.serde_json.specs.Data.{Data, Members}
 use Rattle.serde_json.specs.Find.{as_object, get_member}
-use Rattle.oberon_session.specs.Draft.{Draft, InputNumbers, PageText, Start, inputs_of, kind_of, page_names, pages_of, session_names, start_names, version_of}
+use Rattle.oberon_session.specs.Draft.{Draft, InputNumbers, PageText, Start, inputs_of, kind_of, page_names, pages_of}
+use Rattle.oberon_session.specs.Draft.{session_names, start_names, version_of}
 use Rattle.oberon_session.specs.Shape.{◌>>=◌, are_among, number_of, numbers_of, only_if, text_of}
 
 -- a list with one more item, if both are there
@@ -143,8 +145,8 @@ with_session_member name json found =
     else if bytes_eq name (codes "checkpoints") then record found { checkpoints = numbers_of json }
     else record found { only = false }
 
-abbrev pub draft_in : SessionFound → Option Draft
-draft_in found = do
+abbrev pub draft_found : SessionFound → Option Draft
+draft_found found = do
   all ← only_if (found.only && found.named) found
   version ← all.version
   members ← all.start

@@ -13,8 +13,8 @@ use Rattle.oberon_session.specs.declared.claim.Claim.{Claim}
 use Rattle.oberon_session.specs.declared.extend_fault.ExtendFault.{ExtendFault}
 
 -- the checkpoint that makes a claim, with this table
-abbrev pub checkpoint_of : Claim → List ℕ → CheckpointParts
-checkpoint_of c table = record { count = c.count; cpu = cpu_state c.cpu; devices = c.devices; sent = c.sent.now; table = table }
+abbrev pub claim_checkpoint : Claim → List ℕ → CheckpointParts
+claim_checkpoint c table = record { count = c.count; cpu = cpu_state c.cpu; devices = c.devices; sent = c.sent.now; table = table }
 
 -- words are stored after the memory of a table
 abbrev pub stored_on : Stored → List ℕ → Stored
@@ -27,7 +27,7 @@ last_stored r = record { pool = r.pool; table = (checkpoint_at r (last_of r)).ta
 -- the memory of a claim is stored, and its checkpoint is added to those of the recording
 pub record HasGrown (r : RecordingParts) (claim : Claim) (stored : Stored) (checkpoints : List CheckpointParts) : Type 0 where
   pub stored_is : stored ≡ stored_on (last_stored r) claim.words.now
-  pub pushed : checkpoints ≡ r.checkpoints ++ checkpoint_of claim stored.table ∷ []
+  pub pushed : checkpoints ≡ r.checkpoints ++ claim_checkpoint claim stored.table ∷ []
   pub few : length stored.pool ≤ MAX_PAGES
   pub pages : ArePages stored.pool
   pub devices : IsDeviceState claim.devices
@@ -35,4 +35,5 @@ pub record HasGrown (r : RecordingParts) (claim : Claim) (stored : Stored) (chec
 
 -- unless memory ran out, words need more pages than a recording may have
 abbrev pub NeedsPages : Stored → List ℕ → ExtendFault → Type 0
-NeedsPages stored words fault = fault ≢ ExtendFault.Memory → (fault ≡ ExtendFault.Pages) × (MAX_PAGES < length (stored_on stored words).pool)
+NeedsPages stored words fault =
+    fault ≢ ExtendFault.Memory → (fault ≡ ExtendFault.Pages) × (MAX_PAGES < length (stored_on stored words).pool)

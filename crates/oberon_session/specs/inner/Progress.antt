@@ -22,15 +22,15 @@ abbrev pub stored_view : StoredPages → Stored
 stored_view l = record { pool = l.pool; table = l.table.numbers }
 
 -- a changed page and its slot
-abbrev pub page_view : ℕ × Page → ℕ × List ℕ
-page_view c = (c.0, c.1.words)
+abbrev pub changed_page_view : ℕ × Page → ℕ × List ℕ
+changed_page_view c = (c.0, c.1.words)
 
 -- a machine that began with these words ended in this state and sent these bytes, and these are its changes
 pub record IsReached (begun : List ℕ) (state : State) (sent : List ℕ) (r : Reached) : Type 0 where
   pub cpu : cpu_state r.cpu ≡ state.cpu
   pub devices : r.devices ≡ state.devices
   pub output : r.sent.items ≡ sent
-  pub changed : map page_view r.changed.items ≡ changed_pages begun state.words
+  pub changed : map changed_page_view r.changed.items ≡ changed_pages begun state.words
   pub range : IsCpuState state.cpu
   pub whole : length state.words ≡ 262144
 
@@ -61,14 +61,18 @@ abbrev pub SendsTooMuch : ℕ → List ℕ → RecordFault → Type 0
 SendsTooMuch room sent fault = fault ≢ RecordFault.Memory → (fault ≡ RecordFault.Output) × (room < length sent)
 
 -- the state that checkpoint c claims, over a pool
-abbrev pub claimed : List (List ℕ) → CheckpointParts → State
-claimed pool c = (claim_of pool c).state
+abbrev pub claimed_state : List (List ℕ) → CheckpointParts → State
+claimed_state pool c = (claim_of pool c).state
 
 -- the bytes sent from checkpoint c up to a count
 abbrev pub sent_on : List (List ℕ) → List Event → CheckpointParts → ℕ → List ℕ
-sent_on pool events c to = sent_of events c.count (to - c.count) (claimed pool c)
+sent_on pool events c to = sent_of events c.count (to - c.count) (claimed_state pool c)
 
 -- where a machine ended that ran from checkpoint c up to a count
 abbrev pub HasReached : List (List ℕ) → List Event → CheckpointParts → ℕ → Reached → Type 0
 HasReached pool events c to reached =
-    IsReached (claimed pool c).words (run_of events c.count (to - c.count) (claimed pool c)) (sent_on pool events c to) reached
+    IsReached
+    (claimed_state pool c).words
+    (run_of events c.count (to - c.count) (claimed_state pool c))
+    (sent_on pool events c to)
+    reached

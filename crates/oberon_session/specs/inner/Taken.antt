@@ -31,7 +31,8 @@ Refuses taken fault = fault ≢ Memory → (fault ≡ Json) × (taken ≡ None)
 
 -- the result is of what was taken, and these tokens are left; or nothing can be taken
 abbrev pub Takes : {A T : Type 0} → Option (A × List Token) → List Token → (A → T → Type 0) → Result T SessionFault → Type 0
-Takes {A} taken left IsOf result = MatchResult result (λ found. (json : A) × (taken ≡ Some (json, left)) × IsOf json found) (Refuses taken)
+Takes {A} taken left IsOf result =
+    MatchResult result (λ found. (json : A) × (taken ≡ Some (json, left)) × IsOf json found) (Refuses taken)
 
 -- the value begins with this head
 abbrev pub HasHead : Data → Head → Type 0
@@ -59,4 +60,6 @@ LacksDraft text Memory = ⊤
 -- the draft of a text; or why it has none, unless memory ran out
 abbrev pub GivesDraft : List ℕ → Result DraftValue SessionFault → Type 0
 GivesDraft text result =
-    MatchResult result (λ draft. (json : Data) × (read text ≡ Some json) × (draft_of json ≡ Some (draft_view draft))) (LacksDraft text)
+    MatchResult result
+    (λ draft. (json : Data) × (read text ≡ Some json) × (draft_of json ≡ Some (draft_view draft)))
+    (LacksDraft text)

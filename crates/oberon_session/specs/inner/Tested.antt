@@ -1,5 +1,6 @@
 -- The tests of a draft as propositions. `proofs/Deciding.antt` proves that the tests of `specs/Ranges.antt` decide them.
-use Rattle.std.specs.Prelude.{◌≡◌, ◌≢◌, ◌+◌, ◌<◌, ◌≤◌, ◌^◌, ℕ, List, Option, MatchOption, length, map, slice_index, slice_index_or, Some, None, IsTrue, IsUtf8, ⊤}
+use Rattle.std.specs.Prelude.{◌≡◌, ◌≢◌, ◌+◌, ◌<◌, ◌≤◌, ◌^◌, ℕ, List, Option, MatchOption, length, map, slice_index, slice_index_or}
+use Rattle.std.specs.Prelude.{Some, None, IsTrue, ⊤}
 use Rattle.std.specs.List.{All}
 use Rattle.std.specs.List.Sorted.{IsStrictlyIncreasing}
 use Rattle.serde_json.specs.Data.{Data}
@@ -13,8 +14,8 @@ use Rattle.risc_model.specs.declared.inputs.TheConstants.{MAX_COUNT}
 use Rattle.oberon_session.specs.Digits.{all_placed_of}
 use Rattle.oberon_session.specs.Draft.{Draft, InputNumbers, PageText, Start, draft_of}
 use Rattle.oberon_session.specs.inner.Drafts.{page_view, start_view}
-use Rattle.oberon_session.specs.Ranges.{input_counts, places_of, timer_fits}
-use Rattle.oberon_session.specs.Session.{Says, numbers_of_event}
+use Rattle.oberon_session.specs.Ranges.{input_counts, slots_of, timer_fits}
+use Rattle.oberon_session.specs.Session.{Describes, numbers_of_event}
 use Rattle.oberon_session.specs.SessionParts.{CountsFit, SessionParts}
 use Rattle.oberon_session.specs.declared.digits.PlacedPage.{PlacedPage}
 use Rattle.oberon_session.specs.declared.draft.Draft.{Draft as DraftValue}
@@ -53,7 +54,7 @@ abbrev pub NeverFalls : List ℕ → Type 0
 NeverFalls xs = (k : ℕ) → k + 1 < length xs → slice_index xs k ≤ slice_index xs (k + 1)
 
 pub record InOrder (draft : Draft) : Type 0 where
-  pub pages : IsStrictlyIncreasing (places_of draft.pages)
+  pub pages : IsStrictlyIncreasing (slots_of draft.pages)
   pub inputs : NeverFalls (input_counts draft.inputs)
   pub checkpoints : IsStrictlyIncreasing draft.checkpoints
 
@@ -116,13 +117,9 @@ pub record IsTested (draft : Draft) (inputs : List Event) : Type 0 where
 
 -- ---- a JSON value
 
--- `serde_json` reads the bytes as this value
-abbrev pub IsJson : List ℕ → Data → Type 0
-IsJson bytes json = IsUtf8 bytes × (read bytes ≡ Some json)
-
 -- the value breaks no rule, and encodes this session
 abbrev pub IsSessionIn : Data → SessionParts → Type 0
-IsSessionIn json session = (draft : Draft) × (draft_of json ≡ Some draft) × InRange draft × InOrder draft × Says draft session
+IsSessionIn json session = (draft : Draft) × (draft_of json ≡ Some draft) × InRange draft × InOrder draft × Describes draft session
 
 -- this is the first rule that the value breaks
 abbrev pub BreaksIn : Data → SessionFault → Type 0

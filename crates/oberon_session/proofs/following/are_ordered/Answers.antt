@@ -7,11 +7,11 @@ use Rattle.oberon_session.proofs.following.are_ordered.Goals as goal
 pub loop-event-preserved : goal.loop-event-preserved
 loop-event-preserved c =
     let es = c.args.inputs.now in
-    let place = c.loop-event.event-index in
-    let here : count_at es place ≡ c.event-item.result.count =
-    count_at-is es place c.event-item.result c.loop-event-test.true ∙ sym (ap (λ (e : Event). e.count) c.event-item.is) in
-    let right : IsRightPlace es place = (omega arith, omega arith) in
+    let slot = c.loop-event.event-index in
+    let here : count_at es slot ≡ c.event-item.result.count =
+    count_at-is es slot c.event-item.result c.loop-event-test.true ∙ sym (ap (λ (e : Event). e.count) c.event-item.is) in
+    let right : IsRightPlace es slot = (omega arith, omega arith) in
     record {
-      right = below_more (λ k. IsRightPlace es k) place c.loop-event.invariant.right right;
-      least = sym here ∙ sym (count_before-next es place);
+      right = below_more (λ k. IsRightPlace es k) slot c.loop-event.invariant.right right;
+      least = sym here ∙ sym (count_before-next es slot);
     }

@@ -11,9 +11,9 @@ use Rattle.oberon_session.specs.Recorded.{first_devices, first_stored}
 use Rattle.oberon_session.specs.inner.Progress.{stored_view}
 use Rattle.oberon_session.proofs.recorder.begin.Goals as goal
 
-pub store_first-requires-clause-places : goal.store_first-requires-clause-places
-store_first-requires-clause-places c =
-    unmapped placed_view (λ (page : PlacedWords). page.at < 1024) c.pages.result.now (rw c.pages.ensures.pages c.pages.ensures.lawful.places)
+pub store_first-requires-clause-slots : goal.store_first-requires-clause-slots
+store_first-requires-clause-slots c =
+    unmapped placed_view (λ (page : PlacedWords). page.at < 1024) c.pages.result.now (rw c.pages.ensures.pages c.pages.ensures.lawful.slots)
 
 pub first_devices-requires : goal.first_devices-requires
 first_devices-requires c =

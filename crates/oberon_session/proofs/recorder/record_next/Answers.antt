@@ -45,8 +45,8 @@ pub store_pages-requires-clause-few : goal.store_pages-requires-clause-few
 store_pages-requires-clause-few c =
     rw c.deref.ensures.value (few-changes _ _ c.in_ok-reached.reached.changed.items c.in_ok-reached.ensures.reached.changed)
 
-pub store_pages-requires-clause-places : goal.store_pages-requires-clause-places
-store_pages-requires-clause-places c =
+pub store_pages-requires-clause-slots : goal.store_pages-requires-clause-slots
+store_pages-requires-clause-slots c =
     rw c.deref.ensures.value (low-changes _ _ c.in_ok-reached.reached.changed.items c.in_ok-reached.ensures.reached.changed)
 
 pub returns-then-len-gt-MAX_PAGES-clause-refused : goal.returns-then-len-gt-MAX_PAGES-clause-refused

@@ -1,6 +1,6 @@
 use Rattle.std.proofs.Common.{◌∙◌, ap, sym}
 use Rattle.std.proofs.lemmas.Result.{err_from_is_err_and}
-use Rattle.oberon_session.specs.inner.Found.{draft_in}
+use Rattle.oberon_session.specs.inner.Found.{draft_found}
 use Rattle.oberon_session.specs.declared.head.Head.TheVariants as head
 use Rattle.oberon_session.specs.inner.Taken.{IsAfterHead}
 use Rattle.oberon_session.proofs.Members.{no-draft, draft-of}
@@ -19,7 +19,7 @@ pub returns-in_ok-take_all-in-Object : goal.returns-in_ok-take_all-in-Object
 returns-in_ok-take_all-in-Object c =
     let at : IsAfterHead c.args.depth c.args.reader.now c.take_head.new.reader (head.Object c.in-Object.inside) = rw c.in-Object.is at c.in_ok-head.ensures.ok in
     let all = c.in_ok-take_all-in-Object.ensures in
-    (_, object-read _ _ _ _ _ _ at.0 at.1 all.1, c.draft.ensures ∙ ap draft_in all.2 ∙ sym (draft-of all.0))
+    (_, object-read _ _ _ _ _ _ at.0 at.1 all.1, c.draft.ensures ∙ ap draft_found all.2 ∙ sym (draft-of all.0))
 
 pub returns-in_ok-finish-in_default : goal.returns-in_ok-finish-in_default
 returns-in_ok-finish-in_default c =

@@ -6,7 +6,7 @@ use Rattle.oberon_session.proofs.StoredPages.{numbered-more, numbered-none}
 use Rattle.oberon_session.proofs.Mapped.{at-mapped}
 use Rattle.oberon_session.specs.Parts.{placed_view}
 use Rattle.oberon_session.specs.Recorded.{first_stored}
-use Rattle.oberon_session.specs.SessionParts.{places_in}
+use Rattle.oberon_session.specs.SessionParts.{slots_in}
 use Rattle.oberon_session.specs.declared.digits.PlacedPage.{PlacedPage}
 use Rattle.oberon_session.proofs.storing.store_first.Goals as goal
 
@@ -22,7 +22,7 @@ loop-page-preserved c =
     let pages = c.args.pages.now in
     let i : ℕ = c.loop-page.page-index in
     let lt : i < length pages = c.loop-page-test.true in
-    let at : slice_index (places_in (map placed_view pages)) i ≡ c.page-item.result.at =
+    let at : slice_index (slots_in (map placed_view pages)) i ≡ c.page-item.result.at =
     at-mapped (λ (page : _). page.at) placed_view pages i c.page-item.result lt ∙ sym (ap (λ (page : PlacedPage). page.at) c.page-item.is) in
     let pushed = ap length c.in_ok-push.ensures.ok ∙ length_push c.loop-page.pool c.page-item.result.page.words in
     let many : c.len.result ≡ i + 1 = omega (arith, c.len.ensures.count, pushed, c.loop-page.invariant.count) in

@@ -6,8 +6,8 @@ use Rattle.oberon_session.proofs.storing.store_words.Goals as goal
 pub store_pages-requires-clause-few : goal.store_pages-requires-clause-few
 store_pages-requires-clause-few c = rw c.deref.ensures.value (few-changes _ _ c.in_ok-changed.changed.items c.in_ok-changed.ensures)
 
-pub store_pages-requires-clause-places : goal.store_pages-requires-clause-places
-store_pages-requires-clause-places c = rw c.deref.ensures.value (low-changes _ _ c.in_ok-changed.changed.items c.in_ok-changed.ensures)
+pub store_pages-requires-clause-slots : goal.store_pages-requires-clause-slots
+store_pages-requires-clause-slots c = rw c.deref.ensures.value (low-changes _ _ c.in_ok-changed.changed.items c.in_ok-changed.ensures)
 
 weaker : {T E P Q : Type 0} (r : Result T E) → (P → Q) → OnOk r P → OnOk r Q
 weaker (Ok x) on p = on p
