@@ -102,7 +102,7 @@ module _ (r : RecordingParts) where
       let four = only_four there.0 after.0 there.1 there.2 in
       let below : after.0 < 4 = after.2 in
       absurd (omega arith)
-  not_at_its_first (inr run) = not_eight 4 run (omega arith)
+  not_at_its_first (inr series) = not_eight 4 series (omega arith)
 
   -- the last job has two segments
   last_job : IsJob 10 4 [] 2 (found 8 None ∷ found 9 None ∷ [])

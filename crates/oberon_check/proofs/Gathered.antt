@@ -15,10 +15,10 @@ use Rattle.oberon_format.specs.Recording.{RecordingParts, last_of}
 use Rattle.oberon_check.specs.declared.part.Part.{Part}
 use Rattle.oberon_check.specs.declared.collector.CollectFault.{CollectFault}
 use Rattle.oberon_check.specs.declared.collector.CollectFault.TheVariants.{Double, Missing}
-use Rattle.oberon_check.specs.Segment.{Finding, IsRun}
+use Rattle.oberon_check.specs.Segment.{Finding, IsSeries}
 use Rattle.oberon_check.specs.Collecting.{segment_at, part_at, OccursBelow, IsCollectFault}
 use Rattle.oberon_check.specs.Work.{IsJob, IsAfterShown, InPieces, one_failed, failed_of, HasDone}
-use Rattle.oberon_check.proofs.Runs.{failed_append}
+use Rattle.oberon_check.proofs.Series.{failed_append}
 
 abbrev pub segments : List Finding → List ℕ
 segments vs = map (λ (v : Finding). v.segment) vs
@@ -41,56 +41,56 @@ one_small : (b : Bool) → cond b 1 0 ≤ 1
 one_small true = omega arith
 one_small false = omega arith
 
--- after a verdict, a segment does not occur if no run from the next segment on has it: what follows is such a run, or nothing
-none_after : (first end s : ℕ) (vs : List Finding) (o : Option Part) → (IsRun first end vs → times s (segments vs) ≡ 0) → MatchOption o (IsRun first end vs) (λ _. vs ≡ []) → times s (segments vs) ≡ 0
-none_after first end s vs None next run = next run
+-- after a verdict, a segment does not occur if no series from the next segment on has it: what follows is such a series, or nothing
+none_after : (first end s : ℕ) (vs : List Finding) (o : Option Part) → (IsSeries first end vs → times s (segments vs) ≡ 0) → MatchOption o (IsSeries first end vs) (λ _. vs ≡ []) → times s (segments vs) ≡ 0
+none_after first end s vs None next series = next series
 none_after first end s vs (Some p) next is = ap (λ (l : List Finding). times s (segments l)) is
 
--- a segment before the first of a run, or after its end, does not occur in it
-run_before : (first end s : ℕ) (vs : List Finding) → IsRun first end vs → s < first → times s (segments vs) ≡ 0
-run_before first end s [] h below = refl
-run_before first end s (v ∷ vs) h below =
+-- a segment before the first of a series, or after its end, does not occur in it
+series_before : (first end s : ℕ) (vs : List Finding) → IsSeries first end vs → s < first → times s (segments vs) ≡ 0
+series_before first end s [] h below = refl
+series_before first end s (v ∷ vs) h below =
     let here = one_other v.segment s (λ e. (let f = h.1 in absurd (omega arith))) in
     let counted = times_cons s v.segment (segments vs) in
-    let rest = none_after (first + 1) end s vs v.part (λ run. run_before (first + 1) end s vs run (omega arith)) h.2 in omega arith
+    let rest = none_after (first + 1) end s vs v.part (λ series. series_before (first + 1) end s vs series (omega arith)) h.2 in omega arith
 
-run_past : (first end s : ℕ) (vs : List Finding) → IsRun first end vs → end ≤ s → times s (segments vs) ≡ 0
-run_past first end s [] h past = refl
-run_past first end s (v ∷ vs) h past =
+series_past : (first end s : ℕ) (vs : List Finding) → IsSeries first end vs → end ≤ s → times s (segments vs) ≡ 0
+series_past first end s [] h past = refl
+series_past first end s (v ∷ vs) h past =
     let below = h.0 in
     let here = one_other v.segment s (λ e. (let f = h.1 in absurd (omega arith))) in
     let counted = times_cons s v.segment (segments vs) in
-    let rest = none_after (first + 1) end s vs v.part (λ run. run_past (first + 1) end s vs run past) h.2 in omega arith
+    let rest = none_after (first + 1) end s vs v.part (λ series. series_past (first + 1) end s vs series past) h.2 in omega arith
 
-run_once : (first end s : ℕ) (vs : List Finding) → IsRun first end vs → times s (segments vs) ≤ 1
-run_once first end s [] h = omega arith
-run_once first end s (v ∷ vs) h = tail v.part (λ run. run_once (first + 1) end s vs run) h.2
+series_once : (first end s : ℕ) (vs : List Finding) → IsSeries first end vs → times s (segments vs) ≤ 1
+series_once first end s [] h = omega arith
+series_once first end s (v ∷ vs) h = tail v.part (λ series. series_once (first + 1) end s vs series) h.2
   where
-    tail : (o : Option Part) → (IsRun (first + 1) end vs → times s (segments vs) ≤ 1) → MatchOption o (IsRun (first + 1) end vs) (λ _. vs ≡ []) → times s (segments (v ∷ vs)) ≤ 1
-    tail None next run =
+    tail : (o : Option Part) → (IsSeries (first + 1) end vs → times s (segments vs) ≤ 1) → MatchOption o (IsSeries (first + 1) end vs) (λ _. vs ≡ []) → times s (segments (v ∷ vs)) ≤ 1
+    tail None next series =
         dite (ℕ_discrete v.segment s)
-        (λ (same : v.segment ≡ s). (let f = h.1 in let counted = times_cons s v.segment (segments vs) in let rest = run_before (first + 1) end s vs run (omega arith) in let one = one_small (nat_eq v.segment s) in omega arith))
-        (λ other. (let here = one_other v.segment s other in let counted = times_cons s v.segment (segments vs) in let rest = next run in omega arith))
+        (λ (same : v.segment ≡ s). (let f = h.1 in let counted = times_cons s v.segment (segments vs) in let rest = series_before (first + 1) end s vs series (omega arith) in let one = one_small (nat_eq v.segment s) in omega arith))
+        (λ other. (let here = one_other v.segment s other in let counted = times_cons s v.segment (segments vs) in let rest = next series in omega arith))
     tail (Some p) next is = let counted = times_cons s v.segment (segments vs) in let rest : times s (segments vs) ≡ 0 = ap (λ (l : List Finding). times s (segments l)) is in let one = one_small (nat_eq v.segment s) in omega arith
 
--- a segment of a run has a verdict, or one before it failed
-run_has : (first end s : ℕ) (vs : List Finding) → IsRun first end vs → first ≤ s → s < end → Contains (segments vs) s ⊎ ((f : ℕ) × Contains (failed_of vs) f × (f < s))
-run_has first end s [] h from below = absurd (omega arith)
-run_has first end s (v ∷ vs) h from below =
+-- a segment of a series has a verdict, or one before it failed
+series_has : (first end s : ℕ) (vs : List Finding) → IsSeries first end vs → first ≤ s → s < end → Contains (segments vs) s ⊎ ((f : ℕ) × Contains (failed_of vs) f × (f < s))
+series_has first end s [] h from below = absurd (omega arith)
+series_has first end s (v ∷ vs) h from below =
     dite (ℕ_discrete v.segment s)
     (λ (same : v.segment ≡ s). inl (0, omega arith, same))
     (λ (other : v.segment ≢ s).
     (let P : ℕ → Type 0 = λ n. n ≢ s in
     let ne : first ≢ s = subst P h.1 other in
-    later v.part refl h.2 (omega arith) (λ run. run_has (first + 1) end s vs run (omega arith) below)))
+    later v.part refl h.2 (omega arith) (λ series. series_has (first + 1) end s vs series (omega arith) below)))
   where
-    later : (o : Option Part) → v.part ≡ o → MatchOption o (IsRun (first + 1) end vs) (λ _. vs ≡ []) → first < s → (IsRun (first + 1) end vs → Contains (segments vs) s ⊎ ((f : ℕ) × Contains (failed_of vs) f × (f < s)))
+    later : (o : Option Part) → v.part ≡ o → MatchOption o (IsSeries (first + 1) end vs) (λ _. vs ≡ []) → first < s → (IsSeries (first + 1) end vs → Contains (segments vs) s ⊎ ((f : ℕ) × Contains (failed_of vs) f × (f < s)))
         → Contains (segments (v ∷ vs)) s ⊎ ((f : ℕ) × Contains (failed_of (v ∷ vs)) f × (f < s))
-    later None e run lt next =
+    later None e series lt next =
         ⊎_elim
         (λ (c : Contains (segments vs) s). inl (Contains-append_right (v.segment ∷ []) (segments vs) s c))
         (λ (w : (f : ℕ) × Contains (failed_of vs) f × (f < s)). inr (w.0, Contains-append_right (one_failed v.segment v.part) (failed_of vs) w.0 w.1, w.2))
-        (next run)
+        (next series)
     later (Some p) e is lt next =
         let here : Contains (one_failed v.segment v.part) v.segment = subst (λ (o : Option Part). Contains (one_failed v.segment o) v.segment) (sym e) (0, omega arith, refl) in
         let f = h.1 in
@@ -112,12 +112,12 @@ job_once : (last cut s job : ℕ) (shown : List ℕ) (vs : List Finding) → 0 <
 job_once last cut s job shown vs some h =
     ⊎_elim
     (λ (w : (vs ≡ []) × IsAfterShown shown (job * cut)). (let none : times s (segments vs) ≡ 0 = ap (λ (l : List Finding). times s (segments l)) w.0 in omega arith))
-    (λ (run : IsRun (job * cut) (min (job * cut + cut) last) vs).
+    (λ (series : IsSeries (job * cut) (min (job * cut + cut) last) vs).
     dite (dec_lt s (job * cut))
-    (λ before. (let none = run_before _ _ s vs run before in omega arith))
+    (λ before. (let none = series_before _ _ s vs series before in omega arith))
     (λ from. dite (dec_le (job * cut + cut) s)
-    (λ past. (let none = run_past _ _ s vs run (omega arith) in omega arith))
-    (λ below. (let one = one_same job (s / cut) (in_job cut s job some (omega arith) (omega arith)) in let o = run_once _ _ s vs run in omega arith)))) h
+    (λ past. (let none = series_past _ _ s vs series (omega arith) in omega arith))
+    (λ below. (let one = one_same job (s / cut) (in_job cut s job some (omega arith) (omega arith)) in let o = series_once _ _ s vs series in omega arith)))) h
 
 jobs_once : (last cut s : ℕ) (shown taken : List ℕ) (vs : List Finding) → 0 < cut → InPieces (IsJob last cut shown) taken vs → times s (segments vs) ≤ times (s / cut) taken
 jobs_once last cut s shown [] vs some h = let none : times s (segments vs) ≡ 0 = ap (λ (l : List Finding). times s (segments l)) h in omega arith
@@ -284,12 +284,12 @@ occurs_or_after last cut ps vs b s inside =
     (let x : ℕ = w.1.0 in
     let c : Contains (all_reported ps) x = has (all_shown ps) x b.shown_reported (f.in_shown x w.1.1) in
     let h = w.1.2 in inr (x, c, omega arith)))
-    (λ (run : IsRun (job * cut) (min (job * cut + cut) last) f.piece.verdicts).
+    (λ (series : IsSeries (job * cut) (min (job * cut + cut) last) f.piece.verdicts).
     ⊎_elim
     (λ (c : Contains (segments f.piece.verdicts) s). inl (contained_occurs vs s (f.piece.in_segments s c)))
     (λ (w : (x : ℕ) × Contains (failed_of f.piece.verdicts) x × (x < s)).
     (let c : Contains (all_reported ps) w.0 = subst (λ (l : List ℕ). Contains l w.0) (sym (reported_failed last cut ps vs b.done)) (f.piece.in_failed w.0 w.1) in inr (w.0, c, w.2)))
-    (run_has _ _ s f.piece.verdicts run (omega arith) (omega arith))) f.piece.is_job
+    (series_has _ _ s f.piece.verdicts series (omega arith) (omega arith))) f.piece.is_job
   where
     has : (xs : List ℕ) (x : ℕ) → All (λ y. Contains (all_reported ps) y) xs → Contains xs x → Contains (all_reported ps) x
     has xs x all c = subst (λ (y : ℕ). Contains (all_reported ps) y) c.2 (all c.0 x c.1)

@@ -8,7 +8,7 @@ pub mod Parts
 pub mod Unique
 pub mod Existence
 pub mod Tops
-pub mod Runs
+pub mod Series
 pub mod Gathered
 pub mod Shares
 pub mod Answered

@@ -6,7 +6,7 @@ use Rattle.oberon_format.specs.Recording.{RecordingParts}
 use Rattle.oberon_format.specs.Text.{Text, AreBytes}
 use Rattle.oberon_format.specs.TextFields.{first_fault_of}
 use Rattle.oberon_format.specs.Line.{fault_line}
-use Rattle.oberon_format.specs.Laws.{HasOneRecording, HasTextOrFault}
+use Rattle.oberon_format.specs.Laws.{HasOneRecording, HasFileOrFault}
 use Rattle.oberon_check.specs.Verdict.{IsVerdict}
 use Rattle.oberon_check.specs.Line.{line_of, status_of}
 use Rattle.oberon_check.specs.Headline.{IsLineOf, IsLineOfRecording, IsLineOfFault}
@@ -50,7 +50,7 @@ of_fault text f first none = (fault_line f, 2, inr (record { fault = f; is_first
     only : (other : List ℕ) (number : ℕ) → IsLineOf text other number → (other ≡ fault_line f) × (number ≡ 2)
     only other number is_line = ⊎_elim (λ (a : IsLineOfRecording text other number). absurd (none a.recording a.is_text)) (same other number) is_line
 
-pub one_line : HasOneRecording → HasTextOrFault → (text : List ℕ) → AreBytes text → HasOneLine text
+pub one_line : HasOneRecording → HasFileOrFault → (text : List ℕ) → AreBytes text → HasOneLine text
 one_line one either text bytes = go (first_fault_of text) refl (either text bytes)
   where
     go : (o : Option Fault) → first_fault_of text ≡ o → MatchOption o ((r : RecordingParts) × Text text r) (λ fault. (r : RecordingParts) → ¬ (Text text r)) → HasOneLine text

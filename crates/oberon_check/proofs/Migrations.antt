@@ -3,7 +3,7 @@ use Rattle.std.proofs.Common.{◌≡◌, ℕ, List, Option, None, Some, subst, i
 use Rattle.std.specs.Prelude.{MatchOption}
 use Rattle.oberon_format.specs.declared.fault.Fault.{Fault}
 use Rattle.oberon_format.specs.declared.layout.TheConstants.{VERSION}
-use Rattle.oberon_format.specs.Laws.{HasOneRecording, HasTextOrFault}
+use Rattle.oberon_format.specs.Laws.{HasOneRecording, HasFileOrFault}
 use Rattle.oberon_format.specs.Recording.{RecordingParts}
 use Rattle.oberon_format.specs.Text.{AreBytes, Text}
 use Rattle.oberon_format.specs.TextFields.{first_fault_of}
@@ -12,7 +12,7 @@ use Rattle.oberon_check.specs.Laws.{SameLine}
 use Rattle.oberon_check.specs.Verdict.{IsVerdict}
 
 -- bytes that encode a recording have no fault
-no_fault : HasTextOrFault → (text : List ℕ) → AreBytes text → (r : RecordingParts) → Text text r → (fault : Fault) → first_fault_of text ≡ Some fault → ⊥
+no_fault : HasFileOrFault → (text : List ℕ) → AreBytes text → (r : RecordingParts) → Text text r → (fault : Fault) → first_fault_of text ≡ Some fault → ⊥
 no_fault either text bytes r is fault first = go (first_fault_of text) first (either text bytes)
   where
     go : (o : Option Fault) → o ≡ Some fault → MatchOption o ((r : RecordingParts) × Text text r) (λ fault. (r : RecordingParts) → ¬ (Text text r)) → ⊥
@@ -20,7 +20,7 @@ no_fault either text bytes r is fault first = go (first_fault_of text) first (ei
     go (Some f) e none = none r is
 
 -- the line of bytes that encode a recording is the line of all bytes that encode it
-line_of_both : HasOneRecording → HasTextOrFault → (one other : List ℕ) → AreBytes one → (r : RecordingParts) → Text one r → Text other r
+line_of_both : HasOneRecording → HasFileOrFault → (one other : List ℕ) → AreBytes one → (r : RecordingParts) → Text one r → Text other r
     → (line : List ℕ) (status : ℕ) → IsLineOf one line status → IsLineOf other line status
 line_of_both same either one other bytes r is also line status (inl a) = inl (record {
   recording = r;
@@ -32,7 +32,7 @@ line_of_both same either one other bytes r is also line status (inl a) = inl (re
 })
 line_of_both same either one other bytes r is also line status (inr b) = absurd (no_fault either one bytes r is b.fault b.is_first)
 
-pub same_line : HasOneRecording → HasTextOrFault → SameLine
+pub same_line : HasOneRecording → HasFileOrFault → SameLine
 same_line same either text migrated bytes migrated_bytes is line status =
     let written : Text migrated is.recording = record { version = VERSION; is = is.written } in (
       line_of_both same either text migrated bytes is.recording is.read written line status,

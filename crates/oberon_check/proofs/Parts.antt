@@ -214,8 +214,8 @@ one_first x y p q a b = cc
 pub first_to : (x y : Outcome) (p : Part) → first_difference x y ≡ Some p → IsFirstDifference x y p
 unfolding first_difference
 first_to x y p h =
-    let at = broken_at (parts x y) p h in record { before = at.before; after = at.after; place = at.place; same = at.held }
+    let at = broken_at (parts x y) p h in record { before = at.before; after = at.after; split = at.split; same = at.held }
 
 pub first_from : (x y : Outcome) (p : Part) → IsFirstDifference x y p → first_difference x y ≡ Some p
 unfolding first_difference
-first_from x y p first = broken_from (parts x y) p (record { before = first.before; after = first.after; place = first.place; held = first.same })
+first_from x y p first = broken_from (parts x y) p (record { before = first.before; after = first.after; split = first.split; held = first.same })

@@ -9,7 +9,7 @@ use Rattle.oberon_format.specs.FirstFault.{Rule, each, first_broken}
 pub record BrokenAt {F : Type 0} (rules : List (Rule F)) (fault : F) : Type 0 where
   pub before : List (Rule F)
   pub after : List (Rule F)
-  pub place : rules ≡ before ++ (false, fault) ∷ after
+  pub split : rules ≡ before ++ (false, fault) ∷ after
   pub held : All (λ rule. rule.0 ≡ true) before
 
 module _ {F : Type 0} where
@@ -88,14 +88,14 @@ module _ {F : Type 0} where
       let rest = broken_at xs g h in record {
         before = (true, f) ∷ rest.before;
         after = rest.after;
-        place = ap (λ (l : List (Rule F)). (true, f) ∷ l) rest.place;
+        split = ap (λ (l : List (Rule F)). (true, f) ∷ l) rest.split;
         held = All-cons Held (true, f) rest.before refl rest.held;
       }
   broken_at ((false, f) ∷ xs) g h =
       let e : f ≡ g = cc in record {
         before = [];
         after = xs;
-        place = ap (λ (x : F). (false, x) ∷ xs) e;
+        split = ap (λ (x : F). (false, x) ∷ xs) e;
         held = All-nil Held;
       }
 
@@ -106,4 +106,4 @@ module _ {F : Type 0} where
       rw here (broken_after xs ys g (All-tail Held (b, f) xs held))
 
   pub broken_from : (xs : List (Rule F)) (g : F) → BrokenAt xs g → first_broken xs ≡ Some g
-  broken_from xs g at = ap first_broken at.place ∙ broken_after at.before at.after g at.held
+  broken_from xs g at = ap first_broken at.split ∙ broken_after at.before at.after g at.held

@@ -1,6 +1,7 @@
 -- The first part in which two outcomes differ: states, each with the bytes that were sent on the way to it.
 -- The parts and their order are this project's own choice.
-use Rattle.std.specs.Prelude.{ℕ, ◌≡◌, ◌==◌, ◌&&◌, nat_eq, Bool, true, false, List, [], ◌∷◌, ◌++◌, Option, Some, MatchOption, All, slice_index}
+use Rattle.std.specs.Prelude.{ℕ, ◌≡◌, ◌==◌, ◌&&◌, nat_eq, Bool, true, false, List, [], ◌∷◌, ◌++◌, Option, Some, MatchOption, All}
+use Rattle.std.specs.Prelude.{slice_index}
 use Rattle.std.specs.Bool.{beq}
 use Rattle.std.specs.Cmp.Lexicographic.{pointwise}
 use Rattle.risc_pages.specs.Pages.{page_at}
@@ -9,7 +10,8 @@ use Rattle.risc_model.specs.MachineState.{CpuState, Flags as FlagsState}
 use Rattle.oberon_format.specs.Defined.{Outcome}
 use Rattle.oberon_format.specs.FirstFault.{Rule, each, first_broken}
 use Rattle.oberon_check.specs.declared.part.Part.{Part}
-use Rattle.oberon_check.specs.declared.part.Part.TheVariants.{R, H, Pc, Flags, Stop, Timer, Rate, Phase, Switches, Leds, Mouse, Serial, Keys, Sent, Page}
+use Rattle.oberon_check.specs.declared.part.Part.TheVariants.{R, H, Pc, Flags, Stop, Timer, Rate, Phase, Switches, Leds, Mouse}
+use Rattle.oberon_check.specs.declared.part.Part.TheVariants.{Serial, Keys, Sent, Page}
 
 -- whether the four flags are the same
 abbrev pub same_flags : FlagsState → FlagsState → Bool
@@ -69,5 +71,5 @@ IsDifference x y part = MatchOption part (x ≡ y) (λ p. first_difference x y �
 pub record IsFirstDifference (x y : Outcome) (part : Part) : Type 0 where
   pub before : List (Rule Part)
   pub after : List (Rule Part)
-  pub place : parts x y ≡ before ++ (false, part) ∷ after
+  pub split : parts x y ≡ before ++ (false, part) ∷ after
   pub same : All (λ rule. rule.0 ≡ true) before

@@ -16,7 +16,9 @@ FirstDifference = (x y : Outcome) (part : Part) → (first_difference x y ≡ So
 
 -- a checkpoint of a lawful recording is true exactly if no part of what it claims differs from what the run gives
 abbrev pub NoDifference : Type 0
-NoDifference = (r : RecordingParts) → IsLawful r → (k : ℕ) → k ≤ last_of r → (first_difference (claimed r k) (defined r k) ≡ None) ↔ IsTrueAt r k
+NoDifference =
+    (r : RecordingParts) → IsLawful r → (k : ℕ) → k ≤ last_of r
+    → (first_difference (claimed r k) (defined r k) ≡ None) ↔ IsTrueAt r k
 
 -- a lawful recording has exactly one verdict
 abbrev pub OneVerdict : Type 0

@@ -2,7 +2,8 @@
 use Rattle.std.specs.Prelude.{ℕ, List, ◌++◌, codes}
 use Rattle.std.specs.Fmt.{decimal}
 use Rattle.oberon_check.specs.declared.part.Part.{Part}
-use Rattle.oberon_check.specs.declared.part.Part.TheVariants.{R, H, Pc, Flags, Stop, Timer, Rate, Phase, Switches, Leds, Mouse, Serial, Keys, Sent, Page}
+use Rattle.oberon_check.specs.declared.part.Part.TheVariants.{R, H, Pc, Flags, Stop, Timer, Rate, Phase, Switches, Leds, Mouse}
+use Rattle.oberon_check.specs.declared.part.Part.TheVariants.{Serial, Keys, Sent, Page}
 use Rattle.oberon_check.specs.declared.verdict.Verdict.{Verdict}
 use Rattle.oberon_check.specs.declared.verdict.Verdict.TheVariants.{Accepted, FalseAt}
 
@@ -26,8 +27,11 @@ part_name (Page p) = codes "page " ++ decimal p
 
 -- the line of a verdict, with its numbers in decimal, ended by one line feed
 abbrev pub line_of : Verdict → List ℕ
-line_of (Accepted checkpoints steps) = codes "accepted " ++ (decimal checkpoints ++ (codes " checkpoints " ++ (decimal steps ++ codes " steps\n")))
-line_of (FalseAt checkpoint count part) = codes "false checkpoint " ++ (decimal checkpoint ++ (codes " at " ++ (decimal count ++ (codes " part " ++ (part_name part ++ codes "\n")))))
+line_of (Accepted checkpoints steps) =
+    codes "accepted " ++ (decimal checkpoints ++ (codes " checkpoints " ++ (decimal steps ++ codes " steps\n")))
+line_of (FalseAt checkpoint count part) =
+    codes "false checkpoint "
+    ++ (decimal checkpoint ++ (codes " at " ++ (decimal count ++ (codes " part " ++ (part_name part ++ codes "\n")))))
 
 -- the exit status of a verdict: 0 accepted, 1 false
 abbrev pub status_of : Verdict → ℕ

@@ -10,7 +10,10 @@ use Rattle.oberon_check.specs.Difference.{IsDifference}
 abbrev pub replayed : RecordingParts → ℕ → Outcome
 replayed r i =
     let steps = count_at r (i + 1) - count_at r i in
-    record { state = run_of r.inputs (count_at r i) steps (claimed r i).state; sent = sent_of r.inputs (count_at r i) steps (claimed r i).state }
+    record {
+      state = run_of r.inputs (count_at r i) steps (claimed r i).state;
+      sent = sent_of r.inputs (count_at r i) steps (claimed r i).state;
+    }
 
 -- this is the first part in which that outcome differs from what checkpoint i + 1 claims, or `None` if the segment holds
 abbrev pub IsSegmentPart : RecordingParts → ℕ → Option Part → Type 0
@@ -29,6 +32,7 @@ pub record IsTrueFinding (f : Finding) : Type 0 where
   pub replay : IsSegmentPart f.recording f.segment f.part
 
 -- the list has the verdicts of the segments from `first` to `end - 1` in order, or only up to the first that failed
-abbrev pub IsRun : ℕ → ℕ → List Finding → Type 0
-IsRun first end [] = first ≡ end
-IsRun first end (v ∷ vs) = (first < end) × (v.segment ≡ first) × MatchOption v.part (IsRun (first + 1) end vs) (λ _. vs ≡ [])
+abbrev pub IsSeries : ℕ → ℕ → List Finding → Type 0
+IsSeries first end [] = first ≡ end
+IsSeries first end (v ∷ vs) =
+    (first < end) × (v.segment ≡ first) × MatchOption v.part (IsSeries (first + 1) end vs) (λ _. vs ≡ [])

@@ -4,7 +4,7 @@ use Rattle.std.specs.Int.{div_ceil}
 use Rattle.oberon_claims.specs.Pass.{PassRecord, BookId}
 use Rattle.oberon_format.specs.Recording.{RecordingParts, last_of}
 use Rattle.oberon_check.specs.declared.part.Part.{Part}
-use Rattle.oberon_check.specs.Segment.{Finding, IsRun}
+use Rattle.oberon_check.specs.Segment.{Finding, IsSeries}
 
 -- some segment that was shown is before this one
 abbrev pub IsAfterShown : List ℕ → ℕ → Type 0
@@ -13,7 +13,8 @@ IsAfterShown shown first = (x : ℕ) × Contains shown x × (x < first)
 -- these are the verdicts of a job. Job j has `cut` segments from `j * cut` on, or fewer at the end of the recording. Its verdicts
 -- are those of its segments in order, up to the first failed one; or none, if the job begins after a segment shown
 abbrev pub IsJob : ℕ → ℕ → List ℕ → ℕ → List Finding → Type 0
-IsJob last cut shown job vs = ((vs ≡ []) × IsAfterShown shown (job * cut)) ⊎ IsRun (job * cut) (min (job * cut + cut) last) vs
+IsJob last cut shown job vs =
+    ((vs ≡ []) × IsAfterShown shown (job * cut)) ⊎ IsSeries (job * cut) (min (job * cut + cut) last) vs
 
 -- vs is the concatenation of one piece for each x of the list, in order, and P is true of each x and its piece
 abbrev pub InPieces : {A : Type 0} → (A → List Finding → Type 0) → List A → List Finding → Type 0

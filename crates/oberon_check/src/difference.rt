@@ -18,7 +18,6 @@ use risc_machine::Machine;
 use risc_model::Cpu;
 use risc_pages::Pool;
 
-/// Returns the first register that differs.
 fn register_difference(a: &[u32; 16], b: &[u32; 16]) -> Option<Part>
     ensures part { result ≡ first_broken (register_parts a.now b.now) }
     ensures same { IfNone result (a.now ≡ b.now) }
@@ -50,7 +49,6 @@ fn control_difference(claimed: &Cpu, cpu: &Cpu) -> Option<Part>
     None
 }
 
-/// Returns the first part in which two processors differ.
 fn cpu_difference(claimed: &Cpu, cpu: &Cpu) -> Option<Part>
     ensures part { result ≡ first_broken (cpu_parts (cpu_state claimed.now) (cpu_state cpu.now)) }
     ensures same { IfNone result (cpu_state claimed.now ≡ cpu_state cpu.now) }
@@ -61,7 +59,6 @@ fn cpu_difference(claimed: &Cpu, cpu: &Cpu) -> Option<Part>
     control_difference(claimed, cpu)
 }
 
-/// Returns the first part in which two devices differ.
 fn device_difference(claimed: &Devices, devices: &Devices) -> Option<Part>
     ensures { result ≡ first_broken (device_parts claimed.now devices.now) }
 {
@@ -113,7 +110,7 @@ pub(crate) fn first_difference(
         return Some(Part::Sent);
     }
     match machine.memory().first_difference(pool, &checkpoint.table) {
-        Some(place) => Some(Part::Page(place)),
+        Some(slot) => Some(Part::Page(slot)),
         None => None,
     }
 }

@@ -1,7 +1,7 @@
 //! The laws of this crate's definitions, each the contract of a function that does nothing.
 ghost use Rattle.oberon_check.specs.Laws.{FirstDifference, NoDifference, OneLine, OneVerdict, SameLine};
 
-use oberon_format::{one_recording_law, text_or_fault_law};
+use oberon_format::{file_or_fault_law, one_recording_law};
 
 /// The first part in which two outcomes differ is the first one whose test fails, and a checkpoint is true exactly if no
 /// part differs.
@@ -20,7 +20,7 @@ pub fn line_law()
     ensures { OneLine }
 {
     one_recording_law();
-    text_or_fault_law();
+    file_or_fault_law();
 }
 
 /// The line and the status of migrated bytes are those of the original bytes.
@@ -28,5 +28,5 @@ pub fn migration_law()
     ensures { SameLine }
 {
     one_recording_law();
-    text_or_fault_law();
+    file_or_fault_law();
 }

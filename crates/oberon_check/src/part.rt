@@ -76,7 +76,7 @@ impl fmt::Display for Part {
         f.write_str(self.letters())?;
         match self {
             Part::R(i) => write!(f, "{i}"),
-            Part::Page(place) => write!(f, "{place}"),
+            Part::Page(slot) => write!(f, "{slot}"),
             _ => Ok(()),
         }
     }

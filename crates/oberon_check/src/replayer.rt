@@ -11,8 +11,8 @@ use risc_machine::Machine;
 use std::alloc::{AllocError, Global};
 use std::marker::Model;
 
-/// Replays segments of a recording. After a segment that held it keeps the machine, whose state is then what the next checkpoint claims,
-/// and goes on with it if the next segment begins there.
+/// Replays segments of a recording. After a segment that held it keeps the machine, whose state is then what the next checkpoint
+/// claims, and goes on with it if the next segment begins there.
 ///
 /// In contracts a replayer is its recording.
 #[derive(Drop)]
@@ -54,7 +54,8 @@ impl<'r> Replayer<'r> {
         self.recording
     }
 
-    /// Returns the machine that it has, if that has reached checkpoint `i`, and else a new one in the state that this checkpoint claims.
+    /// Returns the machine that it has, if that has reached checkpoint `i`, and else a new one in the state that this checkpoint
+    /// claims.
     fn machine_for(&mut self, alloc: Global, i: u32) -> Result<Machine<'r>, AllocError>
         requires { i < last_of self.old }
         ensures state { IfOk result (λ m. m.state ≡ (claimed self.old i).state) }

@@ -14,10 +14,10 @@ use std::alloc::{AllocError, Global};
 use std::marker::Model;
 use std::snapshot::Snapshot;
 
-/// The result of the replay of one segment. Segment i leads from checkpoint i to checkpoint i + 1.
+/// A segment verdict: the result of the replay of one segment. Segment i leads from checkpoint i to checkpoint i + 1.
 ///
 /// By its type it is true of its recording, which only contracts see: the part is the first one in which what checkpoint
-/// i + 1 claims differs from a replay that starts at what checkpoint i claims.
+/// i + 1 claims differs from a replay that starts at what checkpoint i claims. In contracts it is a `Finding`.
 #[derive(Drop)]
 pub struct SegmentVerdict {
     recording: Snapshot<Recording>,

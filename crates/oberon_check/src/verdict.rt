@@ -32,7 +32,7 @@ impl Verdict {
     pub fn line(&self, alloc: Global) -> Result<Vec<u8>, AllocError>
         ensures { IfOk result (λ bytes. bytes.items ≡ line_of self.now) }
     {
-        let text = match self {
+        let line = match self {
             Verdict::Accepted { checkpoints, steps } => {
                 format!(in alloc; "accepted {checkpoints} checkpoints {steps} steps\n")?
             }
@@ -42,7 +42,7 @@ impl Verdict {
                 part,
             } => format!(in alloc; "false checkpoint {checkpoint} at {count} part {part}\n")?,
         };
-        Ok(text.into_bytes())
+        Ok(line.into_bytes())
     }
 
     /// Returns the exit status of the verdict: 0 accepted, 1 false.

@@ -7,7 +7,7 @@ ghost use Rattle.std.specs.Int.{div_ceil};
 ghost use Rattle.oberon_claims.specs.Pass.{fresh_pass};
 ghost use Rattle.oberon_format.specs.Recording.{last_of};
 ghost use Rattle.oberon_check.specs.Work.{IsAfterShown};
-ghost use Rattle.oberon_check.specs.inner.Progress.{AddsJob, AddsRun, IsLooked};
+ghost use Rattle.oberon_check.specs.inner.Progress.{AddsJob, AddsSeries, IsLooked};
 
 use crate::gate::Gate;
 use crate::replayer::Replayer;
@@ -34,12 +34,13 @@ pub struct Done {
 
 impl Model for Done {
     ghost use Rattle.oberon_check.specs.Work.{DoneRecord, IsDone};
+    ghost use Rattle.oberon_check.specs.inner.Progress.{done_record};
 
     ghost Value = { DoneRecord };
 
-    ghost view = { λ d. record { recording = d.recording.value; cut = d.cut; pass = d.pass; verdicts = d.verdicts.items } };
+    ghost view = { λ d. done_record d.recording.value d.cut d.pass d.verdicts.items };
 
-    ghost invariant = { λ d. IsDone (record { recording = d.recording.value; cut = d.cut; pass = d.pass; verdicts = d.verdicts.items }) };
+    ghost invariant = { λ d. IsDone (done_record d.recording.value d.cut d.pass d.verdicts.items) };
 }
 
 impl Done {
@@ -71,7 +72,7 @@ impl Done {
 
 /// Replays the segments from `from` to `to - 1` in order, and appends their verdicts. It ends at the first segment that
 /// fails, and reports it.
-fn replay_run(
+fn replay_series(
     alloc: Global,
     replayer: &mut Replayer<'_>,
     claims: &Claims,
@@ -82,7 +83,7 @@ fn replay_run(
 ) -> Result<(), AllocError>
     requires book { pass.old.book ≡ claims.now }
     requires range { (from < to) × (to ≤ last_of replayer.old) }
-    ensures run { OnOk result (AddsRun replayer.old from to pass.old pass.new verdicts.old.items verdicts.new.items) }
+    ensures series { OnOk result (AddsSeries replayer.old from to pass.old pass.new verdicts.old.items verdicts.new.items) }
     ensures kept { replayer.new ≡ replayer.old }
 {
     for segment in from..to {
@@ -135,7 +136,7 @@ fn do_job(
     } else {
         last
     };
-    replay_run(alloc, replayer, claims, pass, verdicts, first, end)?;
+    replay_series(alloc, replayer, claims, pass, verdicts, first, end)?;
     Ok(())
 }
 

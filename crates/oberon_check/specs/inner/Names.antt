@@ -7,5 +7,5 @@ use Rattle.oberon_check.specs.declared.part.Part.TheVariants.{R, Page}
 -- the number of a register or a page, in decimal; other parts have none
 abbrev pub part_number : Part → List ℕ
 part_number (R i) = decimal i
-part_number (Page place) = decimal place
+part_number (Page slot) = decimal slot
 part_number _ = []

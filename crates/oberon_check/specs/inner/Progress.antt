@@ -4,7 +4,7 @@ use Rattle.oberon_claims.specs.Pass.{PassRecord}
 use Rattle.oberon_format.specs.Recording.{RecordingParts, IsLawful, last_of}
 use Rattle.oberon_check.specs.declared.verdict.Verdict.{Verdict}
 use Rattle.oberon_check.specs.Gathering.{IsGathered}
-use Rattle.oberon_check.specs.Segment.{Finding, IsRun, IsTrueFinding}
+use Rattle.oberon_check.specs.Segment.{Finding, IsSeries, IsTrueFinding}
 use Rattle.oberon_check.specs.Verdict.{IsVerdict}
 use Rattle.oberon_check.specs.Work.{IsJob, failed_of, DoneRecord}
 
@@ -24,8 +24,8 @@ pub record AddsJob (r : RecordingParts) (cut job : ℕ) (p q : PassRecord) (vs w
   pub recordings : All (λ v. v.recording ≡ r) piece
   pub is_job : IsJob (last_of r) cut q.shown job piece
 
--- from pass p and verdicts vs to pass q and verdicts ws by one more run of verdicts, `piece`
-pub record AddsRun (r : RecordingParts) (first end : ℕ) (p q : PassRecord) (vs ws : List Finding) : Type 0 where
+-- from pass p and verdicts vs to pass q and verdicts ws by one more series of verdicts, `piece`
+pub record AddsSeries (r : RecordingParts) (first end : ℕ) (p q : PassRecord) (vs ws : List Finding) : Type 0 where
   pub book : q.book ≡ p.book
   pub taken : q.taken ≡ p.taken
   pub ended : q.ended ≡ p.ended
@@ -34,7 +34,7 @@ pub record AddsRun (r : RecordingParts) (first end : ℕ) (p q : PassRecord) (vs
   pub verdicts : ws ≡ vs ++ piece
   pub reported : q.reported ≡ p.reported ++ failed_of piece
   pub recordings : All (λ v. v.recording ≡ r) piece
-  pub is_run : IsRun first end piece
+  pub is_series : IsSeries first end piece
 
 -- from pass p to pass q by a look
 pub record IsLooked (p q : PassRecord) : Type 0 where

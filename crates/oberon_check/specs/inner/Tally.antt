@@ -1,5 +1,6 @@
 -- The tally of the first n segment verdicts.
-use Rattle.std.specs.Prelude.{ℕ, ◌≡◌, ◌<◌, ◌≤◌, ◌↔◌, List, Bool, true, false, Option, None, Some, IsSome, MatchOption, slice_index_or, nat_lt, if◌then◌else◌}
+use Rattle.std.specs.Prelude.{ℕ, ◌≡◌, ◌<◌, ◌≤◌, ◌↔◌, List, Bool, true, false, Option, None, Some, IsSome, MatchOption}
+use Rattle.std.specs.Prelude.{slice_index_or, nat_lt, if◌then◌else◌}
 use Rattle.oberon_check.specs.declared.part.Part.{Part}
 use Rattle.oberon_check.specs.Segment.{Finding}
 use Rattle.oberon_check.specs.Collecting.{segment_at, part_at, OccursBelow}
@@ -23,7 +24,8 @@ IsMarked seen s = slice_index_or seen s false ≡ true
 abbrev pub IsLeastFailed : List Finding → ℕ → Option (ℕ × Part) → Type 0
 IsLeastFailed vs n least = MatchOption least
     ((k : ℕ) → k < n → part_at vs k ≡ None)
-    (λ f. ((k : ℕ) × (k < n) × (segment_at vs k ≡ f.0) × (part_at vs k ≡ Some f.1)) × ((k : ℕ) → k < n → IsSome (part_at vs k) → f.0 ≤ segment_at vs k))
+    (λ f. ((k : ℕ) × (k < n) × (segment_at vs k ≡ f.0) × (part_at vs k ≡ Some f.1))
+    × ((k : ℕ) → k < n → IsSome (part_at vs k) → f.0 ≤ segment_at vs k))
 
 -- `seen` marks the segments of the first n verdicts, each of which has only one, and `least` is the least that failed
 pub record IsTally (vs : List Finding) (n : ℕ) (seen : List Bool) (least : Option (ℕ × Part)) : Type 0 where

@@ -31,7 +31,7 @@ returns-then-not-same c sent same =
 pub returns-in-Some-first_difference : goal.returns-in-Some-first_difference
 returns-in-Some-first_difference c sent same =
     in_page _ _ _ (no_cpu c.before.before.before.before.before.before.before) (no_devices c.before.before.before.before) (sym (same.0 c.if-not-same.false))
-    (subst (λ (words : List ℕ). IsFirstDifferentPage words (table_words c.args.pool.now c.args.checkpoint.now.table.numbers) c.in-Some-first_difference.place)
+    (subst (λ (words : List ℕ). IsFirstDifferentPage words (table_words c.args.pool.now c.args.checkpoint.now.table.numbers) c.in-Some-first_difference.slot)
     c.memory.ensures.words c.in-Some-first_difference.ensures.some)
 
 pub returns-in-None : goal.returns-in-None

@@ -1,6 +1,6 @@
 use Rattle.std.proofs.Common.{◌≡◌, ◌∙◌, ◌+◌, ◌*◌, ap, length, min, refl, arith}
 use Rattle.oberon_format.specs.Recording.{RecordingParts, last_of}
-use Rattle.oberon_check.proofs.Runs.{job_skipped, job_run}
+use Rattle.oberon_check.proofs.Series.{job_skipped, job_series}
 use Rattle.oberon_check.proofs.worker.do_job.Goals as goal
 use Rattle.oberon_check.proofs.worker.do_job.Goals.{then-cut-last, else-cut-last}
 
@@ -14,4 +14,4 @@ returns-clause-job c =
     let below = c.requires.job in
     let end : c.if-cut-last.end ≡ min (c.args.job * c.args.cut + c.args.cut) (last_of c.args.replayer.now) =
     elim c.if-cut-last.branch [ then-cut-last w ↦ (let t = w.if-cut-last.true in let e = w.end-is in omega arith) | else-cut-last w ↦ (let t = w.if-cut-last.false in let e = w.end-is in omega arith) ] in
-    job_run c.args.replayer.now c.args.cut c.args.job _ _ _ _ _ _ _ c.is_skipped.ensures.looked refl end c.in_ok-replay_run.ensures.run
+    job_series c.args.replayer.now c.args.cut c.args.job _ _ _ _ _ _ _ c.is_skipped.ensures.looked refl end c.in_ok-replay_series.ensures.series

@@ -1,5 +1,5 @@
 use Rattle.std.proofs.Common.{ltb-true, true≢false, sym}
-use Rattle.oberon_check.proofs.Runs.{looked, after_shown}
+use Rattle.oberon_check.proofs.Series.{looked, after_shown}
 use Rattle.oberon_check.proofs.worker.is_skipped.Goals as goal
 
 pub returns-in-Some-clause-looked : goal.returns-in-Some-clause-looked

@@ -1,7 +1,7 @@
 use Rattle.std.proofs.Common.{ap, ◌∙◌, arith}
 use Rattle.oberon_claims.specs.Pass.{PassRecord}
 use Rattle.oberon_check.proofs.Tops.{top, top_below, top_more}
-use Rattle.oberon_check.proofs.Runs.{done_more, adds_recordings}
+use Rattle.oberon_check.proofs.Series.{done_more, adds_recordings}
 use Rattle.oberon_check.proofs.worker.work.Goals as goal
 
 pub loop-job-smaller : goal.loop-job-smaller

@@ -1,6 +1,6 @@
 use Rattle.std.proofs.Common.{◌≡◌}
-use Rattle.oberon_check.proofs.Runs.{HeldPiece}
-use Rattle.oberon_check.proofs.worker.replay_run.Given as goal
+use Rattle.oberon_check.proofs.Series.{HeldPiece}
+use Rattle.oberon_check.proofs.worker.replay_series.Given as goal
 
 abbrev pub invariant-loop-segment : goal.invariant-loop-segment
 invariant-loop-segment l = record {

@@ -5,9 +5,9 @@ use Rattle.std.proofs.lemmas.List.Elements.{All-append, Contains-append_left, Co
 use Rattle.oberon_claims.specs.Pass.{PassRecord, BookId, fresh_pass, pass_with_job, pass_with_end, pass_with_reported, pass_with_shown}
 use Rattle.oberon_format.specs.Recording.{RecordingParts, last_of}
 use Rattle.oberon_check.specs.declared.part.Part.{Part}
-use Rattle.oberon_check.specs.Segment.{Finding, IsRun}
+use Rattle.oberon_check.specs.Segment.{Finding, IsSeries}
 use Rattle.oberon_check.specs.Work.{IsAfterShown, IsJob, InPieces, one_failed, failed_of, HasDone}
-use Rattle.oberon_check.specs.inner.Progress.{AddsJob, AddsRun, IsLooked}
+use Rattle.oberon_check.specs.inner.Progress.{AddsJob, AddsSeries, IsLooked}
 use Rattle.std.proofs.lemmas.List.Elements.{All-push}
 
 -- the list has the verdicts of the segments from `first` to `end - 1` in order, all of which held
@@ -23,25 +23,25 @@ held_snoc : (first k : ℕ) (vs : List Finding) (v : Finding) → IsHeld first k
 held_snoc first k [] v h s p = (s ∙ sym h, p, ap (λ (n : ℕ). n + 1) h)
 held_snoc first k (w ∷ vs) v h s p = (h.0, h.1, held_snoc (first + 1) k vs v h.2 s p)
 
-held_run : (first end : ℕ) (vs : List Finding) → IsHeld first end vs → IsRun first end vs
-held_run first end [] h = h
-held_run first end (v ∷ vs) h =
+held_series : (first end : ℕ) (vs : List Finding) → IsHeld first end vs → IsSeries first end vs
+held_series first end [] h = h
+held_series first end (v ∷ vs) h =
     let l = held_le (first + 1) end vs h.2 in
-    (omega arith, h.0, subst (λ (o : Option Part). MatchOption o (IsRun (first + 1) end vs) (λ _. vs ≡ [])) (sym h.1) (held_run (first + 1) end vs h.2))
+    (omega arith, h.0, subst (λ (o : Option Part). MatchOption o (IsSeries (first + 1) end vs) (λ _. vs ≡ [])) (sym h.1) (held_series (first + 1) end vs h.2))
 
 none_or_some : (o : Option Part) → is_some o ≡ false → o ≡ None
 none_or_some None e = refl
 none_or_some (Some x) e = absurd (true≢false e)
 
-failed_run : (first k end : ℕ) (vs : List Finding) (v : Finding) → IsHeld first k vs → k < end → v.segment ≡ k → IsSome v.part → IsRun first end (vs ++ v ∷ [])
-failed_run first k end [] v h below s p = (omega arith, s ∙ sym h, at v.part p)
+failed_series : (first k end : ℕ) (vs : List Finding) (v : Finding) → IsHeld first k vs → k < end → v.segment ≡ k → IsSome v.part → IsSeries first end (vs ++ v ∷ [])
+failed_series first k end [] v h below s p = (omega arith, s ∙ sym h, at v.part p)
   where
-    at : (o : Option Part) → IsSome o → MatchOption o (IsRun (first + 1) end []) (λ _. let nothing : List Finding = [] in nothing ≡ nothing)
+    at : (o : Option Part) → IsSome o → MatchOption o (IsSeries (first + 1) end []) (λ _. let nothing : List Finding = [] in nothing ≡ nothing)
     at None some = absurd (true≢false (sym some))
     at (Some x) some = refl
-failed_run first k end (w ∷ vs) v h below s p =
+failed_series first k end (w ∷ vs) v h below s p =
     let l = held_le (first + 1) k vs h.2 in
-    (omega arith, h.0, subst (λ (o : Option Part). MatchOption o (IsRun (first + 1) end (vs ++ v ∷ [])) (λ _. vs ++ v ∷ [] ≡ [])) (sym h.1) (failed_run (first + 1) k end vs v h.2 below s p))
+    (omega arith, h.0, subst (λ (o : Option Part). MatchOption o (IsSeries (first + 1) end (vs ++ v ∷ [])) (λ _. vs ++ v ∷ [] ≡ [])) (sym h.1) (failed_series (first + 1) k end vs v h.2 below s p))
 
 pub failed_append : (xs ys : List Finding) → failed_of (xs ++ ys) ≡ failed_of xs ++ failed_of ys
 failed_append [] ys = refl
@@ -72,8 +72,8 @@ held_more r first k vs us ws v h now of s p = record {
   held = held_snoc first k h.piece v h.held s (none_or_some v.part p);
 }
 
-pub run_failed : (r : RecordingParts) (first k end : ℕ) (p q : PassRecord) (vs us ws : List Finding) (v : Finding) → HeldPiece r first k vs us → ws ≡ us ++ v ∷ [] → v.recording ≡ r → v.segment ≡ k → IsSome v.part → k < end → q ≡ pass_with_reported p k → AddsRun r first end p q vs ws
-run_failed r first k end p q vs us ws v h now of s some below is =
+pub series_failed : (r : RecordingParts) (first k end : ℕ) (p q : PassRecord) (vs us ws : List Finding) (v : Finding) → HeldPiece r first k vs us → ws ≡ us ++ v ∷ [] → v.recording ≡ r → v.segment ≡ k → IsSome v.part → k < end → q ≡ pass_with_reported p k → AddsSeries r first end p q vs ws
+series_failed r first k end p q vs us ws v h now of s some below is =
     let one : failed_of (h.piece ++ v ∷ []) ≡ k ∷ [] = failed_append h.piece (v ∷ []) ∙ ap (λ (l : List ℕ). l ++ failed_of (v ∷ [])) (held_none first k h.piece h.held) ∙ last v some ∙ ap (λ (n : ℕ). n ∷ []) s in record {
       book = ap (λ (x : PassRecord). x.book) is;
       taken = ap (λ (x : PassRecord). x.taken) is;
@@ -83,7 +83,7 @@ run_failed r first k end p q vs us ws v h now of s some below is =
       verdicts = grown r vs us ws h.piece v h.verdicts now;
       reported = ap (λ (x : PassRecord). x.reported) is ∙ ap (λ (l : List ℕ). p.reported ++ l) (sym one);
       recordings = All-push (λ (t : Finding). t.recording ≡ r) h.piece v h.recordings of;
-      is_run = failed_run first k end h.piece v h.held below s some;
+      is_series = failed_series first k end h.piece v h.held below s some;
     }
   where
     last : (v : Finding) → IsSome v.part → failed_of (v ∷ []) ≡ v.segment ∷ []
@@ -93,8 +93,8 @@ run_failed r first k end p q vs us ws v h now of s some below is =
         at None e = absurd (true≢false (sym e))
         at (Some x) e = refl
 
-pub run_whole : (r : RecordingParts) (first end : ℕ) (p q : PassRecord) (vs ws : List Finding) → HeldPiece r first end vs ws → q ≡ p → AddsRun r first end p q vs ws
-run_whole r first end p q vs ws h is = record {
+pub series_whole : (r : RecordingParts) (first end : ℕ) (p q : PassRecord) (vs ws : List Finding) → HeldPiece r first end vs ws → q ≡ p → AddsSeries r first end p q vs ws
+series_whole r first end p q vs ws h is = record {
   book = ap (λ (x : PassRecord). x.book) is;
   taken = ap (λ (x : PassRecord). x.taken) is;
   ended = ap (λ (x : PassRecord). x.ended) is;
@@ -103,7 +103,7 @@ run_whole r first end p q vs ws h is = record {
   verdicts = h.verdicts;
   reported = ap (λ (x : PassRecord). x.reported) is ∙ sym (append-nil p.reported) ∙ ap (λ (l : List ℕ). p.reported ++ l) (sym (held_none first end h.piece h.held));
   recordings = h.recordings;
-  is_run = held_run first end h.piece h.held;
+  is_series = held_series first end h.piece h.held;
 }
 
 pub looked : (o : Option ℕ) (p q : PassRecord) → IfSome o (λ x. q ≡ pass_with_shown p x) → IfNone o (q ≡ p) → IsLooked p q
@@ -128,17 +128,17 @@ job_skipped r cut job p q vs l after = record {
   is_job = inl (refl, after);
 }
 
-pub job_run : (r : RecordingParts) (cut job first end : ℕ) (p m q : PassRecord) (vs ws : List Finding) → IsLooked p m → first ≡ job * cut → end ≡ min (job * cut + cut) (last_of r) → AddsRun r first end m q vs ws → AddsJob r cut job p q vs ws
-job_run r cut job first end p m q vs ws l f e run = record {
-  book = run.book ∙ l.book;
-  taken = run.taken ∙ l.taken;
-  ended = run.ended ∙ l.ended;
-  shown = λ x c. subst (λ (s : List ℕ). Contains s x) (sym run.shown) (l.shown x c);
-  piece = run.piece;
-  verdicts = run.verdicts;
-  reported = run.reported ∙ ap (λ (s : List ℕ). s ++ failed_of run.piece) l.reported;
-  recordings = run.recordings;
-  is_job = inr (let P : (ℕ × ℕ) → Type 0 = λ x. IsRun x.0 x.1 run.piece in subst P (λ i. (f i, e i)) run.is_run);
+pub job_series : (r : RecordingParts) (cut job first end : ℕ) (p m q : PassRecord) (vs ws : List Finding) → IsLooked p m → first ≡ job * cut → end ≡ min (job * cut + cut) (last_of r) → AddsSeries r first end m q vs ws → AddsJob r cut job p q vs ws
+job_series r cut job first end p m q vs ws l f e series = record {
+  book = series.book ∙ l.book;
+  taken = series.taken ∙ l.taken;
+  ended = series.ended ∙ l.ended;
+  shown = λ x c. subst (λ (s : List ℕ). Contains s x) (sym series.shown) (l.shown x c);
+  piece = series.piece;
+  verdicts = series.verdicts;
+  reported = series.reported ∙ ap (λ (s : List ℕ). s ++ failed_of series.piece) l.reported;
+  recordings = series.recordings;
+  is_job = inr (let P : (ℕ × ℕ) → Type 0 = λ x. IsSeries x.0 x.1 series.piece in subst P (λ i. (f i, e i)) series.is_series);
 }
 
 -- lists of verdicts in pieces
@@ -164,7 +164,7 @@ done_more r cut job p q s vs ws done is adds =
     }
   where
     job_more : (j : ℕ) (us : List Finding) → IsJob (last_of r) cut p.shown j us → ((x : ℕ) → Contains p.shown x → Contains s.shown x) → IsJob (last_of r) cut s.shown j us
-    job_more j us h shown = elim h as (λ _. IsJob (last_of r) cut s.shown j us) [ inl w ↦ inl (w.0, (w.1.0, shown w.1.0 w.1.1, w.1.2)) | inr run ↦ inr run ]
+    job_more j us h shown = elim h as (λ _. IsJob (last_of r) cut s.shown j us) [ inl w ↦ inl (w.0, (w.1.0, shown w.1.0 w.1.1, w.1.2)) | inr series ↦ inr series ]
 
 pub adds_recordings : (r : RecordingParts) (cut job : ℕ) (q s : PassRecord) (vs ws : List Finding) → All (λ v. v.recording ≡ r) vs → AddsJob r cut job q s vs ws → (k : ℕ) (d : Finding) → k < length ws → (get_or ws k d).recording ≡ r
 adds_recordings r cut job q s vs ws old adds =
