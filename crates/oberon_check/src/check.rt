@@ -13,7 +13,7 @@ use crate::gate::Gate;
 use crate::gathering::gather;
 use crate::verdict::Verdict;
 use crate::worker::{Done, work};
-use oberon_claims::{Claims, Pass};
+use oberon_claims::{Claims, MAX_WORKERS, Pass};
 use oberon_format::Recording;
 use std::alloc::{AllocError, Global};
 use std::sync::Wait;
@@ -107,7 +107,8 @@ fn verdict_of(
     Ok(verdict)
 }
 
-/// Returns the verdict on a recording. `workers` threads, 1 to 64, replay its segments; a job is `cut` consecutive segments.
+/// Returns the verdict on a recording. `workers` threads, 1 to `MAX_WORKERS`, replay its segments; a job is `cut` consecutive
+/// segments.
 ///
 /// The verdict depends neither on `workers` nor on `cut`. The gate is called once before each job. The call waits until all
 /// workers have ended. It returns `Memory` only if memory runs out.
@@ -119,7 +120,7 @@ pub fn check_recording<R: Threads + Wait + Sync, G: Gate + Sync>(
     cut: u32,
     gate: &G,
 ) -> Result<Verdict, CheckFault>
-    requires workers { (1 ≤ workers) × (workers ≤ 64) }
+    requires workers { (1 ≤ workers) × (workers ≤ MAX_WORKERS) }
     requires cut { 1 ≤ cut }
     ensures { IfOk result (IsVerdict r.now) }
 {
