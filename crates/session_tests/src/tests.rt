@@ -10,8 +10,10 @@ use std::alloc::Global;
 use std::process::Abort;
 
 /// The start of a session of version 1, up to its pages, which breaks no rule.
-const START: &str =
-    "{\"format\":\"oberon-session\",\"version\":1,\"start\":{\"R\":[0,0,0,0,0,0,0,0,0,0,0,0,0,0,0,0],\"H\":0,\"PC\":0,\"flags\":0},";
+const START: &str = concat!(
+    "{\"format\":\"oberon-session\",\"version\":1,",
+    "\"start\":{\"R\":[0,0,0,0,0,0,0,0,0,0,0,0,0,0,0,0],\"H\":0,\"PC\":0,\"flags\":0},"
+);
 
 /// The rest of a session after `START`, and its first fault.
 const FAULTS_AFTER_START: [(&str, SessionFault); 38] = [
@@ -175,47 +177,91 @@ const FAULTS_AT_START: [(&str, SessionFault); 13] = [
     ("", SessionFault::Json),
     ("[]", SessionFault::Shape),
     (
-        "{\"format\":\"oberon-recording\",\"version\":1,\"start\":{\"R\":[0,0,0,0,0,0,0,0,0,0,0,0,0,0,0,0],\"H\":0,\"PC\":0,\"flags\":0},\"pages\":[],\"inputs\":[],\"checkpoints\":[]}",
+        concat!(
+            "{\"format\":\"oberon-recording\",\"version\":1,",
+            "\"start\":{\"R\":[0,0,0,0,0,0,0,0,0,0,0,0,0,0,0,0],\"H\":0,\"PC\":0,\"flags\":0},",
+            "\"pages\":[],\"inputs\":[],\"checkpoints\":[]}"
+        ),
         SessionFault::Shape,
     ),
     (
-        "{\"format\":1,\"version\":1,\"start\":{\"R\":[0,0,0,0,0,0,0,0,0,0,0,0,0,0,0,0],\"H\":0,\"PC\":0,\"flags\":0},\"pages\":[],\"inputs\":[],\"checkpoints\":[]}",
+        concat!(
+            "{\"format\":1,\"version\":1,",
+            "\"start\":{\"R\":[0,0,0,0,0,0,0,0,0,0,0,0,0,0,0,0],\"H\":0,\"PC\":0,\"flags\":0},",
+            "\"pages\":[],\"inputs\":[],\"checkpoints\":[]}"
+        ),
         SessionFault::Shape,
     ),
     (
-        "{\"format\":\"oberon-session\",\"version\":1,\"start\":{\"R\":[0,0,0,0,0,0,0,0,0,0,0,0,0,0,0,0],\"PC\":0,\"flags\":0},\"pages\":[],\"inputs\":[],\"checkpoints\":[]}",
+        concat!(
+            "{\"format\":\"oberon-session\",\"version\":1,",
+            "\"start\":{\"R\":[0,0,0,0,0,0,0,0,0,0,0,0,0,0,0,0],\"PC\":0,\"flags\":0},",
+            "\"pages\":[],\"inputs\":[],\"checkpoints\":[]}"
+        ),
         SessionFault::Shape,
     ),
     (
-        "{\"format\":\"oberon-session\",\"version\":1,\"start\":{\"R\":[0,0,0,0,0,0,0,0,0,0,0,0,0,0,0,0],\"H\":4294967296,\"PC\":0,\"flags\":0},\"pages\":[],\"inputs\":[],\"checkpoints\":[]}",
+        concat!(
+            "{\"format\":\"oberon-session\",\"version\":1,",
+            "\"start\":{\"R\":[0,0,0,0,0,0,0,0,0,0,0,0,0,0,0,0],\"H\":4294967296,\"PC\":0,\"flags\":0},",
+            "\"pages\":[],\"inputs\":[],\"checkpoints\":[]}"
+        ),
         SessionFault::Range,
     ),
     (
-        "{\"format\":\"oberon-session\",\"version\":1,\"start\":{\"R\":[0,0,0,0,0,0,0,0,0,0,0,0,0,0,0,0],\"H\":0,\"PC\":0,\"flags\":16},\"pages\":[],\"inputs\":[],\"checkpoints\":[]}",
+        concat!(
+            "{\"format\":\"oberon-session\",\"version\":1,",
+            "\"start\":{\"R\":[0,0,0,0,0,0,0,0,0,0,0,0,0,0,0,0],\"H\":0,\"PC\":0,\"flags\":16},",
+            "\"pages\":[],\"inputs\":[],\"checkpoints\":[]}"
+        ),
         SessionFault::Range,
     ),
     (
-        "{\"format\":\"oberon-session\",\"version\":3,\"start\":{\"R\":[0,0,0,0,0,0,0,0,0,0,0,0,0,0,0,0],\"H\":0,\"PC\":0,\"flags\":0},\"pages\":[],\"inputs\":[],\"checkpoints\":[]}",
+        concat!(
+            "{\"format\":\"oberon-session\",\"version\":3,",
+            "\"start\":{\"R\":[0,0,0,0,0,0,0,0,0,0,0,0,0,0,0,0],\"H\":0,\"PC\":0,\"flags\":0},",
+            "\"pages\":[],\"inputs\":[],\"checkpoints\":[]}"
+        ),
         SessionFault::Shape,
     ),
     (
-        "{\"format\":\"oberon-session\",\"version\":0,\"start\":{\"R\":[0,0,0,0,0,0,0,0,0,0,0,0,0,0,0,0],\"H\":0,\"PC\":0,\"flags\":0},\"pages\":[],\"inputs\":[],\"checkpoints\":[]}",
+        concat!(
+            "{\"format\":\"oberon-session\",\"version\":0,",
+            "\"start\":{\"R\":[0,0,0,0,0,0,0,0,0,0,0,0,0,0,0,0],\"H\":0,\"PC\":0,\"flags\":0},",
+            "\"pages\":[],\"inputs\":[],\"checkpoints\":[]}"
+        ),
         SessionFault::Shape,
     ),
     (
-        "{\"format\":\"oberon-session\",\"version\":1,\"start\":{\"R\":[0,0,0,0,0,0,0,0,0,0,0,0,0,0,0,0],\"H\":0,\"PC\":0,\"flags\":0,\"rate\":0,\"phase\":0},\"pages\":[],\"inputs\":[],\"checkpoints\":[]}",
+        concat!(
+            "{\"format\":\"oberon-session\",\"version\":1,",
+            "\"start\":{\"R\":[0,0,0,0,0,0,0,0,0,0,0,0,0,0,0,0],\"H\":0,\"PC\":0,\"flags\":0,\"rate\":0,\"phase\":0},",
+            "\"pages\":[],\"inputs\":[],\"checkpoints\":[]}"
+        ),
         SessionFault::Shape,
     ),
     (
-        "{\"format\":\"oberon-session\",\"version\":1,\"start\":{\"R\":[0,0,0,0,0,0,0,0,0,0,0,0,0,0,0],\"H\":0,\"PC\":0,\"flags\":0},\"pages\":[],\"inputs\":[],\"checkpoints\":[]}",
+        concat!(
+            "{\"format\":\"oberon-session\",\"version\":1,",
+            "\"start\":{\"R\":[0,0,0,0,0,0,0,0,0,0,0,0,0,0,0],\"H\":0,\"PC\":0,\"flags\":0},",
+            "\"pages\":[],\"inputs\":[],\"checkpoints\":[]}"
+        ),
         SessionFault::Shape,
     ),
     (
-        "{\"format\":\"oberon-session\",\"version\":1,\"start\":{\"R\":[0,0,0,0,0,0,0,0,0,0,0,0,0,0,0,0],\"H\":0,\"PC\":4194304,\"flags\":0},\"pages\":[],\"inputs\":[],\"checkpoints\":[]}",
+        concat!(
+            "{\"format\":\"oberon-session\",\"version\":1,",
+            "\"start\":{\"R\":[0,0,0,0,0,0,0,0,0,0,0,0,0,0,0,0],\"H\":0,\"PC\":4194304,\"flags\":0},",
+            "\"pages\":[],\"inputs\":[],\"checkpoints\":[]}"
+        ),
         SessionFault::Range,
     ),
     (
-        "{\"format\":\"oberon-session\",\"version\":1,\"start\":{\"R\":[0,0,0,0,0,0,0,0,0,0,0,0,0,0,0,4294967296],\"H\":0,\"PC\":0,\"flags\":0},\"pages\":[],\"inputs\":[],\"checkpoints\":[]}",
+        concat!(
+            "{\"format\":\"oberon-session\",\"version\":1,",
+            "\"start\":{\"R\":[0,0,0,0,0,0,0,0,0,0,0,0,0,0,0,4294967296],\"H\":0,\"PC\":0,\"flags\":0},",
+            "\"pages\":[],\"inputs\":[],\"checkpoints\":[]}"
+        ),
         SessionFault::Range,
     ),
 ];
@@ -254,8 +300,14 @@ fn fault_of(alloc: Global, text: &[u8]) -> Option<SessionFault> {
 }
 
 /// A session with a value in each part. Its program counter is outside of memory, so its machine stops at once.
-const WHOLE: &str =
-    "{\"format\":\"oberon-session\",\"version\":1,\"start\":{\"R\":[1,2,3,4,5,6,7,8,9,10,11,12,13,14,15,4294967295],\"H\":17,\"PC\":4194303,\"flags\":10},\"pages\":[{\"at\":0,\"hex\":\"05000040FFffffe7aA\"},{\"at\":1,\"hex\":\"\"},{\"at\":1023,\"hex\":\"01\"}],\"inputs\":[[0,\"timer\",4294967295],[0,\"switches\",4095],[3,\"mouse\",121631743],[3,\"key\",65],[1099511627776,\"serial\",255]],\"checkpoints\":[1,100,1099511627776]}";
+const WHOLE: &str = concat!(
+    "{\"format\":\"oberon-session\",\"version\":1,",
+    "\"start\":{\"R\":[1,2,3,4,5,6,7,8,9,10,11,12,13,14,15,4294967295],\"H\":17,\"PC\":4194303,\"flags\":10},",
+    "\"pages\":[{\"at\":0,\"hex\":\"05000040FFffffe7aA\"},{\"at\":1,\"hex\":\"\"},{\"at\":1023,\"hex\":\"01\"}],",
+    "\"inputs\":[[0,\"timer\",4294967295],[0,\"switches\",4095],",
+    "[3,\"mouse\",121631743],[3,\"key\",65],[1099511627776,\"serial\",255]],",
+    "\"checkpoints\":[1,100,1099511627776]}"
+);
 
 /// Returns the recording of the session that a text encodes.
 fn recording_of(alloc: Global, text: &str) -> Option<Recording> {
@@ -329,20 +381,20 @@ const WORDS: [(u16, u32, u32); 7] = [
 ];
 
 /// Reports whether the initial memory has this word in a page slot, at an index.
-fn is_first_word(recording: &Recording, place: u16, index: u32, word: u32) -> bool {
-    if place >= 1024 || index >= 256 || recording.count() == 0 {
+fn is_first_word(recording: &Recording, slot: u16, index: u32, word: u32) -> bool {
+    if slot >= 1024 || index >= 256 || recording.count() == 0 {
         return false;
     }
-    let page_no = recording.checkpoint(0).table.entry(place);
+    let page_no = recording.checkpoint(0).table.entry(slot);
     let pool = recording.pool();
     page_no <= pool.len() && pool.word(page_no, index) == word
 }
 
 /// Returns the page slot and the index of the first word that is wrong, if there is one.
 fn another_word(recording: &Recording) -> Option<(u16, u32)> {
-    for (place, index, word) in &WORDS {
-        if !is_first_word(recording, *place, *index, *word) {
-            return Some((*place, *index));
+    for (slot, index, word) in &WORDS {
+        if !is_first_word(recording, *slot, *index, *word) {
+            return Some((*slot, *index));
         }
     }
     None
@@ -359,8 +411,8 @@ fn reads_the_pages_of_a_session(rt: HostRuntime) {
     let (pages, wrong) = pages_of_whole(rt.alloc()).expect(&rt, "a recording");
     // each page of a session is in the pool, also one of zeros
     assert!(rt; pages == 3, "{pages} pages");
-    if let Some((place, index)) = wrong {
-        panic!(rt; "word {index} at {place}");
+    if let Some((slot, index)) = wrong {
+        panic!(rt; "word {index} in slot {slot}");
     }
 }
 
@@ -606,10 +658,10 @@ fn takes_arrays_nested_127_deep(rt: HostRuntime) {
 
 /// The message of each fault.
 const MESSAGES: [(SessionFault, &str); 6] = [
-    (SessionFault::Json, "the text is no JSON"),
+    (SessionFault::Json, "the bytes are not JSON"),
     (
         SessionFault::Shape,
-        "the text has not the shape of a session",
+        "the JSON does not have the shape of a session",
     ),
     (
         SessionFault::Range,

@@ -20,7 +20,7 @@ pub(crate) struct Crew {
 pub(crate) fn checked<R: Threads + Wait + Sync, G: Gate + Sync>(
     rt: &R,
     alloc: Global,
-    text: &[u8],
+    bytes: &[u8],
     crew: Crew,
     gate: &G,
 ) -> Result<(Vec<u8>, u8), Fail> {
@@ -28,7 +28,7 @@ pub(crate) fn checked<R: Threads + Wait + Sync, G: Gate + Sync>(
     if workers < 1 || workers > 64 || cut < 1 {
         return Err("no such workers or cut".into());
     }
-    let report = check_bytes(rt, alloc, text, workers, cut, gate)?;
+    let report = check_bytes(rt, alloc, bytes, workers, cut, gate)?;
     Ok((report.line, report.status))
 }
 
@@ -41,20 +41,20 @@ pub(crate) fn text_gives<R: Abort + Threads + Wait + Sync>(
     crew: Crew,
     expected: (&[u8], u8),
 ) -> Result<(), Fail> {
-    let text = recording.first_file(alloc, replaced)?;
-    gives(rt, alloc, &text, crew, expected)
+    let bytes = recording.first_file(alloc, replaced)?;
+    gives(rt, alloc, &bytes, crew, expected)
 }
 
 /// Checks the line and the status of a file and of its migrated form, with a gate that does nothing.
 pub(crate) fn gives<R: Abort + Threads + Wait + Sync>(
     rt: &R,
     alloc: Global,
-    text: &[u8],
+    bytes: &[u8],
     crew: Crew,
     expected: (&[u8], u8),
 ) -> Result<(), Fail> {
-    is_answered(rt, alloc, text, crew, expected)?;
-    match migrate(alloc, text) {
+    is_answered(rt, alloc, bytes, crew, expected)?;
+    match migrate(alloc, bytes) {
         Ok(migrated) => is_answered(rt, alloc, &migrated, crew, expected),
         Err(fault) => is_refused(rt, alloc, fault, expected),
     }
@@ -64,11 +64,11 @@ pub(crate) fn gives<R: Abort + Threads + Wait + Sync>(
 fn is_answered<R: Abort + Threads + Wait + Sync>(
     rt: &R,
     alloc: Global,
-    text: &[u8],
+    bytes: &[u8],
     crew: Crew,
     (line, status): (&[u8], u8),
 ) -> Result<(), Fail> {
-    let (written, ended) = checked(rt, alloc, text, crew, &FreeGate)?;
+    let (written, ended) = checked(rt, alloc, bytes, crew, &FreeGate)?;
     is_line(rt, written.as_slice(), line);
     assert!(rt; ended == status, "status {ended} in place of {status}");
     Ok(())

@@ -95,7 +95,7 @@ fn two_false_checkpoints(rt: HostRuntime) -> Result<(), Fail> {
 fn counted_line<R: Threads + Wait + Sync>(
     rt: &R,
     alloc: Global,
-    text: &[u8],
+    bytes: &[u8],
     crew: Crew,
     jobs: u32,
 ) -> Result<(bool, bool), Fail> {
@@ -103,7 +103,7 @@ fn counted_line<R: Threads + Wait + Sync>(
     let gate = CountingGate {
         begun: begun.as_slice(),
     };
-    let (line, status) = checked(rt, alloc, text, crew, &gate)?;
+    let (line, status) = checked(rt, alloc, bytes, crew, &gate)?;
     let named = line.as_slice() == b"false checkpoint 3 at 30 part LEDs\n".as_slice();
     Ok((
         named && status == 1,
@@ -118,8 +118,8 @@ fn line_of_jumps<R: Threads + Wait + Sync>(
     crew: Crew,
     jobs: u32,
 ) -> Result<(bool, bool), Fail> {
-    let text = jumps(10).first_file(alloc, &LIT_LEDS)?;
-    counted_line(rt, alloc, text.as_slice(), crew, jobs)
+    let bytes = jumps(10).first_file(alloc, &LIT_LEDS)?;
+    counted_line(rt, alloc, bytes.as_slice(), crew, jobs)
 }
 
 #[test]

@@ -54,15 +54,15 @@ pub(crate) fn held_line<R: Abort + Threads + Wait + Sync>(
     holds: &[Hold<'_>],
     expected: (&[u8], u8),
 ) -> Result<u64, Fail> {
-    let text = written.text(alloc)?;
-    meets(rt, alloc, &text, holds, expected)
+    let bytes = written.bytes(alloc)?;
+    meets(rt, alloc, &bytes, holds, expected)
 }
 
 /// Checks the line and the status of a file, and returns how many held jobs met the others.
 fn meets<R: Abort + Threads + Wait + Sync>(
     rt: &R,
     alloc: Global,
-    text: &[u8],
+    bytes: &[u8],
     holds: &[Hold<'_>],
     (line, status): (&[u8], u8),
 ) -> Result<u64, Fail> {
@@ -73,7 +73,7 @@ fn meets<R: Abort + Threads + Wait + Sync>(
         begun: begun.as_slice(),
         met: &met,
     };
-    let (found, ended) = checked(rt, alloc, text, TWO, &gate)?;
+    let (found, ended) = checked(rt, alloc, bytes, TWO, &gate)?;
     is_line(rt, found.as_slice(), line);
     assert!(rt; ended == status, "another status");
     Ok(met.load(Ordering::SeqCst))

@@ -38,7 +38,7 @@ pub(crate) struct Written<'a> {
 
 impl Written<'_> {
     /// Returns the file.
-    pub(crate) fn text(&self, alloc: Global) -> Result<Vec<u8>, AllocError> {
+    pub(crate) fn bytes(&self, alloc: Global) -> Result<Vec<u8>, AllocError> {
         if self.version == 1 {
             self.recording.first_file(alloc, self.replaced)
         } else {
@@ -48,8 +48,8 @@ impl Written<'_> {
 
     /// Returns the recording that `read` decodes from the file.
     pub(crate) fn recording(&self, alloc: Global) -> Result<Recording, Fail> {
-        let text = self.text(alloc)?;
-        Ok(read(alloc, text.as_slice())?)
+        let bytes = self.bytes(alloc)?;
+        Ok(read(alloc, bytes.as_slice())?)
     }
 }
 

@@ -48,22 +48,22 @@ const STOPPED_TOO_LATE: Sketch<'static> = Sketch {
 fn is_short<R: Abort + Threads + Wait + Sync>(
     rt: &R,
     alloc: Global,
-    text: &[u8],
+    bytes: &[u8],
 ) -> Result<(), Fail> {
-    let length = text.len();
+    let length = bytes.len();
     let line = format!(in alloc; "refused 1 short at byte {length}\n")?;
-    gives(rt, alloc, text, TWO, (line.as_bytes(), 2))
+    gives(rt, alloc, bytes, TWO, (line.as_bytes(), 2))
 }
 
 #[test]
 fn a_file_cut_anywhere_is_short(rt: HostRuntime) -> Result<(), Fail> {
-    let text = STORED_RUN.first_file(rt.alloc(), &[])?;
-    assert!(rt; text.len() == 9504, "another length");
-    for length in 0..text.len() {
-        is_short(&rt, rt.alloc(), &text[..length])?;
+    let bytes = STORED_RUN.first_file(rt.alloc(), &[])?;
+    assert!(rt; bytes.len() == 9504, "another length");
+    for length in 0..bytes.len() {
+        is_short(&rt, rt.alloc(), &bytes[..length])?;
     }
     let accepted = (b"accepted 1 checkpoints 100 steps\n".as_slice(), 0);
-    gives(&rt, rt.alloc(), &text, TWO, accepted)
+    gives(&rt, rt.alloc(), &bytes, TWO, accepted)
 }
 
 /// The lengths to which the file of `ONE_BYTE_SENT` is cut or padded, first its own, each with the expected line and status.
@@ -80,10 +80,10 @@ fn gives_at_length<R: Abort + Threads + Wait + Sync>(
     length: usize,
     expected: (&[u8], u8),
 ) -> Result<(), Fail> {
-    let mut text = ONE_BYTE_SENT.first_file(alloc, &[])?;
-    assert!(rt; text.len() == 13_733, "another length");
-    text.resize(length, 0)?;
-    gives(rt, alloc, &text, TWO, expected)
+    let mut bytes = ONE_BYTE_SENT.first_file(alloc, &[])?;
+    assert!(rt; bytes.len() == 13_733, "another length");
+    bytes.resize(length, 0)?;
+    gives(rt, alloc, &bytes, TWO, expected)
 }
 
 #[test]
@@ -109,9 +109,9 @@ fn header_gives<R: Abort + Threads + Wait + Sync>(
     (pages, events, checkpoints): (u32, u32, u32),
     line: &[u8],
 ) -> Result<(), Fail> {
-    let text = header(alloc, 1, pages, events, checkpoints)?;
-    assert!(rt; text.len() == 24, "another length");
-    gives(rt, alloc, &text, TWO, (line, 2))
+    let bytes = header(alloc, 1, pages, events, checkpoints)?;
+    assert!(rt; bytes.len() == 24, "another length");
+    gives(rt, alloc, &bytes, TWO, (line, 2))
 }
 
 #[test]
@@ -155,15 +155,15 @@ const MOST_ACCEPTED: (&[u8], u8) = (b"accepted 4096 checkpoints 4096 steps\n", 0
 
 #[test]
 fn as_many_checkpoints_as_there_can_be(rt: HostRuntime) -> Result<(), Fail> {
-    let text = file_of_most_checkpoints(rt.alloc())?;
-    gives(&rt, rt.alloc(), &text, TWO, MOST_ACCEPTED)
+    let bytes = file_of_most_checkpoints(rt.alloc())?;
+    gives(&rt, rt.alloc(), &bytes, TWO, MOST_ACCEPTED)
 }
 
 #[test]
 fn as_many_jobs_as_there_can_be(rt: HostRuntime) -> Result<(), Fail> {
-    let text = file_of_most_checkpoints(rt.alloc())?;
+    let bytes = file_of_most_checkpoints(rt.alloc())?;
     let crew = Crew { workers: 2, cut: 1 };
-    gives(&rt, rt.alloc(), &text, crew, MOST_ACCEPTED)
+    gives(&rt, rt.alloc(), &bytes, crew, MOST_ACCEPTED)
 }
 
 #[test]
@@ -233,8 +233,8 @@ fn run_to_the_last_count(alloc: Global, r: &Recording) -> Result<Option<&'static
 
 /// Runs the recording that a division by zero stops, and returns what has changed besides the stop.
 fn changed_after_the_stop(alloc: Global) -> Result<Option<&'static str>, Fail> {
-    let text = STOPPED.first_file(alloc, &[])?;
-    let r = read(alloc, text.as_slice())?;
+    let bytes = STOPPED.first_file(alloc, &[])?;
+    let r = read(alloc, bytes.as_slice())?;
     run_to_the_last_count(alloc, &r)
 }
 

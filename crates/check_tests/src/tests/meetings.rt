@@ -33,8 +33,8 @@ fn workers_meet(rt: HostRuntime) -> Result<(), Fail> {
 #[test]
 fn workers_of_a_file_meet(rt: HostRuntime) -> Result<(), Fail> {
     for version in [1, 2] {
-        let text = two_jumps(version);
-        let met = held_line(&rt, rt.alloc(), &text, &EACH_OTHER, ACCEPTED_LINE)?;
+        let written = two_jumps(version);
+        let met = held_line(&rt, rt.alloc(), &written, &EACH_OTHER, ACCEPTED_LINE)?;
         assert!(rt; met == 2, "{met} jobs met the other, version {version}");
     }
     Ok(())

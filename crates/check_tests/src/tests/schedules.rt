@@ -51,8 +51,8 @@ const STORED: [(u32, (&[u8], u8)); 2] = [
 fn the_stored_run_and_its_false_form(rt: HostRuntime) -> Result<(), Fail> {
     for (r0, expected) in STORED {
         let replaced = [(Register(1, 0), r0)];
-        let text = (&STORED_RUN, replaced.as_slice());
-        agree(&rt, rt.alloc(), text, &[1, 4, 100], expected)?;
+        let written = (&STORED_RUN, replaced.as_slice());
+        agree(&rt, rt.alloc(), written, &[1, 4, 100], expected)?;
     }
     Ok(())
 }
@@ -118,8 +118,8 @@ const ALL_LIT: [[(Spot, u32); 10]; 2] = [
 fn the_first_of_many_false_checkpoints(rt: HostRuntime) -> Result<(), Fail> {
     let ten = jumps(10);
     for replaced in &ALL_LIT {
-        let text = (&ten, replaced.as_slice());
-        agree(&rt, rt.alloc(), text, &CUTS, FALSE_AT_ONCE)?;
+        let written = (&ten, replaced.as_slice());
+        agree(&rt, rt.alloc(), written, &CUTS, FALSE_AT_ONCE)?;
     }
     Ok(())
 }
@@ -128,12 +128,12 @@ fn the_first_of_many_false_checkpoints(rt: HostRuntime) -> Result<(), Fail> {
 fn hold<R: Abort + Threads + Wait + Sync>(
     rt: &R,
     alloc: Global,
-    text: &Written<'_>,
+    written: &Written<'_>,
     holds: &[Hold<'_>],
     (verdict, line, met): (Verdict, (&[u8], u8), u64),
 ) -> Result<(), Fail> {
-    is_held(rt, alloc, text, holds, (verdict, met))?;
-    let met_by_line = held_line(rt, alloc, text, holds, line)?;
+    is_held(rt, alloc, written, holds, (verdict, met))?;
+    let met_by_line = held_line(rt, alloc, written, holds, line)?;
     assert!(rt;
         met_by_line == met,
         "the line met others another number of times"
@@ -145,11 +145,11 @@ fn hold<R: Abort + Threads + Wait + Sync>(
 fn is_held<R: Abort + Threads + Wait + Sync>(
     rt: &R,
     alloc: Global,
-    text: &Written<'_>,
+    written: &Written<'_>,
     holds: &[Hold<'_>],
     (verdict, met): (Verdict, u64),
 ) -> Result<(), Fail> {
-    let (found, met_by_verdict) = held_verdict(rt, alloc, text, holds)?;
+    let (found, met_by_verdict) = held_verdict(rt, alloc, written, holds)?;
     assert!(rt; found == verdict, "another verdict");
     assert!(rt;
         met_by_verdict == met,
@@ -169,13 +169,13 @@ const FIRST_LAST: [Hold<'static>; 1] = [Hold {
 #[test]
 fn the_first_job_waits_for_all_others(rt: HostRuntime) -> Result<(), Fail> {
     for version in [1, 2] {
-        let text = Written {
+        let written = Written {
             recording: jumps(10),
             replaced: &[(Leds(1), 1), (Leds(7), 1)],
             version,
         };
         let expected = (FALSE_FIRST, FALSE_AT_ONCE, 1);
-        hold(&rt, rt.alloc(), &text, &FIRST_LAST, expected)?;
+        hold(&rt, rt.alloc(), &written, &FIRST_LAST, expected)?;
     }
     Ok(())
 }
@@ -190,13 +190,13 @@ const TWO_ACCEPTED_LINE: (&[u8], u8) = (b"accepted 2 checkpoints 20 steps\n", 0)
 #[test]
 fn two_workers_meet(rt: HostRuntime) -> Result<(), Fail> {
     for version in [1, 2] {
-        let text = Written {
+        let written = Written {
             recording: jumps(2),
             replaced: &[],
             version,
         };
         let expected = (TWO_ACCEPTED, TWO_ACCEPTED_LINE, 2);
-        hold(&rt, rt.alloc(), &text, &EACH_OTHER, expected)?;
+        hold(&rt, rt.alloc(), &written, &EACH_OTHER, expected)?;
     }
     Ok(())
 }

@@ -46,8 +46,8 @@ fn part_of_timer(
     claimed: (u32, u32, u32),
     before: u32,
 ) -> Result<Option<Part>, Fail> {
-    let text = timer_file(alloc, claimed, before)?;
-    let r = read(alloc, text.as_slice())?;
+    let bytes = timer_file(alloc, claimed, before)?;
+    let r = read(alloc, bytes.as_slice())?;
     part_of_segment(alloc, &r)
 }
 

@@ -1,5 +1,5 @@
-//! A segment of 2^40 steps that no worker may replay. A worker that replays the counting machine is ended only by the time limit of the
-//! test; the idle machine's steps are skipped, so that alone would show nothing.
+//! A segment of 2^40 steps that no worker may replay. A worker that replays the counting machine is ended only by the time limit of
+//! the test; the idle machine's steps are skipped, so that alone would show nothing.
 
 use super::gates::Hold;
 use super::held::{held_line, held_verdict};
@@ -90,8 +90,8 @@ const FALSE_LINE: (&[u8], u8) = (b"false checkpoint 1 at 10 part LEDs\n", 1);
 
 #[test]
 fn the_long_segment_after_a_false_checkpoint_is_skipped(rt: HostRuntime) -> Result<(), Fail> {
-    for text in &long_recordings(1) {
-        let (verdict, met) = held_verdict(&rt, rt.alloc(), text, &HOLDS)?;
+    for written in &long_recordings(1) {
+        let (verdict, met) = held_verdict(&rt, rt.alloc(), written, &HOLDS)?;
         assert!(rt; verdict == FALSE_AT_ONCE, "another verdict");
         assert!(rt; met == 1, "the long segment met the last one {met} times");
     }
@@ -101,8 +101,8 @@ fn the_long_segment_after_a_false_checkpoint_is_skipped(rt: HostRuntime) -> Resu
 #[test]
 fn the_long_segment_of_a_file_is_skipped(rt: HostRuntime) -> Result<(), Fail> {
     for version in [1, 2] {
-        for text in &long_recordings(version) {
-            let met = held_line(&rt, rt.alloc(), text, &HOLDS, FALSE_LINE)?;
+        for written in &long_recordings(version) {
+            let met = held_line(&rt, rt.alloc(), written, &HOLDS, FALSE_LINE)?;
             assert!(rt;
                 met == 1,
                 "the long segment met the last one {met} times, version {version}"

@@ -9,25 +9,25 @@ use std::process::Abort;
 pub(crate) type Turned = (&'static [(u16, u32)], Fault);
 
 /// Sets one byte of a file, if it is there.
-pub(crate) fn put_byte(text: &mut Vec<u8>, place: usize, byte: u8) {
-    if place < text.len() {
-        text[place] = byte;
+pub(crate) fn put_byte(bytes: &mut Vec<u8>, offset: usize, byte: u8) {
+    if offset < bytes.len() {
+        bytes[offset] = byte;
     }
 }
 
 /// Sets the four bytes of a word, lowest first.
-pub(crate) fn put_word(text: &mut Vec<u8>, place: u16, word: u32) {
-    let place = place as usize;
-    put_byte(text, place, (word & 0xFF) as u8);
-    put_byte(text, place + 1, (word >> 8 & 0xFF) as u8);
-    put_byte(text, place + 2, (word >> 16 & 0xFF) as u8);
-    put_byte(text, place + 3, (word >> 24 & 0xFF) as u8);
+pub(crate) fn put_word(bytes: &mut Vec<u8>, offset: u16, word: u32) {
+    let offset = offset as usize;
+    put_byte(bytes, offset, (word & 0xFF) as u8);
+    put_byte(bytes, offset + 1, (word >> 8 & 0xFF) as u8);
+    put_byte(bytes, offset + 2, (word >> 16 & 0xFF) as u8);
+    put_byte(bytes, offset + 3, (word >> 24 & 0xFF) as u8);
 }
 
 /// Sets words of a file, each at its offset.
-pub(crate) fn put_words(text: &mut Vec<u8>, words: &[(u16, u32)]) {
-    for (place, word) in words {
-        put_word(text, *place, *word);
+pub(crate) fn put_words(bytes: &mut Vec<u8>, words: &[(u16, u32)]) {
+    for (offset, word) in words {
+        put_word(bytes, *offset, *word);
     }
 }
 
@@ -45,8 +45,8 @@ pub(crate) fn file_of(
 }
 
 /// Reports whether this is the first fault of a file.
-pub(crate) fn is_fault_of(alloc: Global, text: &[u8], fault: Fault) -> bool {
-    match read(alloc, text) {
+pub(crate) fn is_fault_of(alloc: Global, bytes: &[u8], fault: Fault) -> bool {
+    match read(alloc, bytes) {
         Ok(_) => false,
         Err(found) => found == fault,
     }
@@ -61,9 +61,9 @@ pub(crate) fn is_refused(
     fault: Fault,
 ) -> bool {
     match file_of(alloc, version, sketch) {
-        Ok(mut text) => {
-            put_words(&mut text, words);
-            is_fault_of(alloc, &text, fault)
+        Ok(mut bytes) => {
+            put_words(&mut bytes, words);
+            is_fault_of(alloc, &bytes, fault)
         }
         Err(_) => false,
     }
@@ -87,16 +87,16 @@ pub(crate) fn row_of_another_fault(
 /// Reports whether this is the first fault of the file of the stored run with a byte after it.
 pub(crate) fn is_refused_with_a_byte_more(alloc: Global, version: u32, fault: Fault) -> bool {
     match file_of(alloc, version, &STORED_RUN) {
-        Ok(mut text) => text.push(0).is_ok() && is_fault_of(alloc, &text, fault),
+        Ok(mut bytes) => bytes.push(0).is_ok() && is_fault_of(alloc, &bytes, fault),
         Err(_) => false,
     }
 }
 
 /// Returns the first bytes of the file of the stored run.
 pub(crate) fn cut_file(alloc: Global, version: u32, len: usize) -> Result<Vec<u8>, AllocError> {
-    let mut text = file_of(alloc, version, &STORED_RUN)?;
-    text.truncate(len);
-    Ok(text)
+    let mut bytes = file_of(alloc, version, &STORED_RUN)?;
+    bytes.truncate(len);
+    Ok(bytes)
 }
 
 /// Reports whether this is the line of a fault.

@@ -62,8 +62,8 @@ const SKETCHES: [Sketch<'static>; 5] = [STORED_RUN, EMPTY, EQUAL_PAGES, ONE_BYTE
 
 /// Returns the recording of a sketch, from its file of version 1.
 fn first_recording(alloc: Global, sketch: &Sketch<'_>) -> Option<Recording> {
-    let text = sketch.first_file(alloc, &[]).ok()?;
-    read(alloc, &text).ok()
+    let bytes = sketch.first_file(alloc, &[]).ok()?;
+    read(alloc, &bytes).ok()
 }
 
 /// Returns the file that is written of this recording.
@@ -74,14 +74,14 @@ fn written_file(alloc: Global, sketch: &Sketch<'_>) -> Option<Vec<u8>> {
 
 /// Returns the recording of the file that is written of this one.
 fn second_recording(alloc: Global, sketch: &Sketch<'_>) -> Option<Recording> {
-    let text = written_file(alloc, sketch)?;
-    read(alloc, &text).ok()
+    let bytes = written_file(alloc, sketch)?;
+    read(alloc, &bytes).ok()
 }
 
 /// Returns the length of the file of version 1.
 fn first_length(alloc: Global, sketch: &Sketch<'_>) -> Option<usize> {
     match sketch.first_file(alloc, &[]) {
-        Ok(text) => Some(text.len()),
+        Ok(bytes) => Some(bytes.len()),
         Err(_) => None,
     }
 }
@@ -163,8 +163,8 @@ fn gives_the_same_recording_in_the_second_version(rt: HostRuntime) {
 }
 
 /// Returns the version of a file.
-fn version_of(text: &[u8]) -> u8 {
-    if text.len() > 4 { text[4] } else { 0 }
+fn version_of(bytes: &[u8]) -> u8 {
+    if bytes.len() > 4 { bytes[4] } else { 0 }
 }
 
 /// Reports whether a recording is written in version 2, and shorter than in version 1.
@@ -357,12 +357,12 @@ const BROKEN: [(u16, u32, Fault, &str); 28] = [
 ];
 
 /// Returns the first row with another fault, or whose fault has another line, if there is one.
-fn place_of_another_fault(alloc: Global) -> Option<u16> {
-    for (place, word, fault, line) in &BROKEN {
-        if !is_refused(alloc, 1, &STORED_RUN, &[(*place, *word)], *fault)
+fn offset_of_another_fault(alloc: Global) -> Option<u16> {
+    for (offset, word, fault, line) in &BROKEN {
+        if !is_refused(alloc, 1, &STORED_RUN, &[(*offset, *word)], *fault)
             || !is_line(alloc, *fault, line)
         {
-            return Some(*place);
+            return Some(*offset);
         }
     }
     None
@@ -370,8 +370,8 @@ fn place_of_another_fault(alloc: Global) -> Option<u16> {
 
 #[test]
 fn refuses_each_broken_rule(rt: HostRuntime) {
-    if let Some(place) = place_of_another_fault(rt.alloc()) {
-        panic!(rt; "at {place}");
+    if let Some(offset) = offset_of_another_fault(rt.alloc()) {
+        panic!(rt; "at {offset}");
     }
 }
 
@@ -410,7 +410,7 @@ fn refuses_a_file_with_a_byte_after_it(rt: HostRuntime) {
 /// Reports whether the file of the stored run is refused as short when cut at this length.
 fn is_short_at(alloc: Global, len: usize) -> bool {
     match cut_file(alloc, 1, len) {
-        Ok(text) => is_fault_of(alloc, &text, Fault::Short(len as u64)),
+        Ok(bytes) => is_fault_of(alloc, &bytes, Fault::Short(len as u64)),
         Err(_) => false,
     }
 }
@@ -478,26 +478,26 @@ fn gives_the_first_of_two_faults(rt: HostRuntime) {
 
 /// Returns a file with as many pages and events as there can be.
 fn largest_file(alloc: Global) -> Result<Vec<u8>, AllocError> {
-    let mut text = vec![in alloc; 0; 83_113_116]?;
+    let mut bytes = vec![in alloc; 0; 83_113_116]?;
     let header = header(alloc, 1, 65_536, 1_000_000, 1)?;
-    for (place, byte) in header.iter().enumerate() {
-        put_byte(&mut text, place, *byte);
+    for (offset, byte) in header.iter().enumerate() {
+        put_byte(&mut bytes, offset, *byte);
     }
-    put_word(&mut text, 24, JUMP);
+    put_word(&mut bytes, 24, JUMP);
     // The last word of the last page, the kind and the value of each event, and the last page id of the table.
-    put_byte(&mut text, 67_108_884, 7);
+    put_byte(&mut bytes, 67_108_884, 7);
     for i in 0..1_000_000usize {
-        put_byte(&mut text, 67_108_896 + 16 * i, 1);
-        put_byte(&mut text, 67_108_900 + 16 * i, 9);
+        put_byte(&mut bytes, 67_108_896 + 16 * i, 1);
+        put_byte(&mut bytes, 67_108_900 + 16 * i, 9);
     }
-    put_byte(&mut text, 83_113_114, 1);
-    Ok(text)
+    put_byte(&mut bytes, 83_113_114, 1);
+    Ok(bytes)
 }
 
 /// Returns the recording of this file.
 fn most_recording(alloc: Global) -> Option<Recording> {
-    let text = largest_file(alloc).ok()?;
-    read(alloc, &text).ok()
+    let bytes = largest_file(alloc).ok()?;
+    read(alloc, &bytes).ok()
 }
 
 /// Reports whether the pool is that of this file.
@@ -531,7 +531,7 @@ fn part_unlike_most(recording: &Recording) -> Option<&'static str> {
 /// Reports whether the file of a recording has this length in the current version.
 fn is_written_in(alloc: Global, recording: &Recording, length: usize) -> bool {
     match write(alloc, recording) {
-        Ok(text) => text.len() == length,
+        Ok(bytes) => bytes.len() == length,
         Err(_) => false,
     }
 }

@@ -7,8 +7,8 @@ use std::alloc::Global;
 
 /// Returns the migration of the file of the stored run in this version.
 fn migrated_file(alloc: Global, version: u32) -> Option<Vec<u8>> {
-    let text = file_of(alloc, version, &STORED_RUN).ok()?;
-    migrate(alloc, &text).ok()
+    let bytes = file_of(alloc, version, &STORED_RUN).ok()?;
+    migrate(alloc, &bytes).ok()
 }
 
 /// Reports whether that is the file of its recording in the current version.
@@ -32,7 +32,7 @@ fn migrates_a_file_to_the_file_of_its_recording(rt: HostRuntime) {
 /// Reports whether migrating the file of the stored run, cut at this length, is refused because the file is short.
 fn is_short(alloc: Global, version: u32, len: usize) -> bool {
     match cut_file(alloc, version, len) {
-        Ok(text) => migrate(alloc, &text).err() == Some(Fault::Short(len as u64)),
+        Ok(bytes) => migrate(alloc, &bytes).err() == Some(Fault::Short(len as u64)),
         Err(_) => false,
     }
 }

@@ -16,12 +16,12 @@ const TEN: Row = (10, 0, 0, 0, 0, 0);
 
 /// Returns the checkpoint of a row, if its slot is one.
 fn checkpoint(alloc: Global, row: Row) -> Option<Checkpoint> {
-    let (count, pc, stop, sent, place, page_no) = row;
-    if place >= 1024 {
+    let (count, pc, stop, sent, slot, page_id) = row;
+    if slot >= 1024 {
         return None;
     }
     let mut table = Table::zeros();
-    table.set(place, page_no);
+    table.set(slot, page_id);
     let flags = Flags {
         n: false,
         z: false,

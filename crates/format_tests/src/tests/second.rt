@@ -39,8 +39,8 @@ fn five_changes() -> Sketch<'static> {
 
 /// Returns the recording of the file of a sketch.
 fn second_recording(alloc: Global, sketch: &Sketch<'_>) -> Option<Recording> {
-    let text = sketch.second_file(alloc, &[]).ok()?;
-    read(alloc, &text).ok()
+    let bytes = sketch.second_file(alloc, &[]).ok()?;
+    read(alloc, &bytes).ok()
 }
 
 /// Returns the file that is written of the recording of the file of a sketch.
@@ -55,7 +55,7 @@ fn is_written_again(alloc: Global, sketch: &Sketch<'_>) -> bool {
         return false;
     };
     match sketch.second_file(alloc, &[]) {
-        Ok(text) => again.as_slice() == text.as_slice(),
+        Ok(bytes) => again.as_slice() == bytes.as_slice(),
         Err(_) => false,
     }
 }
@@ -89,8 +89,8 @@ const NUMBERS: [(u16, u32, u32); 5] = [(0, 1, 1), (7, 2, 0), (8, 0, 2), (1023, 1
 
 /// Reports whether the tables of the five changes have their page ids.
 fn has_numbers(first: &Checkpoint, last: &Checkpoint) -> bool {
-    for (place, before, after) in NUMBERS {
-        if place >= 1024 || first.table.entry(place) != before || last.table.entry(place) != after {
+    for (slot, before, after) in NUMBERS {
+        if slot >= 1024 || first.table.entry(slot) != before || last.table.entry(slot) != after {
             return false;
         }
     }
@@ -178,11 +178,11 @@ const BROKEN: [(u16, u32, Fault); 33] = [
 ];
 
 /// Returns the first row with another fault, if there is one.
-fn place_of_another_fault(alloc: Global) -> Option<u16> {
+fn offset_of_another_fault(alloc: Global) -> Option<u16> {
     let sketch = five_changes();
-    for (place, word, fault) in &BROKEN {
-        if !is_refused(alloc, 2, &sketch, &[(*place, *word)], *fault) {
-            return Some(*place);
+    for (offset, word, fault) in &BROKEN {
+        if !is_refused(alloc, 2, &sketch, &[(*offset, *word)], *fault) {
+            return Some(*offset);
         }
     }
     None
@@ -190,8 +190,8 @@ fn place_of_another_fault(alloc: Global) -> Option<u16> {
 
 #[test]
 fn refuses_each_broken_rule(rt: HostRuntime) {
-    if let Some(place) = place_of_another_fault(rt.alloc()) {
-        panic!(rt; "at {place}");
+    if let Some(offset) = offset_of_another_fault(rt.alloc()) {
+        panic!(rt; "at {offset}");
     }
 }
 
@@ -234,19 +234,19 @@ fn gives_the_first_of_two_faults(rt: HostRuntime) {
 /// which a fault is there, and then that fault.
 fn length_of_another_fault(
     alloc: Global,
-    mut text: Vec<u8>,
+    mut bytes: Vec<u8>,
     there: usize,
     fault: Fault,
 ) -> Option<usize> {
     for cut in 1..2403usize {
         let len = 2402 - cut;
-        text.truncate(len);
+        bytes.truncate(len);
         let wanted = if len < there {
             Fault::Short(len as u64)
         } else {
             fault
         };
-        if !is_fault_of(alloc, &text, wanted) {
+        if !is_fault_of(alloc, &bytes, wanted) {
             return Some(len);
         }
     }
@@ -255,9 +255,9 @@ fn length_of_another_fault(
 
 /// Returns the file of the five changes with these words.
 fn five_changes_with(alloc: Global, words: &[(u16, u32)]) -> Result<Vec<u8>, AllocError> {
-    let mut text = five_changes().second_file(alloc, &[])?;
-    put_words(&mut text, words);
-    Ok(text)
+    let mut bytes = five_changes().second_file(alloc, &[])?;
+    put_words(&mut bytes, words);
+    Ok(bytes)
 }
 
 /// Words that break a rule in the file of the five changes, the length of the file that shows it, and the fault.
@@ -273,8 +273,8 @@ const BROKEN_AND_CUT: [(&[(u16, u32)], usize, Fault); 3] = [
 fn cut_of_another_fault(alloc: Global) -> Option<(usize, usize)> {
     for (words, there, fault) in BROKEN_AND_CUT {
         match five_changes_with(alloc, words) {
-            Ok(text) => {
-                if let Some(len) = length_of_another_fault(alloc, text, there, fault) {
+            Ok(bytes) => {
+                if let Some(len) = length_of_another_fault(alloc, bytes, there, fault) {
                     return Some((there, len));
                 }
             }

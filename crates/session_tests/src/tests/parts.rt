@@ -16,7 +16,7 @@ struct Numbers {
     stop: u8,
     rate: u32,
     phase: u32,
-    places: [u16; 2],
+    slots: [u16; 2],
     counts: [u64; 2],
 }
 
@@ -26,7 +26,7 @@ const LAWFUL: Numbers = Numbers {
     stop: 0,
     rate: 10,
     phase: 9,
-    places: [0, 1_023],
+    slots: [0, 1_023],
     counts: [1, 1_099_511_627_776],
 };
 
@@ -55,9 +55,9 @@ const FAULTS: [(&str, Numbers, Option<SessionFault>); 9] = [
         Some(SessionFault::Range),
     ),
     (
-        "place",
+        "slot",
         Numbers {
-            places: [0, 1_024],
+            slots: [0, 1_024],
             ..LAWFUL
         },
         Some(SessionFault::Range),
@@ -71,9 +71,9 @@ const FAULTS: [(&str, Numbers, Option<SessionFault>); 9] = [
         Some(SessionFault::Range),
     ),
     (
-        "places that don't rise",
+        "slots that don't rise",
         Numbers {
-            places: [3, 3],
+            slots: [3, 3],
             ..LAWFUL
         },
         Some(SessionFault::Order),
@@ -146,7 +146,7 @@ fn session_of(
 
 /// Reports whether parts with these numbers have this fault, or none.
 fn has_fault(alloc: Global, numbers: &Numbers, fault: Option<SessionFault>) -> bool {
-    let pages = [page_at(numbers.places[0], 1), page_at(numbers.places[1], 2)];
+    let pages = [page_at(numbers.slots[0], 1), page_at(numbers.slots[1], 2)];
     match session_of(alloc, numbers, &pages, &numbers.counts) {
         Some(session) => session.err() == fault,
         None => false,

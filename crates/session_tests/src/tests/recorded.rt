@@ -79,26 +79,26 @@ fn rounds_and(alloc: Global, last: u64) -> Option<String> {
 }
 
 /// Reports whether slot 1 has this page id at checkpoint k.
-fn has_number(recording: &Recording, k: u32, number: u32) -> bool {
-    k < recording.count() && recording.checkpoint(k).table.entry(1) == number
+fn has_page_id(recording: &Recording, k: u32, page_id: u32) -> bool {
+    k < recording.count() && recording.checkpoint(k).table.entry(1) == page_id
 }
 
 /// Returns the file of the stored run.
 fn stored_file() -> [u8; 1_344] {
-    let mut text = [0; 1_344];
-    for (place, bytes) in STORED_RUN {
+    let mut bytes = [0; 1_344];
+    for (offset, word) in STORED_RUN {
         for i in 0..4 {
-            text[place + i] = bytes[i];
+            bytes[offset + i] = word[i];
         }
     }
-    text[1_276] = 100;
-    text
+    bytes[1_276] = 100;
+    bytes
 }
 
 /// Reports whether a recording is encoded as the file of the stored run.
 fn is_stored_run(alloc: Global, recording: &Recording) -> bool {
     match write(alloc, recording) {
-        Ok(text) => text.as_slice() == stored_file().as_slice(),
+        Ok(bytes) => bytes.as_slice() == stored_file().as_slice(),
         Err(_) => false,
     }
 }
@@ -113,16 +113,16 @@ fn records_the_stored_run(rt: HostRuntime) {
 fn has_changed_page(recording: &Recording) -> bool {
     recording.pool().len() == 2
         && recording.count() == 4
-        && has_number(recording, 0, 0)
-        && has_number(recording, 1, 2)
-        && has_number(recording, 2, 0)
-        && has_number(recording, 3, 0)
+        && has_page_id(recording, 0, 0)
+        && has_page_id(recording, 1, 2)
+        && has_page_id(recording, 2, 0)
+        && has_page_id(recording, 3, 0)
 }
 
 /// Reports whether the file of a recording has this length.
 fn is_written_in(alloc: Global, recording: &Recording, length: usize) -> bool {
     match write(alloc, recording) {
-        Ok(text) => text.len() == length,
+        Ok(bytes) => bytes.len() == length,
         Err(_) => false,
     }
 }
@@ -136,7 +136,7 @@ fn fault_of_stores(alloc: Global) -> Option<&'static str> {
         return Some("the pages");
     }
     if !is_written_in(alloc, &recording, 2_672) {
-        return Some("the length of the text");
+        return Some("the length of the file");
     }
     None
 }
