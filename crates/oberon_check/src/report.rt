@@ -1,11 +1,9 @@
 //! The check of a recording file: the verdict line and the exit status.
 //!
 //! This module has what is printed. `oberon_format` decodes the file, and `check` checks the recording.
-ghost use Rattle.std.specs.Prelude.{◌≡◌, ◌≢◌, ◌≤◌, IfOk};
+ghost use Rattle.std.specs.Prelude.{◌≡◌, ◌≤◌, IfOk};
 ghost use Rattle.oberon_check.specs.Headline.{IsLineOf};
 ghost use Rattle.oberon_check.specs.Line.{line_of, status_of};
-ghost use Rattle.oberon_format.specs.Line.{fault_line};
-ghost use Rattle.oberon_format.specs.declared.fault.Fault.{Fault};
 
 use crate::check::{CheckFault, check_recording};
 use crate::gate::Gate;
@@ -46,7 +44,11 @@ pub fn check_bytes<R: Threads + Wait + Sync, G: Gate + Sync>(
             let verdict = check_recording(rt, alloc, &r, workers, cut, gate)?;
             answered(alloc, &verdict)
         }
-        Err(fault) => refused(alloc, &fault),
+        Err(Fault::Memory) => Err(CheckFault::Memory),
+        Err(fault) => Ok(Report {
+            line: refusal(alloc, &fault)?,
+            status: 2,
+        }),
     }
 }
 
@@ -58,20 +60,5 @@ fn answered(alloc: Global, verdict: &Verdict) -> Result<Report, CheckFault>
     Ok(Report {
         line: verdict.line(alloc)?,
         status: verdict.status(),
-    })
-}
-
-/// Returns the report on a file with this fault, or an error if the fault is that memory ran out.
-fn refused(alloc: Global, fault: &Fault) -> Result<Report, CheckFault>
-    ensures fault { IfOk result (λ _. fault.now ≢ Fault.Memory) }
-    ensures line { IfOk result (λ report. report.line.items ≡ fault_line fault.now) }
-    ensures status { IfOk result (λ report. report.status ≡ 2) }
-{
-    if let Fault::Memory = fault {
-        return Err(CheckFault::Memory);
-    }
-    Ok(Report {
-        line: refusal(alloc, fault)?,
-        status: 2,
     })
 }

@@ -1,0 +1,3 @@
+-- Definitions for contracts of private functions. No public contract and no law uses them, so nobody has to believe them.
+pub mod Answering
+pub mod Replaying
