@@ -2,8 +2,8 @@
 use Rattle.std.proofs.Common.{◌≡◌, ℕ, List}
 use Rattle.oberon_check.specs.Headline.{IsLineOf}
 use Rattle.oberon_cli.specs.Answer.{IsAnswer}
-use Rattle.oberon_cli.specs.declared.words.Request.{Request}
-use Rattle.oberon_cli.specs.declared.words.Request.TheVariants.{Check}
+use Rattle.oberon_cli.specs.declared.arguments.Request.{Request}
+use Rattle.oberon_cli.specs.declared.arguments.Request.TheVariants.{Check}
 
 pub check_answer : (request : Request) (workers cut : ℕ) (input text : List ℕ) (own status : ℕ) → request ≡ Check workers cut → IsLineOf input text own
     → status ≡ own → IsAnswer request input text status

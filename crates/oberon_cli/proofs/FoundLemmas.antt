@@ -8,7 +8,7 @@ use Rattle.clap.specs.declared.parser.matches.ArgMatches.{ArgMatches}
 use Rattle.clap.specs.declared.parser.matches.ArgMatches.TheViews.{out-ArgMatches, out-SubCommand}
 use Rattle.recording_limits.specs.declared.limits.TheConstants.{LAST_CHECKPOINT}
 use Rattle.oberon_cli.specs.Asked.{number_at, request_of}
-use Rattle.oberon_cli.specs.declared.words.Request.TheVariants.{Check, Migrate, Record, Screen}
+use Rattle.oberon_cli.specs.declared.arguments.Request.TheVariants.{Check, Migrate, Record, Screen}
 
 joined : {B : Type 0} (f : B → Text) (g : B → List Row) (s : Option B) (name : Text) (rows : List Row) → Some name ≡ option_map f s
     → Some rows ≡ option_map (λ (p : Text × List Row). p.1) (option_map {U = Text × List Row} (λ b. (f b, g b)) s) → option_map {U = Text × List Row} (λ b. (f b, g b)) s ≡ Some (name, rows)

@@ -16,12 +16,12 @@ use Rattle.oberon_session.specs.declared.fault.SessionFault.TheVariants as fault
 use Rattle.oberon_cli.specs.Answer.{IsAnswer, limit_of}
 use Rattle.oberon_cli.specs.Asked.{IsHelp, request_in, faults}
 use Rattle.oberon_cli.specs.Reply.{AnswersAll, IsReplyTo, IsSent, Outcome, answer, failure, help}
-use Rattle.oberon_cli.specs.Migrate.{IsMigration}
-use Rattle.oberon_cli.specs.Record.{IsRecord}
-use Rattle.oberon_cli.specs.Screen.{IsScreen}
+use Rattle.oberon_answers.specs.Migrate.{IsMigration}
+use Rattle.oberon_answers.specs.Record.{IsRecord}
+use Rattle.oberon_answers.specs.Screen.{IsScreen}
 use Rattle.oberon_cli.specs.Transfer.{Known}
-use Rattle.oberon_cli.specs.declared.words.Request.{Request}
-use Rattle.oberon_cli.specs.declared.words.Request.TheVariants.{Check, Migrate, Record, Screen}
+use Rattle.oberon_cli.specs.declared.arguments.Request.{Request}
+use Rattle.oberon_cli.specs.declared.arguments.Request.TheVariants.{Check, Migrate, Record, Screen}
 use Rattle.oberon_cli.specs.declared.failure.Failure.TheVariants.{Memory, Read, Words}
 use Rattle.oberon_format.specs.declared.layout.TheConstants.{LONGEST_TEXT}
 use Rattle.recording_limits.specs.declared.limits.TheConstants.{LONGEST_SESSION}
@@ -109,17 +109,17 @@ unfolding clap_on_literals faults
 no_help (inl same) = cc
 no_help (inr none) = absurd none
 
-help_asks_nothing : (words : List Text) → IsHelp words → (request : Request) → request_in words ≡ Some request → ⊥
+help_asks_nothing : (arguments : List Text) → IsHelp arguments → (request : Request) → request_in arguments ≡ Some request → ⊥
 help_asks_nothing [] is request asks = no_help is
-help_asks_nothing (word ∷ words) is request asks =
-    let none = asked_none (word ∷ words) DisplayHelp (omega arith) is in
+help_asks_nothing (argument ∷ arguments) is request asks =
+    let none = asked_none (argument ∷ arguments) DisplayHelp (omega arith) is in
     let bad : None ≡ Some request = sym none ∙ asks in
     cc
 
-pub known_answer : (words : List Text) (input rest old new : Known) (outcome : Outcome) (status : ℕ) → IsReplyTo words input rest outcome → IsSent outcome old new status
-    → AnswersAll words input old new status
-known_answer words input rest old new outcome status is (inr failed) = λ request bytes asks known held. absurd (held failed.1)
-known_answer words input rest old new (answer asked_for taken text own) status is (inl sent) = λ request bytes asks known held.
+pub known_answer : (arguments : List Text) (input rest old new : Known) (outcome : Outcome) (status : ℕ) → IsReplyTo arguments input rest outcome → IsSent outcome old new status
+    → AnswersAll arguments input old new status
+known_answer arguments input rest old new outcome status is (inr failed) = λ request bytes asks known held. absurd (held failed.1)
+known_answer arguments input rest old new (answer asked_for taken text own) status is (inl sent) = λ request bytes asks known held.
     let same_answer : Some asked_for ≡ Some request = sym is.0 ∙ asks in
     let same : asked_for ≡ request = cc in
     let consumed : Consumes (Some bytes) rest.bytes taken = rw (← known) is.1.taken in
@@ -127,9 +127,9 @@ known_answer words input rest old new (answer asked_for taken text own) status i
     let first_bytes : taken ≡ take (limit_of request) bytes = rw (← same) asked_bytes in
     let first : IsAnswer request (take (limit_of request) bytes) text status = rw (← first_bytes, ← same, sent.1) is.2 in
     (text, whole_answer request bytes text status first, sent.0.0)
-known_answer words input rest old new (help text) status is (inl sent) = λ request bytes asks known held. absurd (help_asks_nothing words is.0 request asks)
-known_answer words input rest old new (failure Words) status is (inl sent) = λ request bytes asks known held.
+known_answer arguments input rest old new (help text) status is (inl sent) = λ request bytes asks known held. absurd (help_asks_nothing arguments is.0 request asks)
+known_answer arguments input rest old new (failure Words) status is (inl sent) = λ request bytes asks known held.
     let bad : None ≡ Some request = sym is.0.0 ∙ asks in
     cc
-known_answer words input rest old new (failure Read) status is (inl sent) = λ request bytes asks known held. absurd (held sent.1)
-known_answer words input rest old new (failure Memory) status is (inl sent) = λ request bytes asks known held. absurd (held sent.1)
+known_answer arguments input rest old new (failure Read) status is (inl sent) = λ request bytes asks known held. absurd (held sent.1)
+known_answer arguments input rest old new (failure Memory) status is (inl sent) = λ request bytes asks known held. absurd (held sent.1)

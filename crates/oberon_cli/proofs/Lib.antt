@@ -1,6 +1,5 @@
 -- Files that the proofs of this crate depend on.
 mod AnswerLemmas
-mod DisplayLemmas
 mod FoundLemmas
 mod KnownLemmas
 mod Literals

@@ -2,7 +2,7 @@
 use Rattle.std.proofs.Common.{◌≡◌, [], ◌∷◌, Some, None, refl, codes, inl}
 use Rattle.clap.proofs.OnLiterals.{clap_on_literals}
 use Rattle.oberon_cli.specs.Asked.{IsHelp, request_in, faults, found}
-use Rattle.oberon_cli.specs.declared.words.Request.TheVariants.{Check, Migrate, Record, Screen}
+use Rattle.oberon_cli.specs.declared.arguments.Request.TheVariants.{Check, Migrate, Record, Screen}
 
 pub check : request_in (codes "check" ∷ []) ≡ Some (Check 2 1)
 unfolding clap_on_literals faults found

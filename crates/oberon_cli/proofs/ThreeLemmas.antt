@@ -9,12 +9,12 @@ use Rattle.oberon_check.specs.declared.verdict.Verdict.{Verdict}
 use Rattle.oberon_check.specs.declared.verdict.Verdict.TheVariants.{Accepted, FalseAt}
 use Rattle.oberon_cli.specs.Answer.{IsAnswer}
 use Rattle.oberon_cli.specs.Transfer.{Known, Fails, GainsWhole, Goes}
-use Rattle.oberon_cli.specs.Migrate.{IsMigration}
-use Rattle.oberon_cli.specs.Record.{IsRecord, IsRecordOf}
+use Rattle.oberon_answers.specs.Migrate.{IsMigration}
+use Rattle.oberon_answers.specs.Record.{IsRecord, IsRecordOf}
 use Rattle.oberon_cli.specs.Reply.{IsReplyTo, IsSent, IsThreeForFaults, Outcome, answer, failure, failure_line, help}
-use Rattle.oberon_cli.specs.Screen.{IsScreen, IsScreenOf}
-use Rattle.oberon_cli.specs.declared.words.Request.{Request}
-use Rattle.oberon_cli.specs.declared.words.Request.TheVariants.{Check, Migrate, Record, Screen}
+use Rattle.oberon_answers.specs.Screen.{IsScreen, IsScreenOf}
+use Rattle.oberon_cli.specs.declared.arguments.Request.{Request}
+use Rattle.oberon_cli.specs.declared.arguments.Request.TheVariants.{Check, Migrate, Record, Screen}
 use Rattle.oberon_cli.specs.declared.failure.Failure.TheVariants.{Memory, Read, Words}
 
 verdict_status : (verdict : Verdict) → status_of verdict < 3
@@ -56,34 +56,34 @@ answer_status Migrate input text status is = migration_status input text status 
 still : (old new : Known) → Goes old new → old.failed ≡ false → Fails new → ⊥
 still old new goes before fails = cc
 
-three_only : (words : List Text) (input rest old new : Known) (outcome : Outcome) (status : ℕ) → IsReplyTo words input rest outcome → IsSent outcome old new status
+three_only : (arguments : List Text) (input rest old new : Known) (outcome : Outcome) (status : ℕ) → IsReplyTo arguments input rest outcome → IsSent outcome old new status
     → status ≡ 3 → Fails rest ⊎ (Fails new ⊎ GainsWhole (failure_line Memory) old new)
-three_only words input rest old new outcome status is (inr failed) three = inr (inl failed.0.3)
-three_only words input rest old new (answer request taken text own) status is (inl sent) three =
+three_only arguments input rest old new outcome status is (inr failed) three = inr (inl failed.0.3)
+three_only arguments input rest old new (answer request taken text own) status is (inl sent) three =
     let low : own < 3 = answer_status request taken text own is.2 in
     absurd (omega (arith, sent.1))
-three_only words input rest old new (help text) status is (inl sent) three = absurd (omega (arith, sent.1))
-three_only words input rest old new (failure Words) status is (inl sent) three = absurd (omega (arith, sent.1))
-three_only words input rest old new (failure Read) status is (inl sent) three = inl is.2
-three_only words input rest old new (failure Memory) status is (inl sent) three = inr (inr sent.0)
+three_only arguments input rest old new (help text) status is (inl sent) three = absurd (omega (arith, sent.1))
+three_only arguments input rest old new (failure Words) status is (inl sent) three = absurd (omega (arith, sent.1))
+three_only arguments input rest old new (failure Read) status is (inl sent) three = inl is.2
+three_only arguments input rest old new (failure Memory) status is (inl sent) three = inr (inr sent.0)
 
-three_reads : (words : List Text) (input rest old new : Known) (outcome : Outcome) (status : ℕ) → IsReplyTo words input rest outcome → IsSent outcome old new status
+three_reads : (arguments : List Text) (input rest old new : Known) (outcome : Outcome) (status : ℕ) → IsReplyTo arguments input rest outcome → IsSent outcome old new status
     → input.failed ≡ false → Fails rest → status ≡ 3
-three_reads words input rest old new outcome status is (inr failed) before fails = failed.1
-three_reads words input rest old new (answer request taken text own) status is (inl sent) before fails = absurd (still input rest is.1.goes before fails)
-three_reads words input rest old new (help text) status is (inl sent) before fails = absurd (still input rest is.1 before fails)
-three_reads words input rest old new (failure Words) status is (inl sent) before fails = absurd (still input rest is.1 before fails)
-three_reads words input rest old new (failure Read) status is (inl sent) before fails = sent.1
-three_reads words input rest old new (failure Memory) status is (inl sent) before fails = sent.1
+three_reads arguments input rest old new outcome status is (inr failed) before fails = failed.1
+three_reads arguments input rest old new (answer request taken text own) status is (inl sent) before fails = absurd (still input rest is.1.goes before fails)
+three_reads arguments input rest old new (help text) status is (inl sent) before fails = absurd (still input rest is.1 before fails)
+three_reads arguments input rest old new (failure Words) status is (inl sent) before fails = absurd (still input rest is.1 before fails)
+three_reads arguments input rest old new (failure Read) status is (inl sent) before fails = sent.1
+three_reads arguments input rest old new (failure Memory) status is (inl sent) before fails = sent.1
 
 three_writes : (outcome : Outcome) (old new : Known) (status : ℕ) → IsSent outcome old new status → old.failed ≡ false → Fails new → status ≡ 3
 three_writes outcome old new status (inl sent) before fails = absurd (still old new sent.0.1 before fails)
 three_writes outcome old new status (inr failed) before fails = failed.1
 
-pub three : (words : List Text) (input rest old new : Known) (outcome : Outcome) (status : ℕ) → IsReplyTo words input rest outcome → IsSent outcome old new status
+pub three : (arguments : List Text) (input rest old new : Known) (outcome : Outcome) (status : ℕ) → IsReplyTo arguments input rest outcome → IsSent outcome old new status
     → IsThreeForFaults input rest old new status
-three words input rest old new outcome status is sent = record {
-  only = three_only words input rest old new outcome status is sent;
-  reads = three_reads words input rest old new outcome status is sent;
+three arguments input rest old new outcome status is sent = record {
+  only = three_only arguments input rest old new outcome status is sent;
+  reads = three_reads arguments input rest old new outcome status is sent;
   writes = three_writes outcome old new status sent;
 }

@@ -1,11 +1,11 @@
 -- What each command answers to the bytes of an input.
 use Rattle.std.specs.Prelude.{ℕ, ◌+◌, List, Option, Some, None}
 use Rattle.oberon_check.specs.Headline.{IsLineOf}
-use Rattle.oberon_cli.specs.Migrate.{IsMigration}
-use Rattle.oberon_cli.specs.Record.{IsRecord}
-use Rattle.oberon_cli.specs.Screen.{IsScreen}
-use Rattle.oberon_cli.specs.declared.words.Request.{Request}
-use Rattle.oberon_cli.specs.declared.words.Request.TheVariants.{Check, Migrate, Record, Screen}
+use Rattle.oberon_answers.specs.Migrate.{IsMigration}
+use Rattle.oberon_answers.specs.Record.{IsRecord}
+use Rattle.oberon_answers.specs.Screen.{IsScreen}
+use Rattle.oberon_cli.specs.declared.arguments.Request.{Request}
+use Rattle.oberon_cli.specs.declared.arguments.Request.TheVariants.{Check, Migrate, Record, Screen}
 use Rattle.oberon_format.specs.declared.layout.TheConstants.{LONGEST_TEXT}
 use Rattle.recording_limits.specs.declared.limits.TheConstants.{LONGEST_SESSION}
 

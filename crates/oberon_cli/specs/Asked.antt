@@ -9,8 +9,8 @@ use Rattle.clap.specs.Kinds.{IsAmong, Kinds}
 use Rattle.clap.specs.Faults.{fault_of}
 use Rattle.clap.specs.declared.error.kind.ErrorKind.TheVariants.{DisplayHelp}
 use Rattle.oberon_cli.specs.Program.{program_app}
-use Rattle.oberon_cli.specs.declared.words.Request.{Request}
-use Rattle.oberon_cli.specs.declared.words.Request.TheVariants.{Check, Migrate, Record, Screen}
+use Rattle.oberon_cli.specs.declared.arguments.Request.{Request}
+use Rattle.oberon_cli.specs.declared.arguments.Request.TheVariants.{Check, Migrate, Record, Screen}
 use Rattle.recording_limits.specs.declared.limits.TheConstants.{LAST_CHECKPOINT}
 
 -- the number that the string writes in decimal digits, with an optional plus sign, if it is in the range
@@ -38,24 +38,24 @@ request_of name rows =
 
 -- the kinds of fault that `clap` finds in the arguments
 unfoldable pub faults : List Text → Kinds
-faults words = fault_of program_app words
+faults arguments = fault_of program_app arguments
 
 -- the subcommand that `clap` finds in the arguments, with its options
 unfoldable pub found : List Text → Option (Text × List Row)
-found words = subcommand_of program_app words
+found arguments = subcommand_of program_app arguments
 
 -- what the arguments ask for; no arguments ask for a check
 abbrev pub request_in : List Text → Option Request
 request_in [] = Some (Check 2 1)
-request_in (word ∷ words) =
-    if is_empty (faults (word ∷ words)) then option_and_then (λ p. request_of p.0 p.1) (found (word ∷ words))
+request_in (argument ∷ arguments) =
+    if is_empty (faults (argument ∷ arguments)) then option_and_then (λ p. request_of p.0 p.1) (found (argument ∷ arguments))
     else None
 
 -- the arguments ask for help. `clap` reports some arguments, such as `help` before an unknown command, with one of two kinds of
 -- fault, so these may get help or may be refused
 abbrev pub IsHelp : List Text → Type 0
-IsHelp words = IsAmong DisplayHelp (faults words)
+IsHelp arguments = IsAmong DisplayHelp (faults arguments)
 
 -- the arguments ask for nothing, and not for help alone
 abbrev pub IsRefused : List Text → Type 0
-IsRefused words = (request_in words ≡ None) × (faults words ≢ DisplayHelp ∷ [])
+IsRefused arguments = (request_in arguments ≡ None) × (faults arguments ≢ DisplayHelp ∷ [])

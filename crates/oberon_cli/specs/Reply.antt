@@ -5,7 +5,7 @@ use Rattle.clap.specs.Walk.{Text}
 use Rattle.oberon_cli.specs.Answer.{IsAnswer, limit_of}
 use Rattle.oberon_cli.specs.Asked.{IsHelp, IsRefused, request_in}
 use Rattle.oberon_cli.specs.Transfer.{Known, Fails, GainsPrefix, GainsWhole, Goes, IsReadUpTo}
-use Rattle.oberon_cli.specs.declared.words.Request.{Request}
+use Rattle.oberon_cli.specs.declared.arguments.Request.{Request}
 use Rattle.oberon_cli.specs.declared.failure.Failure.{Failure}
 use Rattle.oberon_cli.specs.declared.failure.Failure.TheVariants.{Words, Read, Memory}
 
@@ -42,16 +42,16 @@ outcome_status (failure why) = failure_status why
 -- when a failure may be the reply: arguments are refused only if they ask for nothing, and `read fault` is the reply only if they
 -- ask for a command and a read failed. An allocation may fail at any time, but a failed read is still reported as one
 abbrev pub MayFail : List Text → Known → Known → Failure → Type 0
-MayFail words old new Words = IsRefused words × Goes old new
-MayFail words old new Read = (request : Request) × (request_in words ≡ Some request) × Fails new
-MayFail words old new Memory = Goes old new
+MayFail arguments old new Words = IsRefused arguments × Goes old new
+MayFail arguments old new Read = (request : Request) × (request_in arguments ≡ Some request) × Fails new
+MayFail arguments old new Memory = Goes old new
 
 -- the reply is one to the arguments, for the bytes taken from the reader. If a read failed it is `read fault`
 abbrev pub IsReplyTo : List Text → Known → Known → Outcome → Type 0
-IsReplyTo words old new (answer request input text status) =
-    (request_in words ≡ Some request) × IsReadUpTo (limit_of request) old new input × IsAnswer request input text status
-IsReplyTo words old new (help text) = IsHelp words × Goes old new
-IsReplyTo words old new (failure why) = MayFail words old new why
+IsReplyTo arguments old new (answer request input text status) =
+    (request_in arguments ≡ Some request) × IsReadUpTo (limit_of request) old new input × IsAnswer request input text status
+IsReplyTo arguments old new (help text) = IsHelp arguments × Goes old new
+IsReplyTo arguments old new (failure why) = MayFail arguments old new why
 
 -- all of the bytes were written and the status is their own; or a write failed after a prefix of them, and the status is 3
 abbrev pub IsSentText : List ℕ → ℕ → Known → Known → ℕ → Type 0
@@ -63,13 +63,15 @@ IsSent outcome = IsSentText (outcome_text outcome) (outcome_status outcome)
 
 -- some reply to the arguments was sent
 abbrev pub Replies : List Text → Known → Known → Known → Known → ℕ → Type 0
-Replies words input input' output output' status = (outcome : Outcome) × IsReplyTo words input input' outcome × IsSent outcome output output' status
+Replies arguments input input' output output' status =
+    (outcome : Outcome) × IsReplyTo arguments input input' outcome × IsSent outcome output output' status
 
 -- if the arguments ask for a command, the reader's bytes are known, and the status is not 3, then the command's answer to all of
 -- these bytes was written, however many they are
 abbrev pub AnswersAll : List Text → Known → Known → Known → ℕ → Type 0
-AnswersAll words input old new status = (request : Request) (bytes : List ℕ) → request_in words ≡ Some request → input.bytes ≡ Some bytes
-    → status ≢ 3 → (text : List ℕ) × IsAnswer request bytes text status × Appends old.bytes new.bytes text
+AnswersAll arguments input old new status =
+    (request : Request) (bytes : List ℕ) → request_in arguments ≡ Some request → input.bytes ≡ Some bytes → status ≢ 3
+    → (text : List ℕ) × IsAnswer request bytes text status × Appends old.bytes new.bytes text
 
 -- status 3 means that a read or a write failed, or that the line `no memory` was written; and if a read or a write is the first
 -- to fail, the status is 3

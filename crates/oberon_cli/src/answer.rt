@@ -3,11 +3,8 @@ ghost use Rattle.std.specs.Prelude.{IfOk};
 ghost use Rattle.oberon_cli.specs.Answer.{IsAnswer};
 ghost use Rattle.oberon_cli.specs.inner.Requests.{IsWithinLimits};
 
-use crate::migrate::migrate;
-use crate::record::record;
-use crate::reply::Reply;
-use crate::screen::screen;
-use crate::words::Request;
+use crate::arguments::Request;
+use oberon_answers::{Answer, migrate, record, screen};
 use oberon_check::{CheckFault, FreeGate, Report, check_bytes};
 use std::alloc::{AllocError, Global};
 use std::sync::Wait;
@@ -19,14 +16,17 @@ pub fn answer<H: Threads + Wait + Sync>(
     alloc: Global,
     request: Request,
     bytes: &[u8],
-) -> Result<Reply, AllocError>
+) -> Result<Answer, AllocError>
     requires { IsWithinLimits request }
-    ensures { IfOk result (λ reply. IsAnswer request bytes.now reply.text.items reply.status) }
+    ensures { IfOk result (λ answer. IsAnswer request bytes.now answer.bytes.items answer.status) }
 {
     match request {
         Request::Check { workers, cut } => {
             match check_bytes(rt, alloc, bytes, workers, cut, &FreeGate) {
-                Ok(Report { line, status }) => Ok(Reply { text: line, status }),
+                Ok(Report { line, status }) => Ok(Answer {
+                    bytes: line,
+                    status,
+                }),
                 Err(CheckFault::Memory) => Err(AllocError),
             }
         }

@@ -1,9 +1,11 @@
 //! The command line as `clap` reads it: the commands, their options with ranges and defaults, and the help texts. What the
-//! arguments of a run ask for is in `words`.
+//! arguments of a run ask for is in `arguments`.
 ghost use Rattle.std.specs.Prelude.{◌≡◌, IfOk, false};
 ghost use Rattle.clap.specs.Simple.{new_app};
 ghost use Rattle.clap.specs.Words.{app_of, rule_of};
-ghost use Rattle.oberon_cli.specs.Program.{at_rule, check_app, cut_rule, migrate_app, number_rule, program_app, record_app, replaying_app, screen_app, without_commands_app, workers_rule};
+ghost use Rattle.oberon_cli.specs.Program.{at_rule, cut_rule, number_rule, workers_rule};
+ghost use Rattle.oberon_cli.specs.Program.{check_app, migrate_app, record_app, screen_app};
+ghost use Rattle.oberon_cli.specs.Program.{program_app, replaying_app, without_commands_app};
 ghost use Rattle.clap.specs.declared.builder.command.Command.TheViews.{out-Command as fields_of};
 
 use clap::{Arg, ArgAction, Command, value_parser};

@@ -7,17 +7,13 @@
 #![tactic(auto)]
 
 mod answer;
+mod arguments;
 mod command;
 mod failure;
-mod migrate;
 mod process;
-mod record;
-mod reply;
-mod screen;
 mod service;
 mod sink;
 mod source;
-mod words;
 
 pub use failure::Failure;
 pub use process::{fail, process_words, run, texts};

@@ -18,9 +18,9 @@ use std::rt::Env;
 use std::sync::Wait;
 use std::thread::Threads;
 
-/// Returns the arguments of the process. By convention the first is the program's name, whatever starts it; a process that is started
-/// with no arguments at all has none. No contract can say which these are, since the kit's `env::args` has none: `tests/library` runs
-/// the built program with the arguments of each command.
+/// Returns the arguments of the process. By convention the first is the program's name, whatever starts it; a process that is
+/// started with no arguments at all has none. No contract can say which these are, since the kit's `env::args` has none:
+/// `tests/library` runs the built program with the arguments of each command.
 pub fn process_words<H: AllocGlobal + Env>(rt: &H) -> Result<Vec<String>, Failure> {
     Ok(
         env::args(rt)
@@ -33,7 +33,7 @@ pub fn process_words<H: AllocGlobal + Env>(rt: &H) -> Result<Vec<String>, Failur
 /// which refuses the arguments.
 fn failure_of(kind: ErrorKind) -> Failure
     ensures memory { kind ≡ ErrorKind.OutOfMemory → result ≡ Failure.Memory }
-    ensures words { kind ≢ ErrorKind.OutOfMemory → result ≡ Failure.Words }
+    ensures arguments { kind ≢ ErrorKind.OutOfMemory → result ≡ Failure.Words }
 {
     match kind {
         ErrorKind::OutOfMemory => Failure::Memory,
@@ -42,42 +42,42 @@ fn failure_of(kind: ErrorKind) -> Failure
 }
 
 /// Returns the strings of the arguments.
-pub fn texts<'a>(alloc: Global, words: &'a [String]) -> Result<Vec<&'a str>, AllocError>
-    ensures { IfOk result (λ texts. map (λ text. text.now) texts.items ≡ map string_bytes words.now) }
+pub fn texts<'a>(alloc: Global, arguments: &'a [String]) -> Result<Vec<&'a str>, AllocError>
+    ensures { IfOk result (λ texts. map (λ text. text.now) texts.items ≡ map string_bytes arguments.now) }
 {
     let mut texts = Vec::new(alloc);
-    for word in words {
-        texts.push(word.as_str())?;
+    for argument in arguments {
+        texts.push(argument.as_str())?;
     }
     Ok(texts)
 }
 
-/// Serves the arguments after the first, whatever that is, and returns the exit status: the first is the program's name by convention.
-/// Without any argument it serves none, as if the name alone was there.
+/// Serves the arguments after the first, whatever that is, and returns the exit status: the first is the program's name by
+/// convention. Without any argument it serves none, as if the name alone was there.
 pub fn run<'a, H: Threads + Wait + Sync, R: Source, W: Sink>(
     rt: &H,
     alloc: Global,
-    words: &'a [&'a str],
+    arguments: &'a [&'a str],
     input: &mut R,
     output: &mut W,
 ) -> ExitCode
-    ensures replies { Replies (map (λ word. word.now) (drop 1 words.entry.now)) (R.known input.old) (R.known input.new)
+    ensures replies { Replies (map (λ argument. argument.now) (drop 1 arguments.entry.now)) (R.known input.old) (R.known input.new)
         (W.known output.old) (W.known output.new) (exit_status result) }
-    ensures answers { AnswersAll (map (λ word. word.now) (drop 1 words.entry.now)) (R.known input.old) (W.known output.old)
+    ensures answers { AnswersAll (map (λ argument. argument.now) (drop 1 arguments.entry.now)) (R.known input.old) (W.known output.old)
         (W.known output.new) (exit_status result) }
     ensures three { IsThreeForFaults (R.known input.old) (R.known input.new) (W.known output.old) (W.known output.new)
         (exit_status result) }
-    ensures reads { TakesAtMost (limit_for (request_in (map (λ word. word.now) (drop 1 words.entry.now))))
+    ensures reads { TakesAtMost (limit_for (request_in (map (λ argument. argument.now) (drop 1 arguments.entry.now))))
         (R.known input.old) (R.known input.new) }
 {
-    ExitCode::from(serve(rt, alloc, after_name(words), input, output))
+    ExitCode::from(serve(rt, alloc, after_name(arguments), input, output))
 }
 
 /// Returns the arguments after the first.
-fn after_name<'a>(words: &'a [&'a str]) -> &'a [&'a str]
-    ensures { result.now ≡ drop 1 words.now }
+fn after_name<'a>(arguments: &'a [&'a str]) -> &'a [&'a str]
+    ensures { result.now ≡ drop 1 arguments.now }
 {
-    &words[words.len().min(1)..]
+    &arguments[arguments.len().min(1)..]
 }
 
 /// Writes the line of a failure, and returns the exit status.

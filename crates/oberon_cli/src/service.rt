@@ -7,11 +7,11 @@ ghost use Rattle.oberon_cli.specs.inner.Requests.{IsReply};
 ghost use Rattle.oberon_cli.specs.Transfer.{TakesAtMost};
 
 use crate::answer::answer;
+use crate::arguments::{Refusal, request_in};
 use crate::failure::Failure;
-use crate::reply::Reply;
 use crate::sink::{Sink, WriteFault, write_whole};
 use crate::source::{Source, read_up_to};
-use crate::words::{Refusal, request_in};
+use oberon_answers::Answer;
 use std::alloc::Global;
 use std::sync::Wait;
 use std::thread::Threads;
@@ -21,9 +21,9 @@ use std::thread::Threads;
 /// | arguments | what is written | status |
 /// |---|---|---|
 /// | none, or `check` with its options | the line of the check | 0 accepted, 1 false, 2 refused |
-/// | `record` | the file of the session's recording; the line of a fault of the session; or the line of the recorder's fault | 0; 2; 2 |
+/// | `record` | the session's recording; the line of a fault of the session; or the line of the recorder's fault | 0; 2; 2 |
 /// | `screen --at k` | the picture of the screen that checkpoint k claims; the line of a fault; or `no checkpoint k` | 0; 2; 2 |
-/// | `migrate` | the file of the same recording in the current version; or the line of a fault | 0; 2 |
+/// | `migrate` | the same recording in the current version; or the line of a fault | 0; 2 |
 /// | a request for help | `clap`'s text | 0 |
 /// | others | `words refused` | 4 |
 ///
@@ -36,24 +36,24 @@ use std::thread::Threads;
 pub fn serve<'a, H: Threads + Wait + Sync, R: Source, W: Sink>(
     rt: &H,
     alloc: Global,
-    words: &'a [&'a str],
+    arguments: &'a [&'a str],
     input: &mut R,
     output: &mut W,
 ) -> u8
     // Whatever the reader and the writer do, some reply to the arguments is written: an answer to bytes that were read up to the
     // end or to the limit, help, or the line of a failure alone. After a failed write it is a prefix of the reply.
-    ensures replies { Replies (map (λ word. word.now) words.entry.now) (R.known input.old) (R.known input.new)
+    ensures replies { Replies (map (λ argument. argument.now) arguments.entry.now) (R.known input.old) (R.known input.new)
         (W.known output.old) (W.known output.new) result }
     // If nothing fails it is the answer to the whole input.
-    ensures answers { AnswersAll (map (λ word. word.now) words.entry.now) (R.known input.old) (W.known output.old)
+    ensures answers { AnswersAll (map (λ argument. argument.now) arguments.entry.now) (R.known input.old) (W.known output.old)
         (W.known output.new) result }
     ensures three { IsThreeForFaults (R.known input.old) (R.known input.new) (W.known output.old) (W.known output.new)
         result }
-    ensures reads { TakesAtMost (limit_for (request_in (map (λ word. word.now) words.entry.now)))
+    ensures reads { TakesAtMost (limit_for (request_in (map (λ argument. argument.now) arguments.entry.now)))
         (R.known input.old) (R.known input.new) }
 {
-    match reply(rt, alloc, words, input) {
-        Ok(reply) => send(output, &reply.text, reply.status),
+    match reply(rt, alloc, arguments, input) {
+        Ok(answer) => send(output, &answer.bytes, answer.status),
         Err(failure) => refuse(output, failure),
     }
 }
@@ -80,23 +80,23 @@ fn send<W: Sink>(output: &mut W, text: &[u8], status: u8) -> u8
 fn reply<'a, H: Threads + Wait + Sync, R: Source>(
     rt: &H,
     alloc: Global,
-    words: &'a [&'a str],
+    arguments: &'a [&'a str],
     input: &mut R,
-) -> Result<Reply, Failure>
+) -> Result<Answer, Failure>
     ensures ok { IfOk result
-        (IsReply (map (λ word. word.now) words.entry.now) (R.known input.old) (R.known input.new)) }
-    ensures err { IfErr result (MayFail (map (λ word. word.now) words.entry.now) (R.known input.old)
+        (IsReply (map (λ argument. argument.now) arguments.entry.now) (R.known input.old) (R.known input.new)) }
+    ensures err { IfErr result (MayFail (map (λ argument. argument.now) arguments.entry.now) (R.known input.old)
         (R.known input.new)) }
-    ensures reads { TakesAtMost (limit_for (request_in (map (λ word. word.now) words.entry.now)))
+    ensures reads { TakesAtMost (limit_for (request_in (map (λ argument. argument.now) arguments.entry.now)))
         (R.known input.old) (R.known input.new) }
 {
-    match request_in(alloc, words) {
+    match request_in(alloc, arguments) {
         Ok(request) => {
             let bytes = read_up_to(alloc, input, request.limit())?;
             Ok(answer(rt, alloc, request, &bytes)?)
         }
-        Err(Refusal::Help(error)) => Ok(Reply {
-            text: error.to_string(alloc)?.into_bytes(),
+        Err(Refusal::Help(error)) => Ok(Answer {
+            bytes: error.to_string(alloc)?.into_bytes(),
             status: 0,
         }),
         Err(Refusal::Words) => Err(Failure::Words),

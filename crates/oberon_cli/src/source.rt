@@ -1,5 +1,5 @@
-//! Sources: readers whose contracts say whether a read failed; and reading one to its end, or up to a limit, by a loop that counts its
-//! turns.
+//! Sources: readers whose contracts say whether a read failed; and reading one to its end, or up to a limit, by a loop that counts
+//! its turns.
 ghost use Rattle.std.specs.Prelude.{◌≡◌, ◌<◌, ◌^◌, length, IfErr, IfOk, OnErr, OnOk, true, false};
 ghost use Rattle.std.specs.Io.{ReadsAtMost};
 ghost use Rattle.std.specs.Io.KnownBytes.{IsAtEnd, ReadConsumes};

@@ -455,8 +455,8 @@ pub(super) fn check_with_each(
 ) {
     for workers in ["1", "2", "64"] {
         for cut in ["1", "4", "100"] {
-            let words = ["check", "--workers", workers, "--cut", cut];
-            gives(rt, &words, text, line.as_bytes(), status);
+            let arguments = ["check", "--workers", workers, "--cut", cut];
+            gives(rt, &arguments, text, line.as_bytes(), status);
         }
     }
 }

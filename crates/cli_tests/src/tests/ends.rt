@@ -66,10 +66,10 @@ impl Read for Endless {
 
 #[test]
 fn help_and_refused_words_read_nothing(rt: HostRuntime) {
-    for (words, status) in [(["--help"], 0), (["bogus"], 4)] {
+    for (arguments, status) in [(["--help"], 0), (["bogus"], 4)] {
         let mut input = Endless { given: 0 };
         let mut output = Vec::new(rt.alloc());
-        let ended = serve(&rt, rt.alloc(), &words, &mut input, &mut output);
+        let ended = serve(&rt, rt.alloc(), &arguments, &mut input, &mut output);
         assert_eq!(rt; (ended, input.given), (status, 0));
     }
 }
@@ -129,11 +129,11 @@ fn failing_reader<'a>(rest: &'a [u8], calls: u32, why: ErrorKind) -> Watched<Fai
 /// Checks that the program ends with a fault of the reader, and that nothing else is written.
 fn ends_with_read_fault<'a, H: Abort + AllocGlobal + Threads + Wait + Sync>(
     rt: &H,
-    words: &'a [&'a str],
+    arguments: &'a [&'a str],
     mut input: Watched<Failing<'_>>,
 ) {
     let mut output = Watched::new(Vec::new(rt.alloc()));
-    let status = serve(rt, rt.alloc(), words, &mut input, &mut output);
+    let status = serve(rt, rt.alloc(), arguments, &mut input, &mut output);
     let has_failed = (input.has_failed(), output.has_failed());
     is_written(rt, output.into_inner().as_slice(), b"read fault\n");
     assert_eq!(rt; status, 3);
@@ -151,11 +151,11 @@ const READING: [&[&str]; 4] = [
 #[test]
 fn a_read_that_fails_leaves_its_line_alone(rt: HostRuntime) -> Result<(), Fail> {
     let text = STORED_RUN.first_file(rt.alloc(), &[])?;
-    for words in READING {
+    for arguments in READING {
         for why in [ErrorKind::Other, ErrorKind::Interrupted] {
             // The file takes ten calls, and its end is seen at the eleventh.
             for calls in 0..11 {
-                ends_with_read_fault(&rt, words, failing_reader(&text, calls, why));
+                ends_with_read_fault(&rt, arguments, failing_reader(&text, calls, why));
             }
         }
     }
@@ -165,11 +165,11 @@ fn a_read_that_fails_leaves_its_line_alone(rt: HostRuntime) -> Result<(), Fail> 
 /// Checks that a file is checked to the line of the stored run.
 fn is_accepted<H: Abort + AllocGlobal + Threads + Wait + Sync>(
     rt: &H,
-    words: &[&str],
+    arguments: &[&str],
     input: &mut impl Source,
 ) {
     let mut output = Watched::new(Vec::new(rt.alloc()));
-    let status = serve(rt, rt.alloc(), words, input, &mut output);
+    let status = serve(rt, rt.alloc(), arguments, input, &mut output);
     let has_failed = output.has_failed();
     is_written(rt, output.into_inner().as_slice(), LINE);
     assert_eq!(rt; status, 0);
@@ -206,10 +206,10 @@ const ENDLESS: [(&[&str], &str, u64); 4] = [
 
 #[test]
 fn a_reader_without_end_is_read_up_to_the_limit(rt: HostRuntime) {
-    for (words, line, limit) in ENDLESS {
+    for (arguments, line, limit) in ENDLESS {
         let mut input = Endless { given: 0 };
         let mut output = Vec::new(rt.alloc());
-        let status = serve(&rt, rt.alloc(), words, &mut input, &mut output);
+        let status = serve(&rt, rt.alloc(), arguments, &mut input, &mut output);
         is_written(&rt, output.as_slice(), line.as_bytes());
         assert_eq!(rt; (status, input.given), (2, limit));
     }
@@ -219,14 +219,14 @@ fn a_reader_without_end_is_read_up_to_the_limit(rt: HostRuntime) {
 /// the status is 3.
 fn ends_narrow<'a, H: Abort + AllocGlobal + Threads + Wait + Sync>(
     rt: &H,
-    words: &'a [&'a str],
+    arguments: &'a [&'a str],
     text: &[u8],
     output: Narrow,
     (status, taken): (u8, &[u8]),
 ) {
     let mut output = Watched::new(output);
     let mut rest = text;
-    let ended = serve(rt, rt.alloc(), words, &mut rest, &mut output);
+    let ended = serve(rt, rt.alloc(), arguments, &mut rest, &mut output);
     let has_failed = output.has_failed();
     is_written(rt, output.into_inner().taken.as_slice(), taken);
     assert_eq!(rt; ended, status);

@@ -50,8 +50,8 @@ fn put(text: &mut [u8], at: usize, byte: u8) {
 }
 
 fn refuse(rt: &(impl Abort + AllocGlobal + Threads + Wait + Sync), text: &[u8], line: &str) {
-    for word in ["check", "migrate"] {
-        gives(rt, &[word], text, line.as_bytes(), 2);
+    for command in ["check", "migrate"] {
+        gives(rt, &[command], text, line.as_bytes(), 2);
     }
 }
 

@@ -26,7 +26,7 @@ const REFUSED: [&[&str]; 15] = [
 
 /// Help that arguments ask for.
 struct Help {
-    words: &'static [&'static str],
+    arguments: &'static [&'static str],
     /// The usage line of the command in its help.
     usage: &'static [u8],
     /// The example at the end of its help.
@@ -35,27 +35,27 @@ struct Help {
 
 const HELP: [Help; 5] = [
     Help {
-        words: &["--help"],
+        arguments: &["--help"],
         usage: b"Usage: oberon_replay <COMMAND>\n",
         example: b"\nExample:\n  oberon_replay <face.orsr\n",
     },
     Help {
-        words: &["check", "--help"],
+        arguments: &["check", "--help"],
         usage: b"Usage: oberon_replay check [OPTIONS]\n",
         example: b"\nExample:\n  oberon_replay check --workers 4 <face.orsr\n",
     },
     Help {
-        words: &["record", "-h"],
+        arguments: &["record", "-h"],
         usage: b"Usage: oberon_replay record\n",
         example: b"\nExample:\n  oberon_replay record <face.json >face.orsr\n",
     },
     Help {
-        words: &["help", "screen"],
+        arguments: &["help", "screen"],
         usage: b"Usage: oberon_replay screen --at <K>\n",
         example: b"\nExample:\n  oberon_replay screen --at 1 <face.orsr >face.pbm\n",
     },
     Help {
-        words: &["migrate", "--help"],
+        arguments: &["migrate", "--help"],
         usage: b"Usage: oberon_replay migrate\n",
         example: b"\nExample:\n  oberon_replay migrate <old.orsr >new.orsr\n",
     },
@@ -65,16 +65,22 @@ const HELP: [Help; 5] = [
 const COMMANDS: [&[u8]; 4] = [b"check", b"migrate", b"record", b"screen"];
 
 #[test]
-fn refuses_words(rt: HostRuntime) {
+fn refuses_arguments(rt: HostRuntime) {
     refuse_each(&rt, &REFUSED);
 }
 
 fn refuse_each<'a>(
     rt: &(impl Abort + AllocGlobal + Threads + Wait + Sync),
-    words: &'a [&'a [&'a str]],
+    arguments: &'a [&'a [&'a str]],
 ) {
-    for words in words {
-        gives(rt, words, b"the input isn't read", b"words refused\n", 4);
+    for arguments in arguments {
+        gives(
+            rt,
+            arguments,
+            b"the input isn't read",
+            b"words refused\n",
+            4,
+        );
     }
 }
 
@@ -85,7 +91,7 @@ fn helps(rt: HostRuntime) {
 
 fn help_each(rt: &(impl Abort + AllocGlobal + Threads + Wait + Sync), all: &[Help]) {
     for help in all {
-        let (written, ended) = served(rt, help.words, b"the input isn't read");
+        let (written, ended) = served(rt, help.arguments, b"the input isn't read");
         helps_with(rt, &written, help);
         assert_eq!(rt; ended, 0);
     }

@@ -10,12 +10,12 @@ use std::thread::Threads;
 /// Checks that the arguments give the same output for two files.
 fn agrees<'a, H: Abort + AllocGlobal + Threads + Wait + Sync>(
     rt: &H,
-    words: &'a [&'a str],
+    arguments: &'a [&'a str],
     text: &[u8],
     migrated: &[u8],
 ) {
-    let (written, ended) = served(rt, words, text);
-    gives(rt, words, migrated, &written, ended);
+    let (written, ended) = served(rt, arguments, text);
+    gives(rt, arguments, migrated, &written, ended);
 }
 
 #[test]

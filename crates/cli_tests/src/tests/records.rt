@@ -101,8 +101,13 @@ const STARTS: [(&str, &str, &str); 3] = [
 #[test]
 fn refuses_a_rate_without_a_place_and_a_phase_at_its_rate(rt: HostRuntime) -> Result<(), Fail> {
     for (version, members, line) in STARTS {
+        let registers = "[0,0,0,0,0,0,0,0,0,0,0,0,0,0,0,0]";
+        let start = format!(in rt.alloc();
+            "{{\"R\":{registers},\"H\":0,\"PC\":0,\"flags\":0{members}}}"
+        )?;
+        let rest = "\"pages\":[],\"inputs\":[],\"checkpoints\":[1]";
         let text = format!(in rt.alloc();
-            "{{\"format\":\"oberon-session\",\"version\":{version},\"start\":{{\"R\":[0,0,0,0,0,0,0,0,0,0,0,0,0,0,0,0],\"H\":0,\"PC\":0,\"flags\":0{members}}},\"pages\":[],\"inputs\":[],\"checkpoints\":[1]}}"
+            "{{\"format\":\"oberon-session\",\"version\":{version},\"start\":{start},{rest}}}"
         )?;
         refuses(&rt, &text, line);
     }

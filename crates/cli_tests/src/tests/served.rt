@@ -8,24 +8,24 @@ use std::thread::Threads;
 /// Returns what was written for the arguments and the input, and the status.
 pub(super) fn served<'a, H: AllocGlobal + Threads + Wait + Sync>(
     rt: &H,
-    words: &'a [&'a str],
+    arguments: &'a [&'a str],
     text: &[u8],
 ) -> (Vec<u8>, u8) {
     let mut written = Vec::new(rt.alloc());
     let mut rest = text;
-    let status = serve(rt, rt.alloc(), words, &mut rest, &mut written);
+    let status = serve(rt, rt.alloc(), arguments, &mut rest, &mut written);
     (written, status)
 }
 
 /// Checks what is written for the arguments and the input, and the status.
 pub(super) fn gives<'a, H: Abort + AllocGlobal + Threads + Wait + Sync>(
     rt: &H,
-    words: &'a [&'a str],
+    arguments: &'a [&'a str],
     text: &[u8],
     wanted: &[u8],
     status: u8,
 ) {
-    let (written, ended) = served(rt, words, text);
+    let (written, ended) = served(rt, arguments, text);
     is_written(rt, &written, wanted);
     assert_eq!(rt; ended, status);
 }

@@ -14,4 +14,5 @@ IsReadFault old new Memory = Goes old new
 -- one turn appends `got` to the bytes: at most `most` bytes, and at least one if the input has not ended
 abbrev pub GainsInTurn : Known → Known → List ℕ → List ℕ → ℕ → Bool → Type 0
 GainsInTurn old new bytes bytes' most ended =
-    (got : List ℕ) × (bytes' ≡ bytes ++ got) × (length got ≤ most) × (ended ≡ false → 0 < length got) × Consumes old.bytes new.bytes got
+    (got : List ℕ) × (bytes' ≡ bytes ++ got) × (length got ≤ most) × (ended ≡ false → 0 < length got)
+    × Consumes old.bytes new.bytes got

@@ -4,12 +4,12 @@ use Rattle.clap.specs.Walk.{Text}
 use Rattle.clap.specs.declared.error.Error.{Error}
 use Rattle.clap.specs.declared.error.kind.ErrorKind.{ErrorKind}
 use Rattle.clap.specs.declared.error.kind.ErrorKind.TheVariants.{DisplayHelp, OutOfMemory}
-use Rattle.oberon_cli.specs.declared.words.Request.{Request}
-use Rattle.oberon_cli.specs.declared.words.Request.TheVariants.{Check, Migrate, Record, Screen}
-use Rattle.oberon_cli.specs.declared.words.Refusal.{Refusal}
-use Rattle.oberon_cli.specs.declared.words.Refusal.TheVariants.{Help, Words, Memory}
+use Rattle.oberon_cli.specs.declared.arguments.Request.{Request}
+use Rattle.oberon_cli.specs.declared.arguments.Request.TheVariants.{Check, Migrate, Record, Screen}
+use Rattle.oberon_cli.specs.declared.arguments.Refusal.{Refusal}
+use Rattle.oberon_cli.specs.declared.arguments.Refusal.TheVariants.{Help, Words, Memory}
 use Rattle.recording_limits.specs.declared.limits.TheConstants.{LAST_CHECKPOINT}
-use Rattle.oberon_cli.specs.declared.reply.Reply.{Reply}
+use Rattle.oberon_answers.specs.declared.answer.Answer.{Answer}
 use Rattle.oberon_cli.specs.Asked.{IsHelp, IsRefused}
 use Rattle.oberon_cli.specs.Reply.{IsReplyTo, Outcome, outcome_status, outcome_text}
 use Rattle.oberon_cli.specs.Transfer.{Known}
@@ -29,12 +29,12 @@ refusal_by _ error = Words
 
 -- such a refusal may come for these arguments
 abbrev pub RefusedBy : List Text → Refusal → Type 0
-RefusedBy words (Help error) = IsHelp words
-RefusedBy words Words = IsRefused words
-RefusedBy words Memory = ⊤
+RefusedBy arguments (Help error) = IsHelp arguments
+RefusedBy arguments Words = IsRefused arguments
+RefusedBy arguments Memory = ⊤
 
--- the bytes and the status of a reply to the arguments, for the bytes taken from the reader
-abbrev pub IsReply : List Text → Known → Known → Reply → Type 0
-IsReply words old new reply =
-    (outcome : Outcome) × IsReplyTo words old new outcome × (reply.text.items ≡ outcome_text outcome)
-    × (reply.status ≡ outcome_status outcome)
+-- the answer is a reply to the arguments, for the bytes taken from the reader
+abbrev pub IsReply : List Text → Known → Known → Answer → Type 0
+IsReply arguments old new answer =
+    (outcome : Outcome) × IsReplyTo arguments old new outcome × (answer.bytes.items ≡ outcome_text outcome)
+    × (answer.status ≡ outcome_status outcome)

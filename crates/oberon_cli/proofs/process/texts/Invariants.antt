@@ -1,7 +1,7 @@
 use Rattle.std.proofs.Common.{◌≡◌, map, string_bytes, take}
 use Rattle.oberon_cli.proofs.process.texts.Given as goal
 
-abbrev pub invariant-loop-word : goal.invariant-loop-word
-invariant-loop-word l = record {
-  texts : map (λ text. text.now) l.texts.items ≡ map string_bytes (take l.word-index l.words);
+abbrev pub invariant-loop-argument : goal.invariant-loop-argument
+invariant-loop-argument l = record {
+  texts : map (λ text. text.now) l.texts.items ≡ map string_bytes (take l.argument-index l.arguments);
 }

@@ -4,7 +4,7 @@ use Rattle.oberon_cli.proofs.service.reply.Goals as goal
 
 pub returns-in_ok-answer-in-Ok-clause-ok : goal.returns-in_ok-answer-in-Ok-clause-ok
 returns-in_ok-answer-in-Ok-clause-ok g c = (
-  answer c.in-Ok.request c.in_ok-bytes-in-Ok.bytes.items c.in_ok-answer-in-Ok.field-0.text.items c.in_ok-answer-in-Ok.field-0.status,
+  answer c.in-Ok.request c.in_ok-bytes-in-Ok.bytes.items c.in_ok-answer-in-Ok.field-0.bytes.items c.in_ok-answer-in-Ok.field-0.status,
   (
     c.in-Ok.ensures.ok,
     rw (← c.limit.ensures) c.in_ok-bytes-in-Ok.ensures.read,

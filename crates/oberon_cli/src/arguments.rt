@@ -58,7 +58,7 @@ pub enum Refusal {
 }
 
 impl From<AllocError> for Refusal {
-    ghost use Rattle.oberon_cli.specs.declared.words.Refusal.{Refusal};
+    ghost use Rattle.oberon_cli.specs.declared.arguments.Refusal.{Refusal};
 
     ghost from_gives = { λ _ refusal. refusal ≡ Refusal.Memory };
 
@@ -68,16 +68,16 @@ impl From<AllocError> for Refusal {
 }
 
 /// Returns what the arguments ask for, from what `clap` reads. No arguments ask for a check with 2 workers and cut 1.
-pub fn request_in<'a>(alloc: Global, words: &'a [&'a str]) -> Result<Request, Refusal>
+pub fn request_in<'a>(alloc: Global, arguments: &'a [&'a str]) -> Result<Request, Refusal>
     ensures ok { IfOk result (λ request.
-        request_in (map (λ word. word.now) words.entry.now) ≡ Some request) }
+        request_in (map (λ argument. argument.now) arguments.entry.now) ≡ Some request) }
     ensures limits { IfOk result IsWithinLimits }
-    ensures err { IfErr result (RefusedBy (map (λ word. word.now) words.entry.now)) }
+    ensures err { IfErr result (RefusedBy (map (λ argument. argument.now) arguments.entry.now)) }
 {
-    if words.is_empty() {
+    if arguments.is_empty() {
         return Ok(Request::Check { workers: 2, cut: 1 });
     }
-    match program(alloc)?.try_get_matches_from(words) {
+    match program(alloc)?.try_get_matches_from(arguments) {
         Ok(matches) => request_of(&matches).ok_or(Refusal::Words),
         Err(error) => Err(refusal_of(error)),
     }

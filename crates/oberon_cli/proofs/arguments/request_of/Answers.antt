@@ -1,5 +1,5 @@
 use Rattle.oberon_cli.proofs.FoundLemmas.{asked_check, asked_migrate, asked_other, asked_record, asked_screen, found_one}
-use Rattle.oberon_cli.proofs.words.request_of.Goals as goal
+use Rattle.oberon_cli.proofs.arguments.request_of.Goals as goal
 
 pub returns-in-migrate-clause-value : goal.returns-in-migrate-clause-value
 returns-in-migrate-clause-value c =

@@ -1,5 +1,5 @@
 use Rattle.std.proofs.Common.{arith}
-use Rattle.oberon_cli.proofs.words.refusal_of.Goals as goal
+use Rattle.oberon_cli.proofs.arguments.refusal_of.Goals as goal
 
 pub returns-in-DisplayHelp : goal.returns-in-DisplayHelp
 returns-in-DisplayHelp c = search arith

@@ -4,8 +4,8 @@ use Rattle.clap.proofs.WalkLemmas.{one_text-rows}
 use Rattle.std.specs.Str.Parse.{ExplainsUnsignedError, HasUnsignedDigitsIfOk, ParsesUnsigned}
 use Rattle.oberon_cli.specs.Asked.{whole_number}
 use Rattle.oberon_cli.proofs.Numbers.{no_text, text_in_range, text_out_of_range}
-use Rattle.oberon_cli.proofs.words.whole_number.Goals as goal
-use Rattle.oberon_cli.proofs.words.whole_number.Goals.{else-low-number-via-then-low-number+else-number-high, else-low-number-via-else-low-number}
+use Rattle.oberon_cli.proofs.arguments.whole_number.Goals as goal
+use Rattle.oberon_cli.proofs.arguments.whole_number.Goals.{else-low-number-via-then-low-number+else-number-high, else-low-number-via-else-low-number}
 
 pub returns-in_err-number-clause-value : goal.returns-in_err-number-clause-value
 returns-in_err-number-clause-value c =

@@ -1,5 +1,5 @@
 use Rattle.std.proofs.Common.{arith}
-use Rattle.oberon_cli.proofs.words.Request.limit.Goals as goal
+use Rattle.oberon_cli.proofs.arguments.Request.limit.Goals as goal
 
 pub returns-in-Check : goal.returns-in-Check
 returns-in-Check c = search arith
