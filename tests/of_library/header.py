@@ -139,10 +139,3 @@ def compare_header(folder: Path) -> list[str]:
             fail(f"the comparison of the header passes {new!r}")
     print(f"header: {len(names)} functions, {len(list(constants()))} constants and four structs are the crate's; {len(wrong)} wrong headers found")
     return sorted(names)
-
-
-def compare_definitions() -> None:
-    """What `record` and `migrate` answer is defined in two crates that don't know each other, in the same words."""
-    for name in ("Record.antt", "Migrate.antt"):
-        expect(f"specs/{name}", (CRATE / "specs" / name).read_text(), (TOP / "crates/oberon_cli/specs" / name).read_text())
-    print("definitions: Record and Migrate are those of oberon_cli")

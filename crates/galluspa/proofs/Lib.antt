@@ -1,8 +1,6 @@
 -- The lemmas of this crate.
 mod WordLemmas
 mod TextLemmas
-mod FirstLemmas
-mod LineLemmas
 mod FrameLemmas
 mod InputLemmas
 mod AdvanceLemmas

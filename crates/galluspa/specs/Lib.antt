@@ -3,8 +3,6 @@ pub mod Raw
 pub mod Room
 pub mod Advance
 pub mod Claim
-pub mod Record
-pub mod Migrate
 pub mod Extend
 pub mod Find
 pub mod Laws

@@ -1,5 +1,3 @@
 -- Definitions for contracts of private functions. No public contract and no law uses them, so nobody has to believe them.
-pub mod Answering
 pub mod Extending
-pub mod Replaying
 pub mod Running

@@ -14,28 +14,22 @@
 
 mod advance;
 mod answer;
-mod check;
 mod claim;
 mod extend;
 mod find;
 mod front;
 mod laws;
-mod lengths;
-mod migrate;
 mod raw;
-mod record;
 mod refusal;
 mod words;
 
 pub use advance::galluspa_advance;
-pub use check::galluspa_check;
+pub use answer::{galluspa_check, galluspa_migrate, galluspa_record};
 pub use claim::galluspa_claim;
 pub use extend::{galluspa_begin, galluspa_extend};
 pub use find::{RawCondition, RawHit, galluspa_find};
 pub use laws::{codes_law, frame_law, join_law, record_law};
-pub use migrate::galluspa_migrate;
 pub use raw::{RawInput, RawState};
-pub use record::galluspa_record;
 pub use refusal::{
     DONE, NO_CHECKPOINT, NO_RECORDING, NO_ROOM, NOT_FOUND, OUT_OF_MEMORY, OUT_OF_RANGE,
     PENDING_INPUTS, TOO_MANY_CHECKPOINTS, TOO_MANY_INPUTS, TOO_MANY_PAGES, TOO_MUCH_OUTPUT,

@@ -1,5 +1,6 @@
 //! The state of a machine and its inputs in the memory of a caller: plain numbers in the layout of C.
-ghost use Rattle.std.specs.Prelude.{◌≡◌, ◌≤◌, ◌<◌, ◌^◌, ◌↔◌, ◌++◌, ◌-◌, ℕ, All, IfNone, IfSome, IsSome, drop, length, replicate, slice_index};
+ghost use Rattle.std.specs.Prelude.{◌≡◌, ◌≤◌, ◌<◌, ◌^◌, ◌↔◌, ◌++◌, ◌-◌, ℕ, All, IfNone, IfSome, IsSome};
+ghost use Rattle.std.specs.Prelude.{drop, length, replicate, slice_index};
 ghost use Rattle.risc_core.specs.declared.branch.TheConstants.{COUNTER_END};
 ghost use Rattle.risc_core.specs.Flags.{flags_of};
 ghost use Rattle.risc_model.specs.MachineState.{cpu_state};

@@ -10,7 +10,8 @@ use Rattle.oberon_session.specs.declared.extend_fault.ExtendFault.{ExtendFault}
 use Rattle.oberon_session.specs.declared.extend_fault.ExtendFault.TheVariants as fault
 use Rattle.galluspa.specs.declared.extend.Unrecorded.{Unrecorded}
 use Rattle.galluspa.specs.declared.extend.Unrecorded.TheVariants as refusal
-use Rattle.galluspa.specs.declared.refusal.TheConstants.{NO_RECORDING, OUT_OF_MEMORY, OUT_OF_RANGE, PENDING_INPUTS, TOO_MANY_CHECKPOINTS, TOO_MANY_INPUTS, TOO_MANY_PAGES, TOO_MUCH_OUTPUT}
+use Rattle.galluspa.specs.declared.refusal.TheConstants.{NO_RECORDING, OUT_OF_MEMORY, OUT_OF_RANGE, PENDING_INPUTS}
+use Rattle.galluspa.specs.declared.refusal.TheConstants.{TOO_MANY_CHECKPOINTS, TOO_MANY_INPUTS, TOO_MANY_PAGES, TOO_MUCH_OUTPUT}
 use Rattle.galluspa.specs.declared.raw.RawState.{RawState}
 use Rattle.galluspa.specs.declared.raw.RawInput.{RawInput}
 use Rattle.galluspa.specs.Claim.{IsNoRecording}

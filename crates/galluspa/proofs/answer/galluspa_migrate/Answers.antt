@@ -1,5 +1,5 @@
 use Rattle.std.proofs.Common.{arith}
-use Rattle.galluspa.proofs.migrate.galluspa_migrate.Goals as goal
+use Rattle.galluspa.proofs.answer.galluspa_migrate.Goals as goal
 
 pub returns-in-Ok-clause-migrated : goal.returns-in-Ok-clause-migrated
 returns-in-Ok-clause-migrated c = λ some fits. rw (c.put.ensures.bytes some fits, c.put.ensures.status some fits) c.in-Ok.ensures

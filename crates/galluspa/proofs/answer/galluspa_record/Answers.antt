@@ -1,5 +1,5 @@
 use Rattle.std.proofs.Common.{arith}
-use Rattle.galluspa.proofs.record.galluspa_record.Goals as goal
+use Rattle.galluspa.proofs.answer.galluspa_record.Goals as goal
 
 pub returns-in-Ok-clause-recording : goal.returns-in-Ok-clause-recording
 returns-in-Ok-clause-recording c = λ some fits. rw (c.put.ensures.bytes some fits, c.put.ensures.status some fits) c.in-Ok.ensures

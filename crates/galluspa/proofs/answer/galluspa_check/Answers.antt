@@ -1,5 +1,5 @@
 use Rattle.std.proofs.Common.{arith}
-use Rattle.galluspa.proofs.check.galluspa_check.Goals as goal
+use Rattle.galluspa.proofs.answer.galluspa_check.Goals as goal
 
 pub returns-in-Ok-clause-line : goal.returns-in-Ok-clause-line
 returns-in-Ok-clause-line c = λ some fits. rw (c.put.ensures.bytes some fits, c.put.ensures.status some fits) c.in-Ok.ensures.line
