@@ -11,7 +11,7 @@ ghost use Rattle.galluspa.specs.inner.Running.{IsAdvanceRefusal, IsRun, IsRunRef
 use crate::front::copy_to_front;
 use crate::raw::{RawInput, RawState, parts_of, state_of};
 use crate::refusal::{DONE, NO_ROOM, OUT_OF_MEMORY, OUT_OF_RANGE, Refusal};
-use crate::words::{WORDS, copy_words, paged};
+use crate::words::{WORDS, paged, write_delta};
 use risc_devices::{Devices, Input};
 use risc_machine::Machine;
 use risc_model::{Cpu, Event, Inputs, MAX_COUNT};
@@ -93,6 +93,7 @@ fn sent_by(
     ensures state { OnOk result (machine.new.state ≡ run_of inputs.now from (to - from) machine.old.state) }
     ensures sent { IfOk result (λ sent. sent.items ≡ sent_of inputs.now from (to - from) machine.old.state) }
     ensures room { IfOk result (λ sent. length sent.items ≤ room) }
+    ensures kept { machine.new.base ≡ machine.old.base }
     ensures no_room { IfErr result (λ refusal.
         refusal ≡ Refusal.Room → room < length (sent_of inputs.now from (to - from) machine.old.state)) }
     ensures memory { IfErr result (λ refusal. refusal ≡ Refusal.Memory → MayFail machine.new) }
@@ -122,6 +123,7 @@ fn run_piece(
     ensures state { IfOk result (λ end. machine.new.state ≡ run_of inputs.now at (end - at) machine.old.state) }
     ensures sent { IfOk result (λ end. sent.new.items ≡ sent.old.items ++ sent_of inputs.now at (end - at) machine.old.state) }
     ensures room { OnOk result (length sent.new.items ≤ room) }
+    ensures kept { machine.new.base ≡ machine.old.base }
     ensures no_room { IfErr result (λ refusal.
         refusal ≡ Refusal.Room → room < length sent.old.items + length (sent_of inputs.now at (to - at) machine.old.state)) }
     ensures memory { IfErr result (λ refusal. refusal ≡ Refusal.Memory → MayFail machine.new) }
@@ -159,14 +161,15 @@ fn piece_end(machine: &Machine<'_>, at: u64, to: u64, left: usize) -> u64
 /// sends, of which there are at most `room`. Otherwise nothing is written.
 fn run_machine(
     alloc: Global,
-    machine: &mut Machine<'_>,
+    mut machine: Machine<'_>,
     state: &mut RawState,
     words: &mut [u32],
     inputs: &Inputs,
     to: u64,
     room: usize,
 ) -> Result<Vec<u8>, Refusal>
-    requires state { machine.old.state ≡ state_of state.old words.old }
+    requires state { machine.state ≡ state_of state.old words.old }
+    requires base { machine.base ≡ words.old }
     requires words { length words.old ≡ WORDS }
     requires forward { state.old.count ≤ to }
     ensures run { IfOk result (λ sent. IsRun inputs.now to state.old words.old state.new words.new sent.items) }
@@ -174,9 +177,12 @@ fn run_machine(
     ensures unchanged { OnErr result ((state.new ≡ state.old) × (words.new ≡ words.old)) }
     ensures refused { IfErr result (IsRunRefusal inputs.now to state.old words.old room) }
 {
-    let sent = sent_by(alloc, machine, inputs, state.count, to, room)?;
-    *state = state_of(to, machine.cpu(), machine.devices());
-    copy_words(machine.memory(), words);
+    let sent = sent_by(alloc, &mut machine, inputs, state.count, to, room)?;
+    // The contract of `owned` states that a memory has all its words.
+    let _owned = machine.memory().owned(0);
+    let (cpu, devices, delta) = machine.close()?;
+    *state = state_of(to, &cpu, &devices);
+    write_delta(&delta, words);
     Ok(sent)
 }
 
@@ -201,8 +207,8 @@ fn run_parts(
 {
     let (pool, table) = paged(alloc, words)?;
     let (cpu, devices) = parts;
-    let mut machine = Machine::start(alloc, &pool, &table, cpu, devices)?;
-    run_machine(alloc, &mut machine, state, words, inputs, to, room)
+    let machine = Machine::start(alloc, &pool, &table, cpu, devices)?;
+    run_machine(alloc, machine, state, words, inputs, to, room)
 }
 
 /// Runs a machine up to a count, and returns the bytes that it sends, of which there are at most `room`. All numbers are tested

@@ -1,4 +1,4 @@
-use Rattle.std.proofs.Common.{◌-◌, ◌≤◌, ◌++◌, ◌∙◌, ap, arith, length, length-append, sym, List, ℕ}
+use Rattle.std.proofs.Common.{◌-◌, ◌≤◌, ◌++◌, ◌∙◌, ap, arith, length, length-append, refl, sym, List, ℕ}
 use Rattle.std.proofs.lemmas.Result.{err_from_is_err_and}
 use Rattle.risc_model.specs.Replay.{sent_of}
 use Rattle.risc_model.proofs.RunLemmas.{run_of-none, sent_of-none}
@@ -16,6 +16,7 @@ loop-at-init c =
       state = sym (run_of-none es from (from - from) s (omega arith));
       output = c.new-sent.ensures.items ∙ sym (sent_of-none es from (from - from) s (omega arith));
       room = rw c.new-sent.ensures.items (omega arith);
+      base = refl;
     }
 
 pub loop-at-preserved : goal.loop-at-preserved
@@ -33,6 +34,7 @@ loop-at-preserved c =
       state = piece.state ∙ run-on es from c.loop-at.at c.in_ok-at.at s i.begun on c.loop-at.machine.state i.state;
       output = piece.sent ∙ ap (λ (sent : List ℕ). sent ++ more) i.output ∙ sent-on es from c.loop-at.at c.in_ok-at.at s i.begun on c.loop-at.machine.state i.state;
       room = piece.room;
+      base = piece.kept ∙ i.base;
     }
 
 pub returns-in_err-at-clause-no_room : goal.returns-in_err-at-clause-no_room

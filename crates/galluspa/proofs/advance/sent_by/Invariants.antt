@@ -9,6 +9,7 @@ invariant-loop-at l = record {
   state : l.machine.state ≡ run_of l.inputs l.from (l.at - l.from) l.initial.machine.state;
   output : l.sent.items ≡ sent_of l.inputs l.from (l.at - l.from) l.initial.machine.state;
   room : length l.sent.items ≤ l.room;
+  base : l.machine.base ≡ l.initial.machine.base;
 }
 
 abbrev pub decreases-loop-at : goal.decreases-loop-at
