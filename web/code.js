@@ -5,6 +5,8 @@
 const DONE_BEFORE = 12, DONE_AFTER = 6, MOST_BREAKS = 32;
 // The word numbers at which the machine stops on its way, and the hits that were found of them, each with a glyph and what it is.
 let breaks = new Set(), hits = [];
+// The lines of the listing by their word numbers.
+const listed = new Map();
 
 function toggleBreak(pc) {
   const next = new Set(breaks);
@@ -62,20 +64,38 @@ async function meetBreaks() {
   await foundAt(found, conditions);
 }
 
-/** Shows the instructions around a program counter, each with a place for a breakpoint. */
+/** Shows the instructions around a program counter, each with a place for a breakpoint. Lines that were shown before stay: a button that
+ * were made anew between its press and its release would get no click. */
 function showListing(pc, listing) {
-  const lines = listing.map(([at, word]) => {
-    const line = made("span", ""), gutter = made("button", "", "gutter"), [mnemonic, meaning] = instruction(word, at);
-    const place = `${at === pc ? "▸" : " "}${`${at}`.padStart(6)}  `;
-    Object.assign(gutter, { type: "button", onclick: () => toggleBreak(at) });
-    gutter.dataset.pc = at;
-    gutter.setAttribute("aria-label", `breakpoint at ${at}, ${mnemonic}`);
-    showBreak(gutter);
-    line.append(gutter, place, made("i", `${hex(word, 8)}  `), `${mnemonic.padEnd(20)} ${meaning}\n`);
-    line.classList.toggle("here", at === pc);
-    return line;
+  const shown = new Set(listing.map(([at]) => at)), place = el("listing");
+  for (const [at, { line }] of listed) if (!shown.has(at)) line.remove(), listed.delete(at);
+  listing.forEach(([at, word], number) => {
+    if (!listed.has(at)) place.insertBefore(newLine(at).line, place.children[number] ?? null);
+    fillLine(listed.get(at), at, word, at === pc);
   });
-  el("listing").replaceChildren(...(lines.length ? lines : ["PC is outside memory"]));
+  el("no-code").hidden = listing.length > 0;
+}
+
+/** Makes the line of an instruction. */
+function newLine(at) {
+  const line = made("span", ""), gutter = made("button", "", "gutter"), [place, code, meaning] = ["span", "i", "span"].map((tag) => made(tag, ""));
+  Object.assign(gutter, { type: "button", onclick: () => toggleBreak(at) });
+  gutter.dataset.pc = at;
+  showBreak(gutter);
+  line.append(gutter, place, code, meaning);
+  listed.set(at, { line, gutter, place, code, meaning, word: null, isHere: null });
+  return listed.get(at);
+}
+
+/** Writes an instruction to its line, unless it is there already. */
+function fillLine(parts, at, word, isHere) {
+  if (parts.word === word && parts.isHere === isHere) return;
+  const { line, gutter, place, code, meaning } = Object.assign(parts, { word, isHere }), [mnemonic, means] = instruction(word, at);
+  gutter.setAttribute("aria-label", `breakpoint at ${at}, ${mnemonic}`);
+  place.textContent = `${isHere ? "▸" : " "}${`${at}`.padStart(6)}  `;
+  code.textContent = `${hex(word, 8)}  `;
+  meaning.textContent = `${mnemonic.padEnd(20)} ${means}\n`;
+  line.classList.toggle("here", isHere);
 }
 
 /** Shows what the instructions around the cursor did, if that is to be seen. */

@@ -133,18 +133,22 @@ function showMode(frame) {
   write("mode-text", text + claim);
 }
 
+const inputsText = (number) => `${grouped(number)} input${number === 1 ? "" : "s"}`;
+
 function pastMode() {
   if (!isAhead()) return ["PAST", `${apart(look.at)} before now. Keys do nothing.`];
   const claimed = app.file?.verdict?.status === 0 ? "as the file claims, which was checked" : "claimed, not checked";
   return ["REPLAY", `${apart(look.at)} ahead of the replay, ${look.moment?.isClaimed ? claimed : "not run yet"}. Keys do nothing.`];
 }
 
-function modeOf({ state, on, isReplay, ahead, full }) {
-  const stop = field(state, AT.stop), left = ahead ? `${grouped(ahead)} inputs` : "checkpoints";
+function modeOf({ state, on, isReplay, ahead, full, isAtLastCount }) {
+  const stop = field(state, AT.stop), left = ahead ? inputsText(ahead) : "checkpoints";
   const then = full?.isEnd ? "What comes after is not recorded." : "The machine takes no more.";
   if (full) return ["FULL", `at ${grouped(full.count)}: ${full.why}. ${then}`];
-  if (isReplay) return ["REPLAY", `${left} of the file are still to come. Your own keys and mouse count once you take over.`];
-  if (stop) return ["STOPPED", `${STOPS[stop]}: the machine does nothing more.`];
+  if (isReplay && !isAtLastCount) return ["REPLAY", `${left} of the file ${ahead === 1 ? "is" : "are"} still to come. Your own keys and mouse count once you take over.`];
+  const never = ahead ? ` ${inputsText(ahead)} of the file at this count will never come.` : "";
+  if (stop) return ["STOPPED", `${STOPS[stop]}: the machine does nothing more.${never}`];
+  if (isAtLastCount) return ["FULL", `at ${grouped(countOf(state))}: no count comes after this one, so the machine does nothing more.${never}`];
   if (on) return ["LIVE", "What you type, click and send is recorded."];
   return ["LIVE", "The machine is paused: keys and the mouse go to it while it runs."];
 }

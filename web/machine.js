@@ -142,10 +142,16 @@ class Machine extends Emulator {
     return this.falseAt === Infinity;
   }
 
+  /** Whether the machine is at the last count that there is: no instruction comes after it, and no input. */
+  get isAtLastCount() {
+    return this.count >= MOST_COUNT;
+  }
+
   /** Why the machine takes no inputs of the user, or null. */
   get deaf() {
     if (this.isReplay) return "REPLAY: the inputs are the file's until you take over";
     if (this.part("stop")) return "STOPPED: a stopped machine takes no inputs";
+    if (this.isAtLastCount) return "FULL: no count comes after this one";
     return this.inputs.length >= INPUT_LIMIT ? "FULL: the machine takes no more inputs" : null;
   }
 
@@ -245,6 +251,11 @@ class Machine extends Emulator {
   /** Returns the bytes of the inputs that the machine has taken. */
   get takenInputs() {
     return this.inputs.bytes.subarray(0, INPUT_BYTES * this.next);
+  }
+
+  /** Whether only one more checkpoint has room in the recording, which is left for its end. */
+  get hasLastRoom() {
+    return this.marks.length >= CHECKPOINT_LIMIT - 1;
   }
 
   /** Extends the recording by a checkpoint at this count, if there is room for one. Returns whether there is a new checkpoint. */

@@ -96,9 +96,10 @@ class Past {
     return this.ask(ask, given);
   }
 
-  /** Finds the first count from one on and before another at which a condition holds, or the last one. */
-  find({ from = 0, to, last = false, conditions }) {
-    return this.searching("find", { from, to, last, conditions });
+  /** Finds the first count from one on and before another at which a condition holds, or the last one. What the past says of it between
+   * has the number of the request. */
+  find({ from = 0, to, last = false, conditions, request }) {
+    return this.searching("find", { from, to, last, conditions, request });
   }
 
   /** Finds the instruction that wrote what is there at a count. */

@@ -190,7 +190,7 @@ function showFrame(frame) {
   app.latest = frame;
   if (frame.dots) app.dots = frame.dots;
   if (frame.sent) appendSent(frame.sent);
-  followGame(frame);
+  followGame(frame, wasReplay);
   noteFrame(frame);
   if (frame.on) attempt(meetBreaks);
   if (!isPast()) showNow(frame, wasReplay);
@@ -242,11 +242,11 @@ function showStatus(frame) {
   if (!isPast()) showCursor(!frame.on);
 }
 
-function sayOf({ state, inputs, marks, speed, typed }) {
+function sayOf({ state, inputs, marks, speed, typed, hasLastRoom }) {
   const stop = field(state, AT.stop);
   const fast = speed ? `; ${(speed.perSecond / 1e6).toFixed(1)} million a second, busy ${(speed.busy * 100).toFixed(0)} %` : "";
-  const waits = typed ? `; ${typed} typed or sent bytes wait` : "";
-  return `${grouped(countOf(state))} instructions, ${grouped(inputs)} inputs, ${grouped(marks)} checkpoints${fast}${waits}` +
+  const waits = typed ? `; ${typed} typed or sent bytes wait` : "", last = hasLastRoom ? ", no more by time: the last is left for the end" : "";
+  return `${grouped(countOf(state))} instructions, ${inputsText(inputs)}, ${grouped(marks)} checkpoints${last}${fast}${waits}` +
     (stop ? `; stopped: ${STOPS[stop]}` : "");
 }
 
@@ -311,6 +311,12 @@ async function setRun(isOn) {
   catchUp();
 }
 
+/** Makes a checkpoint, or says why there is none. */
+async function mark() {
+  const why = await app.live.ask("mark");
+  notice(why ? `No new checkpoint: ${why}.` : "");
+}
+
 async function takeOver() {
   notice();
   await app.live.ask("takeOver");
@@ -331,7 +337,7 @@ function listen() {
   on("next", "click", () => app.live.ask("toCheckpoint", { fast: isFast(), seconds: everySeconds() }));
   on("take", "click", takeOver);
   for (const name of ["speed", "each"]) on(name, "change", () => app.live.ask("setPace", { fast: isFast(), seconds: everySeconds() }));
-  on("mark", "click", () => app.live.ask("mark"));
+  on("mark", "click", mark);
   listenToTime();
   listenToMemory();
   listenToSearch();

@@ -9,16 +9,16 @@ const WANTED = [
   [BECOMES, "a register becomes", "register", "value"], [SENDS, "any byte sent"], [SENDS_BYTE, "the byte sent", null, "byte"],
   [TAKES, "an input"], [STOP, "the machine stops"],
 ];
-// The search that is under way, or was last: when it began, and its conditions. It is replaced whole.
-let finding = { isOn: false, begun: 0, conditions: null };
+// The search that is under way, or was last: the number of its request, when it began, and its conditions. It is replaced whole.
+let finding = { isOn: false, request: 0, begun: 0, conditions: null };
 
 /** Looks at the nearest hit of some conditions. Returns its count, or null if there is none, or undefined if the search was ended. */
 async function search(conditions, isBack) {
   const at = shownCount(), [from, to] = isBack ? [0, at] : [at + 1, nowCount()];
   if (app.latest.on) await app.live.ask("setRun", { on: false });
-  const own = (finding = { isOn: true, begun: performance.now(), conditions });
+  const request = finding.request + 1, own = (finding = { isOn: true, request, begun: performance.now(), conditions });
   showFinding("searching ..");
-  const found = from < to ? await attempt(() => app.past.find({ from, to, last: isBack, conditions })) : { none: true };
+  const found = from < to ? await attempt(() => app.past.find({ from, to, last: isBack, conditions, request })) : { none: true };
   if (finding !== own) return undefined;
   finding = { ...own, isOn: false };
   if (found?.at !== undefined) return foundAt(found, conditions);
@@ -40,8 +40,8 @@ function showFinding(text) {
 }
 
 /** Says how far the search has come, and how long it will take. */
-function showSearched({ done, of }) {
-  if (!finding.isOn) return;
+function showSearched({ request, done, of }) {
+  if (!finding.isOn || request !== finding.request) return;
   const ms = performance.now() - finding.begun, left = done ? `, about ${Math.max(1, Math.ceil((ms * (of - done)) / done / 1000))} s left` : "";
   write("found", `${grouped(done)} of ${grouped(of)} counts${left}`);
 }

@@ -9,34 +9,83 @@ const PROGRESS_MS = 100, MOST_CONDITIONS = 64, H_NUMBER = 16, FLAGS_NUMBER = 17;
 // not free for another search before its piece is searched.
 const PIECE_MS = 60, FIRST_PIECE = 20000, MOST_PIECE = 5000000;
 
+/** A search that is under way, with the number that the page gave its request. */
+class Search {
+  constructor(history, generation, request) {
+    Object.assign(this, { history, generation, request, epoch: history.epoch, turned: -Infinity, isOver: false });
+    // Others call it, too.
+    this.turn = () => this.letOthersGoFirst();
+    this.stopped = new Promise((resolve) => (this.stop = () => resolve({ stopped: true })));
+  }
+
+  end() {
+    this.isOver = true;
+    this.stop();
+  }
+
+  /** Returns what a task answers, or that the search was stopped. */
+  answered(task) {
+    return Promise.race([task().catch(unlessEnded({ stopped: true })), this.stopped]);
+  }
+
+  /** Lets others go first, and looks before all. It throws where the search is over, or the machine went back. */
+  async letOthersGoFirst() {
+    const { history } = this;
+    if (performance.now() - this.turned > CALL_MS) {
+      await nextTask();
+      while (history.looking) await history.looks;
+      this.turned = performance.now();
+    }
+    if (this.isOver || history.epoch !== this.epoch) throw new Ended();
+  }
+
+  /** Posts news, unless the search is over. */
+  tell(kind, news) {
+    const { history, generation, request } = this;
+    if (!this.isOver) history.tell({ [kind]: { generation, request, ...news } });
+  }
+
+  /** Returns a function that posts how much is done, now and then. */
+  progress(of) {
+    let due = performance.now() + PROGRESS_MS;
+    return (done) => {
+      const now = performance.now();
+      if (now < due) return;
+      due = now + PROGRESS_MS;
+      this.tell("searched", { done, of });
+    };
+  }
+}
+
 class Searches {
   constructor(history) {
-    Object.assign(this, { history, crew: new Crew(), end: () => {} });
+    Object.assign(this, { history, crew: new Crew(), search: null });
   }
 
   /** Ends the search that is under way. Its answer is that it was stopped. */
   stop() {
-    this.end();
+    this.search?.end();
+    this.crew.clear();
     return true;
   }
 
   /** Finds the first or the last count from one on and before another at which a condition holds. */
-  find({ generation, from = 0, to, last = false, conditions }) {
+  find({ generation, request, from = 0, to, last = false, conditions }) {
     if (!(isWhole(from) && isWhole(to))) throw new Refused("a search goes from a count up to a count");
     if (!conditions.length || conditions.length > MOST_CONDITIONS) throw new Refused(`want 1 to ${MOST_CONDITIONS} conditions`);
-    return this.begin({ generation, to }, async (turn, end) => {
-      const hit = await (last ? this.findLast(from, end, conditions, turn) : this.findFirst(from, end, conditions, turn));
+    return this.begin({ generation, request, to }, async (search, end) => {
+      const hit = await (last ? this.findLast(from, end, conditions, search) : this.findFirst(from, end, conditions, search));
       return hit ?? { none: true };
     });
   }
 
   /** Finds the instruction that wrote what a register has at a count, or what is in memory: a byte, some bits of it, or some bits of the
    * word at an address. It is the last one that changed it. `stored` is a later one that stored the same again. */
-  who({ generation, before, register, address, bit, mask }) {
+  who({ generation, request, before, register, address, bit, mask }) {
     if (!isWhole(before)) throw new Refused(`${before} is no count`);
     const wanted = register === undefined ? bitsOf({ address, bit, mask }) : registerOf(register);
-    return this.begin({ generation, to: before }, async (turn, end) => {
-      const found = await (register === undefined ? this.whoWrote(wanted, end, turn) : this.whoSet(wanted, end, turn));
+    return this.begin({ generation, request, to: before }, async (search, end) => {
+      const found = await (register === undefined ? this.whoWrote(wanted, end, search) : this.whoSet(wanted, end, search));
       return { ...found, sure: true };
     });
   }
@@ -45,70 +94,42 @@ class Searches {
    * in which they differ, or null. */
   recheck({ generation, at }) {
     if (!isWhole(at)) throw new Refused(`${at} is no count`);
-    return this.begin({ generation, to: at }, async (turn, end) => {
-      const { history } = this, { searcher, keyframes, inputs } = history, tell = this.progress(end);
-      await history.reach(searcher, end, turn);
+    return this.begin({ generation, to: at }, async (search, end) => {
+      const { history } = this, { searcher, keyframes, inputs } = history, tell = search.progress(end);
+      await history.reach(searcher, end, search.turn);
       const shown = copied(searcher.at(searcher.place));
       searcher.load(keyframes, keyframes.items[0]);
       while (searcher.count < end) {
         tell(searcher.count);
         searcher.advance(inputs, end);
-        await turn();
+        await search.turn();
       }
       const [one, other] = [shown, copied(searcher.at(searcher.place))].map((machine) => ({ ...machine, sent: [] }));
       return { at: end, part: firstDifference(one, other) };
     });
   }
 
-  /** Begins a search that ends the one before. The task gets what lets others go first, and the count up to which it may search. */
-  begin({ generation, to }, task) {
-    const { history, crew } = this;
-    this.end();
-    let isOver = false;
-    const stopped = new Promise((resolve) => {
-      this.end = () => {
-        isOver = true;
-        crew.clear();
-        resolve({ stopped: true });
-      };
-    });
-    const search = async () => {
+  /** Begins a search that ends the one before. The task gets it, and the count up to which it may search. */
+  begin({ generation, request, to }, task) {
+    const { history } = this;
+    this.stop();
+    const search = (this.search = new Search(history, generation, request));
+    return search.answered(async () => {
       await history.known(generation, to);
-      const { epoch } = history;
-      let turned = -Infinity;
-      const turn = async () => {
-        if (performance.now() - turned > CALL_MS) {
-          await nextTask();
-          while (history.looking) await history.looks;
-          turned = performance.now();
-        }
-        if (isOver || history.epoch !== epoch) throw new Ended();
-      };
-      await turn();
-      return task(turn, Math.min(to, history.end));
-    };
-    return Promise.race([search().catch(unlessEnded({ stopped: true })), stopped]);
+      search.epoch = history.epoch;
+      await search.turn();
+      return task(search, Math.min(to, history.end));
+    });
   }
 
-  /** Returns a function that posts how much of a search is done, now and then. */
-  progress(of) {
-    let due = performance.now() + PROGRESS_MS;
-    return (done) => {
-      const now = performance.now();
-      if (now < due) return;
-      due = now + PROGRESS_MS;
-      this.history.tell({ searched: { generation: this.history.generation, done, of } });
-    };
+  findFirst(from, to, conditions, search) {
+    const pace = new Pace(PIECE_MS, FIRST_PIECE), pieces = this.forward(from, to, conditions, pace, search.turn);
+    return this.searched(pieces, pace, { conditions, isLast: false }, search.progress(to - from));
   }
 
-  findFirst(from, to, conditions, turn) {
-    const pace = new Pace(PIECE_MS, FIRST_PIECE);
-    return this.searched(this.forward(from, to, conditions, pace, turn), pace, { conditions, isLast: false }, this.progress(to - from));
-  }
-
-  findLast(from, to, conditions, turn) {
-    const pace = new Pace(PIECE_MS, FIRST_PIECE);
-    return this.searched(this.backward(from, to, conditions, pace, turn), pace, { conditions, isLast: true }, this.progress(to - from));
+  findLast(from, to, conditions, search) {
+    const pace = new Pace(PIECE_MS, FIRST_PIECE), pieces = this.backward(from, to, conditions, pace, search.turn);
+    return this.searched(pieces, pace, { conditions, isLast: true }, search.progress(to - from));
   }
 
   /** Has pieces searched, as many at a time as the crew can. Returns the hit of the first piece that has one, once all before it are known
@@ -168,40 +189,40 @@ class Searches {
   }
 
   /** Returns the instruction at a count, with the state before it. */
-  async instructionAt(at, turn) {
+  async instructionAt(at, search) {
     const { history } = this, { searcher } = history;
-    await history.reach(searcher, at, turn);
+    await history.reach(searcher, at, search.turn);
     const pc = searcher.part("PC");
     return { at, pc, word: searcher.word(pc), state: searcher.state.slice() };
   }
 
-  async whoSet(register, before, turn) {
+  async whoSet(register, before, search) {
     const { history } = this, { searcher } = history;
-    await history.reach(searcher, before, turn);
+    await history.reach(searcher, before, search.turn);
     const value = registerIn(searcher.state, register);
-    const hit = await this.findLast(0, before, [{ kind: BECOMES, from: register, value }], turn);
-    return hit ? this.instructionAt(hit.at, turn) : { initial: true };
+    const hit = await this.findLast(0, before, [{ kind: BECOMES, from: register, value }], search);
+    return hit ? this.instructionAt(hit.at, search) : { initial: true };
   }
 
   /** Keyframes in which the bits are others say where they changed: the answer from there is posted first. Between the later ones they may
    * have changed and changed back. */
-  async whoWrote({ from, end, value }, before, turn) {
-    const { history } = this, change = { kind: CHANGE, from, end, value }, store = { kind: STORE, from, end };
-    const gap = await this.gapOfChange({ from, value }, before, turn);
-    let found = gap && (await this.findLast(gap.from, gap.to, [change], turn));
-    if (found) history.tell({ who: { generation: history.generation, ...(await this.instructionAt(found.at, turn)), sure: false } });
+  async whoWrote({ from, end, value }, before, search) {
+    const change = { kind: CHANGE, from, end, value }, store = { kind: STORE, from, end };
+    const gap = await this.gapOfChange({ from, value }, before, search);
+    let found = gap && (await this.findLast(gap.from, gap.to, [change], search));
+    if (found) search.tell("who", { ...(await this.instructionAt(found.at, search)), sure: false });
     const after = found ? found.at + 1 : 0;
-    const last = await this.findLast(after, before, [change, store], turn);
+    const last = await this.findLast(after, before, [change, store], search);
     const stored = last?.which === 1 ? last : null;
-    found = (stored ? await this.findLast(after, stored.at, [change], turn) : last) ?? found;
-    const again = stored && (await this.instructionAt(stored.at, turn));
-    return { ...(found ? await this.instructionAt(found.at, turn) : { initial: true }), stored: again };
+    found = (stored ? await this.findLast(after, stored.at, [change], search) : last) ?? found;
+    const again = stored && (await this.instructionAt(stored.at, search));
+    return { ...(found ? await this.instructionAt(found.at, search) : { initial: true }), stored: again };
   }
 
   /** Returns the last gap between keyframes, or between one and a count, at whose ends bits of a word are different; or null. */
-  async gapOfChange({ from, value }, before, turn) {
+  async gapOfChange({ from, value }, before, search) {
     const { history } = this, { searcher, keyframes } = history, number = Math.floor(from / 4);
-    await history.reach(searcher, before, turn);
+    await history.reach(searcher, before, search.turn);
     const word = searcher.word(number);
     let to = before;
     for (let at = keyframes.position(before); at >= 0; at--) {

@@ -22,10 +22,11 @@ function playSnake() {
   return openExample(SNAKE, { inputs: [], checkpoints: [] });
 }
 
-/** Follows a game: the LEDs show how long the snake is, and the program sends a text when it is over. */
-function followGame({ state, sent, on, isReplay }) {
-  if (!isSnake() || isReplay || !on) return;
-  if (sent.includes(OVER)) return attempt(endGame);
+/** Follows a game: the LEDs show how long the snake is, and the program sends a text when it is over, in one frame or over several. */
+function followGame({ state, sent, on, isReplay }, wasReplay) {
+  if (!isSnake() || isReplay || wasReplay) return;
+  if (sent && app.work.sent.endsWith(OVER)) return attempt(endGame);
+  if (!on) return;
   const length = field(state, AT.LEDs);
   if (length > snakeLength) tell("mark");
   snakeLength = length;

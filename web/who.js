@@ -1,33 +1,39 @@
 /* Who drew this dot, and who wrote this: a card with the instruction that wrote it last. */
 "use strict";
 
-// What was asked last: the question, and what it is about.
-let asking = null;
+// What was asked last, with the number of the request, and how many requests there were. An answer has the number of its request.
+let asking = null, requests = 0;
 
 /** Asks for the instruction that wrote something last before a count, which is that of the cursor if it is not given. */
 async function askWho(about, title, before = shownCount()) {
   if (!app.latest || app.latest.on) return;
-  const question = { ...about, before };
-  asking = { about, title, question };
+  const request = ++requests;
+  asking = { about, title, request };
   showCard(title, [paragraph("searching ..", "hint")]);
-  const answer = await attempt(() => app.past.who(question));
-  if (asking?.question === question) showWho(answer ?? { stopped: true });
+  const answer = await attempt(() => app.past.who({ ...about, before, request }));
+  showWho({ ...(answer ?? { stopped: true }), request });
 }
 
-/** Shows an answer: an instruction, probably or surely, or that it was there from the beginning. */
+/** Shows an answer to what was asked last: an instruction, probably or surely, or that it was there from the beginning. One that is only
+ * surer changes texts, so that a press of a button stays one. */
 function showWho(answer) {
-  if (asking) showCard(asking.title, partsOfAnswer(answer, asking));
+  if (asking?.request !== answer.request) return;
+  const { at, pc, sure, stored } = answer, isShown = at !== undefined && asking.at === at;
+  if (!isShown) showCard(asking.title, partsOfAnswer(answer, asking));
+  asking = { ...asking, at };
+  write("who-where", at === undefined ? initialText(answer) : `Instruction ${grouped(at)}, PC ${pc}: ${sure ? "sure" : "probably; still searching"}`);
+  write("who-again", stored ? `Instruction ${grouped(stored.at)} wrote the same again.` : "");
 }
 
 function partsOfAnswer(answer, { about, title }) {
-  const { at, pc, sure, state, stored } = answer;
-  const again = stored ? [paragraph(`Instruction ${grouped(stored.at)} wrote the same again.`, "hint")] : [];
-  if (answer.stopped) return [paragraph("The search was stopped.", "hint")];
-  if (answer.initial) return [paragraph("No instruction: it is in the initial memory."), ...again];
-  const where = paragraph(`Instruction ${grouped(at)}, PC ${pc}: ${sure ? "sure" : "probably; still searching"}`);
+  const { at, state } = answer, where = Object.assign(paragraph("", ""), { id: "g-who-where" });
+  const again = Object.assign(made("div", "", "hint"), { id: "g-who-again" });
+  if (at === undefined) return [where, again];
   const jump = button("Jump", () => lookAt(at)), earlier = button("Earlier", () => askWho(about, title, at));
-  return [where, instructionLine(answer), jump, earlier, ...again, made("code", registersText(state))];
+  return [where, instructionLine(answer), jump, earlier, again, made("code", registersText(state))];
 }
+
+const initialText = ({ stopped }) => (stopped ? "The search was stopped." : "No instruction: it is in the initial memory.");
 
 function instructionLine({ word, pc }) {
   const [mnemonic, meaning] = instruction(word, pc), line = paragraph(`${mnemonic}  `, "instruction");

@@ -24,10 +24,10 @@ let shownDots = null;
 function show(sent, isWhole = false) {
   const dots = machine.dots, same = !isWhole && shownDots && equalWords(wordsOf(shownDots), wordsOf(dots));
   if (!same) shownDots = dots.slice();
-  const { inputs, given, next, marks, planned, isReplay, isTrue, arrivals, full, deaf } = machine;
+  const { inputs, given, next, marks, planned, isReplay, isTrue, arrivals, full, deaf, isAtLastCount, hasLastRoom } = machine;
   postMessage({
     state: machine.state.slice(), dots: same ? null : shownDots, sent: sentText(sent), on: run.on, goal: run.goal ?? null,
-    inputs: inputs.length, ahead: Math.max(0, given - next), marks: marks.length, planned: planned.length, isReplay, isTrue, full,
+    inputs: inputs.length, ahead: Math.max(0, given - next), marks: marks.length, planned: planned.length, isReplay, isTrue, full, isAtLastCount, hasLastRoom,
     listing: run.on ? null : machine.listing(6, 14), typed: arrivals.typed, hasOwn: machine.own + arrivals.typed > 0, deaf,
     speed: run.on ? speedOf() : null, memory: library.size, frames: run.frames ?? 0, generation,
   });
@@ -86,10 +86,10 @@ function isAtEnd() {
   return machine.isReplay && machine.part("stop") !== 0;
 }
 
-/** Whether the run ends after a turn: at its goal, at the end of a replay, where the machine has stopped, and where the recording
- * became full. */
+/** Whether the run ends after a turn: at its goal, at the end of a replay, where the machine has stopped, where the recording became
+ * full, and at the last count that there is, at which a file may have inputs. */
 function isOver(wasReplay) {
-  if (run.becameFull || (run.goal !== null && machine.count >= run.goal)) return true;
+  if (run.becameFull || machine.isAtLastCount || (run.goal !== null && machine.count >= run.goal)) return true;
   return !machine.isReplay && (wasReplay || machine.part("stop") !== 0);
 }
 
@@ -167,6 +167,13 @@ function mark() {
   const isNew = machine.mark(CHECKPOINT_LIMIT - 1);
   if (isNew) feed?.keyframe(true);
   return isNew;
+}
+
+/** Says why there is no new checkpoint at this count. */
+function whyUnmarked() {
+  if (machine.full?.isEnd) return machine.full.why;
+  if (machine.hasLastRoom) return "the recording has room for one more checkpoint, which is left for its end";
+  return machine.count ? "there is a checkpoint at this count" : "a recording begins with its initial state, which needs no checkpoint";
 }
 
 /** Opens a machine in place of the one that is there, unless `begin` refuses: then that one stays as it is. Returns what was
@@ -261,11 +268,12 @@ const LIVE = {
     if (!run.on) show([]);
     return null;
   },
+  /** Makes a checkpoint. Returns why there is no new one, or null. */
   mark() {
-    const isNew = mark();
+    const why = mark() ? null : whyUnmarked();
     run.becameFull = machine.endIfFull();
     show([]);
-    return isNew;
+    return why;
   },
   /** Returns what a checkpoint of the recording claims that was opened as a machine of this number, or null if that is gone. */
   claimed({ number, of }) {

@@ -50,6 +50,31 @@ def play(desk: Desk) -> None:
     print(f"snake: {points}, {page.answer(LINE_OF_CARD)}; with another score {page.answer(f'{CHEAT}.textContent')}")
 
 
+def end_with_goal(desk: Desk) -> None:
+    """A run that ends with the game, since its goal is there, has the card of the game, too; and so have steps over its last bytes."""
+    page = desk.page
+    crash, first = page.answer("[nowCount(), look.at]")
+    for goal, steps in ((crash, 0), (first + 1, 5 * len("over"))):
+        page.answer("closeCard()")
+        press_back(desk, first)
+        page.answer(f"app.live.ask('setRun', {{ on: true, fast: true, goal: {goal}, seconds: 0 }})")
+        page.wait(f"nowCount() === {goal} && !app.latest.on")
+        expect("whether there is no card before its last bytes", page.answer("el('card').hidden") or not steps, True)
+        for _ in range(steps):
+            desk.click("step")
+        page.wait(f"!el('card').hidden && {POINTS}?.startsWith('Game over') && {LINE_OF_CARD}.startsWith('accepted')")
+    print("snake: the card also comes if a run ends with the game, and if its last bytes come one by one")
+
+
+def press_back(desk: Desk, crash: int) -> None:
+    """Goes back before the crash, and takes over there."""
+    page = desk.page
+    page.answer(f"lookAt({crash} - BEFORE_CRASH)")
+    page.wait(f"look.at === {crash} - BEFORE_CRASH && {EXACT}")
+    desk.click("take-here")
+    page.wait(f"!isPast() && nowCount() === {crash} - BEFORE_CRASH")
+
+
 def go_on_before_crash(desk: Desk) -> None:
     """One goes back before the crash, takes over, turns, and lives on; the recording has the one score and is accepted."""
     page = desk.page
@@ -84,5 +109,6 @@ def continue_after(desk: Desk) -> None:
 def drive(desk: Desk) -> None:
     """All of it."""
     play(desk)
+    end_with_goal(desk)
     go_on_before_crash(desk)
     continue_after(desk)

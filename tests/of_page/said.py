@@ -12,6 +12,8 @@ from samples import EXAMPLES, JUMP, PROGRAM, STORED, claim, encoded, page_of, re
 # Sends a byte with every other instruction.
 SENDER = session([0x5100FFC8, 0xA0100000, 0xE7FFFFFE], [])
 MOST_INPUTS, PAGES = 1000000, 1024
+# FAD, which stops the machine.
+STOP = 0x40080000 | 12 << 16
 
 
 def say_full(desk: Desk) -> None:
@@ -109,6 +111,40 @@ def go_on_full(desk: Desk) -> None:
     print("full: a recording that is full already is said to be, and runs on")
 
 
+def keep_last_room(desk: Desk) -> None:
+    """At 4,095 checkpoints there are no more by time, nor by hand, and the page says so: the last one is left for the end."""
+    page = desk.page
+    page.answer("el('speed').value = 'fast'; el('each').value = 1")
+    desk.start("many.orsr", encoded(2, [page_of(JUMP)], [claim(10 * number) for number in range(4096)]))
+    page.answer("showClaim(4095).then(() => runOnFrom(4095))")
+    page.wait("nowCount() === 40950")
+    desk.go_on()
+    page.wait("nowCount() > 50000000 && el('say').textContent.includes('4,095 checkpoints, no more by time: the last is left for the end')")
+    desk.click("mark")
+    desk.expect_notice("a checkpoint by hand", "No new checkpoint: the recording has room for one more checkpoint, which is left for its end.")
+    desk.pause()
+    count = page.answer("nowCount()")
+    desk.save("many", "a recording with all checkpoints")
+    expect("where it ends", page.answer(OWN_LINE), f"accepted 4096 checkpoints {count} steps")
+    page.answer("el('each').value = 5")
+    print("full: with 4,095 checkpoints there are no more by time, which is said; the last one is at the end")
+
+
+def end_at_last_count(desk: Desk) -> None:
+    """A replay whose inputs come at 2^40 ends there, whether the machine runs or has stopped, and says so."""
+    page, last = desk.page, 1 << 40
+    page.answer("el('speed').value = 'fast'; el('each').value = 3600")
+    never = "1 input of the file at this count will never come."
+    for word, told in ((JUMP, f"last FULL at {last:,}: no count comes after this one, so the machine does nothing more. {never}"),
+                       (STOP, f"last STOPPED float: the machine does nothing more. {never}")):
+        desk.start("last.orsr", encoded(2, [page_of(word)], [claim(0)], [Event(last, 4, 65)]))
+        desk.click("run")
+        page.wait(f"nowCount() === {last} && !app.latest.on", moving="nowCount()")
+        expect("what is said of the last count", page.answer(MODE), told)
+    page.answer("el('each').value = 5")
+    print("full: an input at 2^40 ends a replay there, with a word")
+
+
 def leave_what_is_open(desk: Desk) -> None:
     """A file that is refused, and the form of a memory image, leave the machine that is open, with its name, its verdict and its checkpoints."""
     page, face = desk.page, (EXAMPLES / "face.orsr").read_bytes()
@@ -153,7 +189,7 @@ def judge_both(desk: Desk) -> None:
 def end_at_once(desk: Desk) -> None:
     """A machine that stopped is at its end at once, in a check and in a replay; a check that is stopped says what it has found."""
     page = desk.page
-    stopped = record(session([0x40080000 | 12 << 16], [1, 1 << 40]))
+    stopped = record(session([STOP], [1, 1 << 40]))
     desk.start("stopped.orsr", stopped)
     desk.expect_line("a machine that stopped at once", stopped)
     page.answer("el('speed').value = 'clock'")
@@ -209,6 +245,8 @@ def drive(desk: Desk) -> None:
     fill_inputs(desk)
     fill_pages(desk)
     go_on_full(desk)
+    keep_last_room(desk)
+    end_at_last_count(desk)
     leave_what_is_open(desk)
     judge_both(desk)
     end_at_once(desk)

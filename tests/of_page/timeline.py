@@ -150,7 +150,12 @@ def ask_who(desk: Desk) -> None:
     page.wait(f"{CARD}.includes(': sure')")
     found = page.answer("[...el('card').querySelectorAll('h2, p')].map((it) => it.textContent)")
     expect("who drew the dot", found, ["Who drew the dot 600,219", "Instruction 4,838,732, PC 41: sure", "STR R6, R13, 0  Mem[R13] := R6"])
-    page.answer("[...el('card').querySelectorAll('button')].find((it) => it.textContent === 'Jump').click()")
+    stale = "{ request: requests - 1, at: 1, pc: 1, word: 0, state: app.latest.state, sure: false }"
+    page.answer(f"window.jump = [...el('card').querySelectorAll('button')].find((it) => it.textContent === 'Jump'); heardPast({{ who: {stale} }})")
+    expect("the card after an answer to another question", page.answer(f"[{CARD}.includes('4,838,732'), jump.isConnected]"), [True, True])
+    page.answer("heardPast({ who: { request: requests, at: 4838732, pc: 41, sure: false } })")
+    expect("the card after a less sure answer", page.answer(f"[{CARD}.includes('probably'), jump.isConnected]"), [True, True])
+    page.answer("jump.click()")
     page.wait(f"look.at === 4838732 && {EXACT}")
     desk.click("back-now")
     page.wait("!isPast()")
@@ -241,12 +246,13 @@ def meet_breakpoint(desk: Desk) -> None:
     desk.click("tab-code")
     gutter = "el('listing').querySelector('button[data-pc=\"6\"]')"
     page.wait(gutter)
-    # A listing that is shown anew between the press of the button and its release gets no click: one clicks again.
-    for _ in range(5):
-        page.answer("new Promise((done) => requestAnimationFrame(() => requestAnimationFrame(() => done())))")
-        click_dot(desk, *page.answer(f"(({{ left, top }}) => [left + 4, top + 4])({gutter}.getBoundingClientRect())"))
-        if page.answer("breaks.size"):
-            break
+    page.wait("el('trace').querySelector('.here')")
+    place = page.answer(f"(({{ left, top }}) => [left + 4, top + 4])({gutter}.getBoundingClientRect())")
+    page.send_mouse("mousePressed", *place, time.time(), 1)
+    # The machine moves between the press of the button and its release, so the listing is shown anew.
+    page.answer("showListing(3, app.latest.listing.slice(0, -1)); showListing(0, app.latest.listing)")
+    page.send_mouse("mouseReleased", *place, time.time())
+    page.wait("breaks.size")
     expect("the breakpoint beside the listing", page.answer("[...breaks]"), [6])
     desk.click("run")
     page.wait(f"isPast() && {EXACT}")
