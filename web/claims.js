@@ -2,10 +2,10 @@
 "use strict";
 
 const REGISTERS_ASKED = [...REGISTERS, "H", "flags"];
-// The cells of the registers by their names, made once: a drag of the cursor changes texts, and makes nothing. `before` is the state
-// that was shown before, to mark what changed.
-const registerCells = new Map();
-let registersBefore = null;
+// The cells of the registers by their names, made once: a drag of the cursor changes texts, and makes nothing. The state that was shown
+// before, while the machine did not run, to mark what changed. While it runs, they are shown so often.
+const registerCells = new Map(), RUNNING_MS = 100;
+let registersBefore = null, runningDue = 0;
 
 function makeRegisters() {
   for (const [name] of partsOf(new Uint8Array(STATE_BYTES))) {
@@ -31,15 +31,31 @@ function askRegister(name) {
 /** Shows the parts of a state, with what has changed since the one shown before marked, and beside them what a checkpoint here claims
  * falsely. */
 function showRegisters(state) {
-  const before = registersBefore && new Map(partsOf(registersBefore));
-  for (const [name, text] of partsOf(state)) {
-    const { value, holder } = registerCells.get(name);
-    if (holder.textContent !== text) holder.textContent = text;
-    if (holder !== value) holder.setAttribute("aria-label", `${name} ${text}: who wrote it`);
-    value.classList.toggle("changed", Boolean(before) && before.get(name) !== text);
-  }
+  showParts(state, registersBefore);
   registersBefore = state;
   attempt(showFalse);
+}
+
+/** Writes the parts of a state to their cells, and marks those that are others than before, if anything was. */
+function showParts(state, old) {
+  const before = old && new Map(partsOf(old));
+  for (const [name, text] of partsOf(state)) {
+    const { value, holder } = registerCells.get(name);
+    if (holder.textContent !== text) {
+      holder.textContent = text;
+      if (holder !== value) holder.setAttribute("aria-label", `${name} ${text}: who wrote it`);
+    }
+    value.classList.toggle("changed", Boolean(before) && before.get(name) !== text);
+  }
+}
+
+/** Shows the registers or the listing of a machine that runs, whichever is seen, as often as can be read. */
+function showRunning(state, words) {
+  const now = performance.now();
+  if (now < runningDue) return;
+  runningDue = now + RUNNING_MS;
+  if (isTab("state")) showParts(state, null);
+  if (isTab("code")) showListing(field(state, AT.PC), words);
 }
 
 function showPaused(state, listing) {

@@ -13,6 +13,12 @@ function write(name, text) {
   if (el(name).textContent !== text) el(name).textContent = text;
 }
 
+/** Sets properties of an element, those that have another value: the browser would look at its style anew for the same value, too. */
+function set(name, properties) {
+  const element = el(name);
+  for (const [property, value] of Object.entries(properties)) if (element[property] !== value) element[property] = value;
+}
+
 /** Makes an element of a text. */
 function made(tag, textContent, className = "") {
   return Object.assign(document.createElement(tag), { textContent, className });

@@ -2,7 +2,8 @@
  * with what was posted last, and only pages that changed are posted. */
 "use strict";
 
-const KEYFRAME_STEPS = 2500000;
+// A keyframe comes after so many steps, once they took so long; or after many more, which a machine that waits does in a moment.
+const KEYFRAME_STEPS = 2500000, KEYFRAME_MS = 12, MOST_KEYFRAME_STEPS = 10 * KEYFRAME_STEPS;
 // A fast run spends at most this part of its time on keyframes.
 const KEYFRAME_SHARE = 0.02;
 // How long the other side may take to hear of a cut.
@@ -11,14 +12,14 @@ const CUT_MS = 1000;
 class Feed {
   /** Posts to a port. The other side says there that it has heard of a cut, or wants to know how far the machine is. */
   constructor(machine, port) {
-    Object.assign(this, { machine, port, generation: 0, posted: 0, last: 0, due: 0, memory: new Uint8Array(MEMORY_BYTES), cutHeard: () => {} });
+    Object.assign(this, { machine, port, generation: 0, posted: 0, last: 0, took: 0, due: 0, memory: new Uint8Array(MEMORY_BYTES), cutHeard: () => {} });
     port.onmessage = ({ data }) => (data.isCut ? this.cutHeard() : this.post({ isAnswer: true }));
   }
 
   /** Begins with a machine of a new number. */
   begin(generation) {
     const { machine } = this, first = machine.firstOf(machine.recorder.text), text = machine.recording?.text ?? machine.recorder.text;
-    Object.assign(this, { generation, posted: 0, last: 0, due: 0 });
+    Object.assign(this, { generation, posted: 0, last: 0, took: 0, due: 0 });
     this.memory.set(first.words);
     this.post({ begin: { ...first, text } });
     if (machine.count) this.keyframe(false);
@@ -32,10 +33,11 @@ class Feed {
     this.port.postMessage({ generation, count, end: isReplay ? Math.max(count, end) : count, inputs, ...more });
   }
 
-  /** Posts a keyframe after a turn, if one is due. */
-  follow(isFast) {
-    if (this.machine.count - this.last < KEYFRAME_STEPS || (isFast && performance.now() < this.due)) return;
-    this.keyframe(false);
+  /** Posts a keyframe after a turn that took some ms, if one is due. */
+  follow(isFast, ms) {
+    this.took += ms;
+    const steps = this.machine.count - this.last, isLong = this.took >= KEYFRAME_MS || steps >= MOST_KEYFRAME_STEPS;
+    if (steps >= KEYFRAME_STEPS && isLong && !(isFast && performance.now() < this.due)) this.keyframe(false);
   }
 
   /** Posts the state, with the pages that changed since the last time. */
@@ -46,7 +48,7 @@ class Feed {
     numbers.forEach((page, at) => this.memory.set(bytes.subarray(PAGE_BYTES * at, PAGE_BYTES * (at + 1)), PAGE_BYTES * page));
     this.post({ keyframe: { count, state: state.slice(), sent: sentTotal, isCheckpoint, numbers, bytes } });
     const now = performance.now();
-    Object.assign(this, { last: count, due: now + (now - begun) / KEYFRAME_SHARE });
+    Object.assign(this, { last: count, took: 0, due: now + (now - begun) / KEYFRAME_SHARE });
   }
 
   /** Posts that what came after the machine's count is void, also the inputs that it has not taken. Returns once the other side has heard

@@ -68,7 +68,7 @@ async function backToNow(isSettled = true) {
   if (app.dots) drawSoon(app.dots);
   showLamps(field(app.latest.state, AT.LEDs));
   showDevices(app.latest.state);
-  if (app.latest.listing) showPaused(app.latest.state, app.latest.listing);
+  showPaused(app.latest.state, app.latest.listing);
 }
 
 /** Shows what the page says of what is looked at. */
@@ -122,13 +122,13 @@ async function takeOverHere() {
 function showMode(frame) {
   const { on, isReplay, isTrue } = frame, [word, text] = isPast() ? pastMode() : modeOf(frame);
   write("run", isAhead() ? "Run to here" : on ? "Pause" : "Run");
-  el("take").hidden = !isReplay || isPast();
-  for (const name of ["take-here", "again"]) el(name).hidden = !isPast() || isAhead();
-  el("back-now").hidden = !isPast();
+  set("take", { hidden: !isReplay || isPast() });
+  for (const name of ["take-here", "again"]) set(name, { hidden: !isPast() || isAhead() });
+  set("back-now", { hidden: !isPast() });
   write("name", app.work.generation ? app.work.name : "");
-  for (const name of ["mark", "next"]) el(name).disabled = isPast();
+  for (const name of ["mark", "next"]) set(name, { disabled: isPast() });
   write("state-word", word);
-  el("state-word").className = word.toLowerCase();
+  set("state-word", { className: word.toLowerCase() });
   const claim = isTrue ? "" : " A claim that was passed is false: what comes after it is what the machine does.";
   write("mode-text", text + claim);
 }

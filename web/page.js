@@ -204,8 +204,9 @@ function showNow(frame, wasReplay) {
   if (frame.dots) drawSoon(frame.dots);
   showLamps(field(frame.state, AT.LEDs));
   if (frame.isReplay || wasReplay) followDevices(frame.state);
-  write("when", frame.on ? "Registers, at the last pause" : "Registers");
-  if (frame.listing) showPaused(frame.state, frame.listing);
+  write("when", "Registers");
+  if (frame.on) showRunning(frame.state, frame.listing);
+  else showPaused(frame.state, frame.listing);
 }
 
 function appendSent(text) {
@@ -391,6 +392,7 @@ function listenToWindow() {
 /** Fits the page to its window. */
 function showSized() {
   fitScreen();
+  measureTrack();
   drawLanes();
   freshen(true);
 }

@@ -130,15 +130,16 @@ class History {
     else if (own < keyframe.count) replayer.load(this.keyframes, keyframe);
   }
 
-  /** Brings a replayer to a count. Between two calls `turn` lets others go first; before each one `heard` hears of it. In a long gap
-   * between keyframes it leaves some. */
+  /** Brings a replayer to a count. Between two calls `turn` lets others go first; before each one `heard` hears of it. In a gap between
+   * keyframes that takes long it leaves some. */
   async reach(replayer, count, turn, { mayBeClaimed = false, heard = () => {} } = {}) {
     this.start(replayer, count, mayBeClaimed);
     while (replayer.count < count) {
       heard(replayer);
-      const gap = replayer.count - this.nearest(replayer.count, replayer.isClaimed).count;
-      if (gap >= KEYFRAME_STEPS) this.keep(replayer);
-      replayer.advance(this.inputs, Math.min(count, replayer.count + KEYFRAME_STEPS - (gap % KEYFRAME_STEPS)));
+      const { count: now } = replayer, gap = now - this.nearest(now, replayer.isClaimed).count;
+      const isSlow = replayer.msTo(now + KEYFRAME_STEPS) >= KEYFRAME_MS;
+      if (isSlow && gap >= KEYFRAME_STEPS) this.keep(replayer);
+      replayer.advance(this.inputs, isSlow ? Math.min(count, now + KEYFRAME_STEPS - (gap % KEYFRAME_STEPS)) : count);
       await turn();
     }
   }

@@ -4,7 +4,7 @@
 const PER_SECOND = 25000000;
 const LANES = ["claims", "keys", "mouse", "serial", "screen", "marks", "film"];
 const ROW = 17, AXIS = 17, MERGED = 28, LEAST_SPAN = 16, MOST_NOTED = 20000, SENT_SHOWN = 40, GLYPH_WIDTH = 6, LISTED = 40;
-const FRESH_MS = 200, FILM_MS = 2000, TICK_WIDTH = 76, ZOOM = 1.6;
+const FRESH_MS = 200, FOLLOW_MS = 2000, FILM_MS = 2000, TICK_WIDTH = 76, ZOOM = 1.6;
 
 // What the lanes show. `end` is the last count that is known of: that of now, or of the file.
 // `sent` and `painted` are noted while the machine runs, `passed` are the claims that a replay has judged, and `film` the counts of
@@ -12,10 +12,12 @@ const FRESH_MS = 200, FILM_MS = 2000, TICK_WIDTH = 76, ZOOM = 1.6;
 const NOTHING_FOUND = { keys: [], mouse: [], serial: [], listed: { keys: [], mouse: [], serial: [] }, marks: [], planned: [], end: 0 };
 const newLanes = () => ({ end: 0, found: NOTHING_FOUND, sent: [], painted: [], passed: new Map(), film: [] });
 let lanes = newLanes();
-// The span that is shown, and how it is used: `isAsked` while the worker is asked for its lanes, `isStale` if they are wanted again, and
-// `pointers` are those on the track, with where they are.
+// The span that is shown, and how it is used: `isAsked` while the worker is asked for its lanes, `isStale` if they are wanted again,
+// `asked` says what they depend on as they were asked last, and `pointers` are those on the track, with where they are. `drawn` is
+// when they were drawn.
 const timeline = {
-  from: 0, to: PER_SECOND, isWhole: true, isDragged: false, pointers: new Map(), isAsked: false, isStale: false, due: 0, filmDue: 0,
+  from: 0, to: PER_SECOND, isWhole: true, isDragged: false, pointers: new Map(), isAsked: false, isStale: false, asked: "", due: 0, filmDue: 0,
+  drawn: 0, columns: 1,
 };
 
 /** Begins the lanes of a machine that was opened. */
@@ -90,18 +92,33 @@ function zoom(factor, around = shownCount()) {
   showSpan(around - inside * length, around + (1 - inside) * length);
 }
 
-const columns = () => Math.max(1, Math.floor(el("track").clientWidth));
+// The width of the track is noted when it changes: to ask for it would have the browser lay the page out.
+const columns = () => timeline.columns;
 const columnOf = (count) => ((count - timeline.from) / (timeline.to - timeline.from)) * columns();
 const countAt = (x) => timeline.from + (x / columns()) * (timeline.to - timeline.from);
 
 // Asking for what the lanes show
 
-/** Has the lanes show what is so now: at once, or while the machine runs some times a second. */
+/** Has the lanes show what is so now: at once, or while the machine runs some times a second. If only time has passed, nobody is asked. */
 function freshen(isAtOnce) {
   const now = performance.now();
   if (!isAtOnce && now < timeline.due) return;
   timeline.due = now + FRESH_MS;
-  attempt(askLanes);
+  if (timeline.isWhole) Object.assign(timeline, wholeSpan());
+  if (isAtOnce || timeline.asked !== wantedLanes()) attempt(askLanes);
+  else followNow();
+}
+
+/** What the worker's answer about the lanes depends on. */
+function wantedLanes() {
+  const { inputs, marks, planned, isReplay } = app.latest;
+  return [app.work.generation, timeline.from, timeline.to, columns(), inputs, marks, planned, isReplay].join();
+}
+
+/** Draws how far the machine has come, now and then: until then the cursor shows it. */
+function followNow() {
+  if (performance.now() - timeline.drawn >= FOLLOW_MS) drawLanes();
+  attempt(askFilm);
 }
 
 /** Asks the worker for the lanes, once at a time, and draws them. What is wanted meanwhile is asked for afterwards. */
@@ -109,7 +126,7 @@ async function askLanes() {
   if (timeline.isAsked || !app.work.generation) return (timeline.isStale = timeline.isAsked);
   if (timeline.isWhole) Object.assign(timeline, wholeSpan());
   const { from, to } = timeline, { generation } = app.work;
-  Object.assign(timeline, { isAsked: true, isStale: false });
+  Object.assign(timeline, { isAsked: true, isStale: false, asked: app.latest ? wantedLanes() : "" });
   const found = await app.live.ask("lanes", { from, to, columns: columns(), of: generation }).finally(() => (timeline.isAsked = false));
   if (found && generation === app.work.generation) showLanes({ ...found, from, to });
   if (timeline.isStale) freshen(true);
@@ -141,6 +158,7 @@ const isNarrow = () => matchMedia("(max-width: 36rem)").matches;
 
 /** Draws all lanes, one below the other; or merged to one in a narrow window. */
 function drawLanes() {
+  timeline.drawn = performance.now();
   const canvas = el("lanes"), width = columns(), height = AXIS + (isNarrow() ? MERGED : ROW * LANES.length);
   const [wide, high] = [width, height].map((points) => Math.round(points * devicePixelRatio));
   if (canvas.width !== wide || canvas.height !== high) Object.assign(canvas, { width: wide, height: high });
@@ -268,9 +286,10 @@ function drawFilm({ pen, colour, y, high }) {
   pen.setLineDash([]);
 }
 
+/** Draws a line at now, unless the cursor is there. */
 function drawNow({ pen, colour, width }, height) {
   const x = columnOf(nowCount());
-  if (x < 0 || x > width) return;
+  if (!isPast() || x < 0 || x > width) return;
   pen.fillStyle = colour("link");
   pen.fillRect(x - 0.5, AXIS - 3, 1, height);
 }
@@ -290,8 +309,8 @@ function showCursor(isSettled) {
   cursor.classList.toggle("past", isPast());
   if (!app.latest) return;
   write("count", `${grouped(at)} · ${secondsOf(at)}`);
-  for (const name of ["begin-at", "back-run", "back"]) el(name).disabled = at === 0;
-  el("now").disabled = !isPast() && !app.latest.isReplay;
+  for (const name of ["begin-at", "back-run", "back"]) set(name, { disabled: at === 0 });
+  set("now", { disabled: !isPast() && !app.latest.isReplay });
   if (!isSettled) return;
   cursor.setAttribute("aria-valuemax", lanes.end);
   cursor.setAttribute("aria-valuenow", at);
@@ -383,7 +402,14 @@ function wheeled(event) {
   } else zoom(Math.exp(-event.deltaY * 0.002), countAt(xOf(event)));
 }
 
+/** Notes the width of the track. */
+function measureTrack() {
+  timeline.columns = Math.max(1, Math.floor(el("track").clientWidth));
+}
+
 function makeTimeline() {
+  measureTrack();
+  new ResizeObserver(() => (measureTrack(), drawLanes(), showCursor(false))).observe(el("track"));
   matchMedia("(prefers-color-scheme: dark)").addEventListener("change", drawLanes);
   el("names").replaceChildren(...["", ...LANES].map((name) => made("span", name)));
   drawLanes();

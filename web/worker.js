@@ -6,6 +6,9 @@
 "use strict";
 
 const FRAME_MS = 1000 / 60, BUDGET_MS = 12, FIRST_CHUNK = 200000, LAG_MS = 100, PER_MS = PER_SECOND / 1000;
+// After so many turns in which nothing came about that is shown, a turn at 25 MHz is longer; what the user does ends that at once. What
+// changes with each turn, as the count does, is posted so often; and less often while turns are longer.
+const QUIET_TURNS = 30, QUIET_MS = 50, SHOW_MS = 100, QUIET_SHOW_MS = 200;
 // While typed keys or serial bytes wait, a turn runs in up to so many pieces, for so long, so that the program gets more than one.
 const PIECES = 48, PIECES_MS = 8;
 // A recording of up to one second of the machine's time is checked by one call.
@@ -19,16 +22,44 @@ let generation = 0;
 
 // The live machine
 
-/** Posts what the page shows of the machine: always its state; its dots if they changed; the listing while it is paused. */
-let shownDots = null;
+// What was posted last: the dots; a text of what else is shown as soon as it changes; the number of checkpoints; and when.
+let posted = { dots: null, noted: "", marks: 0, at: 0 };
+
+/** Whether nothing came about for a while that is shown. */
+const isQuiet = () => run.quiet >= QUIET_TURNS;
+
+/** Returns the dots if they have changed since they were posted, or null. */
+function changedDots() {
+  return posted.dots && equalWords(wordsOf(posted.dots), wordsOf(machine.dots)) ? null : machine.dots.slice();
+}
+
+/** Returns what else is shown as soon as it changes. */
+function noted() {
+  const { inputs, next, arrivals, isReplay } = machine;
+  return [...["LEDs", "switches", "mouse"].map((name) => machine.part(name)), inputs.length, next, arrivals.typed, isReplay].join();
+}
+
+/** Posts what the page shows of the machine after a turn, unless only changed what changes with each turn, and that was posted a moment
+ * ago. */
+function showTurn(sent) {
+  const dots = changedDots(), isNew = dots !== null || sent.length > 0 || posted.noted !== noted();
+  run.quiet = isNew ? 0 : run.quiet + 1;
+  const ms = performance.now() - posted.at, isLate = ms >= (isQuiet() ? QUIET_SHOW_MS : SHOW_MS) - FRAME_MS / 2;
+  if (isNew || isLate || !run.on || machine.marks.length !== posted.marks) post(sent, dots);
+}
+
+/** Posts what the page shows of the machine: its state; its dots if they changed; and the words around PC. */
 function show(sent, isWhole = false) {
-  const dots = machine.dots, same = !isWhole && shownDots && equalWords(wordsOf(shownDots), wordsOf(dots));
-  if (!same) shownDots = dots.slice();
+  post(sent, isWhole ? machine.dots.slice() : changedDots());
+}
+
+function post(sent, dots) {
+  posted = { dots: dots ?? posted.dots, noted: noted(), marks: machine.marks.length, at: performance.now() };
   const { inputs, given, next, marks, planned, isReplay, isTrue, arrivals, full, deaf, isAtLastCount, hasLastRoom } = machine;
   postMessage({
-    state: machine.state.slice(), dots: same ? null : shownDots, sent: sentText(sent), on: run.on, goal: run.goal ?? null,
+    state: machine.state.slice(), dots, sent: sentText(sent), on: run.on, goal: run.goal ?? null,
     inputs: inputs.length, ahead: Math.max(0, given - next), marks: marks.length, planned: planned.length, isReplay, isTrue, full, isAtLastCount, hasLastRoom,
-    listing: run.on ? null : machine.listing(6, 14), typed: arrivals.typed, hasOwn: machine.own + arrivals.typed > 0, deaf,
+    listing: machine.listing(6, 14), typed: arrivals.typed, hasOwn: machine.own + arrivals.typed > 0, deaf,
     speed: run.on ? speedOf() : null, memory: library.size, frames: run.frames ?? 0, generation,
   });
 }
@@ -43,7 +74,7 @@ function setRun({ on, fast, goal = null, seconds }) {
   const now = performance.now();
   const clock = { ms: now, count: machine.count };
   const pace = new Pace(BUDGET_MS, FIRST_CHUNK);
-  run = { on, fast, goal, seconds, begun: now, turn: now, from: machine.count, clock, busy: 0, frames: 0, pace };
+  run = { on, fast, goal, seconds, begun: now, turn: now, from: machine.count, clock, busy: 0, frames: 0, quiet: 0, pace };
   if (on) return isDue ? undefined : tick();
   endRun();
   show([]);
@@ -67,12 +98,12 @@ function tick() {
   try {
     const begun = performance.now(), wasReplay = machine.isReplay;
     const sent = isAtEnd() ? turnTo(machine.end, begun + LAG_MS) : run.fast ? fastTurn(begun) : clockedTurn(begun);
-    feed?.follow(run.fast);
+    feed?.follow(run.fast, performance.now() - begun);
     run.busy += performance.now() - begun;
     run.turn = begun;
     run.frames++;
     if (isOver(wasReplay)) endRun();
-    show(sent);
+    showTurn(sent);
     if (run.on && !isDue) again(begun);
   } catch (error) {
     run.on = false;
@@ -93,21 +124,32 @@ function isOver(wasReplay) {
   return !machine.isReplay && (wasReplay || machine.part("stop") !== 0);
 }
 
-// Whether the next turn is under way: there is never more than one.
-let isDue = false;
+// Whether the next turn is under way: there is never more than one; and the timer for which it waits, if it does.
+let isDue = false, timer = 0;
 const turns = new MessageChannel();
 turns.port1.onmessage = nextTurn;
 
 function nextTurn() {
   isDue = false;
+  timer = 0;
   tick();
 }
 
 function again(begun) {
-  const left = run.fast ? 0 : FRAME_MS - (performance.now() - begun);
+  const left = run.fast ? 0 : (isQuiet() ? QUIET_MS : FRAME_MS) - (performance.now() - begun);
   isDue = true;
-  if (left > 1) setTimeout(nextTurn, left);
+  if (left > 1) timer = setTimeout(nextTurn, left);
   else turns.port2.postMessage(null);
+}
+
+/** Ends the long turns of a machine that waits: something arrived for it. */
+function wake() {
+  if (isQuiet() && timer) {
+    clearTimeout(timer);
+    timer = 0;
+    turns.port2.postMessage(null);
+  }
+  run.quiet = 0;
 }
 
 function clockedTurn(now) {
@@ -254,6 +296,7 @@ const LIVE = {
    * effect, or null. */
   change({ kind, changes }) {
     if (machine.deaf) return machine.deaf;
+    wake();
     for (const [value, at] of changes) {
       if (run.on) machine.arrivals.changes.push({ kind, value, ms: at - performance.timeOrigin });
       else machine.change(kind, value);
@@ -263,6 +306,7 @@ const LIVE = {
   /** Takes key codes or serial bytes, which wait until the machine takes them. Returns why they have no effect, or null. */
   type({ keys = [], serial = [] }) {
     if (machine.deaf) return machine.deaf;
+    wake();
     for (const code of keys) machine.arrivals.keys.push(code);
     for (const byte of serial) machine.arrivals.serial.push(byte);
     if (!run.on) show([]);

@@ -55,7 +55,7 @@ const wantedOf = (data) => [
 /** The first and the last hits of each condition are those of a loop of single steps, at borders of ranges and of keyframes. */
 async function search() {
   const session = example("mixed"), end = 5000, steps = traced(session, end), random = chance(17);
-  const desk = new Desk(withNumbers({ KEYFRAME_STEPS: 700, FIRST_PIECE: 70, MOST_PIECE: 1500 }));
+  const desk = new Desk(withNumbers({ KEYFRAME_STEPS: 700, KEYFRAME_MS: 0, FIRST_PIECE: 70, MOST_PIECE: 1500 }));
   await desk.openSession(session);
   await desk.run(end);
   await desk.past.peek(end);
@@ -85,7 +85,7 @@ async function search() {
 /** Who wrote a dot, a byte and a register is what one search from the beginning says. */
 async function who() {
   await whoOfFace();
-  const session = example("dots"), { clear, first, second } = labels("dots"), desk = new Desk(withNumbers({ KEYFRAME_STEPS: 2000 })), fresh = new Fresh(session), end = 20000;
+  const session = example("dots"), { clear, first, second } = labels("dots"), desk = new Desk(withNumbers({ KEYFRAME_STEPS: 2000, KEYFRAME_MS: 0 })), fresh = new Fresh(session), end = 20000;
   await desk.openSession(session);
   await desk.run(end);
   await desk.past.peek(end);
@@ -159,7 +159,7 @@ async function stop() {
 
 /** A look comes between the pieces of a search that are only run, which have keyframes at both ends. */
 async function lookBetween() {
-  const desk = new Desk(withNumbers({ KEYFRAME_STEPS: 10000, MOST_PIECE: 10000 })), wanted = { to: 10000000, last: true, conditions: [{ kind: SENDS }] };
+  const desk = new Desk(withNumbers({ KEYFRAME_STEPS: 10000, KEYFRAME_MS: 0, MOST_PIECE: 10000 })), wanted = { to: 10000000, last: true, conditions: [{ kind: SENDS }] };
   await desk.openSession(example("counts"));
   await desk.run(wanted.to);
   expect("what the search finds that makes the keyframes", await desk.past.find(wanted), { none: true });

@@ -44,7 +44,7 @@ def times() -> Counter:
     """The processor time in seconds that each thread of the browser took so far, by its process, number and name."""
     taken: Counter = Counter()
     for process in below(os.getpid()):
-        kind = Path(f"/proc/{process}/cmdline").read_text().split("\0")
+        kind = Path(f"/proc/{process}/cmdline").read_text().replace("\0", " ").split()
         name = next((it.removeprefix("--type=") for it in kind if it.startswith("--type=")), "browser")
         for thread in Path(f"/proc/{process}/task").iterdir():
             head, _, rest = (thread / "stat").read_text().rpartition(")")

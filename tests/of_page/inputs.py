@@ -175,6 +175,42 @@ def go_to_checkpoints(desk: Desk) -> None:
     print("controls: the end of a session is a goal, a goal outlives a change of the speed, and switches show the machine's own")
 
 
+def wait_quietly(desk: Desk) -> None:
+    """A machine that waits takes long turns and posts few frames, until something comes for it; its registers and its code are seen as it runs."""
+    page = desk.page
+    page.answer("el('speed').value = 'clock'")
+    desk.draw()
+    page.wait("app.latest.frames > 100")
+    page.answer("window.posted = 0; window.heardBefore = app.live.worker.onmessage; app.live.worker.onmessage = (event) => (posted++, heardBefore(event))")
+    turns = "new Promise((done) => { const { frames } = app.latest; posted = 0; setTimeout(() => done([app.latest.frames - frames, posted]), 1500); })"
+    frames, posted = page.answer(turns)
+    if frames > 36 or posted > 12:
+        fail(f"a machine that waits takes {frames} turns in 1.5 seconds, and posts {posted} frames")
+    page.press("k")
+    page.wait(f"{SENT} === 'k'")
+    page.answer("app.live.worker.onmessage = heardBefore")
+    expect("whether turns are short after a key", page.answer("new Promise((done) => { const { frames } = app.latest; setTimeout(() => done(app.latest.frames - frames > 8), 400); })"), True)
+    desk.start("counting.json", json.dumps(session([0x40080001, 0x41080001, 0xE7FFFFFD], [])).encode())
+    desk.go_on()
+    cell = "registerCells.get('R0').holder.textContent"
+    expect("whether registers follow", page.answer(changing(cell)), True)
+    desk.click("tab-code")
+    page.wait("el('listing').querySelectorAll('.here').length === 1")
+    expect("whether the listing follows", page.answer(changing("el('listing').querySelector('.here').textContent")), True)
+    desk.click("tab-state")
+    desk.pause()
+    print(f"waiting: {frames} turns and {posted} frames in 1.5 s; registers and code are seen as they change")
+
+
+def changing(expression: str) -> str:
+    """Whether a value becomes another one within two seconds."""
+    return f"""(async () => {{
+      const first = {expression};
+      for (let k = 0; k < 40 && {expression} === first; k++) await new Promise((done) => setTimeout(done, 50));
+      return {expression} !== first;
+    }})()"""
+
+
 def json_of(name: str, **changes: object) -> bytes:
     """An example's session with some members changed."""
     return json.dumps({**json.loads((EXAMPLES / name).read_text()), **changes}).encode()
@@ -187,3 +223,4 @@ def drive(desk: Desk) -> None:
     send_lines(desk)
     compose_text(desk)
     go_to_checkpoints(desk)
+    wait_quietly(desk)

@@ -97,7 +97,7 @@ async function lookWhileItRuns() {
 
 /** Looks at random counts and steps back where there is no room for keyframes. */
 async function lookInBudget() {
-  const budget = 400000, desk = new Desk(withNumbers({ KEYFRAMES_BUDGET: budget, KEYFRAME_STEPS: 100000, SLOW_MS: 0 }));
+  const budget = 400000, desk = new Desk(withNumbers({ KEYFRAMES_BUDGET: budget, KEYFRAME_STEPS: 100000, KEYFRAME_MS: 0, SLOW_MS: 0 }));
   const session = drawing(5, 100, 100000), fresh = new Fresh(session), random = chance(13);
   await desk.openSession(session);
   await desk.run(10000000);
@@ -125,7 +125,7 @@ async function lookSlowly(desk, fresh) {
 /** Looks where a program stops, and where it writes its own code. */
 async function lookAtOdd() {
   for (const name of ["mixed", "own-code"]) {
-    const session = example(name), desk = new Desk(withNumbers({ KEYFRAME_STEPS: 500 })), fresh = new Fresh(session), end = 6000;
+    const session = example(name), desk = new Desk(withNumbers({ KEYFRAME_STEPS: 500, KEYFRAME_MS: 0 })), fresh = new Fresh(session), end = 6000;
     await desk.openSession(session);
     await desk.run(end);
     const stop = fresh.find(end, [{ kind: STOPS }], false), from = stop ? stop.at + 20 : end;
