@@ -1,7 +1,7 @@
 /* The registers of the machine, the checkpoints of a recording, and where the two differ. */
 "use strict";
 
-const REGISTERS_ASKED = [...REGISTERS, "H", "flags"];
+const REGISTERS_ASKED = [...REGISTERS, "H", "flags"], DEVICES_ASKED = ["switches", "LEDs", "mouse", "serial", "keys"];
 // The cells of the registers by their names, made once: a drag of the cursor changes texts, and makes nothing. The state that was shown
 // before, while the machine did not run, to mark what changed. While it runs, they are shown so often.
 const registerCells = new Map(), RUNNING_MS = 100;
@@ -10,7 +10,7 @@ let registersBefore = null, runningDue = 0;
 function makeRegisters() {
   for (const [name] of partsOf(new Uint8Array(STATE_BYTES))) {
     const [cell, value] = cellOf(name, "");
-    if (REGISTERS_ASKED.includes(name)) value.append(button("", () => askRegister(name)));
+    if (aboutPart(name)) value.append(button("", () => askPart(name)));
     const holder = value.firstElementChild ?? value;
     if (holder !== value) holder.title = `Who wrote ${name}`;
     registerCells.set(name, { value, holder });
@@ -24,8 +24,14 @@ function cellOf(name, text) {
   return [cell, value];
 }
 
-function askRegister(name) {
-  return askWho({ register: REGISTERS_ASKED.indexOf(name) }, `Who wrote ${name}`);
+/** What is asked about a part of a state: a register or a part of a device; or null if nothing can be. */
+function aboutPart(name) {
+  const register = REGISTERS_ASKED.indexOf(name);
+  return register >= 0 ? { register } : DEVICES_ASKED.includes(name) ? { device: name } : null;
+}
+
+function askPart(name) {
+  return askWho(aboutPart(name), `Who wrote ${name}`);
 }
 
 /** Shows the parts of a state, with what has changed since the one shown before marked, and beside them what a checkpoint here claims
@@ -167,8 +173,7 @@ function toMachineAt(count) {
 
 function partsThatDiffer(claimedState, part) {
   const [own, claimed] = [shownState(), claimedState].map((state) => new Map(partsOf(state)).get(part));
-  const register = REGISTERS_ASKED.indexOf(part);
-  return own === undefined ? null : { name: part, own, claimed, about: register < 0 ? null : { register } };
+  return own === undefined ? null : { name: part, own, claimed, about: aboutPart(part) };
 }
 
 /** Returns the first word of a page that differs from what the false checkpoint claims. */

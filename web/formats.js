@@ -318,14 +318,14 @@ function readImage(image, address, written) {
 /** Returns the whole number that a text writes, in decimal, or in hexadecimal after 0x. */
 function whole(text, most, what) {
   const value = /^(?:\d{1,12}|0[xX][0-9a-fA-F]{1,8})$/.test(text.trim()) ? Number(text) : NaN;
-  if (!(value <= most)) throw new Refused(`${what}: ${text.trim() || "nothing"} is no whole number from 0 to ${most}`);
+  if (!(value <= most)) throw new Refused(`${what}: ${text.trim() || "nothing"} is not a whole number from 0 to ${most}`);
   return value;
 }
 
 /** Returns a session as JSON of version 2, with a page or a few inputs on each line. */
 function writeSession({ state, words, inputs, checkpoints }) {
   const unsaid = ["stop", "timer", "switches", "LEDs", "mouse", "serial", "keys"].filter((name) => field(state, AT[name]));
-  if (unsaid.length) throw new Refused(`the first state has ${unsaid.join(", ")} other than 0, which a session cannot say: save the recording`);
+  if (unsaid.length) throw new Refused(`the initial state has ${unsaid.join(", ")} other than 0, which a session cannot say: save the recording`);
   const start = { R: REGISTERS.map((_, at) => field(state, AT.R + 4 * at)) };
   for (const name of ["H", "PC", "flags", "rate", "phase"]) start[name] = field(state, AT[name]);
   return [

@@ -6,7 +6,7 @@
 const LONGEST_RECORDING = 118310056, MOST_COUNT = 2 ** 40;
 const DONE = 0, NO_ROOM = 2, NO_CHECKPOINT = 5;
 const ADVANCE_REFUSALS = ["", "a number is out of its range", "more is sent than there is room for", "no memory"];
-const RECORD_REFUSALS = ["", "a number is out of its range", "", "no memory", "the bytes are no recording", "", "the recording has reached its limit of inputs",
+const RECORD_REFUSALS = ["", "a number is out of its range", "", "no memory", "the bytes are not a recording", "", "the recording has reached its limit of inputs",
                          "the recording has reached its limit of checkpoints", "the recording has reached its limit of sent bytes",
                          "the recording has reached its limit of pages", "the recording has inputs at or after its last checkpoint"];
 const RECORD_ROOM = 1 << 18, LINE_ROOM = 256;
@@ -102,7 +102,7 @@ class Library {
   claim(text, length, checkpoint, state, words) {
     const given = [BigInt(text), BigInt(length), checkpoint, BigInt(state), BigInt(words), BigInt(WORDS)];
     const code = this.exports.galluspa_claim(...given) & 255;
-    if (code !== DONE && code !== NO_CHECKPOINT) throw new Refused(code === 3 ? "no memory" : "the file is no recording");
+    if (code !== DONE && code !== NO_CHECKPOINT) throw new Refused(code === 3 ? "no memory" : "the file is not a recording");
     return code === DONE;
   }
 

@@ -322,7 +322,7 @@ function lawfulInputs(bytes) {
     const [count, kind, value] = inputs.item(at);
     const isInOrder = count <= MOST_COUNT && (!at || inputs.count(at - 1) <= count);
     const isLawful = kind && isInput(inputs.kind(at), BigInt(value)) && isInOrder;
-    if (!isLawful) throw new Refused("what was kept has inputs that are none");
+    if (!isLawful) throw new Refused("what was kept has inputs that no machine takes");
   }
   return inputs;
 }

@@ -115,7 +115,7 @@ async function showVerdict(file, answer) {
 
 function offerImage(name, bytes) {
   if (bytes.length > MEMORY_BYTES)
-    throw new Refusal(`${grouped(bytes.length)} bytes are no recording, no session and no image of memory`);
+    throw new Refusal(`${grouped(bytes.length)} bytes are not a recording, not a session and not an image of memory`);
   app.image = { name, bytes };
   el("image-name").textContent = `${name}, ${grouped(bytes.length)} bytes,`;
   el("image").hidden = false;
@@ -155,7 +155,7 @@ function showOpened({ claims, version, inputs, checkpoints, left }, work) {
   el("claims").hidden = !claims;
   el("pad").hidden = !isSnake();
   snakeLength = FIRST_LENGTH;
-  for (const name of ["run", "step", "save", "record", "picture", "find-before", "find-next"]) el(name).disabled = false;
+  for (const name of ["run", "step", "save", "record", "picture", "find-before", "find-next", "who-leds"]) el(name).disabled = false;
   if (claims) el("number").max = checkpoints;
   else el("screen").focus({ preventScroll: true });
 }
@@ -369,6 +369,7 @@ function listenToDevices() {
   listenToKeyboard();
   on("pad", "click", padPressed);
   on("switches", "change", switched);
+  on("who-leds", "click", () => askPart("LEDs"));
   on("mouse", "change", mouseByFields);
   on("serial-form", "submit", sendSerial);
   on("serial", "keydown", enterSends);

@@ -158,7 +158,7 @@ class History {
   /** Does a task with the machine at a count, after the looks before it. Returns null if another machine is open meanwhile, or if
    * `isOver`. */
   look({ generation, at }, task, isOver = () => false) {
-    if (!isWhole(at)) throw new Refused(`${at} is no count`);
+    if (!isWhole(at)) throw new Refused(`${at} is not a count`);
     return this.inTurn(() => this.lookNow({ generation, at }, task, isOver)).catch(unlessEnded(null));
   }
 

@@ -3,7 +3,12 @@
 "use strict";
 
 // Kinds of conditions, as include/galluspa.h numbers them.
-const STORE = 2, CHANGE = 3, BECOMES = 5, SENDS = 6, SENDS_BYTE = 7, TAKES = 8, STOP = 9;
+const STORE = 2, CHANGE = 3, LOAD = 4, BECOMES = 5, SENDS = 6, SENDS_BYTE = 7, TAKES = 8, STOP = 9;
+// What sets the parts of a state that are of devices: inputs of a kind, or accesses to a device word, by its address.
+const DEVICE_PARTS = {
+  switches: { input: SWITCHES }, mouse: { input: MOUSE }, LEDs: { kind: STORE, word: 0xffffc4 },
+  serial: { input: SERIAL, kind: LOAD, word: 0xffffc8 }, keys: { input: KEY, kind: LOAD, word: 0xffffdc },
+};
 const PROGRESS_MS = 100, MOST_CONDITIONS = 64, H_NUMBER = 16, FLAGS_NUMBER = 17;
 // How long a piece is to take, how many steps the first one has, since a hit may be near, and how many a piece has at most: a worker is
 // not free for another search before its piece is searched.
@@ -79,21 +84,22 @@ class Searches {
     });
   }
 
-  /** Finds the instruction that wrote what a register has at a count, or what is in memory: a byte, some bits of it, or some bits of the
-   * word at an address. It is the last one that changed it. `stored` is a later one that stored the same again. */
-  who({ generation, request, before, register, address, bit, mask }) {
-    if (!isWhole(before)) throw new Refused(`${before} is no count`);
-    const wanted = register === undefined ? bitsOf({ address, bit, mask }) : registerOf(register);
+  /** Finds the instruction that wrote what a register or a device has at a count, or what is in memory: a byte, some bits of it, or some
+   * bits of the word at an address. It is the last one that changed it. `stored` is a later one that stored the same again. Of a device it
+   * is the last one that wrote to it or took from it, or the last input. */
+  who({ generation, request, before, register, device, ...bits }) {
+    if (!isWhole(before)) throw new Refused(`${before} is not a count`);
+    const wanted = device !== undefined ? deviceOf(device) : register !== undefined ? registerOf(register) : bitsOf(bits);
     return this.begin({ generation, request, to: before }, async (search, end) => {
-      const found = await (register === undefined ? this.whoWrote(wanted, end, search) : this.whoSet(wanted, end, search));
-      return { ...found, sure: true };
+      const find = device !== undefined ? this.whoSetDevice : register !== undefined ? this.whoSet : this.whoWrote;
+      return { ...(await find.call(this, wanted, end, search)), sure: true };
     });
   }
 
   /** Runs the machine again from count 0, past all other keyframes, and compares it with what is shown at a count. Returns the first part
    * in which they differ, or null. */
   recheck({ generation, at }) {
-    if (!isWhole(at)) throw new Refused(`${at} is no count`);
+    if (!isWhole(at)) throw new Refused(`${at} is not a count`);
     return this.begin({ generation, to: at }, async (search, end) => {
       const { history } = this, { searcher, keyframes, inputs } = history, tell = search.progress(end);
       await history.reach(searcher, end, search.turn);
@@ -204,6 +210,27 @@ class Searches {
     return hit ? this.instructionAt(hit.at, search) : { initial: true };
   }
 
+  /** Finds what set a part of a device: an input, or a later access to its word. */
+  async whoSetDevice({ name, input, kind, word }, before, search) {
+    const given = input && (await this.lastInput(input, before, search)), conditions = [{ kind, from: word, end: word + 4 }];
+    if (!word) return given ?? { initial: true };
+    const gap = input ? null : await this.gapOfPart(AT[name], before, search);
+    const probable = gap && (await this.findLast(gap.from, gap.to, conditions, search));
+    if (probable) search.tell("who", { ...(await this.instructionAt(probable.at, search)), sure: false });
+    const hit = (await this.findLast(probable ? probable.at + 1 : given?.at ?? 0, before, conditions, search)) ?? probable;
+    return hit ? this.instructionAt(hit.at, search) : given ?? { initial: true };
+  }
+
+  /** Returns the last input of a kind that the machine has taken before a count, or null. One that has stopped takes none. */
+  async lastInput(kind, before, search) {
+    const { history } = this, { searcher, inputs } = history;
+    await history.reach(searcher, before, search.turn);
+    const taken = searcher.part("stop") ? await this.findLast(0, before, [{ kind: TAKES, value: kind }], search) : { at: before - 1 };
+    let number = taken ? inputs.from(taken.at + 1) - 1 : -1;
+    while (number >= 0 && inputs.kind(number) !== kind) number--;
+    return number < 0 ? null : { at: inputs.count(number), input: inputs.item(number) };
+  }
+
   /** Keyframes in which the bits are others say where they changed: the answer from there is posted first. Between the later ones they may
    * have changed and changed back. */
   async whoWrote({ from, end, value }, before, search) {
@@ -224,11 +251,25 @@ class Searches {
     const { history } = this, { searcher, keyframes } = history, number = Math.floor(from / 4);
     await history.reach(searcher, before, search.turn);
     const word = searcher.word(number);
+    return this.gapWhere((keyframe) => (keyframes.word(keyframe, number) ^ word) & value, before);
+  }
+
+  /** Returns the last gap at whose ends a field of the state is different, or null. */
+  async gapOfPart(offset, before, search) {
+    const { history } = this, { searcher } = history;
+    await history.reach(searcher, before, search.turn);
+    const value = field(searcher.state, offset);
+    return this.gapWhere(({ state }) => field(state, offset) !== value, before);
+  }
+
+  /** Returns the gap after the last keyframe that is other than what is at a count; or null. */
+  gapWhere(isOther, before) {
+    const { keyframes } = this.history;
     let to = before;
     for (let at = keyframes.position(before); at >= 0; at--) {
       const keyframe = keyframes.items[at];
       if (keyframe.isClaimed) continue;
-      if ((keyframes.word(keyframe, number) ^ word) & value) return { from: keyframe.count, to };
+      if (isOther(keyframe)) return { from: keyframe.count, to };
       to = keyframe.count;
     }
     return null;
@@ -263,8 +304,13 @@ function bitsOf({ address, bit, mask }) {
 }
 
 function registerOf(register) {
-  if (!(isWhole(register) && register <= FLAGS_NUMBER)) throw new Refused(`${register} is no register: want 0 to ${FLAGS_NUMBER}`);
+  if (!(isWhole(register) && register <= FLAGS_NUMBER)) throw new Refused(`${register} is not a register: want 0 to ${FLAGS_NUMBER}`);
   return register;
+}
+
+function deviceOf(name) {
+  if (!Object.hasOwn(DEVICE_PARTS, name)) throw new Refused(`${name} is not a part of a device that something sets`);
+  return { name, ...DEVICE_PARTS[name] };
 }
 
 /** Returns what a register has: 0 to 15 for R0 to R15, 16 for H, 17 for the flags. */

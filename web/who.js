@@ -6,7 +6,8 @@ let asking = null, requests = 0;
 
 /** Asks for the instruction that wrote something last before a count, which is that of the cursor if it is not given. */
 async function askWho(about, title, before = shownCount()) {
-  if (!app.latest || app.latest.on) return;
+  if (!app.latest) return;
+  if (app.latest.on) return notice("Pause the machine first: it is asked who wrote what is there at a count.");
   const request = ++requests;
   asking = { about, title, request };
   showCard(title, [paragraph("searching ..", "hint")]);
@@ -18,10 +19,10 @@ async function askWho(about, title, before = shownCount()) {
  * surer changes texts, so that a press of a button stays one. */
 function showWho(answer) {
   if (asking?.request !== answer.request) return;
-  const { at, pc, sure, stored } = answer, isShown = at !== undefined && asking.at === at;
+  const { at, stored } = answer, isShown = at !== undefined && asking.at === at;
   if (!isShown) showCard(asking.title, partsOfAnswer(answer, asking));
   asking = { ...asking, at };
-  write("who-where", at === undefined ? initialText(answer) : `Instruction ${grouped(at)}, PC ${pc}: ${sure ? "sure" : "probably; still searching"}`);
+  write("who-where", answerText(answer, asking.about));
   write("who-again", stored ? `Instruction ${grouped(stored.at)} wrote the same again.` : "");
 }
 
@@ -29,11 +30,18 @@ function partsOfAnswer(answer, { about, title }) {
   const { at, state } = answer, where = Object.assign(paragraph("", ""), { id: "g-who-where" });
   const again = Object.assign(made("div", "", "hint"), { id: "g-who-again" });
   if (at === undefined) return [where, again];
-  const jump = button("Jump", () => lookAt(at)), earlier = button("Earlier", () => askWho(about, title, at));
-  return [where, instructionLine(answer), jump, earlier, again, made("code", registersText(state))];
+  const buttons = [button("Jump", () => lookAt(at)), button("Earlier", () => askWho(about, title, at))];
+  if (!state) return [where, ...buttons, again];
+  return [where, instructionLine(answer), ...buttons, again, made("code", registersText(state))];
 }
 
-const initialText = ({ stopped }) => (stopped ? "The search was stopped." : "No instruction: it is in the initial memory.");
+/** Says what wrote something: an instruction, an input, or none. */
+function answerText({ at, pc, sure, input, stopped }, { register, device }) {
+  if (stopped) return "The search was stopped.";
+  if (input) return `The input ${input[1]} ${hex(input[2], 2)} before instruction ${grouped(at)}: sure`;
+  if (at !== undefined) return `Instruction ${grouped(at)}, PC ${pc}: ${sure ? "sure" : "probably; still searching"}`;
+  return `No instruction: it is in the initial ${(register ?? device) === undefined ? "memory" : "state"}.`;
+}
 
 function instructionLine({ word, pc }) {
   const [mnemonic, meaning] = instruction(word, pc), line = paragraph(`${mnemonic}  `, "instruction");

@@ -100,13 +100,34 @@ async function who() {
   expect("the dot that was never written", await desk.past.who({ address: byte + 1, bit: 0, before: end }), { initial: true, stored: null, sure: true });
   const same = await desk.past.who({ address: twice, before: end });
   expect("the byte that got the same value again", [same.pc, same.stored.pc], [first, second]);
-  for (const [asked, why] of [[{ register: 18 }, "18 is no register: want 0 to 17"], [{ address: 1048576 }, "want a byte of the memory, and a bit of it"]])
+  for (const [asked, why] of [[{ register: 18 }, "18 is not a register: want 0 to 17"], [{ device: "rate" }, "rate is not a part of a device that something sets"], [{ address: 1048576 }, "want a byte of the memory, and a bit of it"]])
     expect("a question that is refused", await desk.past.who({ ...asked, before: end }).catch((error) => error.message), why);
   const { at } = await desk.past.who({ register: 6, before: end });
   expect("what set R6", at, whole([{ kind: BECOMES, from: 6, value: field(fresh.at(end).state, AT.R + 24) }]).at);
   expect("a register that nothing set", await desk.past.who({ register: 12, before: end }), { initial: true, sure: true });
   desk.end();
   console.log("who: a dot cleared and drawn again between two keyframes, one never written, a byte written twice, and registers");
+}
+
+/** What set a part of a device is the last access to its word, or the last input, as a search for each from the beginning says. */
+async function whoSetDevices() {
+  const session = example("mixed"), desk = new Desk(withNumbers({ KEYFRAME_STEPS: 700, KEYFRAME_MS: 0 })), fresh = new Fresh(session), end = 5000;
+  await desk.openSession(session);
+  await desk.run(end);
+  const accessed = { LEDs: [STORE, 4], serial: [LOAD, 8], keys: [LOAD, 28] }, given = { mouse: 3, serial: 5, keys: 4, switches: 2 };
+  for (const before of [30, 300, 301, 310, 1202, 2000, 2700, end]) {
+    for (const device of ["LEDs", "mouse", "serial", "keys", "switches"]) {
+      const [kind, offset] = accessed[device] ?? [], from = TIMER_ADDRESS + offset;
+      const access = kind ? fresh.find(before, [{ kind, from, end: from + 4 }], true)?.at : undefined;
+      const input = given[device] ? fresh.find(before, [{ kind: TAKES, value: given[device] }], true)?.at : undefined;
+      const found = await desk.past.who({ device, before }), isAccess = access !== undefined && access >= (input ?? 0);
+      expect(`what set ${device} before ${before}`, [found.at, Boolean(found.input), Boolean(found.initial)],
+             [isAccess ? access : input, !isAccess && input !== undefined, access === undefined && input === undefined]);
+      if (isAccess) expect("its instruction", [found.pc, found.state], [field(fresh.at(access).state, AT.PC), fresh.at(access).state]);
+    }
+  }
+  desk.end();
+  console.log("devices: what set LEDs, mouse, switches, the serial line and the keys, at 8 counts");
 }
 
 async function whoOfFace() {
@@ -174,4 +195,4 @@ async function lookBetween() {
   console.log(`runs: a look comes after ${looked.toFixed(0)} ms, between the pieces of a search of ${ms.toFixed(0)} ms that are only run`);
 }
 
-module.exports = [search, who, stop, lookBetween];
+module.exports = [search, who, whoSetDevices, stop, lookBetween];

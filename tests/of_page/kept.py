@@ -206,7 +206,7 @@ def survive_other_pages(desk: Desk) -> None:
         expect("how many items are shown", len(texts), 12)
         desk.draw()
         page.answer(f"{BUTTONS}.find((it) => it.textContent === 'Resume').click()")
-        desk.expect_notice("an item that says what cannot be", "the file is no recording")
+        desk.expect_notice("an item that says what cannot be", "the file is not a recording")
         expect("what is open still", page.answer("[app.work.name, app.latest.on]"), ["draw", True])
         forget_all(desk)
         other.answer(ANEW)

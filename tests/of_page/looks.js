@@ -50,7 +50,7 @@ async function look() {
   expect("bytes of the memory", (await desk.past.memory(12345678, 950016, 98304)).bytes, machine.dots);
   await stepBoth(desk, fresh, session);
   for (const at of [0, 12345678, end]) expect(`the machine that is run again to ${at}`, await desk.past.recheck(at), { at, part: null });
-  for (const [ask, why] of [[() => desk.past.peek(end + 1), `the machine has not come to ${end + 1} yet`], [() => desk.past.peek(-1), "-1 is no count"],
+  for (const [ask, why] of [[() => desk.past.peek(end + 1), `the machine has not come to ${end + 1} yet`], [() => desk.past.peek(-1), "-1 is not a count"],
                             [() => desk.past.memory(0, 1048576, 1), "these bytes are beyond the memory"]])
     expect("a look that is refused", await ask().catch((error) => error.message), why);
   desk.end();

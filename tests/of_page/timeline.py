@@ -163,7 +163,33 @@ def ask_who(desk: Desk) -> None:
     page.wait(f"{CARD}.includes('initial memory')")
     page.answer("registerCells.get('R13').holder.click()")
     page.wait(f"{CARD}.includes('Who wrote R13') && {CARD}.includes(': sure')")
+    page.answer("registerCells.get('LEDs').holder.click()")
+    page.wait(f"{CARD}.includes('No instruction: it is in the initial state.')")
     print("who: a dot as the tools find it, one that no instruction drew, and a register")
+
+
+def ask_devices(desk: Desk) -> None:
+    """A click on the LEDs, and on the keys, has the instruction that wrote or took them last; on the mouse, the input. A machine that runs is
+    paused first."""
+    page = desk.page
+    keys = json.dumps({**json.loads((EXAMPLES / "draw.json").read_text()), "inputs": [[100000, "mouse", 77], [200000, "key", 33]], "checkpoints": [300000]})
+    run_to_end(desk, "devices.json", keys.encode())
+    for name, said in (("LEDs", r"Who wrote LEDs×Instruction [\d,]+, PC \d+: sureST.*"), ("keys", r"Who wrote keys×Instruction [\d,]+, PC \d+: sureLD.*"),
+                       ("mouse", r"Who wrote mouse×The input mouse 4D before instruction 100,000: sureJumpEarlier"),
+                       ("switches", r"Who wrote switches×No instruction: it is in the initial state\.")):
+        page.answer(f"registerCells.get('{name}').holder.click()")
+        page.wait(f"{CARD}.includes('Who wrote {name}') && !{CARD}.includes('search')")
+        if not re.fullmatch(said, page.answer(CARD)):
+            fail(f"who wrote {name}: {page.answer(CARD)!r}")
+    desk.click("tab-devices")
+    desk.click("who-leds")
+    page.wait(f"{CARD}.includes('Who wrote LEDs') && {CARD}.includes(': sure')")
+    desk.click("tab-state")
+    desk.go_on()
+    page.answer("registerCells.get('R1').holder.click()")
+    desk.expect_notice("a question of a machine that runs", r"Pause the machine first: .*")
+    desk.pause()
+    print("who: the LEDs, the keys and the mouse by the instruction or the input that set them")
 
 
 def click_dot(desk: Desk, x: float, y: float) -> None:
@@ -387,6 +413,7 @@ def drive(desk: Desk) -> None:
     drag(desk)
     press_each(desk)
     ask_who(desk)
+    ask_devices(desk)
     search(desk)
     stop_search(desk)
     look_ahead(desk)
