@@ -13,6 +13,7 @@ function toggleBreak(pc) {
   if (!next.delete(pc)) next.add(pc);
   if (next.size > MOST_BREAKS) return notice(`There are ${MOST_BREAKS} breakpoints at most.`);
   breaks = next;
+  tellBreaks();
   for (const gutter of el("listing").querySelectorAll("button")) showBreak(gutter);
   const counters = [...breaks].sort((one, other) => one - other).join(", ");
   write("breaks", counters ? `Breakpoints at PC ${counters}.` : "Click beside an instruction to set a breakpoint.");
@@ -21,8 +22,7 @@ function toggleBreak(pc) {
 /** Forgets breakpoints and watches: they are of another program. */
 function forgetBreaks() {
   for (const pc of breaks) toggleBreak(pc);
-  watches = [];
-  showWatches();
+  setWatches([]);
 }
 
 function showBreak(gutter) {
@@ -44,24 +44,14 @@ function noteHit(count, what) {
   hits = [...hits.filter(([other]) => other !== count).slice(-30), [count, what]];
 }
 
-// How far a run has been searched for breakpoints, and whether it is being searched.
-let meeting = { from: 0, isOn: false };
-
-/** Has a run that begins here meet the breakpoints and watches after it. */
-function beginMeeting() {
-  meeting = { from: nowCount() + 1, isOn: false };
+/** Has the live machine stop at the breakpoints and watches that there are now. */
+function tellBreaks() {
+  tell("setBreaks", { conditions: conditionsOfBreaks() });
 }
 
-/** Searches what a running machine has done since for breakpoints and watches. At a hit it is paused, and that is looked at. */
-async function meetBreaks() {
-  const conditions = conditionsOfBreaks(), { from } = meeting, to = nowCount(), { generation } = app.work;
-  if (!conditions.length || meeting.isOn || from >= to) return;
-  const own = (meeting = { from: to, isOn: true }), found = await app.past.find({ from, to, conditions });
-  if (own !== meeting || generation !== app.work.generation) return;
-  meeting = { from: to, isOn: false };
-  if (found?.at === undefined || !app.latest.on) return;
-  await app.live.ask("setRun", { on: false });
-  await foundAt(found, conditions);
+/** Hears that the live machine has come to a breakpoint or a watch, and was paused before that instruction. */
+function meetBreak({ generation, at, condition }) {
+  if (generation === app.work.generation) return foundAt({ at, which: 0 }, [condition]);
 }
 
 /** Shows the instructions around a program counter, each with a place for a breakpoint. Lines that were shown before stay: a button that

@@ -95,11 +95,13 @@ function watchSelected() {
   if (!selected) return notice("Select bytes of memory first: they are watched.");
   const { first, end } = selected, others = watches.filter((one) => one.first !== first || one.end !== end);
   if (others.length >= MOST_BREAKS) return notice(`There are ${MOST_BREAKS} watches at most.`);
-  watches = others.length < watches.length ? others : [...watches, { first, end }];
-  showWatches();
+  setWatches(others.length < watches.length ? others : [...watches, { first, end }]);
 }
 
-function showWatches() {
+/** Has these bytes watched, and shows which they are. */
+function setWatches(wanted) {
+  watches = wanted;
+  tellBreaks();
   el("watches").replaceChildren(...(watches.length ? ["Watched: ", ...watches.map(watchButton)] : []));
 }
 

@@ -182,6 +182,7 @@ function beginShowing() {
 function heard(news) {
   if (news.state) showFrame(news);
   else if (news.passed) showPassed(news.passed);
+  else if (news.met) attempt(() => meetBreak(news.met));
   else notice(news.refused ?? news.broken);
 }
 
@@ -192,7 +193,6 @@ function showFrame(frame) {
   if (frame.sent) appendSent(frame.sent);
   followGame(frame, wasReplay);
   noteFrame(frame);
-  if (frame.on) attempt(meetBreaks);
   if (!isPast()) showNow(frame, wasReplay);
   showMode(frame);
   showStatus(frame);
@@ -305,7 +305,6 @@ const everySeconds = () => Math.max(0, Math.min(3600, Math.floor(Number(el("each
 
 async function setRun(isOn) {
   notice();
-  beginMeeting();
   await app.live.ask("setRun", { on: isOn, fast: isFast(), seconds: everySeconds() });
   if (!isOn) return;
   el("screen").focus({ preventScroll: true });

@@ -26,8 +26,17 @@ async function search(conditions, isBack) {
   return found?.none ? null : undefined;
 }
 
+/** Says a condition in words. */
+function conditionText({ kind, from, end, value }) {
+  const [, name, about] = WANTED.find(([one]) => one === kind), write = about === "address" ? address : String;
+  const range = end - from > 1 ? `${write(from)} to ${write(end - 1)}` : write(from);
+  if (kind === COUNTER) return `PC ${range}`;
+  if (kind === BECOMES) return `${REGISTERS_ASKED[from]} becomes ${hex(value, 8)}`;
+  return about ? `${name} ${range}` : kind === SENDS_BYTE ? `${name} ${value}` : kind === TAKES ? `${name}: ${KINDS[value]}` : name;
+}
+
 async function foundAt({ at, which }, conditions) {
-  const { kind, from } = conditions[which] ?? conditions[0], what = kind === COUNTER ? `PC ${from}` : WANTED.find(([one]) => one === kind)[1];
+  const what = conditionText(conditions[which] ?? conditions[0]);
   noteHit(at, what);
   showFinding(`${what} at ${grouped(at)}`);
   await lookAt(at);

@@ -17,6 +17,8 @@ const WHOLE_STEPS = 25000000;
 // `feed` tells the past of the live machine, once it is connected; `history` is there in the worker that looks into the past.
 let library = null, machine = null, feed = null, history = null;
 let run = { on: false };
+// The conditions at which a run is paused: breakpoints and watches.
+let breaks = [];
 // The number of the machine that is shown: each one that is opened has the next.
 let generation = 0;
 
@@ -69,12 +71,14 @@ function speedOf() {
   return ms > 0 ? { perSecond: (machine.count - run.from) / ms * 1000, busy: run.busy / ms } : null;
 }
 
-/** Starts or ends the run: at 25 MHz or as fast as it goes, up to a goal if there is one. */
-function setRun({ on, fast, goal = null, seconds }) {
+/** Starts or ends the run: at 25 MHz or as fast as it goes, up to a goal if there is one. A run that begins does its first instruction
+ * even at a breakpoint, or it would stay where it was paused. */
+function setRun({ on, fast, goal = null, seconds, isGoingOn = false }) {
   const now = performance.now();
   const clock = { ms: now, count: machine.count };
   const pace = new Pace(BUDGET_MS, FIRST_CHUNK);
   run = { on, fast, goal, seconds, begun: now, turn: now, from: machine.count, clock, busy: 0, frames: 0, quiet: 0, pace };
+  Object.assign(run, { hit: null, passed: isGoingOn ? -1 : machine.count });
   if (on) return isDue ? undefined : tick();
   endRun();
   show([]);
@@ -89,7 +93,7 @@ function endRun() {
 /** Changes the speed of the run, or how often there is a checkpoint. The goal stays. */
 function setPace({ fast, seconds }) {
   const { on, goal } = run;
-  if (on) setRun({ on, fast, goal, seconds });
+  if (on) setRun({ on, fast, goal, seconds, isGoingOn: true });
 }
 
 /** Does one turn: advances as far as the clock, or the time of a frame, allows, and stops at each checkpoint on the way. */
@@ -104,6 +108,7 @@ function tick() {
     run.frames++;
     if (isOver(wasReplay)) endRun();
     showTurn(sent);
+    if (run.hit) postMessage({ met: { generation, ...run.hit } });
     if (run.on && !isDue) again(begun);
   } catch (error) {
     run.on = false;
@@ -120,7 +125,7 @@ function isAtEnd() {
 /** Whether the run ends after a turn: at its goal, at the end of a replay, where the machine has stopped, where the recording became
  * full, and at the last count that there is, at which a file may have inputs. */
 function isOver(wasReplay) {
-  if (run.becameFull || machine.isAtLastCount || (run.goal !== null && machine.count >= run.goal)) return true;
+  if (run.becameFull || run.hit || machine.isAtLastCount || (run.goal !== null && machine.count >= run.goal)) return true;
   return !machine.isReplay && (wasReplay || machine.part("stop") !== 0);
 }
 
@@ -177,20 +182,30 @@ function fastTurn(begun) {
 /** Advances to a count, from checkpoint to checkpoint, until then or until the time is up. */
 function turnTo(to, deadline) {
   const sent = [], pieced = performance.now() + PIECES_MS, { isReplay } = machine, least = Math.ceil((to - machine.count) / PIECES);
-  const isToGoOn = () => machine.count < to && machine.isReplay === isReplay && !run.becameFull;
+  const isToGoOn = () => machine.count < to && machine.isReplay === isReplay && !run.becameFull && !run.hit;
   // A recording that goes on may have reached a limit before.
   run.becameFull ||= machine.endIfFull();
   for (let piece = least; isToGoOn() && (!sent.length || performance.now() < deadline);) {
     const waited = machine.arrivals.typed, waits = machine.feed();
     // A program that takes nothing now gets longer pieces.
     piece = machine.arrivals.typed < waited ? least : 2 * piece;
-    const end = waits && performance.now() < pieced ? machine.count + piece : Infinity;
-    const stop = Math.min(to, machine.nextStop(run.seconds ?? 0), run.goal ?? Infinity, end, machine.roomEnd, MOST_COUNT);
+    const pieceEnd = waits && performance.now() < pieced ? machine.count + piece : Infinity;
+    const stop = Math.min(to, machine.nextStop(run.seconds ?? 0), run.goal ?? Infinity, pieceEnd, machine.roomEnd, MOST_COUNT);
     if (stop <= machine.count) break;
-    sent.push(machine.advance(stop));
-    reached();
+    const end = breaks.length ? breakBefore(stop) : stop;
+    if (end > machine.count) sent.push(machine.advance(end)), reached();
   }
   return joined(sent);
+}
+
+/** Returns the count of the first breakpoint or watch that the run meets before a count, at which it is paused, or that count. */
+function breakBefore(stop) {
+  if (machine.count === run.passed) return machine.count + 1;
+  const inputs = machine.inputs.bytes.subarray(INPUT_BYTES * machine.next, INPUT_BYTES * machine.inputs.from(stop, machine.next));
+  const hit = library.find(machine.place, inputs, stop, breaks, false);
+  if (!hit) return stop;
+  run.hit = { at: hit.at, condition: breaks[hit.which] };
+  return hit.at;
 }
 
 /** Records and judges a checkpoint if the machine has just come to one. */
@@ -291,6 +306,9 @@ const LIVE = {
   connect({ port }) {
     feed = new Feed(machine, port);
     if (generation) feed.begin(generation);
+  },
+  setBreaks({ conditions }) {
+    breaks = conditions;
   },
   /** Takes changes of the mouse or of the switches, each with its value and its time since 1970 in ms. Returns why they have no
    * effect, or null. */

@@ -265,7 +265,8 @@ def look_ahead(desk: Desk) -> None:
 
 
 def meet_breakpoint(desk: Desk) -> None:
-    """A run of the live machine meets a breakpoint that was set beside the listing, and what is looked at is saved as a picture."""
+    """A run of the live machine is paused at a breakpoint that was set beside the listing, each time that it comes there, and at a watch; the
+    picture of it is saved."""
     page = desk.page
     page.answer("el('speed').value = 'fast'")
     desk.start("face.json", (EXAMPLES / "face.json").read_bytes())
@@ -281,15 +282,28 @@ def meet_breakpoint(desk: Desk) -> None:
     page.wait("breaks.size")
     expect("the breakpoint beside the listing", page.answer("[...breaks]"), [6])
     desk.click("run")
-    page.wait(f"isPast() && {EXACT}")
-    expect("the program counter that is met first", page.answer("[field(look.moment.state, AT.PC), look.at]"), [6, 6])
+    met = f"!isPast() && !app.latest.on && {shown('found')}"
+    page.wait(f"{met} === 'PC 6 at 6'")
+    expect("where the machine is paused", page.answer("[field(app.latest.state, AT.PC), nowCount(), isPast()]"), [6, 6, False])
     page.wait("el('trace').querySelector('.here')")
     desk.click("picture")
     expect("the picture that is saved", desk.saved("face-6.png")[:4], b"\x89PNG")
-    page.answer("toggleBreak(6)")
+    page.answer("toggleBreak(6); toggleBreak(13)")
+    counts = []
+    for speed in ("fast", "clock", "fast"):
+        page.answer(f"el('speed').value = '{speed}'")
+        desk.click("run")
+        page.wait(f"nowCount() > {counts[-1] if counts else 6} && {met} === `PC 13 at ${{grouped(nowCount())}}`")
+        counts.append(page.answer("nowCount()"))
+    hits = [page.answer(f"app.past.find({{ from: {at}, to: nowCount() + 1, conditions: conditionsOfBreaks() }}).then((it) => it.at)") for at in (6, *(it + 1 for it in counts[:-1]))]
+    expect("where the machine is paused each time", counts, hits)
+    page.answer("toggleBreak(13); select(0xEECC8, 0xEECC9); watchSelected()")
+    desk.click("run")
+    page.wait(f"{met} === 'a change of EECC8 to EECC9 at 4,838,732'")
+    expect("the count before a watched byte changes", page.answer("nowCount()"), 4838732)
+    page.answer("watchSelected()")
     desk.click("tab-state")
-    desk.click("back-now")
-    print("breakpoint: set beside the listing, met by a run; and a picture saved")
+    print("breakpoints: set beside the listing, at which a run is paused each time; a watch; and a picture saved")
 
 
 def show_false(desk: Desk) -> None:
