@@ -11,8 +11,9 @@ UP = 32 * LINE                  ; from a cell to the one above it
 MIDDLE = 16 * LINE              ; from a cell to its middle
 PACE = 120                      ; milliseconds from one step to the next
 RING = 10000H                   ; the snake's cells, one after the other, in a ring of 1,024 words
+POINTS = 23 * UP + 6 * LINE     ; from the lowest cell of a column to the lowest line of a digit in the upper wall
 
-; R1 the devices     R2 the head's cell    R3 the direction: what leads from the head to the next cell
+; R0 the column of a digit         R1 the devices     R2 the head's cell    R3 the direction: what leads from the head to the next cell
 ; R4 R5 where the ring has the head and the tail, in bytes        R6 when the next step is due
 ; R7 the last random number      R12 the ring      R13 the display      R14 R15 the ways back from routines
 
@@ -106,13 +107,42 @@ turned: ADD R10, R9, R3
         MOV R3, R9
 same:   B R15
 
-; length: shows how many cells the snake has on the LEDs.
+; length: shows how many cells the snake has on the LEDs, and the points, three less, as three digits in the upper wall.
 length: SUB R8, R4, R5
         AND R8, R8, 0FFFH
         ASR R8, R8, 2
         ADD R8, R8, 1
         STR R8, R1, LEDS - TIMER
+        SUB R8, R8, 3
+        ADD R0, R13, 17 * RIGHT
+figure: SUB R0, R0, RIGHT       ; digit by digit, from the right
+        DIV R8, R8, 10          ; H becomes the remainder
+        MOV' R9, H
+        LSL R9, R9, 2
+        LDR R9, R9, digits
+row:    AND R10, R9, 7          ; row by row, from below
+        LSL R10, R10, 2
+        LDR R10, R10, squares
+        STR R10, R0, POINTS
+        STR R10, R0, POINTS + LINE
+        STR R10, R0, POINTS + 2 * LINE
+        STR R10, R0, POINTS + 3 * LINE
+        ADD R0, R0, 4 * LINE
+        ASR R9, R9, 3
+        SUB R10, R9, 1
+        BNE row
+        SUB R0, R0, 20 * LINE
+        SUB R9, R0, R13
+        SUB R9, R9, 14 * RIGHT
+        BNE figure
         B R15
+
+; The digits 0 to 9: five rows of three squares, from the lowest row up, in three bits each, and a 1 above them.
+digits: word 0FB6FH, 0A697H, 0F9CFH, 0F9E7H, 0DBE4H
+        word 0F3E7H, 0F3EFH, 0F892H, 0FBEFH, 0FBE7H
+; A line of the wall with each choice of three squares left out. A square is four dots wide, and four lines high.
+squares: word 0FFFFFFFFH, 0FFFFC3FFH, 0FFFC3FFFH, 0FFFC03FFH
+        word 0FFC3FFFFH, 0FFC3C3FFH, 0FFC03FFFH, 0FFC003FFH
 
 ; dot: draws a dot in a free cell.
 dot:    MOV R14, R15

@@ -3,6 +3,8 @@
 
 const el = (name) => document.getElementById(`g-${name}`);
 const grouped = (number) => Math.floor(number).toLocaleString("en");
+/** Says how many there are of something, as in 1 input, or 2 inputs. */
+const many = (number, what) => `${grouped(number)} ${what}${number === 1 ? "" : "s"}`;
 
 function notice(text) {
   write("notice", text ?? "");

@@ -153,7 +153,7 @@ function summary(kept) {
   const unreadable = `What is kept as ${String(id).slice(0, MOST_NAME)} cannot be read: this page did not write it.`;
   if (!isReadable) return { id, isReadable, text: unreadable };
   const [name, inputs] = [kept.name.slice(0, MOST_NAME), kept.inputs.length / INPUT_BYTES];
-  const text = `${name}, of ${new Date(id).toLocaleString()}: ${grouped(kept.count)} instructions, ${grouped(inputs)} inputs`;
+  const text = `${name}, of ${new Date(id).toLocaleString()}: ${many(kept.count, "instruction")}, ${many(inputs, "input")}`;
   return { id, isReadable, text };
 }
 

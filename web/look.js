@@ -21,7 +21,7 @@ const secondsOf = (counts) => `${(counts / PER_SECOND).toFixed(3)} s`;
 /** How far a count is from now: in seconds, or in instructions where it is near. */
 function apart(at) {
   const counts = Math.abs(nowCount() - at);
-  return counts < PER_SECOND / 20 ? `${grouped(counts)} instruction${counts === 1 ? "" : "s"}` : `${(counts / PER_SECOND).toFixed(1)} s`;
+  return counts < PER_SECOND / 20 ? many(counts, "instruction") : `${(counts / PER_SECOND).toFixed(1)} s`;
 }
 
 /** Looks at a count. A machine that runs is paused first. A cursor that has not settled has more looks to come. */
@@ -133,8 +133,6 @@ function showMode(frame) {
   write("mode-text", text + claim);
 }
 
-const inputsText = (number) => `${grouped(number)} input${number === 1 ? "" : "s"}`;
-
 function pastMode() {
   if (!isAhead()) return ["PAST", `${apart(look.at)} before now. Keys do nothing.`];
   const claimed = app.file?.verdict?.status === 0 ? "as the file claims, which was checked" : "claimed, not checked";
@@ -142,11 +140,11 @@ function pastMode() {
 }
 
 function modeOf({ state, on, isReplay, ahead, full, isAtLastCount }) {
-  const stop = field(state, AT.stop), left = ahead ? inputsText(ahead) : "checkpoints";
+  const stop = field(state, AT.stop), left = ahead ? many(ahead, "input") : "checkpoints";
   const then = full?.isEnd ? "What comes after is not recorded." : "The machine takes no more.";
   if (full) return ["FULL", `at ${grouped(full.count)}: ${full.why}. ${then}`];
   if (isReplay && !isAtLastCount) return ["REPLAY", `${left} of the file ${ahead === 1 ? "is" : "are"} still to come. Your own keys and mouse count once you take over.`];
-  const never = ahead ? ` ${inputsText(ahead)} of the file at this count will never come.` : "";
+  const never = ahead ? ` ${many(ahead, "input")} of the file at this count will never come.` : "";
   if (stop) return ["STOPPED", `${STOPS[stop]}: the machine does nothing more.${never}`];
   if (isAtLastCount) return ["FULL", `at ${grouped(countOf(state))}: no count comes after this one, so the machine does nothing more.${never}`];
   if (on) return ["LIVE", "What you type, click and send is recorded."];

@@ -247,7 +247,7 @@ function sayOf({ state, inputs, marks, speed, typed, hasLastRoom }) {
   const stop = field(state, AT.stop);
   const fast = speed ? `; ${(speed.perSecond / 1e6).toFixed(1)} million a second, busy ${(speed.busy * 100).toFixed(0)} %` : "";
   const waits = typed ? `; ${typed} typed or sent bytes wait` : "", last = hasLastRoom ? ", no more by time: the last is left for the end" : "";
-  return `${grouped(countOf(state))} instructions, ${inputsText(inputs)}, ${grouped(marks)} checkpoints${last}${fast}${waits}` +
+  return `${many(countOf(state), "instruction")}, ${many(inputs, "input")}, ${many(marks, "checkpoint")}${last}${fast}${waits}` +
     (stop ? `; stopped: ${STOPS[stop]}` : "");
 }
 

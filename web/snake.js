@@ -13,8 +13,7 @@ const isSnake = () => app.work.name === SNAKE;
 
 /** Returns the points of a snake, whose length the LEDs show. */
 function pointsOf(length) {
-  const points = Math.max(0, length - FIRST_LENGTH);
-  return `${points} point${points === 1 ? "" : "s"}`;
+  return many(Math.max(0, length - FIRST_LENGTH), "point");
 }
 
 /** Begins the game of the example, without the keys of the game that somebody played. */
@@ -39,7 +38,7 @@ async function endGame() {
   const { text } = await app.live.ask("recording"), crash = await crashCount();
   await lookAt(crash);
   const place = paragraph("checking ..", "line note");
-  const summary = paragraph(`${grouped(keysIn(text))} keys; the recording has ${grouped(text.length)} bytes.`);
+  const summary = paragraph(`${many(keysIn(text), "key")}; the recording has ${grouped(text.length)} bytes.`);
   const back = button("Go back before the crash", () => lookAt(crash - BEFORE_CRASH)), again = button("Play again", playAgain);
   const cheat = button("Try to cheat", () => tryToCheat(text));
   showCard(`Game over: ${pointsOf(field(shownState(), AT.LEDs))}`, [summary, place, back, cheat, again, made("div", "", "cheat")]);
@@ -76,9 +75,9 @@ async function showLine(text, place) {
 async function tryToCheat(text) {
   const place = el("card").querySelector(".cheat"), line = paragraph("checking ..", "line note");
   const { forged, claimed, own, count } = forgedScore(text);
-  place.replaceChildren(paragraph(`The same recording, which claims ${claimed - FIRST_LENGTH} points at ${grouped(count)}:`), line);
+  place.replaceChildren(paragraph(`The same recording, which claims ${pointsOf(claimed)} at ${grouped(count)}:`), line);
   await showLine(forged, line);
-  place.append(paragraph(`The machine has ${own - FIRST_LENGTH} points there: the LEDs are ${hex(own, 2)}, and ${hex(claimed, 2)} is claimed.`));
+  place.append(paragraph(`The machine has ${pointsOf(own)} there: the LEDs are ${hex(own, 2)}, and ${hex(claimed, 2)} is claimed.`));
 }
 
 /** Returns a recording whose checkpoint with the most points claims more. */

@@ -3,7 +3,7 @@
 
 const PER_SECOND = 25000000;
 const LANES = ["claims", "keys", "mouse", "serial", "screen", "marks", "film"];
-const ROW = 17, AXIS = 17, MERGED = 28, LEAST_SPAN = 16, MOST_NOTED = 20000, SENT_SHOWN = 40, GLYPH_WIDTH = 6, LISTED = 40;
+const ROW = 17, AXIS = 17, MERGED = 28, LEAST_SPAN = 16, MOST_NOTED = 20000, SENT_SHOWN = 40, GLYPH_WIDTH = 6, FINGER_MOVE = 6, LISTED = 40;
 const FRESH_MS = 200, FOLLOW_MS = 2000, FILM_MS = 2000, TICK_WIDTH = 76, ZOOM = 1.6;
 
 // What the lanes show. `end` is the last count that is known of: that of now, or of the file.
@@ -13,10 +13,10 @@ const NOTHING_FOUND = { keys: [], mouse: [], serial: [], listed: { keys: [], mou
 const newLanes = () => ({ end: 0, found: NOTHING_FOUND, sent: [], painted: [], passed: new Map(), film: [] });
 let lanes = newLanes();
 // The span that is shown, and how it is used: `isAsked` while the worker is asked for its lanes, `isStale` if they are wanted again,
-// `asked` says what they depend on as they were asked last, and `pointers` are those on the track, with where they are. `drawn` is
-// when they were drawn.
+// `asked` says what they depend on as they were asked last, and `pointers` are those on the track, with where they are. A finger looks
+// at the count that it `pressed` only once it moves or is lifted, since another may come with it. `drawn` is when the lanes were drawn.
 const timeline = {
-  from: 0, to: PER_SECOND, isWhole: true, isDragged: false, pointers: new Map(), isAsked: false, isStale: false, asked: "", due: 0, filmDue: 0,
+  from: 0, to: PER_SECOND, isWhole: true, isDragged: false, pressed: null, pointers: new Map(), isAsked: false, isStale: false, asked: "", due: 0, filmDue: 0,
   drawn: 0, columns: 1,
 };
 
@@ -357,8 +357,9 @@ function trackPressed(event) {
   timeline.pointers.set(event.pointerId, event.clientX);
   el("track").setPointerCapture(event.pointerId);
   el("cursor").focus({ preventScroll: true });
-  timeline.isDragged = timeline.pointers.size === 1;
-  if (timeline.isDragged) return lookAt(glyphNear(event) ?? countAt(xOf(event)), false);
+  const isDragged = timeline.pointers.size === 1, at = glyphNear(event) ?? countAt(xOf(event)), isFinger = event.pointerType === "touch";
+  Object.assign(timeline, { isDragged, pressed: isDragged && isFinger ? at : null });
+  if (isDragged && !isFinger) return lookAt(at, false);
 }
 
 /** Returns the count of the checkpoint or the hit whose glyph is under the pointer, if there is one. */
@@ -372,7 +373,8 @@ function trackMoved(event) {
   const { pointers } = timeline;
   if (!pointers.has(event.pointerId)) return;
   if (pointers.size === 2) return pinch(event);
-  if (Math.abs(event.clientX - pointers.get(event.pointerId)) < 1) return;
+  if (Math.abs(event.clientX - pointers.get(event.pointerId)) < (timeline.pressed === null ? 1 : FINGER_MOVE)) return;
+  timeline.pressed = null;
   pointers.set(event.pointerId, event.clientX);
   if (timeline.isDragged) return lookAt(countAt(xOf(event)), false);
 }
@@ -387,8 +389,9 @@ function pinch({ pointerId, clientX }) {
 
 function trackReleased(event) {
   if (!timeline.pointers.delete(event.pointerId) || !timeline.isDragged) return;
-  timeline.isDragged = false;
-  return lookAt(shownCount());
+  const at = timeline.pressed ?? shownCount();
+  Object.assign(timeline, { isDragged: false, pressed: null });
+  return lookAt(at);
 }
 
 /** The wheel zooms around the pointer, and with Shift, or sideways, it moves along. */

@@ -99,7 +99,7 @@ function headlineOf(line) {
   const [, checkpoint, part] = /^false checkpoint (\d+) at \d+ part (.*)$/.exec(line ?? "") ?? [];
   if (part) return `False at checkpoint ${grouped(checkpoint)}: ${part}`;
   const accepted = /^accepted (\d+) checkpoints (\d+) steps$/.exec(line ?? "");
-  return accepted ? `Accepted: ${grouped(accepted[1])} checkpoints in ${secondsOf(accepted[2])} are true` : "";
+  return accepted ? `Accepted: ${many(Number(accepted[1]), "checkpoint")} in ${secondsOf(accepted[2])} ${accepted[1] === "1" ? "is" : "are"} true` : "";
 }
 
 /** Says what a check has found that was stopped before it had a line. */

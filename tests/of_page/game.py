@@ -6,11 +6,17 @@ import time
 
 import galluspa.recording
 from desk import SENT, Desk, expect, fail, shown
-from timeline import EXACT
+from samples import EXAMPLES
+from timeline import EXACT, look_at, page_dots, run_to_end
 
 CARD, LINE_OF_CARD, CHEAT = shown("card"), "el('card').querySelector('.line').textContent", "el('card').querySelector('.cheat .line.false')"
 POINTS = "el('card').querySelector('h2')?.textContent"
-LEDS, KEY = 104, 4
+KEY = 4
+# The rows of the digits, from the uppermost down.
+DIGITS = (
+    "111 101 101 101 111", "010 110 010 010 111", "111 001 111 100 111", "111 001 111 001 111", "101 101 111 001 001",
+    "111 100 111 001 111", "111 100 111 101 111", "111 001 010 010 010", "111 101 111 101 111", "111 101 111 001 111",
+)  # fmt: skip
 
 
 def press_button(desk: Desk, text: str) -> None:
@@ -39,15 +45,39 @@ def play(desk: Desk) -> None:
     page.press("w")
     page.wait(f"{POINTS}?.startsWith('Game over') && {LINE_OF_CARD}.startsWith('accepted')")
     points, keys = page.answer(f"[{POINTS}, el('card').querySelector('p').textContent]")
-    if not re.fullmatch(r"Game over: \d+ points", points) or not re.fullmatch(r"2 keys; the recording has [\d,]+ bytes\.", keys):
+    if not re.fullmatch(r"Game over: \d+ points?", points) or not re.fullmatch(r"2 keys; the recording has [\d,]+ bytes\.", keys):
         fail(f"the card of the game says {points!r}, {keys!r}")
     press_button(desk, "Try to cheat")
     page.wait(CHEAT)
     if not re.fullmatch(r"false checkpoint \d+ at \d+ part LEDs", page.answer(f"{CHEAT}.textContent")):
         fail(f"the line of the cheat is {page.answer(f'{CHEAT}.textContent')!r}")
     own = int(points.split()[2])
-    page.wait(f"el('card').querySelector('.cheat').textContent.includes('The machine has {own} points there')")
+    page.wait(f"el('card').querySelector('.cheat').textContent.includes('The machine has {own} point')")
     print(f"snake: {points}, {page.answer(LINE_OF_CARD)}; with another score {page.answer(f'{CHEAT}.textContent')}")
+
+
+def written_points(desk: Desk) -> int:
+    """The points that the machine has drawn in the wall above: three digits of five rows of three squares."""
+    dots = page_dots(desk)
+    is_white = lambda x, y: not dots[128 * y + x // 8] >> x % 8 & 1
+    squares = lambda column: tuple("".join("01"[is_white(32 * column + 11 + 4 * at, 23 * 32 + 7 + 4 * row)] for at in range(3)) for row in range(4, -1, -1))
+    return int("".join(str(DIGITS.index(" ".join(squares(column)))) for column in (14, 15, 16)))
+
+
+def follow_score(desk: Desk) -> None:
+    """The points are on the machine's own screen, and on the LEDs."""
+    page = desk.page
+    run_to_end(desk, "snake.json", (EXAMPLES / "snake.json").read_bytes())
+    expect("what the game sent", page.answer(SENT), "over\n")
+    points = []
+    for count in (6000000, 100000000, 200000000, 260000000):
+        look_at(desk, count)
+        points.append(written_points(desk))
+        expect(f"the points at {count}", page.answer("field(look.moment.state, AT.LEDs) - FIRST_LENGTH"), points[-1])
+    if not (points[0] == 0 and points == sorted(points) and points[-1] > 3):
+        fail(f"the points of the game are {points}")
+    desk.click("back-now")
+    print(f"snake: {points} points are drawn on the machine's screen, and are on its LEDs")
 
 
 def end_with_goal(desk: Desk) -> None:
@@ -108,6 +138,7 @@ def continue_after(desk: Desk) -> None:
 
 def drive(desk: Desk) -> None:
     """All of it."""
+    follow_score(desk)
     play(desk)
     end_with_goal(desk)
     go_on_before_crash(desk)

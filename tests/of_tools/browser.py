@@ -159,6 +159,20 @@ class Page:
         parameters = {"type": kind, "x": x, "y": y, "buttons": buttons, "timestamp": at, **button, **clicks}
         self._pipe.send({"method": "Input.dispatchMouseEvent", "params": parameters, "sessionId": self._session})
 
+    def use_touch(self, is_on: bool) -> None:
+        """Gives the window a touch screen for two fingers, or takes it away."""
+        self._ask("Emulation.setTouchEmulationEnabled", enabled=is_on, maxTouchPoints=2)
+
+    def touch(self, kind: str, *fingers: tuple[float, float]) -> None:
+        """Puts fingers down (`touchStart`), moves those that are down (`touchMove`), or lifts all (`touchEnd`): each has an x and a y."""
+        points = [{"x": x, "y": y, "id": number} for number, (x, y) in enumerate(fingers)]
+        self._ask("Input.dispatchTouchEvent", type=kind, touchPoints=points)
+
+    def tap(self, x: float, y: float) -> None:
+        """Taps on a place."""
+        self.touch("touchStart", (x, y))
+        self.touch("touchEnd")
+
     def insert(self, text: str) -> None:
         """Inserts a text where the focus is, as pasting and input methods do."""
         self._ask("Input.insertText", text=text)
