@@ -140,7 +140,7 @@ function pastMode() {
 }
 
 function modeOf({ state, on, isReplay, ahead, full, isAtLastCount }) {
-  const stop = field(state, AT.stop), left = ahead ? many(ahead, "input") : "checkpoints";
+  const stop = field(state, AT.stop), left = ahead ? many(ahead, "input") : "Checkpoints";
   const then = full?.isEnd ? "What comes after is not recorded." : "The machine takes no more.";
   if (full) return ["FULL", `at ${grouped(full.count)}: ${full.why}. ${then}`];
   if (isReplay && !isAtLastCount) return ["REPLAY", `${left} of the file ${ahead === 1 ? "is" : "are"} still to come. Your own keys and mouse count once you take over.`];

@@ -174,6 +174,8 @@ function beginShowing() {
   registersBefore = null;
   app.past.begin(app.work.generation);
   beginLanes();
+  drawSoon(app.dots);
+  showLamps(field(state, AT.LEDs));
   showDevices(state);
   showPaused(state, listing);
   showLook(true);

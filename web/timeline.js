@@ -104,7 +104,7 @@ function freshen(isAtOnce) {
   const now = performance.now();
   if (!isAtOnce && now < timeline.due) return;
   timeline.due = now + FRESH_MS;
-  if (timeline.isWhole) Object.assign(timeline, wholeSpan());
+  if (timeline.isWhole && app.work.generation) Object.assign(timeline, wholeSpan());
   if (isAtOnce || timeline.asked !== wantedLanes()) attempt(askLanes);
   else followNow();
 }

@@ -40,7 +40,7 @@ function answerText({ at, pc, sure, input, stopped }, { register, device }) {
   if (stopped) return "The search was stopped.";
   if (input) return `The input ${input[1]} ${hex(input[2], 2)} before instruction ${grouped(at)}: sure`;
   if (at !== undefined) return `Instruction ${grouped(at)}, PC ${pc}: ${sure ? "sure" : "probably; still searching"}`;
-  return `No instruction: it is in the initial ${(register ?? device) === undefined ? "memory" : "state"}.`;
+  return `No instruction: it is as in the initial ${(register ?? device) === undefined ? "memory" : "state"}.`;
 }
 
 function instructionLine({ word, pc }) {

@@ -83,6 +83,10 @@ def drag(desk: Desk) -> None:
     desk.click("back-now")
     page.wait(f"{WORD} === 'LIVE' && !screens.isDue")
     expect("the picture now", page_dots(desk) == program_dots(FACE, 4), True)
+    look_at(desk, 8000000)
+    desk.start("keys.json", (EXAMPLES / "keys.json").read_bytes())
+    expect("the dots of a machine that is opened in the past of another", any(page_dots(desk)), False)
+    run_to_end(desk, "face.orsr", FACE)
     print("cursor: dragged by the mouse, its words once it has settled, three pictures of the past as the program draws them, and back to now")
 
 
@@ -164,7 +168,7 @@ def ask_who(desk: Desk) -> None:
     page.answer("registerCells.get('R13').holder.click()")
     page.wait(f"{CARD}.includes('Who wrote R13') && {CARD}.includes(': sure')")
     page.answer("registerCells.get('LEDs').holder.click()")
-    page.wait(f"{CARD}.includes('No instruction: it is in the initial state.')")
+    page.wait(f"{CARD}.includes('No instruction: it is as in the initial state.')")
     print("who: a dot as the tools find it, one that no instruction drew, and a register")
 
 
@@ -176,7 +180,7 @@ def ask_devices(desk: Desk) -> None:
     run_to_end(desk, "devices.json", keys.encode())
     for name, said in (("LEDs", r"Who wrote LEDs×Instruction [\d,]+, PC \d+: sureST.*"), ("keys", r"Who wrote keys×Instruction [\d,]+, PC \d+: sureLD.*"),
                        ("mouse", r"Who wrote mouse×The input mouse 4D before instruction 100,000: sureJumpEarlier"),
-                       ("switches", r"Who wrote switches×No instruction: it is in the initial state\.")):
+                       ("switches", r"Who wrote switches×No instruction: it is as in the initial state\.")):
         page.answer(f"registerCells.get('{name}').holder.click()")
         page.wait(f"{CARD}.includes('Who wrote {name}') && !{CARD}.includes('search')")
         if not re.fullmatch(said, page.answer(CARD)):
