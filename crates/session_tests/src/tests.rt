@@ -370,7 +370,7 @@ fn reads_the_processor_of_a_session(rt: HostRuntime) {
 }
 
 /// Words of the initial memory of `WHOLE`: page slot, index in the page, and value.
-const WORDS: [(u16, u32, u32); 7] = [
+const FIRST_WORDS: [(u16, u32, u32); 7] = [
     (0, 0, 0x4000_0005),
     (0, 1, 0xE7FF_FFFF),
     (0, 2, 0xAA),
@@ -392,7 +392,7 @@ fn is_first_word(recording: &Recording, slot: u16, index: u32, word: u32) -> boo
 
 /// Returns the page slot and the index of the first word that is wrong, if there is one.
 fn another_word(recording: &Recording) -> Option<(u16, u32)> {
-    for (slot, index, word) in &WORDS {
+    for (slot, index, word) in &FIRST_WORDS {
         if !is_first_word(recording, *slot, *index, *word) {
             return Some((*slot, *index));
         }
