@@ -135,10 +135,7 @@ function claimParts({ number, count, steps, state, before, dots, sent, sentLengt
 // A false checkpoint
 
 /** Returns the false checkpoint that the verdict line of the file names: its number, its count and its part; or null. */
-function falseClaim() {
-  const [, number, count, part] = /^false checkpoint (\d+) at (\d+) part (.*)$/.exec(app.file?.verdict?.line ?? "") ?? [];
-  return part === undefined ? null : { number: Number(number), count: Number(count), part };
-}
+const falseClaim = () => app.file?.verdict?.wrong ?? null;
 
 /** Shows a headline for a false checkpoint, and the way to what the machine has there; at its count, both parts side by side. */
 async function showFalse() {
@@ -146,7 +143,7 @@ async function showFalse() {
   for (const [name, { value }] of registerCells) value.classList.toggle("wrong", name === wrong?.part && shownCount() === wrong.count && !isAhead());
   place.hidden = !wrong;
   if (!wrong) return;
-  const { number, count, part } = wrong, headline = made("b", `False at checkpoint ${number}: ${part}`);
+  const { count } = wrong, headline = made("b", headlineOf({ wrong }));
   if (shownCount() !== count || isAhead() || app.latest?.on)
     return place.replaceChildren(headline, " ", button("What the machine has", () => toMachineAt(count)));
   const both = await bothParts(wrong);

@@ -109,8 +109,8 @@ async function showVerdict(file, answer) {
   showOf(file);
   attempt(showFalse);
   drawLanes();
-  const number = /^false checkpoint (\d+) /.exec(answer.line)?.[1];
-  if (number || answer.status === 0) await showClaim(Number(number ?? file.claims.length - 1));
+  const { wrong, accepted } = answer;
+  if (wrong || accepted) await showClaim(wrong?.number ?? accepted.checkpoints);
 }
 
 function offerImage(name, bytes) {

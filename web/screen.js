@@ -66,7 +66,7 @@ async function showFull() {
 
 /** Saves the screen that is shown as a PNG. */
 async function savePicture() {
-  const content = await new Promise((done) => el("screen").toBlob(done, "image/png"));
+  const content = await new Promise((resolve) => el("screen").toBlob(resolve, "image/png"));
   download(`${app.work.name}-${shownCount()}.png`, content, "image/png");
 }
 

@@ -59,14 +59,15 @@ function joined(parts) {
 /** Returns what the verdict line of a recording with these checkpoints says: null if all are true, else the first false one with its first false
  * part. */
 function foundBy(line, claims) {
-  const [, number, count, part] = /^false checkpoint (\d+) at (\d+) part (.+)$/.exec(line) ?? [];
-  if (number && claims[number]?.count === Number(count)) return { number: Number(number), part };
-  if (line !== acceptedLine(claims)) throw new Refused(`a stretch has the line ${line}`);
+  const { wrong } = readLine(line);
+  if (wrong && claims[wrong.number]?.count === wrong.count) return wrong;
+  if (line !== acceptedLine(allOf(claims))) throw new Refused(`a stretch has the line ${line}`);
   return null;
 }
 
-function acceptedLine(claims) {
-  return `accepted ${claims.length - 1} checkpoints ${claims.at(-1).count} steps`;
+/** What the line of a recording accepts that has these checkpoints, the initial state among them. */
+function allOf(claims) {
+  return { checkpoints: claims.length - 1, steps: claims.at(-1).count };
 }
 
 /** Checks recordings stretch by stretch, on a machine that nothing else uses. */
@@ -85,14 +86,14 @@ class Checker {
       const found = this.found(stretch(recording, table, first, end), size, (steps) => tell(begin + steps, first));
       stretches++;
       if (found) {
-        const number = first + found.number;
-        tell(claims[number].count, number - 1);
-        return { line: `false checkpoint ${number} at ${claims[number].count} part ${found.part}`, status: 1, stretches };
+        const number = first + found.number, { count } = claims[number];
+        tell(count, number - 1);
+        return { line: falseLine({ number, count, part: found.part }), status: 1, stretches };
       }
       first = end;
       tell(claims[end].count, end);
     }
-    return { line: acceptedLine(claims), status: 0, stretches };
+    return { line: acceptedLine(allOf(claims)), status: 0, stretches };
   }
 
   /** Returns the last checkpoint of a stretch of about so many steps. */

@@ -9,7 +9,7 @@ const OF_ONE_CALL = "This line is that of one call of the proved check, over the
 class Verdict {
   /** `place` begins the names of its elements, and `what` says what is judged. */
   constructor(place, what) {
-    Object.assign(this, { place, what, clerk: null, work: null, timer: 0, line: null, status: null });
+    Object.assign(this, { place, what, clerk: null, work: null, timer: 0, line: null, status: null, read: null });
   }
 
   part(name) {
@@ -18,10 +18,10 @@ class Verdict {
 
   /** Shows a line and how it was computed. */
   show(line, status = null, how = "") {
-    Object.assign(this, { line, status });
+    Object.assign(this, { line, status, read: readLine(line ?? "") });
     this.part("line").textContent = line ?? "";
     this.part("line").className = `line ${STATUSES[status] ?? "note"}`;
-    this.part("headline").textContent = headlineOf(line);
+    this.part("headline").textContent = headlineOf(this.read);
     this.part("how").textContent = how;
   }
 
@@ -34,7 +34,7 @@ class Verdict {
   }
 
   /** Has a clerk check a recording. For a long one the joined line of its stretches comes first. Returns the line of one call over
-   * the whole, with its status; or null if the check is ended before. */
+   * the whole, with its status and what it says; or null if the check is ended before. */
   async check(name, text) {
     this.clear();
     this.part("judged").textContent = `${this.what} ${name}`;
@@ -54,7 +54,7 @@ class Verdict {
     const other = this.line;
     this.show(line, status, OF_ONE_CALL);
     if (other && other !== line) notice(`The stretches came to another line, which this page's script or the browser got wrong: ${other}`);
-    return { line, status };
+    return { line, status, ...this.read };
   }
 
   /** Takes a report of the clerk: the steps done; or the joined line of the stretches, and about how long the whole will take. */
@@ -94,12 +94,12 @@ class Verdict {
   }
 }
 
-/** Says a verdict line in words. */
-function headlineOf(line) {
-  const [, checkpoint, part] = /^false checkpoint (\d+) at \d+ part (.*)$/.exec(line ?? "") ?? [];
-  if (part) return `False at checkpoint ${grouped(checkpoint)}: ${part}`;
-  const accepted = /^accepted (\d+) checkpoints (\d+) steps$/.exec(line ?? "");
-  return accepted ? `Accepted: ${many(Number(accepted[1]), "checkpoint")} in ${secondsOf(accepted[2])} ${accepted[1] === "1" ? "is" : "are"} true` : "";
+/** Says in words what a verdict line says. */
+function headlineOf({ accepted, wrong }) {
+  if (wrong) return `False at checkpoint ${grouped(wrong.number)}: ${wrong.part}`;
+  if (!accepted) return "";
+  const { checkpoints, steps } = accepted;
+  return `Accepted: ${many(checkpoints, "checkpoint")} in ${secondsOf(steps)} ${checkpoints === 1 ? "is" : "are"} true`;
 }
 
 /** Says what a check has found that was stopped before it had a line. */
