@@ -23,7 +23,7 @@ limit_for None = 0
 
 -- these bytes, with this status, are the answer of the command to the input. Workers and cut have no effect on it
 abbrev pub IsAnswer : Request → List ℕ → List ℕ → ℕ → Type 0
-IsAnswer (Check workers cut) input text status = IsLineOf input text status
-IsAnswer Record input text status = IsRecord input text status
-IsAnswer (Screen at) input text status = IsScreen at input text status
-IsAnswer Migrate input text status = IsMigration input text status
+IsAnswer (Check workers cut) input output status = IsLineOf input output status
+IsAnswer Record input output status = IsRecord input output status
+IsAnswer (Screen at) input output status = IsScreen at input output status
+IsAnswer Migrate input output status = IsMigration input output status

@@ -83,7 +83,6 @@ pub fn request_in<'a>(alloc: Global, arguments: &'a [&'a str]) -> Result<Request
     }
 }
 
-/// Returns what an error of `clap` refuses.
 fn refusal_of(error: Error) -> Refusal
     ensures { result ≡ refusal_by (kind_of error) error }
 {
@@ -94,7 +93,6 @@ fn refusal_of(error: Error) -> Refusal
     }
 }
 
-/// Returns what the command that `clap` found asks for.
 fn request_of(matches: &ArgMatches<'_>) -> Option<Request>
     ensures value { result
         ≡ option_and_then (λ found. request_of found.0 found.1) (subcommand_rows_of matches.now) }

@@ -63,8 +63,8 @@ pub fn run<'a, H: Threads + Wait + Sync, R: Source, W: Sink>(
 ) -> ExitCode
     ensures replies { Replies (map (λ argument. argument.now) (drop 1 arguments.entry.now)) (R.known input.old) (R.known input.new)
         (W.known output.old) (W.known output.new) (exit_status result) }
-    ensures answers { AnswersAll (map (λ argument. argument.now) (drop 1 arguments.entry.now)) (R.known input.old) (W.known output.old)
-        (W.known output.new) (exit_status result) }
+    ensures answers { AnswersAll (map (λ argument. argument.now) (drop 1 arguments.entry.now)) (R.known input.old)
+        (W.known output.old) (W.known output.new) (exit_status result) }
     ensures three { IsThreeForFaults (R.known input.old) (R.known input.new) (W.known output.old) (W.known output.new)
         (exit_status result) }
     ensures reads { TakesAtMost (limit_for (request_in (map (λ argument. argument.now) (drop 1 arguments.entry.now))))
@@ -73,7 +73,6 @@ pub fn run<'a, H: Threads + Wait + Sync, R: Source, W: Sink>(
     ExitCode::from(serve(rt, alloc, after_name(arguments), input, output))
 }
 
-/// Returns the arguments after the first.
 fn after_name<'a>(arguments: &'a [&'a str]) -> &'a [&'a str]
     ensures { result.now ≡ drop 1 arguments.now }
 {

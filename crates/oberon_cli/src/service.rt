@@ -67,10 +67,10 @@ pub fn refuse<W: Sink>(output: &mut W, failure: Failure) -> u8
 }
 
 /// Writes the bytes, and returns their status, or 3 after a write fault.
-fn send<W: Sink>(output: &mut W, text: &[u8], status: u8) -> u8
-    ensures { IsSentText text.now status (W.known output.old) (W.known output.new) result }
+fn send<W: Sink>(output: &mut W, bytes: &[u8], status: u8) -> u8
+    ensures { IsSentText bytes.now status (W.known output.old) (W.known output.new) result }
 {
-    match write_whole(output, text) {
+    match write_whole(output, bytes) {
         Ok(()) => status,
         Err(WriteFault) => 3,
     }
