@@ -30,6 +30,6 @@ pub no-fault-memory : {A : Type 0} (text : List ℕ) (IsGood : A → Type 0) (wh
     → first_fault_of text ≡ None
 no-fault-memory text IsGood why is memory = memory-only (first_fault_of text) IsGood why is memory (text_named text)
 
--- .. and they are no recording
+-- .. and they are not a recording
 pub no-text : (text : List ℕ) (why : Fault) → AnswersText text (Text text) (Err why) → why ≢ Fault.Memory → IsNoRecording text
 no-text text why answer other = record { fault = why; is_first = first-fault text (Text text) why answer other }

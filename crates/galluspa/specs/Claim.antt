@@ -22,7 +22,7 @@ pub record HasNoCheckpoint (text : List ℕ) (at : ℕ) : Type 0 where
   pub is_text : Text text recording
   pub beyond : length recording.checkpoints ≤ at
 
--- the bytes are no recording: they break a rule of the format
+-- the bytes are not a recording: they break a rule of the format
 pub record IsNoRecording (text : List ℕ) : Type 0 where
   pub fault : Fault
   pub is_first : first_fault_of text ≡ Some fault

@@ -13,8 +13,9 @@ use Rattle.oberon_session.specs.Extended.{last_count}
 use Rattle.oberon_answers.specs.Record.{IsAccepted}
 use Rattle.galluspa.specs.declared.raw.RawInput.{RawInput}
 use Rattle.galluspa.specs.declared.raw.RawState.{RawState}
-use Rattle.galluspa.specs.declared.refusal.TheConstants.{DONE, NO_CHECKPOINT, NO_RECORDING, NO_ROOM, NOT_FOUND, OUT_OF_MEMORY, OUT_OF_RANGE}
-use Rattle.galluspa.specs.declared.refusal.TheConstants.{PENDING_INPUTS, TOO_MANY_CHECKPOINTS, TOO_MANY_INPUTS, TOO_MANY_PAGES, TOO_MUCH_OUTPUT}
+use Rattle.galluspa.specs.declared.refusal.TheConstants.{DONE, NO_CHECKPOINT, NO_RECORDING, NO_ROOM, NOT_FOUND}
+use Rattle.galluspa.specs.declared.refusal.TheConstants.{OUT_OF_MEMORY, OUT_OF_RANGE, PENDING_INPUTS}
+use Rattle.galluspa.specs.declared.refusal.TheConstants.{TOO_MANY_CHECKPOINTS, TOO_MANY_INPUTS, TOO_MANY_PAGES, TOO_MUCH_OUTPUT}
 use Rattle.galluspa.specs.declared.words.TheConstants.{WORDS}
 use Rattle.galluspa.specs.Advance.{HasRun}
 use Rattle.galluspa.specs.Extend.{IsBeginning, IsExtension}

@@ -28,8 +28,8 @@ fn put(answer: &Answer, out: &mut [u8], status: &mut u8) -> usize
 }
 
 /// Checks a recording: writes its verdict line, with the line feed, to the front of `line`, and to `status` 0 if it is accepted,
-/// 1 if it is false and 2 if the bytes are not a recording. The line and the status are those of the program. What is after the line
-/// stays as it was.
+/// 1 if it is false and 2 if the bytes are not a recording. The line and the status are those of the program. What is after the
+/// line stays as it was.
 ///
 /// Returns the length of the line, which is below 256. If that is more than `line` has room for, nothing is written. Returns 0 if
 /// memory ran out; nothing is written then, either.

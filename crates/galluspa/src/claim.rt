@@ -39,8 +39,8 @@ fn write_claim(
 /// not tested. Checkpoint 0 is the initial state.
 ///
 /// Otherwise nothing is written, and the result is 1 (`OUT_OF_RANGE`) if `words` is not of 262,144 words, 4 (`NO_RECORDING`) if the
-/// bytes are no recording, 3 (`OUT_OF_MEMORY`) if they are one and memory ran out, and 5 (`NO_CHECKPOINT`) if the recording has no
-/// such checkpoint.
+/// bytes are not a recording, 3 (`OUT_OF_MEMORY`) if they are one and memory ran out, and 5 (`NO_CHECKPOINT`) if the recording has
+/// no such checkpoint.
 #[unsafe(no_mangle)]
 pub extern "C" fn galluspa_claim(
     alloc: Global,

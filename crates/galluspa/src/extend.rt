@@ -29,7 +29,7 @@ use std::alloc::Global;
 pub enum Unrecorded {
     /// A number is out of its range, a slice is not of its length, or what follows doesn't come next.
     Range,
-    /// The bytes are no recording.
+    /// The bytes are not a recording.
     NoRecording,
     /// The recording has inputs at or after its last checkpoint.
     Pending,
@@ -87,7 +87,6 @@ fn claim_of<'a>(state: &RawState, words: &'a [u32], sent: &'a [u8]) -> Option<Cl
     })
 }
 
-/// Returns the bytes of a recording.
 fn written(alloc: Global, recording: Recording) -> Result<Vec<u8>, Unrecorded>
     ensures text { IfOk result (λ bytes. TextIn VERSION bytes.items recording) }
     ensures memory { IfErr result (λ refusal. refusal ≡ Unrecorded.Memory) }
@@ -118,7 +117,6 @@ fn beginning(alloc: Global, state: &RawState, words: &[u32]) -> Result<Vec<u8>, 
     }
 }
 
-/// Returns why a recording was not extended.
 fn unextended(fault: ExtendFault) -> Unrecorded
     ensures { result ≡ unextended fault }
 {
@@ -241,12 +239,12 @@ pub extern "C" fn galluspa_begin(
 ///
 /// Otherwise `out` is as it was, and the result is the first of these that holds, unless memory runs out before it is known: 1
 /// (`OUT_OF_RANGE`) if `words` is not of 262,144 words, a number of the state or of an input is out of its range, or the inputs'
-/// counts fall; 4 (`NO_RECORDING`) if the bytes are no recording; 10 (`PENDING_INPUTS`) if the recording has an input at or after
-/// its last checkpoint; 1 (`OUT_OF_RANGE`) if the state's count is not above that of the last checkpoint, or is above 2^40, or an
-/// input doesn't come between the two; 6 to 9 (`TOO_MANY_INPUTS`, `TOO_MANY_CHECKPOINTS`, `TOO_MUCH_OUTPUT`, `TOO_MANY_PAGES`) if
-/// the recording would have more of these than a recording may have; and 2 (`NO_ROOM`) if `out` has no room for the recording,
-/// whose length is then written to `out_count`. If memory runs out, it is 3 (`OUT_OF_MEMORY`): then the numbers are in their
-/// ranges, and the bytes are a recording.
+/// counts fall; 4 (`NO_RECORDING`) if the bytes are not a recording; 10 (`PENDING_INPUTS`) if the recording has an input at or
+/// after its last checkpoint; 1 (`OUT_OF_RANGE`) if the state's count is not above that of the last checkpoint, or is above 2^40,
+/// or an input doesn't come between the two; 6 to 9 (`TOO_MANY_INPUTS`, `TOO_MANY_CHECKPOINTS`, `TOO_MUCH_OUTPUT`,
+/// `TOO_MANY_PAGES`) if the recording would have more of these than a recording may have; and 2 (`NO_ROOM`) if `out` has no room
+/// for the recording, whose length is then written to `out_count`. If memory runs out, it is 3 (`OUT_OF_MEMORY`): then the numbers
+/// are in their ranges, and the bytes are a recording.
 #[unsafe(no_mangle)]
 pub extern "C" fn galluspa_extend(
     alloc: Global,

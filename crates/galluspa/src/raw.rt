@@ -66,7 +66,6 @@ fn words_fit(words: &[u32])
     ensures { (i : ℕ) → slice_index words.now i < 2 ^ 32 }
 {}
 
-/// Returns the processor of these parts.
 fn cpu_of_parts(r: [u32; 16], h: u32, pc: u32, flags: u32, stop: u8) -> Cpu
     ensures { cpu_state result ≡ record { r = r; h = h; pc = pc; flags = flags_of flags; stop = stop } }
 {

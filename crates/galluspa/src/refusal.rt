@@ -13,7 +13,7 @@ pub const NO_ROOM: u8 = 2;
 /// An allocation failed.
 pub const OUT_OF_MEMORY: u8 = 3;
 
-/// The bytes are no recording.
+/// The bytes are not a recording.
 pub const NO_RECORDING: u8 = 4;
 
 /// The recording has no such checkpoint.

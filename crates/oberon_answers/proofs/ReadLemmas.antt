@@ -29,7 +29,7 @@ verdict-line bytes recording answer line status is =
       status_is = is.status_is;
     })
 
--- .. and to bytes that are none
+-- .. and to bytes that are not a recording
 pub fault-line : {A : Type 0} (bytes : List ℕ) (IsGood : A → Type 0) (why : Fault) → AnswersText bytes IsGood (Err why) → why ≢ Fault.Memory
     → (line : List ℕ) (status : ℕ) → IsFaultAnswer why line status → IsLineOfFault bytes line status
 fault-line bytes IsGood why answer other line status is = record {

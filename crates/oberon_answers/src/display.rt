@@ -17,8 +17,8 @@ const DISPLAY_WORDS: u32 = 24_576;
 
 /// Returns the picture of the display in the memory that checkpoint `at` of a recording claims.
 ///
-/// For bytes that are not a recording, returns the line of the first rule that they break; `at` has no effect on it. For a recording
-/// with no such checkpoint, returns the line `no checkpoint` with `at`.
+/// For bytes that are not a recording, returns the line of the first rule that they break; `at` has no effect on it. For a
+/// recording with no such checkpoint, returns the line `no checkpoint` with `at`.
 pub fn screen(alloc: Global, bytes: &[u8], at: u32) -> Result<Answer, AllocError>
     ensures { IfOk result (λ answer. IsScreen at bytes.now answer.bytes.items answer.status) }
 {

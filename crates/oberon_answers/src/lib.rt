@@ -1,10 +1,11 @@
-//! The answers of Project Oberon's recordings: each call takes the bytes of a file, and returns the bytes to write with an exit status.
+//! The answers of Project Oberon's recordings: each call takes the bytes of a file, and returns the bytes to write with an exit
+//! status.
 //!
 //! `check` returns the verdict line of a recording, `record` the recording of a session, `screen` the picture of a display that a
-//! checkpoint claims, and `migrate` the recording in the current version. For other bytes each returns the line of the first rule that
-//! they break. A call fails only if memory runs out. None of them reads, writes or starts a thread: the program `oberon_cli` and the
-//! library for C, `galluspa`, call them. The program's own check replays segments by many workers (`oberon_check::check_bytes`), and
-//! has the same answer.
+//! checkpoint claims, and `migrate` the recording in the current version. For other bytes each returns the line of the first rule
+//! that they break. A call fails only if memory runs out. None of them reads, writes or starts a thread: the program `oberon_cli`
+//! and the library for C, `galluspa`, call them. The program's own check replays segments by many workers
+//! (`oberon_check::check_bytes`), and has the same answer.
 #![tactic(auto)]
 
 mod answer;

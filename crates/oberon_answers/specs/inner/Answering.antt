@@ -1,4 +1,4 @@
--- The answer to a recording that is checked, and to bytes that are none.
+-- The answer to a recording that is checked, and to bytes that are not a recording.
 use Rattle.std.specs.Prelude.{ℕ, ◌≡◌, ◌<◌, List, length}
 use Rattle.oberon_format.specs.Line.{fault_line}
 use Rattle.oberon_format.specs.Recording.{RecordingParts}
