@@ -12,7 +12,7 @@ async function keepBranch(parent) {
   const { list, made } = branches, [oldest] = list;
   const question = `There are ${MOST_BRANCHES} branches. Drop "${oldest?.name}", which ends at ${oldest && secondsOf(oldest.end)}, for another one?`;
   if (list.length >= MOST_BRANCHES && !confirm(question)) return false;
-  const { text, count } = await app.live.ask("recording"), branch = { name: `branch ${made + 1}`, text, parent, end: count };
+  const { bytes, count } = await app.live.ask("recording"), branch = { name: `branch ${made + 1}`, bytes, parent, end: count };
   branches = { list: [...list.slice(list.length >= MOST_BRANCHES), branch], made: made + 1 };
   showBranches();
   return true;
@@ -24,9 +24,9 @@ async function toBranch(branch) {
   await app.live.ask("setRun", { on: false });
   if (!(await keepBranch(branch.parent))) return;
   const { name } = app.work, kept = { ...branches, list: branches.list.filter((one) => one !== branch) };
-  const checkpoint = new DataView(branch.text.buffer, branch.text.byteOffset).getUint32(16, true) - 1;
-  if (!(await replaced(`${name}.orsr`, "openRecording", { text: branch.text, checkpoint }))) return;
-  Object.assign(app.file, { name: branch.name, text: branch.text });
+  const checkpoint = new DataView(branch.bytes.buffer, branch.bytes.byteOffset).getUint32(16, true) - 1;
+  if (!(await replaced(`${name}.orsr`, "openRecording", { bytes: branch.bytes, checkpoint }))) return;
+  Object.assign(app.file, { name: branch.name, bytes: branch.bytes });
   branches = kept;
   showBranches();
 }

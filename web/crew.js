@@ -50,6 +50,6 @@ class Crew {
 /** Searches a piece on an emulator. */
 function searchedOn(emulator, { state, words, inputs, to, conditions, isLast }) {
   const begun = performance.now();
-  emulator.put(emulator.place, { state, words });
-  return { hit: emulator.library.find(emulator.place, inputs, to, conditions, isLast), ms: performance.now() - begun };
+  emulator.put(emulator.address, { state, words });
+  return { hit: emulator.library.find(emulator.address, inputs, to, conditions, isLast), ms: performance.now() - begun };
 }

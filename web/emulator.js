@@ -11,18 +11,18 @@ class Emulator {
   constructor(library) {
     this.library = library;
     // The words are next to the state.
-    this.place = library.take(STATE_BYTES + MEMORY_BYTES);
+    this.address = library.take(STATE_BYTES + MEMORY_BYTES);
     this.list = library.take(INPUT_BYTES * INPUTS_AT_ONCE);
-    this.sentPlace = library.take(SENT_ROOM);
+    this.sentAddress = library.take(SENT_ROOM);
     this.sentCount = library.take(8);
   }
 
   get state() {
-    return this.library.bytes(this.place, STATE_BYTES);
+    return this.library.bytes(this.address, STATE_BYTES);
   }
 
   get words() {
-    return this.library.bytes(this.place + STATE_BYTES, MEMORY_BYTES);
+    return this.library.bytes(this.address + STATE_BYTES, MEMORY_BYTES);
   }
 
   get dots() {
@@ -38,14 +38,14 @@ class Emulator {
   }
 
   /** Returns the state and the words at an address. */
-  at(place) {
-    return { state: this.library.bytes(place, STATE_BYTES), words: this.library.bytes(place + STATE_BYTES, MEMORY_BYTES) };
+  at(address) {
+    return { state: this.library.bytes(address, STATE_BYTES), words: this.library.bytes(address + STATE_BYTES, MEMORY_BYTES) };
   }
 
   /** Puts a state and its words at an address. */
-  put(place, { state, words }) {
-    this.library.bytes(place, STATE_BYTES).set(state);
-    this.library.bytes(place + STATE_BYTES, MEMORY_BYTES).set(words);
+  put(address, { state, words }) {
+    this.library.bytes(address, STATE_BYTES).set(state);
+    this.library.bytes(address + STATE_BYTES, MEMORY_BYTES).set(words);
   }
 
   /** Runs up to a count, or to an earlier one if the machine sends more than there is room for. Of the inputs those before a number
@@ -54,13 +54,13 @@ class Emulator {
     const code = this.call(inputs.bytes.subarray(INPUT_BYTES * taken, INPUT_BYTES * inputs.from(to, taken)), to);
     if (code === NO_ROOM && to - this.count > 1) return this.run(inputs, taken, this.count + Math.floor((to - this.count) / 2));
     if (code !== DONE) throw new Refused(ADVANCE_REFUSALS[code]);
-    return this.library.bytes(this.sentPlace, Number(this.library.view.getBigUint64(this.sentCount, true))).slice();
+    return this.library.bytes(this.sentAddress, Number(this.library.view.getBigUint64(this.sentCount, true))).slice();
   }
 
   call(inputs, to) {
     const many = inputs.length / INPUT_BYTES, list = many > INPUTS_AT_ONCE ? this.library.hold(inputs) : this.list;
     this.library.bytes(list, inputs.length).set(inputs);
-    const given = [this.place, this.place + STATE_BYTES, WORDS, list, many, to, this.sentPlace, SENT_ROOM, this.sentCount];
+    const given = [this.address, this.address + STATE_BYTES, WORDS, list, many, to, this.sentAddress, SENT_ROOM, this.sentCount];
     const code = this.library.exports.galluspa_advance(...given.map(BigInt)) & 255;
     if (list !== this.list) this.library.leave(list);
     return code;
@@ -74,7 +74,7 @@ class Emulator {
 
   /** Returns a word of memory, by its number. */
   word(number) {
-    return this.library.view.getUint32(this.place + STATE_BYTES + 4 * number, true);
+    return this.library.view.getUint32(this.address + STATE_BYTES + 4 * number, true);
   }
 }
 

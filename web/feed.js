@@ -18,10 +18,10 @@ class Feed {
 
   /** Begins with a machine of a new number. */
   begin(generation) {
-    const { machine } = this, first = machine.firstOf(machine.recorder.text), text = machine.recording?.text ?? machine.recorder.text;
+    const { machine } = this, first = machine.firstOf(machine.recorder.bytes), { bytes } = machine.recording ?? machine.recorder;
     Object.assign(this, { generation, posted: 0, last: 0, took: 0, due: 0 });
     this.memory.set(first.words);
-    this.post({ begin: { ...first, text } });
+    this.post({ begin: { ...first, bytes } });
     if (machine.count) this.keyframe(false);
   }
 

@@ -78,8 +78,8 @@ class Inputs {
 }
 
 /** Reads a valid recording: its inputs, and for each checkpoint its offset, its count and the bytes sent since the one before. */
-function readRecording(text) {
-  const view = new DataView(text.buffer, text.byteOffset, text.length);
+function readRecording(bytes) {
+  const view = new DataView(bytes.buffer, bytes.byteOffset, bytes.length);
   const [version, pages, events, checkpoints] = [4, 8, 12, 16].map((at) => view.getUint32(at, true));
   const eventsAt = 24 + PAGE_BYTES * pages;
   let at = eventsAt + INPUT_BYTES * events;
@@ -88,8 +88,8 @@ function readRecording(text) {
     claims.push({ at, count: Number(view.getBigUint64(at, true)), sent: view.getUint32(at + 128, true) });
     at += version === 1 ? 4228 : 144 + 8 * view.getUint32(at + 140, true);
   }
-  for (const claim of claims) claim.sent = text.subarray(at, (at += claim.sent));
-  return { text, version, pages, claims, inputs: new Inputs(text.subarray(eventsAt, eventsAt + INPUT_BYTES * events)) };
+  for (const claim of claims) claim.sent = bytes.subarray(at, (at += claim.sent));
+  return { bytes, version, pages, claims, inputs: new Inputs(bytes.subarray(eventsAt, eventsAt + INPUT_BYTES * events)) };
 }
 
 /** A reader of JSON that accepts and refuses what the program's reader does. It reads numbers as BigInt, or as null if they are not whole. */

@@ -21,7 +21,7 @@ Object.assign(LIVE, {
   /** Returns the bytes of a page of memory that a checkpoint of the recording claims, or null if the recording is gone. */
   claimedPage({ number, page, of }) {
     if (of !== generation || !machine.recording) return null;
-    const { words } = machine.claimedAt(machine.text, machine.recording, number);
+    const { words } = machine.claimedAt(machine.recordingAt, machine.recording, number);
     return words.slice(PAGE_BYTES * page, PAGE_BYTES * (page + 1));
   },
 });

@@ -22,18 +22,18 @@ class Library {
 
   /** Allocates so many bytes of the module's memory; `leave` frees them. Returns their address. */
   take(length) {
-    const place = Number(BigInt.asUintN(32, BigInt(this.exports.web_room(BigInt(length)))));
-    if (!place) throw new Refused("no memory");
-    return place;
+    const address = Number(BigInt.asUintN(32, BigInt(this.exports.web_room(BigInt(length)))));
+    if (!address) throw new Refused("no memory");
+    return address;
   }
 
-  leave(place) {
-    this.exports.web_leave(BigInt(place));
+  leave(address) {
+    this.exports.web_leave(BigInt(address));
   }
 
   /** Returns a view of the module's memory. The view is invalid once the memory has grown, so do not keep it. */
-  bytes(place, length) {
-    return new Uint8Array(this.exports.memory.buffer, place, length);
+  bytes(address, length) {
+    return new Uint8Array(this.exports.memory.buffer, address, length);
   }
 
   get view() {
@@ -46,33 +46,33 @@ class Library {
 
   /** Copies bytes into memory that it allocates, and returns their address. */
   hold(content) {
-    const place = this.take(Math.max(1, content.length));
-    this.bytes(place, content.length).set(content);
-    return place;
+    const address = this.take(Math.max(1, content.length));
+    this.bytes(address, content.length).set(content);
+    return address;
   }
 
   /** Returns the verdict line of a recording, and its status: 0 accepted, 1 false, 2 refused. */
   check(recording) {
-    const [text, line, status] = [this.hold(recording), this.take(LINE_ROOM), this.take(8)];
+    const [bytes, line, status] = [this.hold(recording), this.take(LINE_ROOM), this.take(8)];
     try {
-      const length = Number(this.exports.galluspa_check(...[text, recording.length, line, LINE_ROOM, status].map(BigInt)));
+      const length = Number(this.exports.galluspa_check(...[bytes, recording.length, line, LINE_ROOM, status].map(BigInt)));
       if (!length) throw new Refused("no memory");
       return { line: lineOf(this.bytes(line, length)), status: this.bytes(status, 1)[0] };
     } finally {
-      for (const place of [text, line, status]) this.leave(place);
+      for (const address of [bytes, line, status]) this.leave(address);
     }
   }
 
   /** Returns the recording that begins with the state and the words at an address. */
-  begin(place) {
-    return this.written("galluspa_begin", [place, place + STATE_BYTES, WORDS], RECORD_ROOM);
+  begin(address) {
+    return this.written("galluspa_begin", [address, address + STATE_BYTES, WORDS], RECORD_ROOM);
   }
 
   /** Returns a recording extended by inputs and by a checkpoint that claims the state and the words at an address, and the bytes sent. */
-  extend(recording, inputs, place, sent) {
+  extend(recording, inputs, address, sent) {
     const held = [recording, inputs, sent].map((content) => this.hold(content));
-    const [text, list, bytes] = held;
-    const given = [text, recording.length, list, inputs.length / INPUT_BYTES, place, place + STATE_BYTES, WORDS, bytes, sent.length];
+    const [bytes, list, output] = held;
+    const given = [bytes, recording.length, list, inputs.length / INPUT_BYTES, address, address + STATE_BYTES, WORDS, output, sent.length];
     try {
       return this.written("galluspa_extend", given, recording.length + inputs.length + sent.length + RECORD_ROOM);
     } finally {
@@ -99,18 +99,18 @@ class Library {
   }
 
   /** Writes what a checkpoint of a recording claims to a state and words. Returns whether there is such a checkpoint. */
-  claim(text, length, checkpoint, state, words) {
-    const given = [BigInt(text), BigInt(length), checkpoint, BigInt(state), BigInt(words), BigInt(WORDS)];
+  claim(bytes, length, checkpoint, state, words) {
+    const given = [BigInt(bytes), BigInt(length), checkpoint, BigInt(state), BigInt(words), BigInt(WORDS)];
     const code = this.exports.galluspa_claim(...given) & 255;
     if (code !== DONE && code !== NO_CHECKPOINT) throw new Refused(code === 3 ? "no memory" : "the file is not a recording");
     return code === DONE;
   }
 
   /** Returns the first or the last hit of conditions in the run of the state and the words at an address, before a count; or null. */
-  find(place, inputs, to, conditions, isLast) {
+  find(address, inputs, to, conditions, isLast) {
     const written = Uint32Array.from(conditions.flatMap(({ kind, from = 0, end = 0, value = 0 }) => [kind, from, end, value]));
     const held = [this.hold(inputs), this.hold(new Uint8Array(written.buffer)), this.take(HIT_BYTES)];
-    const [list, wanted, hit] = held.map(BigInt), machine = [place, place + STATE_BYTES, WORDS].map(BigInt);
+    const [list, wanted, hit] = held.map(BigInt), machine = [address, address + STATE_BYTES, WORDS].map(BigInt);
     try {
       const many = BigInt(inputs.length / INPUT_BYTES), number = BigInt(conditions.length);
       const code = this.exports.galluspa_find(...machine, list, many, BigInt(to), wanted, number, isLast ? 1 : 0, hit) & 255;

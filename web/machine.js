@@ -9,7 +9,7 @@ class Machine extends Emulator {
     super(library);
     // As large as a state with its words, for claims to compare with.
     this.other = library.take(STATE_BYTES + MEMORY_BYTES);
-    this.text = 0;
+    this.recordingAt = 0;
     this.recorder = new Recorder(library);
     this.arrivals = new Arrivals();
     this.inputs = new Inputs();
@@ -28,7 +28,7 @@ class Machine extends Emulator {
   /** Starts at a state, after the bytes that the recording in progress says were sent. Of the inputs the first so many are of a file,
    * and the first so many are taken already. */
   start({ state, words, inputs, given, next, planned, waiting }) {
-    this.put(this.place, { state, words });
+    this.put(this.address, { state, words });
     Object.assign(this, { inputs, given, next, planned, falseAt: Infinity, sentSince: [], arrivals: new Arrivals(waiting) });
     this.sentTotal = this.recorder.sentTotal;
     this.arrivals.forgetMouse(this.part("mouse"));
@@ -37,24 +37,24 @@ class Machine extends Emulator {
   /** Begins with what a checkpoint of a recording claims. The recording in progress begins with the inputs and the claims up to
    * there. If that is refused, the machine stays as it was. */
   beginRecording(recording, checkpoint) {
-    const text = this.library.hold(recording.text);
+    const recordingAt = this.library.hold(recording.bytes);
     try {
-      const claimed = this.claimedAt(text, recording, checkpoint);
+      const claimed = this.claimedAt(recordingAt, recording, checkpoint);
       if (checkpoint) this.recorder.resume(stretch(recording, firstTable(recording), 0, checkpoint), new Uint8Array());
       else this.recorder.begin(this.other);
       const { inputs, claims } = recording, planned = claims.slice(1).map((claim) => claim.count);
       this.forgetRecording();
       this.start({ ...claimed, inputs, given: inputs.length, next: checkpoint ? inputs.from(countOf(claimed.state)) : 0, planned });
-      Object.assign(this, { text, recording });
+      Object.assign(this, { recordingAt, recording });
     } catch (error) {
-      this.library.leave(text);
+      this.library.leave(recordingAt);
       throw error;
     }
   }
 
   /** Returns the state and the words that a checkpoint of a recording claims, whose bytes are at an address. */
-  claimedAt(text, recording, checkpoint) {
-    if (!this.library.claim(text, recording.text.length, checkpoint, this.other, this.other + STATE_BYTES))
+  claimedAt(address, { bytes }, checkpoint) {
+    if (!this.library.claim(address, bytes.length, checkpoint, this.other, this.other + STATE_BYTES))
       throw new Refused(`no checkpoint ${checkpoint}`);
     return copied(this.at(this.other));
   }
@@ -85,18 +85,18 @@ class Machine extends Emulator {
   }
 
   /** Returns the initial state of a recording, with its words. */
-  firstOf(recording) {
-    const text = this.library.hold(recording);
+  firstOf(bytes) {
+    const address = this.library.hold(bytes);
     try {
-      return this.claimedAt(text, { text: recording }, 0);
+      return this.claimedAt(address, { bytes }, 0);
     } finally {
-      this.library.leave(text);
+      this.library.leave(address);
     }
   }
 
   forgetRecording() {
-    if (this.text) this.library.leave(this.text);
-    this.text = 0;
+    if (this.recordingAt) this.library.leave(this.recordingAt);
+    this.recordingAt = 0;
     this.recording = null;
   }
 
@@ -260,7 +260,7 @@ class Machine extends Emulator {
 
   /** Extends the recording by a checkpoint at this count, if there is room for one. Returns whether there is a new checkpoint. */
   mark(most = CHECKPOINT_LIMIT) {
-    return this.marks.length < most && this.recorder.extend(this.place, this.count, this.takenInputs);
+    return this.marks.length < most && this.recorder.extend(this.address, this.count, this.takenInputs);
   }
 
   /** Compares the recording's claim at this count with the machine. Returns its number, and the name of the first part that
@@ -269,7 +269,7 @@ class Machine extends Emulator {
     if (!this.recording || !this.planned.includes(this.count)) return null;
     const number = this.recording.claims.findIndex((claim) => claim.count === this.count);
     if (number < 1) return null;
-    this.library.claim(this.text, this.recording.text.length, number, this.other, this.other + STATE_BYTES);
+    this.library.claim(this.recordingAt, this.recording.bytes.length, number, this.other, this.other + STATE_BYTES);
     const own = { state: this.state, words: this.words, sent: joined(this.sentSince) };
     const part = firstDifference(own, { ...this.at(this.other), sent: this.recording.claims[number].sent });
     this.sentSince = [];
@@ -279,13 +279,13 @@ class Machine extends Emulator {
 
   /** Returns what a checkpoint of the recording claims, and what has changed since the checkpoint before. */
   claimed(number) {
-    const { text, claims } = this.recording, claim = claims[number];
+    const { bytes, claims } = this.recording, claim = claims[number];
     if (!claim) throw new Refused(`no checkpoint ${number}`);
-    const now = this.claimedAt(this.text, this.recording, number);
+    const now = this.claimedAt(this.recordingAt, this.recording, number);
     const { count, sent } = claim, dots = now.words.slice(DISPLAY_AT, DISPLAY_AT + DISPLAY_BYTES);
     const shown = { number, count, state: now.state, dots, sent: sentText(sent), sentLength: sent.length, pages: [], before: null };
     if (!number) return shown;
-    this.library.claim(this.text, text.length, number - 1, this.other, this.other + STATE_BYTES);
+    this.library.claim(this.recordingAt, bytes.length, number - 1, this.other, this.other + STATE_BYTES);
     const before = this.at(this.other);
     return { ...shown, before: before.state.slice(), steps: count - claims[number - 1].count, pages: differingPages(now.words, before.words) };
   }
@@ -294,15 +294,15 @@ class Machine extends Emulator {
    * checkpoint. */
   recorded() {
     this.mark();
-    return { text: this.recorder.text, count: this.marks.at(-1) ?? 0 };
+    return { bytes: this.recorder.bytes, count: this.marks.at(-1) ?? 0 };
   }
 
   /** Returns the session up to here, with the checkpoints of the recording, the last one at this count; or, if there is no room for
    * one, up to its last checkpoint: what comes after that could not be recorded from the session either. */
   session() {
-    const { text, count } = this.recorded(), end = count < this.count ? this.inputs.from(count) : this.next;
+    const { bytes, count } = this.recorded(), end = count < this.count ? this.inputs.from(count) : this.next;
     const inputs = new Inputs(this.inputs.bytes.subarray(0, INPUT_BYTES * end));
-    return { ...this.firstOf(text), inputs, checkpoints: this.marks };
+    return { ...this.firstOf(bytes), inputs, checkpoints: this.marks };
   }
 
   /** Returns what the browser keeps, so that the recording in progress survives a reload; or null if there are no inputs of the
@@ -311,7 +311,7 @@ class Machine extends Emulator {
     const { keys, serial } = this.arrivals;
     if (!this.own && !this.arrivals.typed) return null;
     const inputs = this.inputs.bytes.slice();
-    return { ...this.recorder.kept, live: copied(this.at(this.place)), count: this.count, inputs, waiting: { keys, serial } };
+    return { ...this.recorder.kept, live: copied(this.at(this.address)), count: this.count, inputs, waiting: { keys, serial } };
   }
 }
 

@@ -83,14 +83,14 @@ async function mayLeave() {
 }
 
 /** Opens a recording at its beginning, and checks it. */
-async function openRecording(name, text) {
-  if (!(await replaced(name, "openRecording", { text, checkpoint: 0 }))) return;
-  Object.assign(app.file, { name, text });
+async function openRecording(name, bytes) {
+  if (!(await replaced(name, "openRecording", { bytes, checkpoint: 0 }))) return;
+  Object.assign(app.file, { name, bytes });
   await attempt(checkFile);
 }
 
-async function openSession(name, text) {
-  await replaced(name, "openSession", { text });
+async function openSession(name, bytes) {
+  await replaced(name, "openSession", { bytes });
 }
 
 /** Has the file that is open checked, and shows the checkpoint that its line is about. */
@@ -98,7 +98,7 @@ async function checkFile() {
   const { file } = app;
   await showClaim(0);
   if (file !== app.file) return;
-  const answer = await verdicts.file.check(file.name, file.text);
+  const answer = await verdicts.file.check(file.name, file.bytes);
   if (answer) await showVerdict(file, answer);
 }
 
@@ -257,7 +257,7 @@ function sayOf({ state, inputs, marks, speed, typed, hasLastRoom }) {
 async function runOnFrom(number) {
   const { file } = app, wrong = falseClaim()?.number ?? Infinity;
   if (!(await mayLeave())) return;
-  const { generation, left } = await app.live.ask("openRecording", { text: file.text, checkpoint: number }), before = app.work;
+  const { generation, left } = await app.live.ask("openRecording", { bytes: file.bytes, checkpoint: number }), before = app.work;
   app.work = new Work(nameOf(file.name), generation);
   leave(before, left);
   verdicts.own.clear();
@@ -279,7 +279,7 @@ async function paused(ask) {
 async function saveSession() {
   notice();
   const made = await paused("session");
-  download(`${app.work.name}-live.json`, made.text, "application/json");
+  download(`${app.work.name}-live.json`, made.bytes, "application/json");
   sayIfCut("session", made);
 }
 
@@ -292,12 +292,12 @@ function sayIfCut(what, { isWhole, count, full = "the recording has reached its 
 async function saveRecording() {
   notice();
   const made = await paused("recording"), name = `${app.work.name}-live.orsr`;
-  download(name, made.text, "application/octet-stream");
+  download(name, made.bytes, "application/octet-stream");
   sayIfCut("recording", made);
-  const begun = performance.now(), answer = await verdicts.own.check(name, made.text);
+  const begun = performance.now(), answer = await verdicts.own.check(name, made.bytes);
   if (!answer) return;
   if (answer.status === 0) noteChecked(made.count);
-  el("say").textContent = `${grouped(made.text.length)} bytes, checked in ${((performance.now() - begun) / 1000).toFixed(1)} s`;
+  el("say").textContent = `${grouped(made.bytes.length)} bytes, checked in ${((performance.now() - begun) / 1000).toFixed(1)} s`;
 }
 
 // Running
@@ -402,8 +402,8 @@ function showSized() {
 /** Opens an example, of which some members may be changed, and runs it. */
 async function openExample(name, changes = {}) {
   clearRefusal();
-  const text = new TextEncoder().encode(JSON.stringify({ ...EXAMPLES[name], ...changes }));
-  if (await replaced(`${name}.json`, "openSession", { text })) await setRun(true);
+  const bytes = new TextEncoder().encode(JSON.stringify({ ...EXAMPLES[name], ...changes }));
+  if (await replaced(`${name}.json`, "openSession", { bytes })) await setRun(true);
 }
 
 function dropFiles() {
@@ -448,10 +448,10 @@ async function begin() {
 /** Prepares the machine in a report. It is started at the first use, with the report's recording, which is judged as a recording in
  * any case. */
 function beginReport(name) {
-  const again = document.getElementById("again"), report = { name, text: null, starting: null };
+  const again = document.getElementById("again"), report = { name, bytes: null, starting: null };
   const start = async () => {
     document.getElementById("live").hidden = false;
-    report.text = await unpacked("recording");
+    report.bytes = await unpacked("recording");
     const isStarted = await started();
     if (isStarted) await openReport(report);
     return isStarted;
@@ -459,8 +459,8 @@ function beginReport(name) {
   const ready = () => (report.starting ??= start());
   document.getElementById("check-again").addEventListener("click", () => attempt(async () => {
     again.textContent = "checking ..";
-    const answer = (await ready()) && await verdicts.file.check(name, report.text);
-    if (answer && app.file?.text === report.text) await showVerdict(app.file, answer);
+    const answer = (await ready()) && await verdicts.file.check(name, report.bytes);
+    if (answer && app.file?.bytes === report.bytes) await showVerdict(app.file, answer);
     const isSame = answer?.line === document.getElementById("line").textContent;
     again.textContent = `Computed in this browser: ${answer?.line ?? "no verdict"}${isSame ? ", the line of this report" : ""}`;
     again.className = isSame ? "same" : "other";
@@ -470,9 +470,9 @@ function beginReport(name) {
 }
 
 /** Opens the recording of a report, unchecked. If it is refused, there is no machine to run. */
-async function openReport({ name, text }) {
+async function openReport({ name, bytes }) {
   try {
-    if (await replaced(name, "openRecording", { text, checkpoint: 0 })) Object.assign(app.file, { name, text });
+    if (await replaced(name, "openRecording", { bytes, checkpoint: 0 })) Object.assign(app.file, { name, bytes });
   } catch (error) {
     showRefusal(name, error.message);
   }
@@ -481,7 +481,7 @@ async function openReport({ name, text }) {
 /** Runs on from a checkpoint of the report's recording, whatever was opened since. */
 async function runOnReport(report, ready, number) {
   if (!(await ready())) return;
-  if (app.file?.text !== report.text) await openReport(report);
+  if (app.file?.bytes !== report.bytes) await openReport(report);
   await showClaim(number);
   await runOnFrom(number);
 }

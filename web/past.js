@@ -55,12 +55,12 @@ class History {
   }
 
   /** Begins with another machine, which began at a count: its initial state, and the recording of what came before, or of its file. */
-  begin(generation, begun, { state, words, text }) {
+  begin(generation, begun, { state, words, bytes }) {
     this.makeVoid();
     this.claims?.leave();
     const keyframes = new Keyframes(this.keyframes.budget), table = keyframes.tableOf(wordsOf(words));
     keyframes.add({ count: 0, state, table, sent: 0, isCheckpoint: true, isClaimed: false });
-    Object.assign(this, { generation, keyframes, liveTable: keyframes.copied(table), claims: new Claims(this.library, text) });
+    Object.assign(this, { generation, keyframes, liveTable: keyframes.copied(table), claims: new Claims(this.library, bytes) });
     Object.assign(this, { inputs: new Inputs(), cursor: null, isSettled: true, begun });
   }
 
@@ -234,7 +234,7 @@ class History {
 
   /** Returns all that the live machine needs to go on from a count: state, words, and how many bytes were sent. */
   moment({ generation, at }) {
-    return this.reached({ generation, at }, (looker) => ({ at, ...copied(looker.at(looker.place)), sent: looker.sent }));
+    return this.reached({ generation, at }, (looker) => ({ at, ...copied(looker.at(looker.address)), sent: looker.sent }));
   }
 
   /** Does something with the machine at a count. */

@@ -12,14 +12,14 @@ class Recorder {
   }
 
   /** Begins with the state and the words at an address. The state's count is 0. */
-  begin(place) {
-    this.resume(this.library.begin(place), new Uint8Array());
+  begin(address) {
+    this.resume(this.library.begin(address), new Uint8Array());
   }
 
   /** Resumes a recording that was made so far, with the bytes sent since its last checkpoint. */
-  resume(text, sent) {
-    const { claims, inputs } = readRecording(text);
-    this.text = text;
+  resume(bytes, sent) {
+    const { claims, inputs } = readRecording(bytes);
+    this.bytes = bytes;
     this.marks = claims.slice(1).map((claim) => claim.count);
     this.taken = inputs.length;
     this.full = null;
@@ -30,7 +30,7 @@ class Recorder {
 
   /** Goes back to a count, before which so many bytes were sent: to the last checkpoint that is not after it, and what was sent since. */
   cut(count, sent) {
-    const recording = readRecording(this.text), { claims } = recording, last = claims.findLastIndex((claim) => claim.count <= count);
+    const recording = readRecording(this.bytes), { claims } = recording, last = claims.findLastIndex((claim) => claim.count <= count);
     const output = joined([...claims.map((claim) => claim.sent), ...this.sent]);
     const before = claims.slice(0, last + 1).reduce((length, claim) => length + claim.sent.length, 0);
     this.resume(stretch(recording, firstTable(recording), 0, last), output.slice(before, sent));
@@ -61,7 +61,7 @@ class Recorder {
   /** The limit of a recording that is so near that no more may fit than a checkpoint at this count, or null. */
   get nearLimit() {
     if (this.room < SENT_RESERVE) return "sent bytes";
-    if (new DataView(this.text.buffer, this.text.byteOffset).getUint32(8, true) > MOST_POOL - PAGES) return "pages";
+    if (new DataView(this.bytes.buffer, this.bytes.byteOffset).getUint32(8, true) > MOST_POOL - PAGES) return "pages";
     return this.marks.length >= CHECKPOINT_LIMIT ? "checkpoints" : null;
   }
 
@@ -73,10 +73,10 @@ class Recorder {
   /** Extends the recording by a checkpoint at the count of the state at an address, if that is above the last one's. `inputs` are
    * all inputs that the machine has taken. A recording that cannot be extended is full, and stays as it is. Returns whether there
    * is a new checkpoint. */
-  extend(place, count, inputs) {
+  extend(address, count, inputs) {
     if (this.full || count <= (this.marks.at(-1) ?? 0)) return false;
     try {
-      this.text = this.library.extend(this.text, inputs.subarray(INPUT_BYTES * this.taken), place, joined(this.sent));
+      this.bytes = this.library.extend(this.bytes, inputs.subarray(INPUT_BYTES * this.taken), address, joined(this.sent));
     } catch (error) {
       if (!(error instanceof Refused)) throw error;
       this.end(error.message);
@@ -91,6 +91,6 @@ class Recorder {
 
   /** Returns what the browser keeps of it. */
   get kept() {
-    return { recording: this.text, sentSince: joined(this.sent) };
+    return { recording: this.bytes, sentSince: joined(this.sent) };
   }
 }

@@ -25,7 +25,7 @@ class Replayer extends Emulator {
 
   /** Goes to what a checkpoint claims. */
   loadClaim(claims, number) {
-    claims.load(number, this.place);
+    claims.load(number, this.address);
     Object.assign(this, { isSet: true, isClaimed: number > 0, sent: claims.sent[number] });
   }
 
@@ -72,9 +72,9 @@ function changesBetween(before, after) {
 
 /** What the checkpoints of a recording claim. The recording's bytes are in the module's memory from the first use on. */
 class Claims {
-  constructor(library, text) {
-    const { claims } = readRecording(text);
-    Object.assign(this, { library, text, place: 0, counts: claims.map(({ count }) => count) });
+  constructor(library, bytes) {
+    const { claims } = readRecording(bytes);
+    Object.assign(this, { library, bytes, address: 0, counts: claims.map(({ count }) => count) });
     let sent = 0;
     this.sent = claims.map((claim) => (sent += claim.sent.length));
   }
@@ -85,14 +85,14 @@ class Claims {
   }
 
   /** Writes a claimed state and its words to an address. */
-  load(number, place) {
-    this.place ||= this.library.hold(this.text);
-    this.library.claim(this.place, this.text.length, number, place, place + STATE_BYTES);
+  load(number, address) {
+    this.address ||= this.library.hold(this.bytes);
+    this.library.claim(this.address, this.bytes.length, number, address, address + STATE_BYTES);
   }
 
   /** Gives the memory free. */
   leave() {
-    if (this.place) this.library.leave(this.place);
-    this.place = 0;
+    if (this.address) this.library.leave(this.address);
+    this.address = 0;
   }
 }

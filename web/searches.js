@@ -103,14 +103,14 @@ class Searches {
     return this.begin({ generation, to: at }, async (search, end) => {
       const { history } = this, { searcher, keyframes, inputs } = history, tell = search.progress(end);
       await history.reach(searcher, end, search.turn);
-      const shown = copied(searcher.at(searcher.place));
+      const shown = copied(searcher.at(searcher.address));
       searcher.load(keyframes, keyframes.items[0]);
       while (searcher.count < end) {
         tell(searcher.count);
         searcher.advance(inputs, end);
         await search.turn();
       }
-      const [one, other] = [shown, copied(searcher.at(searcher.place))].map((machine) => ({ ...machine, sent: [] }));
+      const [one, other] = [shown, copied(searcher.at(searcher.address))].map((machine) => ({ ...machine, sent: [] }));
       return { at: end, part: firstDifference(one, other) };
     });
   }
@@ -191,7 +191,7 @@ class Searches {
   pieceTo(to) {
     const { searcher, inputs } = this.history, { count } = searcher;
     const given = inputs.bytes.slice(INPUT_BYTES * inputs.from(count), INPUT_BYTES * inputs.from(to));
-    return { ...copied(searcher.at(searcher.place)), inputs: given, to, steps: to - count };
+    return { ...copied(searcher.at(searcher.address)), inputs: given, to, steps: to - count };
   }
 
   /** Returns the instruction at a count, with the state before it. */

@@ -35,14 +35,14 @@ function followGame({ state, sent, on, isReplay }, wasReplay) {
 async function endGame() {
   snakeLength = FIRST_LENGTH;
   await app.live.ask("setRun", { on: false });
-  const { text } = await app.live.ask("recording"), crash = await crashCount();
+  const { bytes } = await app.live.ask("recording"), crash = await crashCount();
   await lookAt(crash);
   const place = paragraph("checking ..", "line note");
-  const summary = paragraph(`${many(keysIn(text), "key")}; the recording has ${grouped(text.length)} bytes.`);
+  const summary = paragraph(`${many(keysIn(bytes), "key")}; the recording has ${grouped(bytes.length)} bytes.`);
   const back = button("Go back before the crash", () => lookAt(crash - BEFORE_CRASH)), again = button("Play again", playAgain);
-  const cheat = button("Try to cheat", () => tryToCheat(text));
+  const cheat = button("Try to cheat", () => tryToCheat(bytes));
   showCard(`Game over: ${pointsOf(field(shownState(), AT.LEDs))}`, [summary, place, back, cheat, again, made("div", "", "cheat")]);
-  await showLine(text, place);
+  await showLine(bytes, place);
 }
 
 /** Goes on from now: the program has begun another game. */
@@ -59,10 +59,10 @@ async function crashCount() {
 }
 
 /** Has a recording checked by a clerk, and shows its verdict line in a place. */
-async function showLine(text, place) {
+async function showLine(bytes, place) {
   const clerk = new Helper(app.module, () => {});
   try {
-    const { line, status } = await clerk.ask("check", { text });
+    const { line, status } = await clerk.ask("check", { bytes });
     place.textContent = line;
     place.className = `line ${STATUSES[status]}`;
     return line;
@@ -72,17 +72,17 @@ async function showLine(text, place) {
 }
 
 /** Claims another score in the last checkpoint, and has that checked: the line names the LEDs, and the machine has what they were. */
-async function tryToCheat(text) {
+async function tryToCheat(bytes) {
   const place = el("card").querySelector(".cheat"), line = paragraph("checking ..", "line note");
-  const { forged, claimed, own, count } = forgedScore(text);
+  const { forged, claimed, own, count } = forgedScore(bytes);
   place.replaceChildren(paragraph(`The same recording, which claims ${pointsOf(claimed)} at ${grouped(count)}:`), line);
   await showLine(forged, line);
   place.append(paragraph(`The machine has ${pointsOf(own)} there: the LEDs are ${hex(own, 2)}, and ${hex(claimed, 2)} is claimed.`));
 }
 
 /** Returns a recording whose checkpoint with the most points claims more. */
-function forgedScore(text) {
-  const { view, claims } = layoutOf(text), ledsOf = (claim) => view.getUint32(claim + LEDS_AT, true), forged = text.slice();
+function forgedScore(bytes) {
+  const { view, claims } = layoutOf(bytes), ledsOf = (claim) => view.getUint32(claim + LEDS_AT, true), forged = bytes.slice();
   const best = claims.slice(1).reduce((one, other) => (ledsOf(other) >= ledsOf(one) ? other : one));
   const own = ledsOf(best), claimed = Math.min(255, own + CHEATED);
   forged[best + LEDS_AT] = claimed;
@@ -90,14 +90,14 @@ function forgedScore(text) {
 }
 
 /** Returns how many keys are in a recording. */
-function keysIn(text) {
-  const { view, inputs } = layoutOf(text);
+function keysIn(bytes) {
+  const { view, inputs } = layoutOf(bytes);
   return inputs.filter((at) => view.getUint32(at + 8, true) === KEY).length;
 }
 
 /** Returns where the inputs and the checkpoints of a recording of version 2 begin. */
-function layoutOf(text) {
-  const view = new DataView(text.buffer, text.byteOffset, text.length), number = (at) => view.getUint32(at, true);
+function layoutOf(bytes) {
+  const view = new DataView(bytes.buffer, bytes.byteOffset, bytes.length), number = (at) => view.getUint32(at, true);
   const first = HEADER_BYTES + PAGE_BYTES * number(8), inputs = Array.from({ length: number(12) }, (_, at) => first + INPUT_BYTES * at), claims = [];
   let at = first + INPUT_BYTES * inputs.length;
   for (; claims.length < number(16); at += CLAIM_BYTES + 8 * number(at + CLAIM_BYTES - 4)) claims.push(at);

@@ -7,16 +7,16 @@ const HEADER_BYTES = 24, CLAIM_BYTES = 144;
 const STRETCH_STEPS = 10000000, FIRST_STEPS = 1000000;
 
 /** Returns the page slots that a checkpoint changes in the table before it, each with its new page id. */
-function changesOf({ text, version }, { at }, table) {
-  const view = new DataView(text.buffer, text.byteOffset, text.length), number = (from) => view.getUint32(from, true);
-  if (version === 1) return Array.from(table, (_, place) => [place, number(at + 132 + 4 * place)]).filter(([place, page]) => page !== table[place]);
+function changesOf({ bytes, version }, { at }, table) {
+  const view = new DataView(bytes.buffer, bytes.byteOffset, bytes.length), number = (from) => view.getUint32(from, true);
+  if (version === 1) return Array.from(table, (_, slot) => [slot, number(at + 132 + 4 * slot)]).filter(([slot, id]) => id !== table[slot]);
   return Array.from({ length: number(at + 140) }, (_, k) => [number(at + CLAIM_BYTES + 8 * k), number(at + CLAIM_BYTES + 4 + 8 * k)]);
 }
 
 /** Returns the table of checkpoint 0: the page id of each slot. */
 function firstTable(recording) {
   const table = new Uint32Array(PAGES);
-  for (const [place, page] of changesOf(recording, recording.claims[0], table)) table[place] = page;
+  for (const [slot, id] of changesOf(recording, recording.claims[0], table)) table[slot] = id;
   return table;
 }
 
@@ -24,14 +24,14 @@ function firstTable(recording) {
  * again, and its pool has the pages that it names, in the order in which it names them. `table` is the table of the first checkpoint, and becomes
  * that of the last. */
 function stretch(recording, table, first, last) {
-  const claims = recording.claims.slice(first, last + 1), numbers = new Map([[0, 0]]);
-  const named = ([place, page]) => [place, numbers.get(page) ?? (numbers.set(page, numbers.size), numbers.size - 1)];
+  const claims = recording.claims.slice(first, last + 1), ids = new Map([[0, 0]]);
+  const named = ([slot, id]) => [slot, ids.get(id) ?? (ids.set(id, ids.size), ids.size - 1)];
   const written = claims.map((claim, k) => {
-    const changes = k ? changesOf(recording, claim, table) : Array.from(table, (page, place) => [place, page]).filter(([, page]) => page);
-    for (const [place, page] of changes) table[place] = page;
+    const changes = k ? changesOf(recording, claim, table) : Array.from(table, (id, slot) => [slot, id]).filter(([, id]) => id);
+    for (const [slot, id] of changes) table[slot] = id;
     return claimBytes(recording, claim, claims[0].count, changes.map(named));
   });
-  const pages = [...numbers.keys()].slice(1).map((number) => recording.text.subarray(HEADER_BYTES + PAGE_BYTES * (number - 1)).subarray(0, PAGE_BYTES));
+  const pages = [...ids.keys()].slice(1).map((id) => recording.bytes.subarray(HEADER_BYTES + PAGE_BYTES * (id - 1)).subarray(0, PAGE_BYTES));
   const inputs = recording.inputs.between(claims[0].count, claims.at(-1).count);
   const header = new Uint8Array(HEADER_BYTES), view = new DataView(header.buffer);
   header.set(new TextEncoder().encode("ORSR"));
@@ -40,14 +40,14 @@ function stretch(recording, table, first, last) {
 }
 
 /** Returns the bytes of a checkpoint in a stretch that begins at a count. */
-function claimBytes({ text, version }, { at, count }, begin, changes) {
-  const bytes = new Uint8Array(CLAIM_BYTES + 8 * changes.length), view = new DataView(bytes.buffer);
-  bytes.set(text.subarray(at, at + (version === 1 ? 132 : 140)));
+function claimBytes({ bytes, version }, { at, count }, begin, changes) {
+  const claim = new Uint8Array(CLAIM_BYTES + 8 * changes.length), view = new DataView(claim.buffer);
+  claim.set(bytes.subarray(at, at + (version === 1 ? 132 : 140)));
   view.setBigUint64(0, BigInt(count - begin), true);
   if (count === begin) view.setUint32(128, 0, true);
   view.setUint32(140, changes.length, true);
   changes.flat().forEach((number, k) => view.setUint32(CLAIM_BYTES + 4 * k, number, true));
-  return bytes;
+  return claim;
 }
 
 function joined(parts) {
@@ -104,10 +104,10 @@ class Checker {
   }
 
   /** Returns what the line of a stretch says. A long stretch is run in frames, and its last frame is checked as a recording of its own. */
-  found(text, size, tell) {
-    const recording = readRecording(text), { claims } = recording;
+  found(bytes, size, tell) {
+    const recording = readRecording(bytes), { claims } = recording;
     const isRun = claims.length === 2 && claims[1].count > 2 * size && this.run(recording, size, tell);
-    if (!isRun) return foundBy(this.library.check(text).line, claims);
+    if (!isRun) return foundBy(this.library.check(bytes).line, claims);
     const { last, steps } = this.lastFrame(recording);
     return foundBy(this.library.check(last).line, [{ count: 0 }, { count: steps }]);
   }
@@ -128,9 +128,9 @@ class Checker {
   /** Returns the recording that begins with the machine's state and ends with what the stretch claims, and its number of steps. */
   lastFrame(recording) {
     const { machine, library } = this, begin = machine.count, [, { count, sent }] = recording.claims, steps = count - begin;
-    library.claim(machine.text, recording.text.length, 1, machine.other, machine.other + STATE_BYTES);
-    for (const [place, own] of [[machine.place, 0], [machine.other, steps]]) library.view.setBigUint64(place, BigInt(own), true);
-    const last = library.extend(library.begin(machine.place), machine.inputs.between(begin, count), machine.other, sent.subarray(this.sent));
+    library.claim(machine.recordingAt, recording.bytes.length, 1, machine.other, machine.other + STATE_BYTES);
+    for (const [address, own] of [[machine.address, 0], [machine.other, steps]]) library.view.setBigUint64(address, BigInt(own), true);
+    const last = library.extend(library.begin(machine.address), machine.inputs.between(begin, count), machine.other, sent.subarray(this.sent));
     return { last, steps };
   }
 }

@@ -35,7 +35,7 @@ class Verdict {
 
   /** Has a clerk check a recording. For a long one the joined line of its stretches comes first. Returns the line of one call over
    * the whole, with its status and what it says; or null if the check is ended before. */
-  async check(name, text) {
+  async check(name, bytes) {
     this.clear();
     this.part("judged").textContent = `${this.what} ${name}`;
     const work = { begun: performance.now(), done: 0 };
@@ -43,7 +43,7 @@ class Verdict {
     this.timer = setInterval(() => this.progress(work, performance.now() - work.begun), 100);
     this.work = work;
     try {
-      const answer = await clerk.ask("check", { text });
+      const answer = await clerk.ask("check", { bytes });
       return answer && this.clerk === clerk ? this.judged(answer) : null;
     } finally {
       if (this.clerk === clerk) this.end();

@@ -13,7 +13,7 @@ function welcome() {
 }
 
 async function replayBehind() {
-  await behind?.ask("openSession", { text: new TextEncoder().encode(JSON.stringify(EXAMPLES.face)) });
+  await behind?.ask("openSession", { bytes: new TextEncoder().encode(JSON.stringify(EXAMPLES.face)) });
   await behind?.ask("setRun", { on: true, fast: false, seconds: 0 });
 }
 

@@ -202,7 +202,7 @@ function turnTo(to, deadline) {
 function breakBefore(stop) {
   if (machine.count === run.passed) return machine.count + 1;
   const inputs = machine.inputs.bytes.subarray(INPUT_BYTES * machine.next, INPUT_BYTES * machine.inputs.from(stop, machine.next));
-  const hit = library.find(machine.place, inputs, stop, breaks, false);
+  const hit = library.find(machine.address, inputs, stop, breaks, false);
   if (!hit) return stop;
   run.hit = { at: hit.at, condition: breaks[hit.which] };
   return hit.at;
@@ -233,10 +233,10 @@ function whyUnmarked() {
   return machine.count ? "there is a checkpoint at this count" : "a recording begins with its initial state, which needs no checkpoint";
 }
 
-/** Opens a machine in place of the one that is there, unless `begin` refuses: then that one stays as it is. Returns what was
+/** Opens a machine in address of the one that is there, unless `begin` refuses: then that one stays as it is. Returns what was
  * opened, and what the browser is to keep of the one before. */
 function opened(kind, begin) {
-  const left = machine.recorder.text ? machine.kept() : null;
+  const left = machine.recorder.bytes ? machine.kept() : null;
   begin();
   run = { on: false };
   generation++;
@@ -248,28 +248,28 @@ function opened(kind, begin) {
 }
 
 /** Reads a recording; one that is not valid is refused with its verdict line. */
-function recordingOf(text) {
-  const recording = unlessRefused(() => lawful(text));
+function recordingOf(bytes) {
+  const recording = unlessRefused(() => lawful(bytes));
   if (recording) return recording;
-  const { line, status } = library.check(text);
+  const { line, status } = library.check(bytes);
   throw new Refused(status === 2 ? line : "the recording cannot be opened: no memory");
 }
 
 /** Returns what was made to be saved, at which count it ends, and, if that is before the machine's, why. */
-function made(text) {
+function made(bytes) {
   machine.endIfFull();
   show([]);
   const count = machine.marks.at(-1) ?? 0;
-  return { text, count, full: machine.full?.why, isWhole: count === machine.count };
+  return { bytes, count, full: machine.full?.why, isWhole: count === machine.count };
 }
 
 const LIVE = {
-  openRecording({ text, checkpoint }) {
-    const recording = recordingOf(text);
+  openRecording({ bytes, checkpoint }) {
+    const recording = recordingOf(bytes);
     return opened("recording", () => machine.beginRecording(recording, checkpoint));
   },
-  openSession({ text }) {
-    const session = readSession(text);
+  openSession({ bytes }) {
+    const session = readSession(bytes);
     return opened("session", () => machine.begin(session));
   },
   openImage({ image, address, registers }) {
@@ -345,7 +345,7 @@ const LIVE = {
     return made(writeSession(machine.session()));
   },
   recording() {
-    return made(machine.recorded().text);
+    return made(machine.recorded().bytes);
   },
   /** Returns what the browser keeps, or null if there is nothing of the user's. */
   kept() {
@@ -369,10 +369,10 @@ function unlessRefused(task) {
 const CLERK = {
   /** Returns the line of one call over the whole. For a long recording it first posts its progress stretch by stretch, and their
    * joined line. */
-  check({ text, whole = WHOLE_STEPS, size }) {
-    const recording = text.length <= LONGEST_RECORDING ? unlessRefused(() => lawful(text)) : null;
+  check({ bytes, whole = WHOLE_STEPS, size }) {
+    const recording = bytes.length <= LONGEST_RECORDING ? unlessRefused(() => lawful(bytes)) : null;
     if (recording?.claims.at(-1).count > whole) unlessRefused(() => checkStretches(recording, size));
-    return library.check(text);
+    return library.check(bytes);
   },
 };
 
@@ -386,13 +386,13 @@ function checkStretches(recording, size) {
 }
 
 /** Reads the recording of a file. It is refused if the proved library finds it invalid. */
-function lawful(text) {
-  const place = library.hold(text);
+function lawful(bytes) {
+  const address = library.hold(bytes);
   try {
-    library.claim(place, text.length, 0, machine.other, machine.other + STATE_BYTES);
-    return readRecording(text);
+    library.claim(address, bytes.length, 0, machine.other, machine.other + STATE_BYTES);
+    return readRecording(bytes);
   } finally {
-    library.leave(place);
+    library.leave(address);
   }
 }
 

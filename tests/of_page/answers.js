@@ -1,5 +1,5 @@
 /* node answers.js PAGE.html : runs the page's worker without a browser. It reads lines of JSON, `[request, {..}]`, of which texts in base64
- * under the name `base64` become `text`, and prints a line of JSON for each: `{answer}`, `{refused}` or `{broken}`. */
+ * under the name `base64` become `bytes`, and prints a line of JSON for each: `{answer}`, `{refused}` or `{broken}`. */
 "use strict";
 
 const { readFileSync } = require("fs");
@@ -19,9 +19,9 @@ globalThis.postMessage = (news) => { if (news.id !== undefined) said = news; };
 globalThis.runToLast = () => turnTo(machine.planned.at(-1) ?? 0, Infinity);
 globalThis.cut = cutAll;
 globalThis.times = { pages: () => differingPages(new Uint8Array(MEMORY_BYTES), new Uint8Array(MEMORY_BYTES)), feed: () => machine.feed() };
-globalThis.joinStretches = (text, size) => unlessRefused(() => new Checker(machine, size).line(lawful(text), () => {}));
-function cutAll(text, ends) {
-  const recording = lawful(text), table = firstTable(recording);
+globalThis.joinStretches = (bytes, size) => unlessRefused(() => new Checker(machine, size).line(lawful(bytes), () => {}));
+function cutAll(bytes, ends) {
+  const recording = lawful(bytes), table = firstTable(recording);
   return ends.slice(1).map((end, at) => stretch(recording, table, ends[at], end));
 }`);
 // The page's own script is only asked for its functions of one value.
@@ -34,11 +34,11 @@ const encoded = (_, value) => (value instanceof Uint8Array ? Buffer.from(value).
 function answerTo([ask, given]) {
   if (ask === "instruction") return { answer: ofPage.instruction(...given) };
   const { base64, ...rest } = given;
-  const text = base64 === undefined ? {} : { text: new Uint8Array(Buffer.from(base64, "base64")) };
-  if (ask === "cut") return JSON.parse(JSON.stringify({ answer: cut(text.text, rest.ends) }, encoded));
+  const content = base64 === undefined ? {} : { bytes: new Uint8Array(Buffer.from(base64, "base64")) };
+  if (ask === "cut") return JSON.parse(JSON.stringify({ answer: cut(content.bytes, rest.ends) }, encoded));
   if (ask === "time") return { answer: leastTime(times[given.what]) };
-  if (ask === "join") return { answer: joinStretches(text.text, rest.size) };
-  tell({ id: 1, ask: ask === "record" ? "openSession" : ask, ...rest, ...text });
+  if (ask === "join") return { answer: joinStretches(content.bytes, rest.size) };
+  tell({ id: 1, ask: ask === "record" ? "openSession" : ask, ...rest, ...content });
   if (ask === "record" && "answer" in said) {
     runToLast();
     tell({ id: 1, ask: "recording" });

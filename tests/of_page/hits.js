@@ -132,7 +132,7 @@ async function whoSetDevices() {
 
 async function whoOfFace() {
   const desk = new Desk(), recording = readFileSync(join(FOLDER, "face.orsr")), session = example("face");
-  await desk.open("openRecording", { text: new Uint8Array(recording), checkpoint: 1 });
+  await desk.open("openRecording", { bytes: new Uint8Array(recording), checkpoint: 1 });
   await desk.run(9000000);
   const [x, y] = [600, 219], address = 950016 + 128 * y + (x >> 3), fresh = new Fresh(session);
   const { at, pc, word, sure } = await desk.past.who({ address, bit: x & 7, before: 9000000 });

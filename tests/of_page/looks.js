@@ -88,7 +88,7 @@ async function lookWhileItRuns() {
     await new Promise((resolve) => setTimeout(resolve, 10));
   }
   await desk.live.ask("setRun", { on: false });
-  const { inputs } = readRecording((await desk.live.ask("recording")).text);
+  const { inputs } = readRecording((await desk.live.ask("recording")).bytes);
   const fresh = new Fresh({ ...session, inputs: Array.from({ length: inputs.length }, (_, k) => inputs.item(k)) });
   for (const moment of seen.sort((one, other) => one.at - other.at)) expectMoment(`the look at ${moment.at} of a machine that ran`, moment, fresh.at(moment.at));
   desk.end();

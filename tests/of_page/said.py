@@ -86,7 +86,7 @@ def fill_pages(desk: Desk) -> None:
     tables = [{at: PAGES * number + at + 1 for at in range(PAGES)} for number in range(63)] + [{0: len(pool)}]
     text = encoded(2, pool, [claim(0), *(claim(10 * number, table) for number, table in enumerate(tables, 1))])
     page = desk.page
-    page.answer("window.opening = openRecording; openRecording = (name, text) => replaced(name, 'openRecording', { text, checkpoint: 64 })")
+    page.answer("window.opening = openRecording; openRecording = (name, bytes) => replaced(name, 'openRecording', { bytes, checkpoint: 64 })")
     desk.start("pages.orsr", text)
     page.answer("openRecording = opening")
     desk.click("run")
@@ -213,7 +213,7 @@ def refuse_each(desk: Desk) -> None:
     page = desk.page
     desk.start("face.orsr", (EXAMPLES / "face.orsr").read_bytes())
     desk.expect_line("a file", (EXAMPLES / "face.orsr").read_bytes())
-    asked = "Promise.allSettled([app.live.ask('claimed', { number: 99, of: app.work.generation }), app.live.ask('openSession', { text: new Uint8Array(2) })])"
+    asked = "Promise.allSettled([app.live.ask('claimed', { number: 99, of: app.work.generation }), app.live.ask('openSession', { bytes: new Uint8Array(2) })])"
     expect("two refusals", page.answer(f"{asked}.then((all) => all.map((it) => it.reason.message))"), ["no checkpoint 99", "session refused 1 json"])
     expect("the page's notice after them", page.answer(NOTICE), "")
     odd = bytearray((EXAMPLES / "face.orsr").read_bytes())
@@ -222,7 +222,7 @@ def refuse_each(desk: Desk) -> None:
     desk.expect_refused("odd.orsr", program("check", bytes(odd))[0])
     before = page.answer("app.latest.memory")
     page.answer("""(async () => {
-      const bytes = app.file.text.slice();
+      const bytes = app.file.bytes.slice();
       bytes[20] = 1;
       for (let k = 0; k < 40; k++) await openBytes("odd.orsr", bytes);
     })()""")

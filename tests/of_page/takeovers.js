@@ -18,11 +18,11 @@ async function takeOver() {
   expect("the machine after the take-over", [countOf(state), left, isReplay], [at, session.inputs.filter(([count]) => count < at).length, false]);
   await desk.live.ask("type", { keys: [65, 66], serial: [67] });
   await desk.run(30000000, 1);
-  const made = await desk.live.ask("recording"), { claims, inputs } = readRecording(made.text);
+  const made = await desk.live.ask("recording"), { claims, inputs } = readRecording(made.bytes);
   expect("its checkpoints", claims.map(({ count }) => count), [0, 5000000, 25000000, 30000000]);
   const fresh = new Fresh({ ...session, inputs: Array.from({ length: inputs.length }, (_, k) => inputs.item(k)) });
   for (const count of [at, at - 1, at + 1, 20000000, 30000000]) expectMoment(`the look at ${count} after a take-over`, await desk.past.peek(count), fresh.at(count));
-  for (const [name, { text }] of [["branch", branch], ["taken-over", made]]) console.log(`recording ${name} ${Buffer.from(text).toString("base64")}`);
+  for (const [name, { bytes }] of [["branch", branch], ["taken-over", made]]) console.log(`recording ${name} ${Buffer.from(bytes).toString("base64")}`);
   await takeOverAgain(desk);
   await takeOverFull(desk);
   await takeOverKept(desk, session);
@@ -35,15 +35,15 @@ async function takeOverAgain(desk) {
   for (const at of [5000000, 0]) {
     await desk.live.ask("takeOver", await desk.past.moment(at));
     await desk.run(at + 1000000);
-    console.log(`recording from-${at} ${Buffer.from((await desk.live.ask("recording")).text).toString("base64")}`);
+    console.log(`recording from-${at} ${Buffer.from((await desk.live.ask("recording")).bytes).toString("base64")}`);
   }
-  await desk.open("openRecording", { text: new Uint8Array(readFileSync(join(FOLDER, "face.orsr"))), checkpoint: 0 });
+  await desk.open("openRecording", { bytes: new Uint8Array(readFileSync(join(FOLDER, "face.orsr"))), checkpoint: 0 });
   await desk.run(9000000);
   await desk.live.ask("takeOver", await desk.past.moment(6000000));
   await desk.run(13000000);
   expect("that what the file claims later is not judged", desk.frames.flatMap((news) => news.passed?.count ?? []), [4000000, 8000000]);
-  console.log(`recording of-a-replay ${Buffer.from((await desk.live.ask("recording")).text).toString("base64")}`);
-  await desk.open("openRecording", { text: new Uint8Array(readFileSync(join(FOLDER, "false.orsr"))), checkpoint: 0 });
+  console.log(`recording of-a-replay ${Buffer.from((await desk.live.ask("recording")).bytes).toString("base64")}`);
+  await desk.open("openRecording", { bytes: new Uint8Array(readFileSync(join(FOLDER, "false.orsr"))), checkpoint: 0 });
   await desk.run(4);
   for (const [at, isTrue] of [[3, false], [1, true]]) {
     await desk.live.ask("takeOver", await desk.past.moment(at));
@@ -62,9 +62,9 @@ async function takeOverFull(desk) {
   expect("the recording after a take-over after its end", last().full, full);
   await desk.live.ask("takeOver", await desk.past.moment(500000));
   await desk.run(600000);
-  const { text, isWhole } = await desk.live.ask("recording");
+  const { bytes, isWhole } = await desk.live.ask("recording");
   expect("the recording after a take-over before it was full", [last().full, isWhole], [null, true]);
-  console.log(`recording not-full ${Buffer.from(text).toString("base64")}`);
+  console.log(`recording not-full ${Buffer.from(bytes).toString("base64")}`);
 }
 
 /** What was kept has its past from its recording, and may be taken over before the count at which it was resumed. */
@@ -81,7 +81,7 @@ async function takeOverKept(desk, session) {
   expect("the first byte sent", (await desk.past.find({ to: 9000000, conditions: [{ kind: SENDS }] })).at > 6000000, true);
   await desk.live.ask("takeOver", await desk.past.moment(6500000));
   await desk.run(7000000);
-  console.log(`recording kept ${Buffer.from((await desk.live.ask("recording")).text).toString("base64")}`);
+  console.log(`recording kept ${Buffer.from((await desk.live.ask("recording")).bytes).toString("base64")}`);
 }
 
 module.exports = [takeOver];

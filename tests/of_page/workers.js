@@ -92,7 +92,7 @@ class Desk {
   }
 
   openSession(session) {
-    return this.open("openSession", { text: new TextEncoder().encode(JSON.stringify(session)) });
+    return this.open("openSession", { bytes: new TextEncoder().encode(JSON.stringify(session)) });
   }
 
   /** Runs as fast as it goes up to a count, also over the end of a replay. */
@@ -121,7 +121,7 @@ class Fresh {
   }
 
   begin() {
-    this.machine.put(this.machine.place, this.first);
+    this.machine.put(this.machine.address, this.first);
     this.machine.sent = 0;
   }
 
@@ -137,7 +137,7 @@ class Fresh {
   find(to, conditions, isLast) {
     const { machine, inputs } = this;
     this.begin();
-    return machine.library.find(machine.place, inputs.bytes, to, conditions, isLast);
+    return machine.library.find(machine.address, inputs.bytes, to, conditions, isLast);
   }
 }
 

@@ -169,9 +169,11 @@ class Page:
         self._ask("Input.dispatchTouchEvent", type=kind, touchPoints=points)
 
     def tap(self, x: float, y: float) -> None:
-        """Taps on a place."""
-        self.touch("touchStart", (x, y))
-        self.touch("touchEnd")
+        """Taps on a place: for a twentieth of a second, however long the browser takes to see it."""
+        now = time.time()
+        for kind, points, at in (("touchStart", [{"x": x, "y": y, "id": 0}], now), ("touchEnd", [], now + 0.05)):
+            parameters = {"type": kind, "touchPoints": points, "timestamp": at}
+            self._pipe.send({"method": "Input.dispatchTouchEvent", "params": parameters, "sessionId": self._session})
 
     def insert(self, text: str) -> None:
         """Inserts a text where the focus is, as pasting and input methods do."""
