@@ -160,13 +160,15 @@ async function stop() {
   }
   if (Math.min(...took) > 100) fail(`to stop a search took ${took} ms`);
   let isOver = false;
-  const searching = desk.past.find({ to: end, conditions: none }).finally(() => (isOver = true)), looks = [];
+  const searching = desk.past.find({ to: end, conditions: none, request: 5 }).finally(() => (isOver = true)), looks = [];
   for (const at of [end - 1000, 1000000, end / 2]) {
     const begun = performance.now();
     expect("a look during a search", [(await desk.past.peek(at)).count, isOver], [at, false]);
     looks.push(performance.now() - begun);
   }
-  expect("that a search says how far it is", desk.news.some((news) => news.searched?.of === end), true);
+  const isTold = () => desk.news.some((news) => news.searched?.of === end && news.searched.request === 5);
+  while (!isTold() && !isOver) await new Promise((resolve) => setTimeout(resolve, 20));
+  expect("that a search says how far it is", [isTold(), isOver], [true, false]);
   const other = desk.past.find({ to: 1000, conditions: none });
   expect("a search that a newer one ended, and that one", [await searching, await other], [{ stopped: true }, { none: true }]);
   const late = [desk.past.peek(end - 5), desk.past.memory(77, 0, 8), desk.past.find({ to: end, conditions: none })], mixed = desk.openSession(example("mixed"));
