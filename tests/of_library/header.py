@@ -73,12 +73,12 @@ def constants() -> Iterator[tuple[str, int]]:
     """The constants of the header, by the crate's name and value."""
     for file, names in (
         (CRATE / "src/refusal.rt", REFUSALS),
-        (CRATE / "src/words.rt", ["WORDS"]),
+        (TOP / "crates/risc_pages/src/sizes.rt", ["MEMORY_WORDS"]),
         (TOP / "crates/oberon_format/src/layout.rt", ["LONGEST_TEXT"]),
     ):
         for name in names:
             value = group(rf"^pub const {name}: \w+ = ([\d_]+);$", file.read_text())
-            yield "GALLUSPA_" + name.removesuffix("_TEXT"), int(value.replace("_", ""))
+            yield "GALLUSPA_" + name.removesuffix("_TEXT").removeprefix("MEMORY_"), int(value.replace("_", ""))
 
 
 def header_test() -> str:

@@ -1,5 +1,6 @@
 //! A search through a run of a machine in the memory of a caller.
-ghost use Rattle.std.specs.Prelude.{◌≡◌, ◌≢◌, ◌≤◌, ◌⊎◌, ◌↔◌, All, IfErr, IfOk, IsSome, IsTrue, None, Option, OnOk, Some, length, map};
+ghost use Rattle.std.specs.Prelude.{◌≡◌, ◌≢◌, ◌≤◌, ◌⊎◌, ◌↔◌, length, map};
+ghost use Rattle.std.specs.Prelude.{All, IfErr, IfOk, IsSome, IsTrue, None, Option, OnOk, Some};
 ghost use Rattle.risc_model.specs.MachineState.{cpu_state};
 ghost use Rattle.risc_search.specs.Search.{IsFirst, IsLast};
 ghost use Rattle.galluspa.specs.Find.{AreConditions, HasSearched, IsInSearchRange, becomes, condition_of, hit_of, span_of};
@@ -196,8 +197,10 @@ fn search(
 ) -> Result<Option<Hit>, Unsearched>
     ensures searched { IfOk result (HasSearched inputs.now to state.now words.now conditions.now wanted) }
     ensures in_range { OnOk result (IsInSearchRange inputs.now to state.now words.now conditions.now wanted) }
-    ensures memory { IfErr result (λ refusal. refusal ≡ Unsearched.Memory → IsInSearchRange inputs.now to state.now words.now conditions.now wanted) }
-    ensures range { IfErr result (λ refusal. refusal ≡ Unsearched.Range → ¬ (IsInSearchRange inputs.now to state.now words.now conditions.now wanted)) }
+    ensures memory { IfErr result (λ refusal.
+        refusal ≡ Unsearched.Memory → IsInSearchRange inputs.now to state.now words.now conditions.now wanted) }
+    ensures range { IfErr result (λ refusal.
+        refusal ≡ Unsearched.Range → ¬ (IsInSearchRange inputs.now to state.now words.now conditions.now wanted)) }
 {
     if to < state.count || wanted > 1 || conditions.len() > MAX_CONDITIONS {
         return Err(Unsearched::Range);
@@ -215,13 +218,13 @@ fn search(
 }
 
 /// Searches through the run of a machine, from the count of its state up to but not including the count `to`, for the first count
-/// at which a condition of a list holds if `wanted` is 0, or for the last if it is 1. The inputs of these counts are taken. If there
-/// is such a count, returns 0 (`DONE`), and writes it to `hit` with the index of the first condition that holds there; if not,
-/// returns 11 (`NOT_FOUND`).
+/// at which a condition of a list holds if `wanted` is 0, or for the last if it is 1. The inputs of these counts are taken. If
+/// there is such a count, returns 0 (`DONE`), and writes it to `hit` with the index of the first condition that holds there; if
+/// not, returns 11 (`NOT_FOUND`).
 ///
 /// Nothing else is written. The result is 1 (`OUT_OF_RANGE`) if `words` is not of 262,144 words, `to` is below the count of the
-/// state, `wanted` is above 1, there are more than 64 conditions, a number of the state, of an input or of a condition is out of its range, or the inputs' counts fall
-/// or are above 2^40; and 3 (`OUT_OF_MEMORY`) if all is in range and memory ran out.
+/// state, `wanted` is above 1, there are more than 64 conditions, a number of the state, of an input or of a condition is out of
+/// its range, or the inputs' counts fall or are above 2^40; and 3 (`OUT_OF_MEMORY`) if all is in range and memory ran out.
 #[unsafe(no_mangle)]
 pub extern "C" fn galluspa_find(
     alloc: Global,
