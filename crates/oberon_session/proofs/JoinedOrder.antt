@@ -5,7 +5,7 @@ use Rattle.std.proofs.lemmas.List.{get_or-append_right, get_or_append_left, leng
 use Rattle.std.specs.List.{All}
 use Rattle.risc_machine.proofs.DueLemmas.{counts-order}
 use Rattle.risc_model.proofs.OrderLemmas.{count_at-is, count_before-next}
-use Rattle.risc_model.specs.InputOrder.{AreOrdered, IsRightPlace, count_at, count_before}
+use Rattle.risc_model.specs.InputOrder.{AreOrdered, IsRightIndex, count_at, count_before}
 use Rattle.risc_model.specs.declared.event.Event.{Event}
 use Rattle.risc_model.specs.declared.inputs.TheConstants.{MAX_COUNT}
 
@@ -14,7 +14,7 @@ pub each-count : (Q : ℕ → Type 0) (es : List Event) (i : ℕ) → i < length
 each-count Q [] i lt each = absurd (omega (arith, lt))
 each-count Q (e ∷ es) i lt each = subst Q (sym (count_at-is (e ∷ es) i e lt)) (each i e lt)
 
-right-index : (es : List Event) (index : ℕ) → count_at es index ≤ MAX_COUNT → ((p : ℕ) → p + 1 ≡ index → count_at es p ≤ count_at es index) → IsRightPlace es index
+right-index : (es : List Event) (index : ℕ) → count_at es index ≤ MAX_COUNT → ((p : ℕ) → p + 1 ≡ index → count_at es p ≤ count_at es index) → IsRightIndex es index
 right-index es zero bound step = (omega arith, bound)
 right-index es (suc p) bound step =
     let next : p + 1 ≡ suc p = omega arith in

@@ -4,7 +4,7 @@ use Rattle.std.proofs.lemmas.Bool.Decides.{nat_tests}
 use Rattle.std.proofs.lemmas.List.{get_or-map, length-map}
 use Rattle.std.specs.List.{All}
 use Rattle.risc_model.specs.declared.event.Event.{Event}
-use Rattle.risc_model.specs.InputOrder.{AreOrdered, IsFirstWrong, IsRightPlace, count_at, count_before}
+use Rattle.risc_model.specs.InputOrder.{AreOrdered, IsFirstWrong, IsRightIndex, count_at, count_before}
 use Rattle.risc_model.specs.declared.inputs.TheConstants.{MAX_COUNT}
 use Rattle.risc_model.proofs.OrderLemmas.{count_before-next}
 use Rattle.oberon_session.specs.Draft.{InputNumbers}
@@ -27,7 +27,7 @@ falls-never es ordered = λ k lt.
 
 -- the inputs are in order if their counts never fall and none is too high
 right-at : (es : List Event) → NeverFalls (map (λ (e : Event). e.count) es) → ((k : ℕ) → k < length es → count_at es k ≤ MAX_COUNT)
-    → (slot : ℕ) → slot < length es → IsRightPlace es slot
+    → (slot : ℕ) → slot < length es → IsRightIndex es slot
 right-at es falls bounded zero inside = (omega arith, bounded zero inside)
 right-at es falls bounded (suc k) inside =
     let more : k + 1 < length (map (λ (e : Event). e.count) es) = simp length-map (omega arith) in

@@ -1,6 +1,6 @@
 //! The address of a base and an offset, and its target (Project Oberon 2013, hardware chapters).
 ghost use Rattle.std.specs.Prelude.{◌≡◌, ◌<◌};
-ghost use Rattle.risc_core.specs.Place.{address_of, place_of, lane_of, IsInside};
+ghost use Rattle.risc_core.specs.Place.{address_of, target_of, lane_of, IsInside};
 
 use crate::address::Place;
 
@@ -17,9 +17,9 @@ pub const DEVICES: u32 = 0xFF_FFC0;
 ///
 /// Words of RAM are numbered from 0 to 262,143, and device words from 0 to 15 (Project Oberon 2013, hardware chapters).
 #[inline(always)]
-#[tactic(auto, unfolding(crate::specs::Place::address_of, crate::specs::Place::place_of, crate::specs::Place::lane_of))]
+#[tactic(auto, unfolding(crate::specs::Place::address_of, crate::specs::Place::target_of, crate::specs::Place::lane_of))]
 pub const fn place(base: u32, off: i32) -> (Place, u8)
-    ensures place { result.0 ≡ place_of (address_of base off) }
+    ensures place { result.0 ≡ target_of (address_of base off) }
     ensures lane { result.1 ≡ lane_of (address_of base off) }
     ensures place_inside { IsInside result.0 }
     ensures lane_inside { result.1 < 4 }

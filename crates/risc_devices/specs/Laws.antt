@@ -9,12 +9,12 @@ abbrev pub HasBit : ℕ → ℕ → Type 0
 HasBit n i = n / 2 ^ i % 2 ≡ 1
 
 -- a number is within a mask: each of its bits is one of the mask's
-abbrev pub IsInside : ℕ → ℕ → Type 0
-IsInside mask n = (i : ℕ) → HasBit n i → HasBit mask i
+abbrev pub AreBitsOf : ℕ → ℕ → Type 0
+AreBitsOf mask n = (i : ℕ) → HasBit n i → HasBit mask i
 
 -- the mouse words are the words within the mask 073FF3FF
 abbrev pub MouseLaw : Type 0
-MouseLaw = (word : ℕ) → IsTrue (is_mouse word) ↔ ((word < 2 ^ 32) × IsInside 0x073FF3FF word)
+MouseLaw = (word : ℕ) → IsTrue (is_mouse word) ↔ ((word < 2 ^ 32) × AreBitsOf 0x073FF3FF word)
 
 -- the named device words by their numbers ("Project Oberon" 2013, the hardware chapters)
 pub record HasWordNumbers : Type 0 where

@@ -12,15 +12,15 @@ abbrev pub count_before : List Event → ℕ → ℕ
 count_before es index = if index == 0 then 0 else count_at es (index - 1)
 
 -- the count at an index is not below the one before it, and at most `MAX_COUNT`
-abbrev pub IsRightPlace : List Event → ℕ → Type 0
-IsRightPlace es index = (count_before es index ≤ count_at es index) × (count_at es index ≤ MAX_COUNT)
+abbrev pub IsRightIndex : List Event → ℕ → Type 0
+IsRightIndex es index = (count_before es index ≤ count_at es index) × (count_at es index ≤ MAX_COUNT)
 
 -- each index is right
 abbrev pub AreOrdered : List Event → Type 0
-AreOrdered es = (index : ℕ) → index < length es → IsRightPlace es index
+AreOrdered es = (index : ℕ) → index < length es → IsRightIndex es index
 
 -- the first index that is wrong
 pub record IsFirstWrong (es : List Event) (at : ℕ) : Type 0 where
   pub inside : at < length es
-  pub before : (index : ℕ) → index < at → IsRightPlace es index
-  pub wrong : ¬ (IsRightPlace es at)
+  pub before : (index : ℕ) → index < at → IsRightIndex es index
+  pub wrong : ¬ (IsRightIndex es at)

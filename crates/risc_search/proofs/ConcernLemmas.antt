@@ -11,7 +11,7 @@ use Rattle.risc_core.specs.declared.instruction.Instr.TheVariants.{Reg, Imm, Loa
 use Rattle.risc_core.specs.declared.stop.Stop.{Stop}
 use Rattle.risc_core.specs.Branch.{is_taken}
 use Rattle.risc_core.specs.Instruction.{instruction_of}
-use Rattle.risc_core.specs.Place.{address_of, place_of}
+use Rattle.risc_core.specs.Place.{address_of, target_of}
 use Rattle.risc_core.specs.Word.{bit}
 use Rattle.risc_devices.specs.Ticks.{ticked}
 use Rattle.risc_model.specs.declared.event.Event.{Event}
@@ -153,8 +153,8 @@ access-some : (i : Instr) (r : List ℕ) → 0 < count_of (accessed i r)
 unfolding accessed
 access-some (Reg op u v a b c) r = omega arith
 access-some (Imm op u v a b im) r = omega arith
-access-some (Load byte a b off) r = part-some (place_of (address_of (get_or r b 0) off)) false byte _
-access-some (Store byte a b off) r = part-some (place_of (address_of (get_or r b 0) off)) true byte _
+access-some (Load byte a b off) r = part-some (target_of (address_of (get_or r b 0) off)) false byte _
+access-some (Store byte a b off) r = part-some (target_of (address_of (get_or r b 0) off)) true byte _
 access-some (BranchReg number link c) r = omega arith
 access-some (BranchOff number link off) r = omega arith
 

@@ -8,7 +8,7 @@ use Rattle.risc_core.specs.declared.address.Place.TheVariants.{Ram, Device, Nowh
 use Rattle.risc_core.specs.declared.instruction.Instr.{Instr}
 use Rattle.risc_core.specs.declared.instruction.Instr.TheVariants.{Reg, Imm, Load, Store, BranchReg, BranchOff}
 use Rattle.risc_core.specs.Instruction.{instruction_of}
-use Rattle.risc_core.specs.Place.{place_of, lane_of}
+use Rattle.risc_core.specs.Place.{target_of, lane_of}
 use Rattle.risc_devices.specs.DeviceState.{DeviceState}
 use Rattle.risc_devices.specs.Ticks.{ticked}
 use Rattle.risc_model.specs.declared.event.Event.{Event}
@@ -42,8 +42,8 @@ below-ram : (low : Bool) (rest : Place) (address : ℕ) → nat_lt address (2 ^ 
 below-ram true rest address test below = let h = ltb-true address (2 ^ 20) test in omega arith
 below-ram false rest address test below = below
 
-ram-below : (address : ℕ) → RamIsBelow (place_of address)
-unfolding place_of
+ram-below : (address : ℕ) → RamIsBelow (target_of address)
+unfolding target_of
 ram-below address = below-ram (nat_lt address (2 ^ 20)) _ address refl (below-device (nat_le (2 ^ 24 - 64) address) _)
 
 lane-below : (address : ℕ) → lane_of address < 4
@@ -85,7 +85,7 @@ unfolding perform accessed
 performs-there (Reg op u v a b c) s = stored-nothing None s.words s.words refl
 performs-there (Imm op u v a b im) s = stored-nothing None s.words s.words refl
 performs-there (Load byte a b off) s = stored-nothing _ s.words _ (load-same _ _ byte a s)
-performs-there (Store byte a b off) s = stores-there (place_of (address_in s b off)) (lane_of (address_in s b off)) byte a s (ram-below (address_in s b off)) (lane-below (address_in s b off))
+performs-there (Store byte a b off) s = stores-there (target_of (address_in s b off)) (lane_of (address_in s b off)) byte a s (ram-below (address_in s b off)) (lane-below (address_in s b off))
 performs-there (BranchReg cond link c) s = stored-nothing None s.words s.words refl
 performs-there (BranchOff cond link off) s = stored-nothing None s.words s.words refl
 

@@ -7,7 +7,7 @@ use Rattle.risc_core.specs.declared.address.Place.TheVariants.{Ram, Device, Nowh
 use Rattle.risc_core.specs.declared.instruction.Instr.{Instr}
 use Rattle.risc_core.specs.declared.instruction.Instr.TheVariants.{Reg, Imm, Load, Store, BranchReg, BranchOff}
 use Rattle.risc_core.specs.Instruction.{instruction_of}
-use Rattle.risc_core.specs.Place.{address_of, place_of, lane_of}
+use Rattle.risc_core.specs.Place.{address_of, target_of, lane_of}
 use Rattle.risc_model.specs.MachineState.{CpuState}
 use Rattle.risc_search.specs.declared.access.Access.{Access}
 
@@ -26,7 +26,7 @@ access_to stores byte Nowhere lane = None
 
 -- an access to the address of a register and an offset
 abbrev pub access_at : Bool → Bool → ℕ → Option Access
-access_at stores byte address = access_to stores byte (place_of address) (lane_of address)
+access_at stores byte address = access_to stores byte (target_of address) (lane_of address)
 
 -- what an instruction accesses, by the registers before it
 unfoldable pub accessed : Instr → List ℕ → Option Access

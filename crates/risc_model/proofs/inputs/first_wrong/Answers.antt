@@ -1,7 +1,7 @@
 use Rattle.std.proofs.lemmas.Grind.{common_steps}
 use Rattle.std.proofs.Common.{◌≡◌, ap, sym, ◌∙◌, arith, below_more}
 use Rattle.risc_model.specs.declared.event.Event.{Event}
-use Rattle.risc_model.specs.InputOrder.{IsRightPlace, count_at}
+use Rattle.risc_model.specs.InputOrder.{IsRightIndex, count_at}
 use Rattle.risc_model.proofs.OrderLemmas.{count_at-is, count_before-next}
 use Rattle.risc_model.proofs.inputs.first_wrong.Goals as goal
 
@@ -11,9 +11,9 @@ loop-at-preserved c =
     let at = c.loop-at.at in
     let here : count_at es at ≡ c.index-list-at.result.count =
     count_at-is es at c.index-list-at.result c.loop-at-test.true ∙ sym (ap (λ (e : Event). e.count) c.index-list-at.is) in
-    let right : IsRightPlace es at = (omega arith, omega arith) in
+    let right : IsRightIndex es at = (omega arith, omega arith) in
     record {
-      right = below_more (λ k. IsRightPlace es k) at c.loop-at.invariant.right right;
+      right = below_more (λ k. IsRightIndex es k) at c.loop-at.invariant.right right;
       least = sym here ∙ sym (count_before-next es at);
     }
 
