@@ -99,17 +99,17 @@ async function showClaim(number) {
   number = Math.max(0, Math.min(file.claims.length - 1, Math.floor(number) || 0));
   const shown = await app.live.ask("claimed", { number, of: app.work.generation });
   if (!shown || file !== app.file) return;
-  el("number").value = number;
+  el("claim-number").value = number;
   const wrong = falseClaim();
   el("claim").replaceChildren(...claimParts(shown, wrong?.number === number ? wrong.part : null));
   showOf(file);
-  el("from").disabled = false;
+  el("run-on").disabled = false;
 }
 
 /** Says which recording the checkpoints are of, and its verdict. */
 function showOf({ name, version, inputs, checkpoints, verdict }) {
   const line = verdict ? `: ${verdict.line}` : "";
-  write("of", `of ${grouped(checkpoints)} in ${name}, ${grouped(inputs)} inputs, version ${version}${line}`);
+  write("claims-of", `of ${grouped(checkpoints)} in ${name}, ${grouped(inputs)} inputs, version ${version}${line}`);
 }
 
 function claimParts({ number, count, steps, state, before, dots, sent, sentLength, pages }, wrong) {
@@ -139,7 +139,7 @@ const falseClaim = () => app.file?.verdict?.wrong ?? null;
 
 /** Shows a headline for a false checkpoint, and the way to what the machine has there; at its count, both parts side by side. */
 async function showFalse() {
-  const wrong = falseClaim(), place = el("false");
+  const wrong = falseClaim(), place = el("false-claim");
   for (const [name, { value }] of registerCells) value.classList.toggle("wrong", name === wrong?.part && shownCount() === wrong.count && !isAhead());
   place.hidden = !wrong;
   if (!wrong) return;

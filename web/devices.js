@@ -124,25 +124,25 @@ const FILLING = "  ";
 
 /** Sends what is typed into the hidden field, which brings up the keyboard of a phone. */
 function typed() {
-  const { value } = el("typed");
-  el("typed").value = FILLING;
+  const { value } = el("phone-keys");
+  el("phone-keys").value = FILLING;
   if (value.length < FILLING.length) {
     if (isRunning()) sendCodes([CHARACTERS.Backspace]);
   } else sendText(value.slice(FILLING.length));
 }
 
 function listenToKeyboard() {
-  el("typed").value = FILLING;
-  on("keyboard", "click", () => el("typed").focus());
-  on("typed", "input", ({ isComposing }) => isComposing || typed());
-  on("typed", "compositionend", typed);
-  for (const type of ["keydown", "keyup"]) on("typed", type, pressed);
+  el("phone-keys").value = FILLING;
+  on("keyboard", "click", () => el("phone-keys").focus());
+  on("phone-keys", "input", ({ isComposing }) => isComposing || typed());
+  on("phone-keys", "compositionend", typed);
+  for (const type of ["keydown", "keyup"]) on("phone-keys", type, pressed);
 }
 
 /** Goes from the screen to the next control, since Tab goes to the machine. */
 function leaveScreen(event) {
   event.preventDefault();
-  if (event.type === "keydown") el("mark").focus();
+  if (event.type === "keydown") el("make-checkpoint").focus();
 }
 
 /** Releases all PS/2 keys when the screen loses the focus. */
@@ -197,14 +197,14 @@ function catchUp() {
 }
 
 function showMouse(word) {
-  [el("x").value, el("y").value] = [word & 0x3ff, word >> 12 & 0x3ff];
+  [el("mouse-x").value, el("mouse-y").value] = [word & 0x3ff, word >> 12 & 0x3ff];
   ["left", "middle", "right"].forEach((name, at) => (el(`${name}-key`).checked = (word >> (26 - at) & 1) === 1));
 }
 
 function mouseByFields(event) {
   const inside = (name, most) => Math.max(0, Math.min(most, Math.floor(Number(el(name).value)) || 0));
   const keys = ["left", "middle", "right"].map((name) => Number(el(`${name}-key`).checked));
-  pointer.word = mouseWord(inside("x", 1023), inside("y", 767), ...keys);
+  pointer.word = mouseWord(inside("mouse-x", 1023), inside("mouse-y", 767), ...keys);
   return changeByHand(MOUSE, (pointer.sent = pointer.word), event);
 }
 
@@ -255,7 +255,7 @@ function makeDevices() {
 /** Sends the text of the field, each line break as a return, as a typed Enter is. If the machine takes none, the text stays. */
 async function sendSerial(event) {
   event.preventDefault();
-  const text = el("serial").value, lines = text.replaceAll("\n", "\r") + (el("return").checked ? "\r" : "");
+  const text = el("serial").value, lines = text.replaceAll("\n", "\r") + (el("serial-return").checked ? "\r" : "");
   if (!app.latest || !lines) return;
   const deaf = deafInPast() ?? (await app.live.ask("type", { serial: [...new TextEncoder().encode(lines)] }));
   if (deaf) return notice(`${deaf}. The text stays here.`);

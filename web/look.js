@@ -31,7 +31,7 @@ async function lookAt(count, isSettled = true) {
   const at = Math.max(0, Math.min(Math.floor(count), lanes.end));
   if (at === nowCount()) return backToNow(isSettled);
   look = { ...look, at };
-  write("again-said", "");
+  write("run-again-said", "");
   showLook(isSettled);
   const moment = await app.past.peek(at, { quick: !isSettled });
   if (moment && look.at === at) showMoment(moment);
@@ -48,9 +48,9 @@ async function runTo(goal) {
 async function runAgain() {
   const { at } = look;
   if (at === null || isAhead()) return;
-  write("again-said", "running again ..");
+  write("run-again-said", "running again ..");
   const answer = await app.past.recheck(at);
-  if (answer && look.at === at) write("again-said", saidOfAgain(answer));
+  if (answer && look.at === at) write("run-again-said", saidOfAgain(answer));
 }
 
 function saidOfAgain({ stopped, part }) {
@@ -61,7 +61,7 @@ function saidOfAgain({ stopped, part }) {
 /** Shows the machine as it is now. */
 async function backToNow(isSettled = true) {
   look = NOW;
-  write("again-said", "");
+  write("run-again-said", "");
   showLook(isSettled);
   if (!app.latest) return;
   el("nearly").hidden = true;
@@ -122,11 +122,11 @@ async function takeOverHere() {
 function showMode(frame) {
   const { on, isReplay, isTrue } = frame, [word, text] = isPast() ? pastMode() : modeOf(frame);
   write("run", isAhead() ? "Run to here" : on ? "Pause" : "Run");
-  set("take", { hidden: !isReplay || isPast() });
-  for (const name of ["take-here", "again"]) set(name, { hidden: !isPast() || isAhead() });
+  set("take-over", { hidden: !isReplay || isPast() });
+  for (const name of ["take-here", "run-again"]) set(name, { hidden: !isPast() || isAhead() });
   set("back-now", { hidden: !isPast() });
   write("name", app.work.generation ? app.work.name : "");
-  for (const name of ["mark", "next"]) set(name, { disabled: isPast() });
+  for (const name of ["make-checkpoint", "next"]) set(name, { disabled: isPast() });
   write("state-word", word);
   set("state-word", { className: word.toLowerCase() });
   const claim = isTrue ? "" : " A claim that was passed is false: what comes after it is what the machine does.";

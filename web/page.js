@@ -119,14 +119,14 @@ function offerImage(name, bytes) {
   app.image = { name, bytes };
   el("image-name").textContent = `${name}, ${grouped(bytes.length)} bytes,`;
   el("image").hidden = false;
-  el("address").focus();
+  el("image-address").focus();
 }
 
 async function openImage(event) {
   event.preventDefault();
   clearRefusal();
   const { name, bytes } = app.image;
-  await replaced(name, "openImage", { image: bytes, address: el("address").value, registers: el("registers").value });
+  await replaced(name, "openImage", { image: bytes, address: el("image-address").value, registers: el("image-registers").value });
 }
 
 function cancelImage() {
@@ -155,8 +155,8 @@ function showOpened({ claims, version, inputs, checkpoints, left }, work) {
   el("claims").hidden = !claims;
   el("pad").hidden = !isSnake();
   snakeLength = FIRST_LENGTH;
-  for (const name of ["run", "step", "save", "record", "picture", "find-before", "find-next", "who-leds"]) el(name).disabled = false;
-  if (claims) el("number").max = checkpoints;
+  for (const name of ["run", "step", "save-session", "save-recording", "save-screen", "find-before", "find-next", "who-leds"]) el(name).disabled = false;
+  if (claims) el("claim-number").max = checkpoints;
   else el("screen").focus({ preventScroll: true });
 }
 
@@ -241,7 +241,7 @@ function showStatus(frame) {
   const now = performance.now();
   if (frame.on && now < statusDue) return;
   statusDue = now + STATUS_MS;
-  write("say", sayOf(frame));
+  write("status", sayOf(frame));
   if (!isPast()) showCursor(!frame.on);
 }
 
@@ -297,7 +297,7 @@ async function saveRecording() {
   const begun = performance.now(), answer = await verdicts.own.check(name, made.bytes);
   if (!answer) return;
   if (answer.status === 0) noteChecked(made.count);
-  el("say").textContent = `${grouped(made.bytes.length)} bytes, checked in ${((performance.now() - begun) / 1000).toFixed(1)} s`;
+  el("status").textContent = `${grouped(made.bytes.length)} bytes, checked in ${((performance.now() - begun) / 1000).toFixed(1)} s`;
 }
 
 // Running
@@ -331,15 +331,15 @@ function listen() {
   listenToFiles();
   listenToDevices();
   on("notice", "click", () => notice());
-  on("full", "click", showFull);
-  el("full").hidden = !document.fullscreenEnabled;
-  on("picture", "click", savePicture);
+  on("full-screen", "click", showFull);
+  el("full-screen").hidden = !document.fullscreenEnabled;
+  on("save-screen", "click", savePicture);
   for (const name of TABS) on(`tab-${name}`, "click", () => showTab(name));
   for (const name of TABS) on(`tab-${name}`, "keydown", tabByKey);
   on("next", "click", () => app.live.ask("toCheckpoint", { fast: isFast(), seconds: everySeconds() }));
-  on("take", "click", takeOver);
+  on("take-over", "click", takeOver);
   for (const name of ["speed", "each"]) on(name, "change", () => app.live.ask("setPace", { fast: isFast(), seconds: everySeconds() }));
-  on("mark", "click", mark);
+  on("make-checkpoint", "click", mark);
   listenToTime();
   listenToMemory();
   listenToSearch();
@@ -354,15 +354,15 @@ function listenToFiles() {
   for (const name of ["snake", "play"]) on(name, "click", playSnake);
   on("choose", "click", () => el("file").click());
   on("image", "submit", openImage);
-  on("cancel", "click", cancelImage);
-  on("save", "click", saveSession);
-  on("record", "click", saveRecording);
+  on("image-cancel", "click", cancelImage);
+  on("save-session", "click", saveSession);
+  on("save-recording", "click", saveRecording);
   on("stop", "click", () => verdicts.file.stop());
   on("own-stop", "click", () => verdicts.own.stop());
-  on("number", "change", ({ target }) => showClaim(Number(target.value)));
-  on("before", "click", () => showClaim(Number(el("number").value) - 1));
-  on("after", "click", () => showClaim(Number(el("number").value) + 1));
-  on("from", "click", () => runOnFrom(Number(el("number").value)));
+  on("claim-number", "change", ({ target }) => showClaim(Number(target.value)));
+  on("claim-before", "click", () => showClaim(Number(el("claim-number").value) - 1));
+  on("claim-after", "click", () => showClaim(Number(el("claim-number").value) + 1));
+  on("run-on", "click", () => runOnFrom(Number(el("claim-number").value)));
 }
 
 /** Hears keys, the mouse and the other devices. */

@@ -76,12 +76,12 @@ function searchByForm(event) {
 
 /** Returns the conditions that the form says, or null if it says none: then the page says why. */
 function conditionsOfForm() {
-  const [kind, , about, valued] = WANTED.find(([one]) => one === Number(el("what").value));
-  const range = about ? rangeOf(el("from-value").value, about) : { from: 0, end: 1 };
-  if (!range) return notice(`${el("from-value").value}: ${FORMS[about]}`), null;
-  const fixed = { [TAKES]: Number(el("kind").value), [CHANGE]: ALL_BITS }[kind] ?? 0;
-  const value = valued ? valueOf(el("value").value) : fixed;
-  if (value === null) return notice(`${el("value").value}: a value is a number, hexadecimal after 0x, or a character in quotes.`), null;
+  const [kind, , about, valued] = WANTED.find(([one]) => one === Number(el("search-kind").value));
+  const range = about ? rangeOf(el("search-range").value, about) : { from: 0, end: 1 };
+  if (!range) return notice(`${el("search-range").value}: ${FORMS[about]}`), null;
+  const fixed = { [TAKES]: Number(el("input-kind").value), [CHANGE]: ALL_BITS }[kind] ?? 0;
+  const value = valued ? valueOf(el("search-value").value) : fixed;
+  if (value === null) return notice(`${el("search-value").value}: a value is a number, hexadecimal after 0x, or a character in quotes.`), null;
   return [{ kind, ...range, value }];
 }
 
@@ -115,19 +115,19 @@ function valueOf(text) {
 
 /** Shows the fields that what is searched for has. */
 function showFields() {
-  const [kind, , about, valued] = WANTED.find(([one]) => one === Number(el("what").value));
-  for (const [name, label] of [["from", about], ["value", valued]]) {
+  const [kind, , about, valued] = WANTED.find(([one]) => one === Number(el("search-kind").value));
+  for (const [name, label] of [["search-range", about], ["search-value", valued]]) {
     el(`${name}-label`).hidden = !label;
     el(`${name}-label`).firstElementChild.textContent = label ?? "";
   }
-  el("kind-label").hidden = kind !== TAKES;
+  el("input-kind-label").hidden = kind !== TAKES;
 }
 
 function listenToSearch() {
   const choice = ([value, text]) => Object.assign(made("option", text), { value });
-  el("what").replaceChildren(...WANTED.map(choice));
-  el("kind").replaceChildren(...KINDS.map((name, kind) => [kind, name]).slice(1).map(choice));
-  on("what", "change", showFields);
+  el("search-kind").replaceChildren(...WANTED.map(choice));
+  el("input-kind").replaceChildren(...KINDS.map((name, kind) => [kind, name]).slice(1).map(choice));
+  on("search-kind", "change", showFields);
   on("search", "submit", searchByForm);
   on("find-stop", "click", stopSearch);
   showFields();

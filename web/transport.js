@@ -62,7 +62,7 @@ const KEYS = {
   ArrowLeft: stepBack, ArrowRight: stepOn, "Shift+ArrowLeft": () => runInPast(true), "Shift+ArrowRight": runOrPause,
   ",": () => toInput(true), ".": () => toInput(false), "[": () => toClaim(true), "]": () => toClaim(false),
   Home: () => lookAt(0), End: toNow, PageUp: () => zoom(ZOOM), PageDown: () => zoom(1 / ZOOM), "+": () => zoom(ZOOM), "-": () => zoom(1 / ZOOM),
-  "−": () => zoom(1 / ZOOM), "=": () => zoom(ZOOM), g: () => el("goto").focus(), "/": () => el("what").focus(),
+  "−": () => zoom(1 / ZOOM), "=": () => zoom(ZOOM), g: () => el("goto").focus(), "/": () => el("search-kind").focus(),
   n: () => searchAgain(false), N: () => searchAgain(true), b: () => toggleBreak(field(shownState(), AT.PC)), w: watchSelected, Escape: endOrNow,
 };
 
@@ -97,11 +97,11 @@ function listenToTime() {
   on("now", "click", toNow);
   on("back-now", "click", () => backToNow());
   on("take-here", "click", takeOverHere);
-  on("again", "click", runAgain);
+  on("run-again", "click", runAgain);
   on("goto", "change", toWritten);
-  on("nearer", "click", () => zoom(ZOOM));
-  on("farther", "click", () => zoom(1 / ZOOM));
-  on("whole", "click", () => showSpan(...Object.values(wholeSpan())));
+  on("zoom-in", "click", () => zoom(ZOOM));
+  on("zoom-out", "click", () => zoom(1 / ZOOM));
+  on("zoom-all", "click", () => showSpan(...Object.values(wholeSpan())));
   on("time", "keydown", timeKey);
   on("track", "pointerdown", trackPressed);
   on("track", "pointermove", trackMoved);

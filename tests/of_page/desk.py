@@ -159,7 +159,7 @@ class Desk:
     def save(self, name: str, what: str) -> bytes:
         """Saves the recording; its line is the program's, and the program accepts it."""
         self.page.answer("verdicts.own.clear()")
-        self.click("record")
+        self.click("save-recording")
         self.page.wait(OWN_JUDGED)
         recording = self.saved(f"{name}-live.orsr")
         expect(what, (self.page.answer(OWN_LINE), 0), program("check", recording))

@@ -59,7 +59,7 @@ def measure(page: browser.Page, path: Path, seconds: float) -> Counter:
     page.wait("document.body.dataset.ready")
     page.choose("#g-file", path)
     page.wait("app.work.name === 'oberon' && app.latest && document.getElementById('g-line').textContent")
-    page.answer("el('take').click(); el('run').click()")
+    page.answer("el('take-over').click(); el('run').click()")
     page.wait("app.latest.on && !app.latest.isReplay && countOf(app.latest.state) > 50000000")
     before, begun = times(), time.monotonic()
     time.sleep(seconds)

@@ -79,7 +79,7 @@ def stroke(desk: Desk) -> None:
 def send_lines(desk: Desk) -> None:
     """Lines pasted into the field are sent as lines, several bytes a frame; in a replay the text stays, and keys typed while paused are said to have no effect."""
     page = desk.page
-    page.answer("el('return').checked = true")
+    page.answer("el('serial-return').checked = true")
     desk.draw()
     page.answer("el('serial').focus()")
     page.insert("one\ntwo")
@@ -165,7 +165,7 @@ def go_to_checkpoints(desk: Desk) -> None:
     desk.start("switched.orsr", switched)
     desk.click("next")
     page.wait("countOf(app.latest.state) === 20 && !app.latest.on")
-    expect("the controls after a replay", page.answer("[el('switches').querySelectorAll('input:checked').length, el('x').value]"), [2, "7"])
+    expect("the controls after a replay", page.answer("[el('switches').querySelectorAll('input:checked').length, el('mouse-x').value]"), [2, "7"])
     desk.draw()
     for _ in range(6):
         page.answer("app.live.ask('setPace', { fast: false, seconds: 0 })")

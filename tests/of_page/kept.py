@@ -50,7 +50,7 @@ def keep_each(desk: Desk) -> None:
     page.answer("el('speed').value = 'fast'; el('each').value = 1")
     for name in ("draw.json", "draw.json", "third.json", "fourth.json", "fifth.json"):
         desk.start(name, DRAW)
-        page.answer("el('x').value = 7; el('x').dispatchEvent(new Event('change', { bubbles: true }))")
+        page.answer("el('mouse-x').value = 7; el('mouse-x').dispatchEvent(new Event('change', { bubbles: true }))")
         desk.click("next" if name == "draw.json" else "step")
         page.wait(f"countOf(app.latest.state) === {25000000 if name == 'draw.json' else 1} && !app.latest.on && app.latest.hasOwn")
         page.answer("keep()")

@@ -89,7 +89,7 @@ def pinch_running(desk: Desk) -> None:
     page.touch("touchEnd")
     expect("whether it runs after a pinch", page.answer("[app.latest.on, isPast(), timeline.isWhole]"), [True, False, False])
     desk.pause()
-    desk.click("whole")
+    desk.click("zoom-all")
 
 
 def tap_dot(desk: Desk) -> None:
