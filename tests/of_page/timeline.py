@@ -268,9 +268,11 @@ def look_ahead(desk: Desk) -> None:
     print("ahead: what the file claims, which is said, and a run up to there")
 
 
+MET = f"!isPast() && !app.latest.on && {shown('found')}"
+
+
 def meet_breakpoint(desk: Desk) -> None:
-    """A run of the live machine is paused at a breakpoint that was set beside the listing, each time that it comes there, and at a watch; the
-    picture of it is saved."""
+    """A breakpoint is set beside the listing, and a run of the live machine is paused there; the picture of it is saved."""
     page = desk.page
     page.answer("el('speed').value = 'fast'")
     desk.start("face.json", (EXAMPLES / "face.json").read_bytes())
@@ -286,28 +288,34 @@ def meet_breakpoint(desk: Desk) -> None:
     page.wait("breaks.size")
     expect("the breakpoint beside the listing", page.answer("[...breaks]"), [6])
     desk.click("run")
-    met = f"!isPast() && !app.latest.on && {shown('found')}"
-    page.wait(f"{met} === 'PC 6 at 6'")
+    page.wait(f"{MET} === 'PC 6 at 6'")
     expect("where the machine is paused", page.answer("[field(app.latest.state, AT.PC), nowCount(), isPast()]"), [6, 6, False])
     page.wait("el('trace').querySelector('.here')")
     desk.click("save-screen")
     expect("the picture that is saved", desk.saved("face-6.png")[:4], b"\x89PNG")
-    page.answer("toggleBreak(6); toggleBreak(13)")
-    counts = []
+    page.answer("toggleBreak(6)")
+    print("breakpoint: set beside the listing, where a run is paused; and a picture saved")
+
+
+def meet_each(desk: Desk) -> None:
+    """A run is paused each time that it comes to a breakpoint, at either speed, and at a watch."""
+    page = desk.page
+    page.answer("toggleBreak(13)")
+    counts: list[int] = []
     for speed in ("fast", "clock", "fast"):
         page.answer(f"el('speed').value = '{speed}'")
         desk.click("run")
-        page.wait(f"nowCount() > {counts[-1] if counts else 6} && {met} === `PC 13 at ${{grouped(nowCount())}}`")
+        page.wait(f"nowCount() > {counts[-1] if counts else 6} && {MET} === `PC 13 at ${{grouped(nowCount())}}`")
         counts.append(page.answer("nowCount()"))
-    hits = [page.answer(f"app.past.find({{ from: {at}, to: nowCount() + 1, conditions: conditionsOfBreaks() }}).then((it) => it.at)") for at in (6, *(it + 1 for it in counts[:-1]))]
-    expect("where the machine is paused each time", counts, hits)
+    first = "app.past.find({{ from: {}, to: nowCount() + 1, conditions: conditionsOfBreaks() }}).then((it) => it.at)"
+    expect("where the machine is paused each time", counts, [page.answer(first.format(at)) for at in (6, *(it + 1 for it in counts[:-1]))])
     page.answer("toggleBreak(13); select(0xEECC8, 0xEECC9); watchSelected()")
     desk.click("run")
-    page.wait(f"{met} === 'a change of EECC8 to EECC9 at 4,838,732'")
+    page.wait(f"{MET} === 'a change of EECC8 to EECC9 at 4,838,732'")
     expect("the count before a watched byte changes", page.answer("nowCount()"), 4838732)
     page.answer("watchSelected()")
     desk.click("tab-state")
-    print("breakpoints: set beside the listing, at which a run is paused each time; a watch; and a picture saved")
+    print("breakpoints: a run is paused at one each time, and at a watch")
 
 
 def show_false(desk: Desk) -> None:
@@ -332,6 +340,18 @@ def show_false(desk: Desk) -> None:
     print("false: the machine's part beside the claimed one, of a register and of memory, and the instruction that made it so")
 
 
+def refuse_inputs(desk: Desk) -> None:
+    """In the past, the page says that switches, serial bytes and keys have no effect."""
+    page, why = desk.page, r"PAST: nothing goes to the machine until you take over, or go back to now\."
+    send = "el('serial').value = 'x'; el('serial-form').requestSubmit()"
+    for what, does in (("a switch", "el('switches').querySelector('input').click()"), ("serial bytes", send)):
+        page.answer(f"notice(); {does}")
+        desk.expect_notice(f"{what} in the past", f"{why}.*")
+    page.answer("notice(); el('serial').value = ''; el('screen').focus()")
+    page.press("z")
+    desk.expect_notice("a key in the past", why)
+
+
 def branch(desk: Desk) -> None:
     """After a take-over the recording goes on from there; the old one stays as a branch; both are accepted by the program."""
     page = desk.page
@@ -346,13 +366,7 @@ def branch(desk: Desk) -> None:
     page.press(",")
     page.wait(f"isPast() && {EXACT}")
     parent = page.answer("look.at")
-    send = "el('serial').value = 'x'; el('serial-form').requestSubmit()"
-    for what, does in (("a switch", "el('switches').querySelector('input').click()"), ("serial bytes", send)):
-        page.answer(f"notice(); {does}")
-        desk.expect_notice(f"{what} in the past", r"PAST: nothing goes to the machine until you take over, or go back to now\..*")
-    page.answer("notice(); el('serial').value = ''; el('screen').focus()")
-    page.press("z")
-    desk.expect_notice("a key in the past", r"PAST: nothing goes to the machine until you take over, or go back to now\.")
+    refuse_inputs(desk)
     expect("the inputs of the machine after them", page.answer("app.latest.inputs"), 2)
     desk.click("take-here")
     page.wait(f"!isPast() && nowCount() === {parent}")
@@ -436,6 +450,7 @@ def drive(desk: Desk) -> None:
     stop_search(desk)
     look_ahead(desk)
     meet_breakpoint(desk)
+    meet_each(desk)
     show_false(desk)
     branch(desk)
     ask_before_dropping(desk)
