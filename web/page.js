@@ -203,7 +203,7 @@ function showFrame(frame) {
 
 /** Shows a frame of the live machine, which is looked at now. */
 function showNow(frame, wasReplay) {
-  if (frame.dots) drawSoon(frame.dots);
+  if (frame.dots) drawSoon(frame.dots, true);
   showLamps(field(frame.state, AT.LEDs));
   if (frame.isReplay || wasReplay) followDevices(frame.state);
   write("when", "Registers");

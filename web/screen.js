@@ -4,7 +4,7 @@
 const LINE_BYTES = 128, LINES = 768, DOTS_WIDE = 1024, DISPLAY_AT = 4 * 237504;
 // In a wide window the screen leaves room for the tabs beside it, and is so high at least, in CSS pixels.
 const SIDE_ROOM = 420, LEAST_HEIGHT = 340, MARGIN = 24, WHOLE_SHARE = 0.7;
-const screens = { dots: null, isDue: false, images: new WeakMap() };
+const screens = { dots: null, isDue: false, isNews: false, images: new WeakMap() };
 
 /** Draws dots on a canvas, and repaints only the lines that changed. Line 0 is the lowest, and bit 0 of a byte is its leftmost
  * dot. Returns how many lines changed. */
@@ -30,14 +30,15 @@ function isSameLine(some, others, from) {
   return true;
 }
 
-/** Draws dots on the screen with the browser's next frame. */
-function drawSoon(dots) {
-  screens.dots = dots;
+/** Draws dots on the screen with the browser's next frame. Only what the machine did is news for the timeline, and not what is looked at. */
+function drawSoon(dots, isNews = false) {
+  Object.assign(screens, { dots, isNews });
   if (screens.isDue) return;
   screens.isDue = true;
   requestAnimationFrame(() => {
     screens.isDue = false;
-    noteChange(paint(el("screen"), screens.dots));
+    const lines = paint(el("screen"), screens.dots);
+    if (screens.isNews) noteChange(lines);
   });
 }
 

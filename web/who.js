@@ -50,7 +50,7 @@ function instructionLine({ word, pc }) {
 }
 
 function registersText(state) {
-  return REGISTERS.map((name, number) => `${name} ${hex(field(state, AT.R + 4 * number), 8)}`).join("  ");
+  return REGISTERS.map((name, number) => `${name}\u00a0${hex(field(state, AT.R + 4 * number), 8)}`).join("  ");
 }
 
 function showCard(title, parts) {
