@@ -3,12 +3,14 @@
 "use strict";
 
 const MOST_NAME = 80, MOST_STEPS = 2 ** 40, STORAGE_MS = 10000;
+// A machine that waits, with the same inputs as were kept, is kept so often while it runs: each time is a megabyte and more.
+const WAITING_MS = 60000;
 
 /** The recording in progress, as far as it is kept. It is replaced whole when another machine is opened. `generation` is the
- * worker's number of the machine, `id` that of the item, `kept` says what was kept last, and `by` who wrote it. */
+ * worker's number of the machine, `id` that of the item, `kept` says what was kept last, with its inputs and when, and `by` who wrote it. */
 class Work {
   constructor(name, generation = 0) {
-    Object.assign(this, { name, generation, id: null, kept: "", by: null, sent: "", isUnkept: false });
+    Object.assign(this, { name, generation, id: null, kept: "", inputs: "", at: -Infinity, by: null, sent: "", isUnkept: false });
     Object.assign(this, { release: null, isLocked: false });
   }
 
@@ -80,16 +82,17 @@ function inTurn(task) {
   return (keeping = keeping.then(task, task));
 }
 
-/** Keeps the recording in progress, if it has inputs of the user and has gone on since. */
-function keep() {
+/** Keeps the recording in progress, if it has inputs of the user and has gone on since. By time it is kept less often while it waits. */
+function keep(isByTime = false) {
   const { work } = app;
   return inTurn(() => attempt(async () => {
-    const { latest } = app, now = latest && `${countOf(latest.state)} ${latest.inputs} ${latest.typed}`;
-    if (app.work !== work || !latest?.hasOwn || work.kept === now) return;
+    const { latest } = app, inputs = latest && `${latest.inputs} ${latest.typed}`, now = latest && `${countOf(latest.state)} ${inputs}`;
+    const isWaiting = isByTime && latest?.isQuiet && work.inputs === inputs && performance.now() - work.at < WAITING_MS;
+    if (app.work !== work || !latest?.hasOwn || work.kept === now || isWaiting) return;
     const kept = await app.live.ask("kept");
     if (kept?.generation !== work.generation) return;
     await store(work, kept);
-    work.kept = now;
+    Object.assign(work, { kept: now, inputs, at: performance.now() });
   }));
 }
 

@@ -386,8 +386,8 @@ function listenToWindow() {
   addEventListener("fullscreenchange", showSized);
   const above = new ResizeObserver(fitScreen);
   for (const name of ["kept", "image", "verdicts"]) above.observe(el(name));
-  setInterval(keep, KEEP_MS);
-  document.addEventListener("visibilitychange", keep);
+  setInterval(() => keep(true), KEEP_MS);
+  document.addEventListener("visibilitychange", () => keep());
   addEventListener("beforeunload", (event) => app.work.isUnkept && event.preventDefault());
 }
 

@@ -59,7 +59,7 @@ function post(sent, dots) {
   posted = { dots: dots ?? posted.dots, noted: noted(), marks: machine.marks.length, at: performance.now() };
   const { inputs, given, next, marks, planned, isReplay, isTrue, arrivals, full, deaf, isAtLastCount, hasLastRoom } = machine;
   postMessage({
-    state: machine.state.slice(), dots, sent: sentText(sent), on: run.on, goal: run.goal ?? null,
+    state: machine.state.slice(), dots, sent: sentText(sent), on: run.on, isQuiet: run.on && isQuiet(), goal: run.goal ?? null,
     inputs: inputs.length, ahead: Math.max(0, given - next), marks: marks.length, planned: planned.length, isReplay, isTrue, full, isAtLastCount, hasLastRoom,
     listing: machine.listing(6, 14), typed: arrivals.typed, hasOwn: machine.own + arrivals.typed > 0, deaf,
     speed: run.on ? speedOf() : null, memory: library.size, frames: run.frames ?? 0, generation,

@@ -93,6 +93,23 @@ def keep_under_its_name(desk: Desk) -> None:
     print("kept: a machine that ran while a file was opened, once and under its name")
 
 
+def keep_seldom(desk: Desk) -> None:
+    """A machine that waits is kept less often by time, until something comes for it; and whenever it is paused."""
+    page = desk.page
+    desk.draw()
+    page.press("k")
+    page.wait("app.work.sent === 'k' && app.latest.isQuiet")
+    kept = page.answer("keep().then(() => app.work.kept)")
+    page.wait("nowCount() > Number(app.work.kept.split(' ')[0]) + 5000000 && app.latest.isQuiet")
+    expect("what is kept of it a moment later, by time", page.answer("keep(true).then(() => app.work.kept)"), kept)
+    page.press("l")
+    page.wait("app.work.sent === 'kl'")
+    expect("whether its next key is kept by time", page.answer("keep(true).then(() => app.work.kept.endsWith(' 2 0'))"), True)
+    desk.pause()
+    page.wait("app.work.kept.startsWith(`${nowCount()} `)")
+    print("kept: less often while a machine waits, and with each input")
+
+
 def resume_twice(desk: Desk) -> None:
     """Two tabs that resume one recording keep two, with locks and without them."""
     page = desk.page
@@ -232,3 +249,4 @@ def drive(desk: Desk) -> None:
     forget_and_undo(desk)
     survive_other_pages(desk)
     ask_before_dropping(desk)
+    keep_seldom(desk)
