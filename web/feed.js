@@ -2,8 +2,9 @@
  * with what was posted last, and only pages that changed are posted. */
 "use strict";
 
-// A keyframe comes after so many steps, once they took so long; or after many more, which a machine that waits does in a moment.
-const KEYFRAME_STEPS = 2500000, KEYFRAME_MS = 12, MOST_KEYFRAME_STEPS = 10 * KEYFRAME_STEPS;
+// A keyframe comes after so many steps, once they took so long; or after many more, which a machine that waits does in a moment. No machine
+// that works does so many steps in a millisecond.
+const KEYFRAME_STEPS = 2500000, KEYFRAME_MS = 12, MOST_KEYFRAME_STEPS = 10 * KEYFRAME_STEPS, WAITING_STEPS = 200000;
 // A fast run spends at most this part of its time on keyframes.
 const KEYFRAME_SHARE = 0.02;
 // How long the other side may take to hear of a cut.
@@ -12,7 +13,7 @@ const CUT_MS = 1000;
 class Feed {
   /** Posts to a port. The other side says there that it has heard of a cut, or wants to know how far the machine is. */
   constructor(machine, port) {
-    Object.assign(this, { machine, port, generation: 0, posted: 0, last: 0, took: 0, due: 0, memory: new Uint8Array(MEMORY_BYTES), cutHeard: () => {} });
+    Object.assign(this, { machine, port, generation: 0, posted: 0, last: 0, seen: 0, took: 0, due: 0, memory: new Uint8Array(MEMORY_BYTES), cutHeard: () => {} });
     port.onmessage = ({ data }) => (data.isCut ? this.cutHeard() : this.post({ isAnswer: true }));
   }
 
@@ -35,8 +36,10 @@ class Feed {
 
   /** Posts a keyframe after a turn that took some ms, if one is due. */
   follow(isFast, ms) {
-    this.took += ms;
-    const steps = this.machine.count - this.last, isLong = this.took >= KEYFRAME_MS || steps >= MOST_KEYFRAME_STEPS;
+    const { count } = this.machine, steps = count - this.last;
+    if (count - this.seen < WAITING_STEPS * ms) this.took += ms;
+    this.seen = count;
+    const isLong = this.took >= KEYFRAME_MS || steps >= MOST_KEYFRAME_STEPS;
     if (steps >= KEYFRAME_STEPS && isLong && !(isFast && performance.now() < this.due)) this.keyframe(false);
   }
 
