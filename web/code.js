@@ -46,7 +46,7 @@ function noteHit(count, what) {
 
 /** Has the live machine stop at the breakpoints and watches that there are now. */
 function tellBreaks() {
-  tell("setBreaks", { conditions: conditionsOfBreaks() });
+  send("setBreaks", { conditions: conditionsOfBreaks() });
 }
 
 /** Hears that the live machine has come to a breakpoint or a watch, and was paused before that instruction. */

@@ -85,7 +85,7 @@ function isRunning() {
 }
 
 function sendCodes(codes) {
-  tell("type", { keys: codes });
+  send("type", { keys: codes });
 }
 
 /** Sends a text that was composed as if it were typed, each character by its Latin-1 code. */
@@ -147,7 +147,7 @@ function leaveScreen(event) {
 
 /** Releases all PS/2 keys when the screen loses the focus. */
 function letGo() {
-  for (const code of [...held]) tell("type", { keys: codesOf({ type: "keyup", code, key: "" }) });
+  for (const code of [...held]) send("type", { keys: codesOf({ type: "keyup", code, key: "" }) });
 }
 
 // The mouse
@@ -188,7 +188,7 @@ function sendPointer(changes) {
   if (!on || deaf) return;
   const isNew = ([word]) => word !== pointer.sent && ((pointer.sent = word), true);
   const sent = changes.filter(isNew);
-  if (sent.length) tell("change", { kind: MOUSE, changes: sent });
+  if (sent.length) send("change", { kind: MOUSE, changes: sent });
 }
 
 /** Sends where the mouse is now, after it was moved while the machine did not run. */

@@ -1,4 +1,4 @@
-/* The page's way into the past of the live machine: it asks a worker that runs the past again (past.js), which the live worker tells
+/* The page's way into the past of the live machine: it asks a worker that runs the past again (past.js), to which the live worker reports
  * through a channel between the two. Answers about a machine that is no longer open are null. */
 "use strict";
 
@@ -12,7 +12,7 @@ class Past {
     Object.assign(this, { module, news, helper: null, generation: 0, wanted: null, isLooking: false, isSlow: false, crew: [] });
   }
 
-  /** Has the worker of the live machine tell its past from now on. */
+  /** Has the worker of the live machine report its past from now on. */
   connect(live) {
     this.helper = new Helper(this.module, (news) => this.heard(news));
     this.join(live, "connect", "listen");

@@ -19,7 +19,7 @@ const app = { module: null, live: null, past: null, work: new Work("live"), file
 const verdicts = { file: new Verdict("", "The file"), own: new Verdict("own-", "The recording that you saved,") };
 
 /** Asks the live machine for something whose answer nothing waits for. */
-function tell(ask, given) {
+function send(ask, given) {
   attempt(() => app.live.ask(ask, given));
 }
 

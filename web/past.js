@@ -1,5 +1,5 @@
 /* The past of the live machine: its state at any count, run again from a keyframe. A worker of its own looks, so that the live machine
- * is never held up; the live one's feed (feed.js) tells it what it needs. Looks come one after the other, and before each piece of a
+ * is never held up; the live one's feed (feed.js) posts it what it needs. Looks come one after the other, and before each piece of a
  * search (searches.js). */
 "use strict";
 
@@ -24,9 +24,9 @@ function nextTask() {
 }
 
 class History {
-  /** `tell` posts news to the page. */
-  constructor(library, tell) {
-    Object.assign(this, { library, tell, port: null, keyframes: new Keyframes(), inputs: new Inputs(), claims: null, liveTable: null });
+  /** `report` posts news to the page. */
+  constructor(library, report) {
+    Object.assign(this, { library, report, port: null, keyframes: new Keyframes(), inputs: new Inputs(), claims: null, liveTable: null });
     Object.assign(this, { looker: new Replayer(library), searcher: new Replayer(library) });
     // The number of the machine; a number of the past as it is known, since a machine that goes back has another one; how far the live
     // machine is known to be, how far its inputs are known, and where it began if that is not at the beginning.
@@ -195,11 +195,11 @@ class History {
    * look ends this one. */
   peek({ generation, at, quick = false }) {
     const number = ++this.peeks, begun = performance.now(), { looker } = this;
-    let isTold = false;
+    let isReported = false;
     const heard = () => {
-      if (isTold || performance.now() - begun + looker.msTo(at) <= SLOW_MS) return;
-      isTold = true;
-      this.tell({ peeked: { generation, at, exact: false, ...pictureOf(looker) } });
+      if (isReported || performance.now() - begun + looker.msTo(at) <= SLOW_MS) return;
+      isReported = true;
+      this.report({ peeked: { generation, at, exact: false, ...pictureOf(looker) } });
     };
     return this.look({ generation, at }, async (turn) => {
       await this.reach(looker, at, turn, { mayBeClaimed: this.mayBeClaimed(at), heard });

@@ -45,9 +45,9 @@ class Search {
   }
 
   /** Posts news, unless the search is over. */
-  tell(kind, news) {
+  report(kind, news) {
     const { history, generation, request } = this;
-    if (!this.isOver) history.tell({ [kind]: { generation, request, ...news } });
+    if (!this.isOver) history.report({ [kind]: { generation, request, ...news } });
   }
 
   /** Returns a function that posts how much is done, now and then. */
@@ -57,7 +57,7 @@ class Search {
       const now = performance.now();
       if (now < due) return;
       due = now + PROGRESS_MS;
-      this.tell("searched", { done, of });
+      this.report("searched", { done, of });
     };
   }
 }
@@ -101,12 +101,12 @@ class Searches {
   recheck({ generation, at }) {
     if (!isWhole(at)) throw new Refused(`${at} is not a count`);
     return this.begin({ generation, to: at }, async (search, end) => {
-      const { history } = this, { searcher, keyframes, inputs } = history, tell = search.progress(end);
+      const { history } = this, { searcher, keyframes, inputs } = history, report = search.progress(end);
       await history.reach(searcher, end, search.turn);
       const shown = copied(searcher.at(searcher.address));
       searcher.load(keyframes, keyframes.items[0]);
       while (searcher.count < end) {
-        tell(searcher.count);
+        report(searcher.count);
         searcher.advance(inputs, end);
         await search.turn();
       }
@@ -140,13 +140,13 @@ class Searches {
 
   /** Has pieces searched, as many at a time as the crew can. Returns the hit of the first piece that has one, once all before it are known
    * to have none; or null. */
-  async searched(pieces, pace, wanted, tell) {
+  async searched(pieces, pace, wanted, report) {
     const underWay = [];
     let done = 0, hit = null;
     const takeFirst = async () => {
       const { steps, found } = underWay.shift(), { hit: own, ms } = await found;
       pace.took(steps, ms);
-      tell((done += steps));
+      report((done += steps));
       hit = own;
     };
     for await (const { steps, isQuiet, ...piece } of pieces) {
@@ -216,7 +216,7 @@ class Searches {
     if (!word) return given ?? { initial: true };
     const gap = input ? null : await this.gapOfPart(AT[name], before, search);
     const probable = gap && (await this.findLast(gap.from, gap.to, conditions, search));
-    if (probable) search.tell("who", { ...(await this.instructionAt(probable.at, search)), sure: false });
+    if (probable) search.report("who", { ...(await this.instructionAt(probable.at, search)), sure: false });
     const hit = (await this.findLast(probable ? probable.at + 1 : given?.at ?? 0, before, conditions, search)) ?? probable;
     return hit ? this.instructionAt(hit.at, search) : given ?? { initial: true };
   }
@@ -237,7 +237,7 @@ class Searches {
     const change = { kind: CHANGE, from, end, value }, store = { kind: STORE, from, end };
     const gap = await this.gapOfChange({ from, value }, before, search);
     let found = gap && (await this.findLast(gap.from, gap.to, [change], search));
-    if (found) search.tell("who", { ...(await this.instructionAt(found.at, search)), sure: false });
+    if (found) search.report("who", { ...(await this.instructionAt(found.at, search)), sure: false });
     const after = found ? found.at + 1 : 0;
     const last = await this.findLast(after, before, [change, store], search);
     const stored = last?.which === 1 ? last : null;

@@ -27,7 +27,7 @@ function followGame({ state, sent, on, isReplay }, wasReplay) {
   if (sent && app.work.sent.endsWith(OVER)) return attempt(endGame);
   if (!on) return;
   const length = field(state, AT.LEDs);
-  if (length > snakeLength) tell("mark");
+  if (length > snakeLength) send("mark");
   snakeLength = length;
 }
 

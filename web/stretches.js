@@ -76,22 +76,22 @@ class Checker {
     Object.assign(this, { machine, size, library: machine.library });
   }
 
-  /** Returns the joined line of the stretches of a recording, its status, and their number. After each piece it calls `tell` with the number of
+  /** Returns the joined line of the stretches of a recording, its status, and their number. After each piece it calls `report` with the number of
    * steps done, and with the number of the last checkpoint that was found true. */
-  line(recording, tell) {
+  line(recording, report) {
     const { claims } = recording, last = claims.length - 1, table = firstTable(recording);
     let first = 0, stretches = 0;
     for (let size = Math.min(FIRST_STEPS, this.size); first < last; size = Math.min(this.size, 2 * size)) {
       const end = this.end(claims, first, size), begin = claims[first].count;
-      const found = this.found(stretch(recording, table, first, end), size, (steps) => tell(begin + steps, first));
+      const found = this.found(stretch(recording, table, first, end), size, (steps) => report(begin + steps, first));
       stretches++;
       if (found) {
         const number = first + found.number, { count } = claims[number];
-        tell(count, number - 1);
+        report(count, number - 1);
         return { line: falseLine({ number, count, part: found.part }), status: 1, stretches };
       }
       first = end;
-      tell(claims[end].count, end);
+      report(claims[end].count, end);
     }
     return { line: acceptedLine(allOf(claims)), status: 0, stretches };
   }
@@ -104,9 +104,9 @@ class Checker {
   }
 
   /** Returns what the line of a stretch says. A long stretch is run in frames, and its last frame is checked as a recording of its own. */
-  found(bytes, size, tell) {
+  found(bytes, size, report) {
     const recording = readRecording(bytes), { claims } = recording;
-    const isRun = claims.length === 2 && claims[1].count > 2 * size && this.run(recording, size, tell);
+    const isRun = claims.length === 2 && claims[1].count > 2 * size && this.run(recording, size, report);
     if (!isRun) return foundBy(this.library.check(bytes).line, claims);
     const { last, steps } = this.lastFrame(recording);
     return foundBy(this.library.check(last).line, [{ count: 0 }, { count: steps }]);
@@ -114,10 +114,10 @@ class Checker {
 
   /** Runs a stretch of two checkpoints up to its last frame, or until the machine stops: a stopped machine changes no more, so its frame may be long.
    * Returns whether it sent what is claimed, as far as it ran. */
-  run(recording, size, tell) {
+  run(recording, size, report) {
     const { machine } = this, [, { count, sent }] = recording.claims;
     machine.beginRecording(recording, 0);
-    for (this.sent = 0; count - machine.count > size && !machine.part("stop"); tell(machine.count)) {
+    for (this.sent = 0; count - machine.count > size && !machine.part("stop"); report(machine.count)) {
       const now = machine.advance(machine.count + size);
       if (!equal(now, sent.subarray(this.sent, this.sent + now.length))) return false;
       this.sent += now.length;

@@ -1,8 +1,8 @@
 /* The last part of the worker script: it answers the page's requests. Four kinds of workers run it. One has the live machine and
  * records it. Another, the clerk, checks, so that a long check can be stopped without touching the machine. A third one looks into the
- * past, which the live one tells it through a port; the crew search for it. A request is `{id, ask, ..}`, and its answer `{id, answer}`, `{id, refused}` with a
- * line for the user, or `{id, broken}` for a bug in this script. Messages that answer no request have no id, and a request without an
- * id gets no answer. */
+ * past, which the live one reports through a port; the crew search for it. A request is `{id, ask, ..}`, and its answer `{id, answer}`,
+ * `{id, refused}` with a line for the user, or `{id, broken}` for a bug in this script. Messages that answer no request have no id, and a
+ * request without an id gets no answer. */
 "use strict";
 
 const FRAME_MS = 1000 / 60, BUDGET_MS = 12, FIRST_CHUNK = 200000, LAG_MS = 100, PER_MS = PER_SECOND / 1000;
@@ -14,7 +14,7 @@ const PIECES = 48, PIECES_MS = 8;
 // A recording of up to one second of the machine's time is checked by one call.
 const WHOLE_STEPS = 25000000;
 
-// `feed` tells the past of the live machine, once it is connected; `history` is there in the worker that looks into the past.
+// `feed` reports to the past of the live machine, once it is connected; `history` is there in the worker that looks into the past.
 let library = null, machine = null, feed = null, history = null;
 let run = { on: false };
 // The conditions at which a run is paused: breakpoints and watches.
@@ -59,10 +59,10 @@ function post(sent, dots) {
   posted = { dots: dots ?? posted.dots, noted: noted(), marks: machine.marks.length, at: performance.now() };
   const { inputs, given, next, marks, planned, isReplay, isTrue, arrivals, full, deaf, isAtLastCount, hasLastRoom } = machine;
   postMessage({
-    state: machine.state.slice(), dots, sent: sentText(sent), on: run.on, isQuiet: run.on && isQuiet(), goal: run.goal ?? null,
-    inputs: inputs.length, ahead: Math.max(0, given - next), marks: marks.length, planned: planned.length, isReplay, isTrue, full, isAtLastCount, hasLastRoom,
-    listing: machine.listing(6, 14), typed: arrivals.typed, hasOwn: machine.own + arrivals.typed > 0, deaf,
-    speed: run.on ? speedOf() : null, memory: library.size, frames: run.frames ?? 0, generation,
+    state: machine.state.slice(), dots, listing: machine.listing(6, 14), sent: sentText(sent), generation, memory: library.size,
+    on: run.on, isQuiet: run.on && isQuiet(), goal: run.goal ?? null, speed: run.on ? speedOf() : null, frames: run.frames ?? 0,
+    inputs: inputs.length, ahead: Math.max(0, given - next), marks: marks.length, planned: planned.length, typed: arrivals.typed,
+    hasOwn: machine.own + arrivals.typed > 0, deaf, isReplay, isTrue, full, isAtLastCount, hasLastRoom,
   });
 }
 
@@ -302,7 +302,7 @@ const LIVE = {
     const showIt = () => show([], at !== undefined);
     return feed ? feed.cut().then(showIt) : showIt();
   },
-  /** Tells the past of this machine through a port from now on. */
+  /** Reports to the past of this machine through a port from now on. */
   connect({ port }) {
     feed = new Feed(machine, port);
     if (generation) feed.begin(generation);
@@ -379,9 +379,9 @@ const CLERK = {
 function checkStretches(recording, size) {
   const { claims } = recording, steps = claims.at(-1).count, begun = performance.now();
   let done = 0;
-  const tell = (now, judged) => postMessage({ done: (done = now), steps, judged, checkpoints: claims.length - 1 });
-  tell(0, 0);
-  const stretches = new Checker(machine, size).line(recording, tell);
+  const report = (now, judged) => postMessage({ done: (done = now), steps, judged, checkpoints: claims.length - 1 });
+  report(0, 0);
+  const stretches = new Checker(machine, size).line(recording, report);
   postMessage({ stretches, estimate: performance.now() - begun, steps: done });
 }
 
