@@ -92,8 +92,7 @@ function fillLine(parts, at, word, isHere) {
 async function showAround() {
   const at = shownCount();
   if (!app.latest || app.latest.on || !isTab("code")) return;
-  const after = Math.max(0, Math.min(DONE_AFTER, lanes.end - at));
-  const done = await app.past.around(at, Math.min(DONE_BEFORE, at), after);
+  const done = await app.past.around(at, Math.min(DONE_BEFORE, at), DONE_AFTER);
   if (done && at === shownCount()) el("trace").replaceChildren(...done.map((one) => doneLine(one, at)));
 }
 

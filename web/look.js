@@ -97,7 +97,7 @@ function showMoment(moment) {
 /** Hears what the past says between its answers. */
 function heardPast(news) {
   if (news.peeked && news.peeked.at === look.at) showMoment(news.peeked);
-  else if (news.searched) showSearched(news.searched);
+  else if (news.searched) showSearched(news.searched), showAsked(news.searched);
   else if (news.who) showWho(news.who);
   else if (news.refused || news.broken) notice(news.refused ?? news.broken);
 }

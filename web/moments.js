@@ -9,7 +9,7 @@ class Past {
   /** `news` hears what comes before an answer, `{peeked}`, `{searched}` and `{who}`, and that the worker is broken. The worker starts
    * when the live machine's is connected. */
   constructor(module, news) {
-    Object.assign(this, { module, news, helper: null, generation: 0, wanted: null, isLooking: false, isSlow: false, crew: [] });
+    Object.assign(this, { module, news, helper: null, generation: 0, wanted: null, isLooking: false, isSlow: false, crew: [], requests: 0 });
   }
 
   /** Has the worker of the live machine report its past from now on. */
@@ -88,6 +88,11 @@ class Past {
   /** Returns the instructions before and after a count. */
   around(at, before, after) {
     return this.ask("around", { at, before, after });
+  }
+
+  /** Returns a number for a search: what is posted of it has that number. */
+  numbered() {
+    return ++this.requests;
   }
 
   /** Asks for something that the crew searches. */

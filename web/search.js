@@ -16,7 +16,7 @@ let finding = { isOn: false, request: 0, begun: 0, conditions: null };
 async function search(conditions, isBack) {
   const at = shownCount(), [from, to] = isBack ? [0, at] : [at + 1, nowCount()];
   if (app.latest.on) await app.live.ask("setRun", { on: false });
-  const request = finding.request + 1, own = (finding = { isOn: true, request, begun: performance.now(), conditions });
+  const request = app.past.numbered(), own = (finding = { isOn: true, request, begun: performance.now(), conditions });
   showFinding("searching ..");
   const found = from < to ? await attempt(() => app.past.find({ from, to, last: isBack, conditions, request })) : { none: true };
   if (finding !== own) return undefined;

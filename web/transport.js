@@ -78,7 +78,7 @@ function timeKey(event) {
 
 /** Ends the search that is under way, or else goes to now. */
 function endOrNow() {
-  return finding.isOn ? stopSearch() : backToNow();
+  return finding.isOn || asking?.isOn ? stopSearch() : backToNow();
 }
 
 /** Pauses or runs, from anywhere in the page. */

@@ -1,45 +1,62 @@
 /* Who drew this dot, and who wrote this: a card with the instruction that wrote it last. */
 "use strict";
 
-// What was asked last, with the number of the request, and how many requests there were. An answer has the number of its request.
-let asking = null, requests = 0;
+// What was asked last: what it is about, the number of the request, which its answers have, and whether it is still searched for.
+let asking = null;
 
 /** Asks for the instruction that wrote something last before a count, which is that of the cursor if it is not given. */
 async function askWho(about, title, before = shownCount()) {
   if (!app.latest) return;
   if (app.latest.on) return notice("Pause the machine first: it is asked who wrote what is there at a count.");
-  const request = ++requests;
-  asking = { about, title, request };
-  showCard(title, [paragraph("searching ..", "hint")]);
+  const request = app.past.numbered();
+  asking = { about, title, request, isOn: true };
+  showCard(title, [paragraph("searching ..", "hint"), ...partsOfSearch()]);
   const answer = await attempt(() => app.past.who({ ...about, before, request }));
+  if (asking?.request === request) asking = { ...asking, isOn: false };
   showWho({ ...(answer ?? { stopped: true }), request });
 }
 
 /** Shows an answer to what was asked last: an instruction, probably or surely, or that it was there from the beginning. One that is only
  * surer changes texts, so that a press of a button stays one. */
-function showWho(answer) {
-  if (asking?.request !== answer.request) return;
-  const { at, stored } = answer, isShown = at !== undefined && asking.at === at;
+function showWho(given) {
+  if (asking?.request !== given.request) return;
+  // What was probably so stays there if the search for more is stopped.
+  const answer = given.stopped && asking.answer ? { ...asking.answer, stopped: true } : given;
+  const { at, stored } = answer, isShown = at !== undefined && asking.answer?.at === at;
   if (!isShown) showCard(asking.title, partsOfAnswer(answer, asking));
-  asking = { ...asking, at };
+  asking = { ...asking, answer };
   write("who-where", answerText(answer, asking.about));
   write("who-again", stored ? `Instruction ${grouped(stored.at)} wrote the same again.` : "");
+  if (!asking.isOn) el("who-search")?.remove();
 }
 
-function partsOfAnswer(answer, { about, title }) {
-  const { at, state } = answer, where = Object.assign(paragraph("", ""), { id: "g-who-where" });
+/** What a card has of a search that is under way: how far it is, and a button that ends it. */
+function partsOfSearch() {
+  const place = Object.assign(made("div", "", "hint"), { id: "g-who-search" }), far = Object.assign(made("span", ""), { id: "g-who-far" });
+  place.append(button("Stop", stopSearch), " ", far);
+  return [place];
+}
+
+/** Says how far the search for what was asked has come. */
+function showAsked({ request, done, of }) {
+  if (asking?.isOn && request === asking.request) write("who-far", `${grouped(done)} of ${grouped(of)} counts`);
+}
+
+function partsOfAnswer(answer, { about, title, isOn }) {
+  const { at, state } = answer, searching = isOn ? partsOfSearch() : [], where = Object.assign(paragraph("", ""), { id: "g-who-where" });
   const again = Object.assign(made("div", "", "hint"), { id: "g-who-again" });
-  if (at === undefined) return [where, again];
+  if (at === undefined) return [where, again, ...searching];
   const buttons = [button("Jump", () => lookAt(at)), button("Earlier", () => askWho(about, title, at))];
-  if (!state) return [where, ...buttons, again];
-  return [where, instructionLine(answer), ...buttons, again, made("code", registersText(state))];
+  if (!state) return [where, ...buttons, again, ...searching];
+  return [where, instructionLine(answer), ...buttons, again, ...searching, made("code", registersText(state))];
 }
 
 /** Says what wrote something: an instruction, an input, or none. */
 function answerText({ at, pc, sure, input, stopped }, { register, device }) {
-  if (stopped) return "The search was stopped.";
+  if (stopped && at === undefined) return "The search was stopped.";
   if (input) return `The input ${input[1]} ${hex(input[2], 2)} before instruction ${grouped(at)}: sure`;
-  if (at !== undefined) return `Instruction ${grouped(at)}, PC ${pc}: ${sure ? "sure" : "probably; still searching"}`;
+  const soFar = stopped ? "probably; the search was stopped" : "probably; still searching";
+  if (at !== undefined) return `Instruction ${grouped(at)}, PC ${pc}: ${sure ? "sure" : soFar}`;
   return `No instruction: it is as in the initial ${(register ?? device) === undefined ? "memory" : "state"}.`;
 }
 
@@ -63,7 +80,9 @@ function showCard(title, parts) {
   el("card").scrollIntoView({ block: "nearest" });
 }
 
+/** Closes the card, and ends the search for what is on it. */
 function closeCard() {
+  if (asking?.isOn) attempt(stopSearch);
   asking = null;
   el("card").hidden = true;
 }

@@ -155,10 +155,10 @@ def ask_who(desk: Desk) -> None:
     page.wait(f"{CARD}.includes(': sure')")
     found = page.answer("[...el('card').querySelectorAll('h2, p')].map((it) => it.textContent)")
     expect("who drew the dot", found, ["Who drew the dot 600,219", "Instruction 4,838,732, PC 41: sure", "STR R6, R13, 0  Mem[R13] := R6"])
-    stale = "{ request: requests - 1, at: 1, pc: 1, word: 0, state: app.latest.state, sure: false }"
+    stale = "{ request: asking.request - 1, at: 1, pc: 1, word: 0, state: app.latest.state, sure: false }"
     page.answer(f"window.jump = [...el('card').querySelectorAll('button')].find((it) => it.textContent === 'Jump'); heardPast({{ who: {stale} }})")
     expect("the card after an answer to another question", page.answer(f"[{CARD}.includes('4,838,732'), jump.isConnected]"), [True, True])
-    page.answer("heardPast({ who: { request: requests, at: 4838732, pc: 41, sure: false } })")
+    page.answer("heardPast({ who: { request: asking.request, at: 4838732, pc: 41, sure: false } })")
     expect("the card after a less sure answer", page.answer(f"[{CARD}.includes('probably'), jump.isConnected]"), [True, True])
     page.answer("jump.click()")
     page.wait(f"look.at === 4838732 && {EXACT}")
@@ -251,7 +251,16 @@ def stop_search(desk: Desk) -> None:
     page.press("Escape")
     page.wait(f"{shown('found')} === 'The search was stopped.' && el('find-stop').hidden")
     expect("where it stays", page.answer(WORD), "LIVE")
-    print("search: a long one says how far it is, and is stopped")
+    page.answer("registerCells.get('LEDs').holder.click()")
+    page.wait(f"/of [\\d,]+ counts/.test({CARD}) && el('who-search')")
+    page.answer("el('cursor').focus()")
+    page.press("Escape")
+    page.wait(f"{CARD}.includes('The search was stopped.') && !el('who-search') && !asking.isOn")
+    page.answer("registerCells.get('LEDs').holder.click()")
+    page.wait("asking.isOn && el('who-far').textContent")
+    page.answer("el('card').querySelector('.close').click()")
+    page.wait("asking === null && el('card').hidden")
+    print("search: a long one says how far it is, and is stopped; so is one that is asked for, by Escape, and by closing its card")
 
 
 def look_ahead(desk: Desk) -> None:
