@@ -9,8 +9,8 @@ from functools import cache
 from pathlib import Path
 from typing import NoReturn
 
-import browser
-from samples import PROGRAM, TOP, run
+from of_tools import browser
+from of_tools.samples import PROGRAM, TOP, run
 
 PAGE = TOP / "web/galluspa.html"
 CTRL, SHIFT = 2, 8

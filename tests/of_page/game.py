@@ -5,9 +5,9 @@ import re
 import time
 
 import galluspa.recording
-from desk import SENT, Desk, expect, fail, shown
-from samples import EXAMPLES
-from timeline import EXACT, look_at, page_dots, run_to_end
+from of_page.desk import SENT, Desk, expect, fail, shown
+from of_tools.samples import EXAMPLES
+from of_page.timeline import EXACT, look_at, page_dots, run_to_end
 
 CARD, LINE_OF_CARD, CHEAT = shown("card"), "el('card').querySelector('.line').textContent", "el('card').querySelector('.cheat .line.false')"
 POINTS = "el('card').querySelector('h2')?.textContent"

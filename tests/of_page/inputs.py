@@ -3,11 +3,11 @@
 import json
 import time
 
-import browser
+from of_tools import browser
 import galluspa.recording
-from desk import SENT, SHIFT, Desk, expect, fail
-from samples import EXAMPLES, JUMP, record, session
-from kept import DRAW
+from of_page.desk import SENT, SHIFT, Desk, expect, fail
+from of_tools.samples import EXAMPLES, JUMP, record, session
+from of_page.kept import DRAW
 
 MOUSE, KEYS, PER_SECOND, PER_MS = 3, 7 << 24, 25000000, 25000
 # The bytes of the display's lines in which something is drawn, each as often as there are such lines.

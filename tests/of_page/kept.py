@@ -3,9 +3,9 @@
 from collections.abc import Iterator
 from contextlib import contextmanager
 
-import browser
-from desk import PAGE, SENT, Desk, expect, fail
-from samples import EXAMPLES, rejoining
+from of_tools import browser
+from of_page.desk import PAGE, SENT, Desk, expect, fail
+from of_tools.samples import EXAMPLES, rejoining
 
 DRAW = (EXAMPLES / "draw.json").read_bytes()
 ITEMS = "withKept('readonly', (store) => store.getAll()).then((all) => all.map(({ name, count, sent }) => [name, count, sent]))"

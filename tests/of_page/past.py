@@ -6,8 +6,8 @@ import shutil
 import subprocess
 from pathlib import Path
 
-from desk import PAGE, expect, fail, program
-from samples import EXAMPLES, TOP, rejoining, tool
+from of_page.desk import PAGE, expect, fail, program
+from of_tools.samples import EXAMPLES, TOP, rejoining, tool
 
 EXAMPLES_USED = ("draw.json", "face.json", "face.orsr")
 # Programs, each with the words of its labels that the tests name.

@@ -5,9 +5,9 @@ import re
 import struct
 
 import galluspa.recording
-from desk import HOW, LINE, MODE, NOTICE, OWN_LINE, Desk, expect, fail, program
+from of_page.desk import HOW, LINE, MODE, NOTICE, OWN_LINE, Desk, expect, fail, program
 from galluspa.recording import Event
-from samples import EXAMPLES, JUMP, PROGRAM, STORED, claim, encoded, page_of, record, rejoining, run, session
+from of_tools.samples import EXAMPLES, JUMP, PROGRAM, STORED, claim, encoded, page_of, record, rejoining, run, session
 
 # Sends a byte with every other instruction.
 SENDER = session([0x5100FFC8, 0xA0100000, 0xE7FFFFFE], [])

@@ -6,8 +6,8 @@ import re
 import time
 
 import galluspa.recording
-from desk import CTRL, JUDGED, OWN_LINE, SENT, SHIFT, Desk, expect, fail, program, shown
-from samples import EXAMPLES, JUMP, PROGRAM, claim, encoded, page_of, rejoining, run, session
+from of_page.desk import CTRL, JUDGED, OWN_LINE, SENT, SHIFT, Desk, expect, fail, program, shown
+from of_tools.samples import EXAMPLES, JUMP, PROGRAM, claim, encoded, page_of, rejoining, run, session
 
 FACE = (EXAMPLES / "face.orsr").read_bytes()
 WORD, CARD, WORDS = shown("state-word"), shown("card"), "el('cursor').getAttribute('aria-valuetext')"

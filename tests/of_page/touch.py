@@ -1,7 +1,7 @@
 """The page under fingers: cards are tapped, Snake is played by its buttons, the cursor is dragged, the timeline is pinched, a dot is asked about."""
 
-from desk import Desk, expect, fail, shown
-from timeline import CARD, EXACT, FACE, WORD, run_to_end
+from of_page.desk import Desk, expect, fail, shown
+from of_page.timeline import CARD, EXACT, FACE, WORD, run_to_end
 
 
 def middle(desk: Desk, element: str) -> tuple[float, float]:

@@ -1,0 +1,1 @@
+"""What tests/page does with the page and with its module."""
