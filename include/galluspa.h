@@ -95,8 +95,9 @@ uint8_t galluspa_claim(const uint8_t *text, size_t text_len, uint32_t at, gallus
  * GALLUSPA_OUT_OF_MEMORY, and then nothing is written. All numbers are tested before anything is allocated, so
  * GALLUSPA_OUT_OF_MEMORY means that they are in their ranges.
  *
- * A call copies the memory. However far it runs, it holds at most some 2.3 MB, 16 bytes for each input, and three times sent_len +
- * 65,536 bytes: the run stops as soon as there is no room for what the machine has sent. */
+ * A call copies the memory, and at its end the pages that changed. However far it runs, it holds at most some 3.8 MB (1.1 MB if no
+ * page changes), 4 KB for each page with code that runs, 16 bytes for each input, and three times sent_len + 65,536 bytes: the run
+ * stops as soon as there is no room for what the machine has sent. */
 uint8_t galluspa_advance(galluspa_state *state, uint32_t *words, size_t words_len, const galluspa_input *inputs, size_t inputs_len,
                          uint64_t to, uint8_t *sent, size_t sent_len, size_t *sent_count);
 
