@@ -5,10 +5,10 @@ ghost use Rattle.risc_core.specs.Arithmetic.{overflows, sum_with, difference_wit
 
 use crate::word::is_set;
 
-/// The number of words, 2^32.
-const WORDS: u64 = 1 << 32;
+/// The number of values of a word, 2^32.
+const WORD_VALUES: u64 = 1 << 32;
 
-/// Half the number of words: signed values are from minus this number to one below it.
+/// Half the number of values of a word: signed values are from minus this number to one below it.
 const HALF: i64 = 1 << 31;
 
 /// The result of a sum or a difference.
@@ -40,7 +40,7 @@ const fn overflows(number: i64) -> bool
     requires high { number ≤ℤ pos (2 ^ 33 - 1) }
     ensures { result ≡ overflows number }
 {
-    (number + HALF).cast_unsigned() >= WORDS
+    (number + HALF).cast_unsigned() >= WORD_VALUES
 }
 
 #[inline(always)]
