@@ -1,6 +1,7 @@
 //! Memory: a map from word number to word, in copy-on-write pages of a pool; and its changes.
 ghost use Rattle.std.specs.Prelude.{◌≡◌, ◌+◌, ◌/◌, ◌<◌, ◌≤◌, ℕ, All, OnOk, OnErr, IfOk, IfNone, IfSome, IsOk};
 ghost use Rattle.std.specs.Prelude.{Some, true, false, slice_get, slice_index, slice_range, slice_set};
+ghost use Rattle.risc_pages.specs.declared.sizes.TheConstants.{MEMORY_WORDS};
 ghost use Rattle.risc_pages.specs.Tables.{table_words, IsContent, IsNamed};
 ghost use Rattle.risc_pages.specs.Contents.{IsMemory};
 ghost use Rattle.risc_pages.specs.Delta.{places_of, AreDifferences, IsDelta, IsFirstDifferentPage};
@@ -36,11 +37,12 @@ impl<'a> Model for Memory<'a> {
     ghost Value = { Contents };
 
     ghost use Rattle.std.specs.Prelude.{length, ◌≡◌};
+    ghost use Rattle.risc_pages.specs.declared.sizes.TheConstants.{PAGE_SLOTS};
     ghost use Rattle.risc_pages.specs.inner.Slots.{contents_of};
 
     ghost view = { λ m. contents_of m.slots.items };
 
-    ghost invariant = { λ m. length m.slots.items ≡ 1024 };
+    ghost invariant = { λ m. length m.slots.items ≡ PAGE_SLOTS };
 }
 
 impl<'a> Memory<'a> {
@@ -64,7 +66,7 @@ impl<'a> Memory<'a> {
     /// Returns the word with this number.
     #[inline(always)]
     pub fn read(&self, word_no: u32) -> u32
-        requires { word_no < 262144 }
+        requires { word_no < MEMORY_WORDS }
         ensures word { result ≡ slice_index self.now.words word_no }
         ensures memory { IsMemory self.now }
     {
@@ -79,13 +81,13 @@ impl<'a> Memory<'a> {
     /// copy, the write fails and the memory is unchanged. A write to an owned page allocates nothing.
     #[inline(always)]
     pub fn write(&mut self, word_no: u32, value: u32) -> Result<(), AllocError>
-        requires { word_no < 262144 }
+        requires { word_no < MEMORY_WORDS }
         ensures ok { OnOk result (self.new.words ≡ slice_set self.old.words word_no value) }
-        ensures owned { OnOk result (self.new.owned ≡ slice_set self.old.owned (word_no / 256) true) }
+        ensures owned { OnOk result (self.new.owned ≡ slice_set self.old.owned (word_no / PAGE_WORDS) true) }
         ensures base { self.new.base ≡ self.old.base }
         ensures err { OnErr result (self.new ≡ self.old) }
-        ensures out_of_memory { OnErr result (slice_get self.old.owned (word_no / 256) ≡ Some false) }
-        ensures succeeds { slice_get self.old.owned (word_no / 256) ≡ Some true → IsOk result }
+        ensures out_of_memory { OnErr result (slice_get self.old.owned (word_no / PAGE_WORDS) ≡ Some false) }
+        ensures succeeds { slice_get self.old.owned (word_no / PAGE_WORDS) ≡ Some true → IsOk result }
     {
         let slot = (word_no / PAGE_WORDS) as usize;
         let index = (word_no % PAGE_WORDS) as usize;
@@ -110,12 +112,12 @@ impl<'a> Memory<'a> {
     /// Writes one word if its page is private. Returns whether it is; if not, the memory is unchanged. It allocates nothing.
     #[inline(always)]
     pub fn write_owned(&mut self, word_no: u32, word: u32) -> bool
-        requires { word_no < 262144 }
+        requires { word_no < MEMORY_WORDS }
         ensures words { result ≡ true → self.new.words ≡ slice_set self.old.words word_no word }
-        ensures owned { result ≡ true → self.new.owned ≡ slice_set self.old.owned (word_no / 256) true }
+        ensures owned { result ≡ true → self.new.owned ≡ slice_set self.old.owned (word_no / PAGE_WORDS) true }
         ensures base { self.new.base ≡ self.old.base }
         ensures unchanged { result ≡ false → self.new ≡ self.old }
-        ensures answer { slice_get self.old.owned (word_no / 256) ≡ Some result }
+        ensures answer { slice_get self.old.owned (word_no / PAGE_WORDS) ≡ Some result }
     {
         let slot = (word_no / PAGE_WORDS) as usize;
         let index = (word_no % PAGE_WORDS) as usize;
@@ -131,7 +133,7 @@ impl<'a> Memory<'a> {
 
     /// Reports whether a page slot has a private page.
     pub fn owned(&self, slot: u16) -> bool
-        requires { slot < 1024 }
+        requires { slot < PAGE_SLOTS }
         ensures owned { slice_get self.now.owned slot ≡ Some result }
         ensures memory { IsMemory self.now }
     {
@@ -143,7 +145,7 @@ impl<'a> Memory<'a> {
 
     /// Returns the `n` words from word number `from` on.
     pub fn words(&self, alloc: Global, from: u32, n: u32) -> Result<Vec<u32>, AllocError>
-        requires { from + n ≤ 262144 }
+        requires { from + n ≤ MEMORY_WORDS }
         ensures { IfOk result (λ words. words.items ≡ slice_range self.now.words from (from + n)) }
     {
         let mut words = Vec::with_capacity(alloc, n as usize)?;
@@ -165,14 +167,14 @@ impl<'a> Memory<'a> {
         if slot < PAGE_SLOTS { Some(slot) } else { None }
     }
 
-    /// Returns the least page slot whose content differs from that of the table over the pool, or 1024 if there is none.
+    /// Returns the least page slot whose content differs from that of the table over the pool, or [`PAGE_SLOTS`] if there is none.
     ///
     /// The loop is in a function of its own, so that each iteration is a few machine instructions.
     #[inline(never)]
     fn least_other(&self, pool: &Pool, table: &Table) -> u16
         requires { IsNamed pool.now table.now.numbers }
-        ensures none { 1024 ≤ result → self.now.words ≡ table_words pool.now table.now.numbers }
-        ensures some { result < 1024 → IsFirstDifferentPage self.now.words (table_words pool.now table.now.numbers) result }
+        ensures none { PAGE_SLOTS ≤ result → self.now.words ≡ table_words pool.now table.now.numbers }
+        ensures some { result < PAGE_SLOTS → IsFirstDifferentPage self.now.words (table_words pool.now table.now.numbers) result }
     {
         let numbers = table.numbers();
         let mut slot = 0;

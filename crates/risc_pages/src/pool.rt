@@ -2,6 +2,7 @@
 
 ghost use Rattle.std.specs.Prelude.{◌≡◌, ◌++◌, ◌∷◌, [], ◌<◌, ◌≤◌, ◌^◌, ◌↔◌, ℕ, false};
 ghost use Rattle.std.specs.Prelude.{IsTrue, length, slice_index, OnOk, OnErr, IfOk};
+ghost use Rattle.risc_pages.specs.declared.sizes.TheConstants.{PAGE_WORDS};
 ghost use Rattle.risc_pages.specs.Pages.{page_of, ArePages};
 ghost use Rattle.risc_pages.specs.inner.Slots.{content, is_owned};
 
@@ -85,7 +86,7 @@ impl Pool {
     #[inline]
     pub fn word(&self, page_id: u32, i: u32) -> u32
         requires named { page_id ≤ length self.now }
-        requires inside { i < 256 }
+        requires inside { i < PAGE_WORDS }
         ensures { result ≡ slice_index (page_of self.now page_id) i }
     {
         self.page(page_id).words[i as usize]

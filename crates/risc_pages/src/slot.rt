@@ -2,6 +2,7 @@
 
 ghost use Rattle.std.specs.Prelude.{◌≡◌, ◌≢◌, ◌↔◌, ◌<◌, ◌≤◌, ℕ, length, slice_set};
 ghost use Rattle.std.specs.Prelude.{IsTrue, IfNone, IfSome, OnOk, OnErr, true, false};
+ghost use Rattle.risc_pages.specs.declared.sizes.TheConstants.{PAGE_WORDS};
 ghost use Rattle.risc_pages.specs.Pages.{page_of, ArePages};
 ghost use Rattle.risc_pages.specs.inner.Slots.{content, base_of, TakesCopy};
 
@@ -84,7 +85,7 @@ pub(crate) fn copy_on_write<'a>(
     word: u32,
 ) -> Result<(), AllocError>
     requires slot_inside { slot < length slots.old.items }
-    requires index_inside { index < 256 }
+    requires index_inside { index < PAGE_WORDS }
     ensures ok { OnOk result (TakesCopy slots.old.items slots.new.items slot base.now.words (slice_set base.now.words index word)) }
     ensures err { OnErr result (slots.new ≡ slots.old) }
 {

@@ -1,13 +1,16 @@
 //! The table of a memory: the page id of each slot. The pages are in a pool.
 
 ghost use Rattle.std.specs.Prelude.{◌≡◌, ◌<◌, ◌^◌, ℕ, All, length, slice_index, slice_set};
+ghost use Rattle.risc_pages.specs.declared.sizes.TheConstants.{PAGE_SLOTS};
 ghost use Rattle.risc_pages.specs.Tables.{zero_numbers};
+
+use crate::sizes::PAGE_SLOTS;
 
 /// The page ids of the 1,024 slots of a memory.
 #[derive(Drop)]
 pub struct Table {
-    pub numbers: [u32; 1024],
-    pub ghost count: { length numbers ≡ 1024 },
+    pub numbers: [u32; PAGE_SLOTS as usize],
+    pub ghost count: { length numbers ≡ PAGE_SLOTS },
     pub ghost fit: { All (λ n. n < 2 ^ 32) numbers },
 }
 
@@ -16,7 +19,9 @@ impl Table {
     pub fn zeros() -> Self
         ensures { result.numbers ≡ zero_numbers }
     {
-        Table { numbers: [0; 1024] }
+        Table {
+            numbers: [0; PAGE_SLOTS as usize],
+        }
     }
 
     /// Returns a table with the same page ids.
@@ -31,7 +36,7 @@ impl Table {
     /// Returns the page id in a slot.
     #[inline]
     pub fn entry(&self, slot: u16) -> u32
-        requires { slot < 1024 }
+        requires { slot < PAGE_SLOTS }
         ensures { result ≡ slice_index self.now.numbers slot }
     {
         self.numbers()[slot as usize]
@@ -40,7 +45,7 @@ impl Table {
     /// Sets the page id of a slot.
     #[inline]
     pub fn set(&mut self, slot: u16, page_id: u32)
-        requires { slot < 1024 }
+        requires { slot < PAGE_SLOTS }
         ensures { self.new.numbers ≡ slice_set self.old.numbers slot page_id }
     {
         self.numbers[slot as usize] = page_id;
