@@ -6,7 +6,7 @@ use Rattle.std.proofs.lemmas.List.FromFn.{length-range_with_len}
 use Rattle.std.specs.List.{All, filter, range_with_len}
 use Rattle.std.specs.Prelude.{slice_index, slice_set}
 use Rattle.risc_pages.specs.declared.page.Page.{Page}
-use Rattle.risc_pages.specs.Delta.{IsDelta, changed_below, differs_at, places_of}
+use Rattle.risc_pages.specs.Delta.{IsDelta, changed_below, differs_at, changed_slots}
 use Rattle.risc_pages.proofs.DeltaLemmas.{AreDifferences-changed_below}
 use Rattle.oberon_session.proofs.Mapped.{unmapped}
 use Rattle.risc_pages.specs.Pages.{page_at}
@@ -37,7 +37,7 @@ with-page words slot = (slot, page_at words slot)
 
 module _ (words : List ℕ) where
   pages-with : (changed : List (ℕ × Page)) → All (λ (c : ℕ × Page). c.1.words ≡ page_at words c.0) changed
-      → map changed_page_view changed ≡ map (with-page words) (places_of changed)
+      → map changed_page_view changed ≡ map (with-page words) (changed_slots changed)
   pages-with [] all = refl
   pages-with (c ∷ changed) all =
       let first : c.1.words ≡ page_at words c.0 = all 0 c (omega arith) in
@@ -47,7 +47,7 @@ module _ (words : List ℕ) where
 -- the changes of a memory are the pages that changed
 pub changes : (base words : List ℕ) (changed : List (ℕ × Page)) → IsDelta base words changed → map changed_page_view changed ≡ changed_pages base words
 changes base words changed delta =
-    pages-with words changed delta.pages ∙ ap (λ (slots : List ℕ). map (with-page words) slots) delta.places
+    pages-with words changed delta.pages ∙ ap (λ (slots : List ℕ). map (with-page words) slots) delta.slots
 
 -- ---- how many pages change, and where
 

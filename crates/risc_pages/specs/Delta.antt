@@ -15,12 +15,12 @@ unfoldable pub changed_below : ℕ → List ℕ → List ℕ → List ℕ
 changed_below n base words = filter (differs_at base words) (range_with_len 0 n)
 
 -- the page slots of a delta
-abbrev pub places_of : List (ℕ × Page) → List ℕ
-places_of changed = map (λ (c : ℕ × Page). c.0) changed
+abbrev pub changed_slots : List (ℕ × Page) → List ℕ
+changed_slots changed = map (λ (c : ℕ × Page). c.0) changed
 
 -- a delta lists the slots that differ, each with the page that is now in it
 pub record IsDelta (base words : List ℕ) (changed : List (ℕ × Page)) : Type 0 where
-  pub places : places_of changed ≡ changed_below 1024 base words
+  pub slots : changed_slots changed ≡ changed_below 1024 base words
   pub pages : All (λ (c : ℕ × Page). c.1.words ≡ page_at words c.0) changed
 
 -- the law of these slots: they rise, each one differs, and each slot that differs is one of them

@@ -4,7 +4,7 @@ ghost use Rattle.std.specs.Prelude.{Some, true, false, slice_get, slice_index, s
 ghost use Rattle.risc_pages.specs.declared.sizes.TheConstants.{MEMORY_WORDS};
 ghost use Rattle.risc_pages.specs.Tables.{table_words, IsContent, IsNamed};
 ghost use Rattle.risc_pages.specs.Contents.{IsMemory};
-ghost use Rattle.risc_pages.specs.Delta.{places_of, AreDifferences, IsDelta, IsFirstDifferentPage};
+ghost use Rattle.risc_pages.specs.Delta.{changed_slots, AreDifferences, IsDelta, IsFirstDifferentPage};
 
 use crate::page::Page;
 use crate::pool::Pool;
@@ -190,7 +190,7 @@ impl<'a> Memory<'a> {
     /// Returns the page slots whose content differs from the table that the memory was made from, with their pages.
     fn changes(&self) -> Result<Vec<(u16, Page)>, AllocError>
         ensures delta { IfOk result (λ changed. IsDelta self.now.base self.now.words changed.items) }
-        ensures differences { IfOk result (λ changed. AreDifferences self.now.base self.now.words (places_of changed.items)) }
+        ensures differences { IfOk result (λ changed. AreDifferences self.now.base self.now.words (changed_slots changed.items)) }
     {
         let mut changed = Vec::new(self.alloc);
         for slot in 0..PAGE_SLOTS {
@@ -205,7 +205,7 @@ impl<'a> Memory<'a> {
     /// memory, also if there is no memory for the answer.
     pub fn close(self) -> Result<Delta, AllocError>
         ensures delta { IfOk result (λ delta. IsDelta self.entry.base self.entry.words delta.changed.items) }
-        ensures differences { IfOk result (λ d. AreDifferences self.entry.base self.entry.words (places_of d.changed.items)) }
+        ensures differences { IfOk result (λ d. AreDifferences self.entry.base self.entry.words (changed_slots d.changed.items)) }
     {
         let changed = self.changes()?;
         Ok(Delta { changed })
