@@ -5,8 +5,8 @@ use Rattle.risc_model.specs.declared.event.Event.{Event}
 use Rattle.oberon_format.proofs.One.{same_event}
 use Rattle.oberon_format.specs.Defined.{Outcome}
 use Rattle.oberon_format.specs.Recording.{RecordingParts}
-use Rattle.oberon_format.specs.Text.{Text, TextIn}
-use Rattle.oberon_format.specs.TextFields.{first_fault_of}
+use Rattle.oberon_format.specs.Text.{Text, IsEncoding}
+use Rattle.oberon_format.specs.ByteFields.{first_fault_of}
 use Rattle.oberon_format.specs.Laws.{HasOneRecording}
 use Rattle.oberon_format.specs.declared.layout.TheConstants.{VERSION}
 use Rattle.oberon_session.specs.Extended.{HasRoom, IsExtendFault, IsExtended, IsNext, outcome_of}
@@ -49,7 +49,7 @@ module _ (text : List ℕ) (inputs : List RawInput) (state : RawState) (words se
   of-state : (P : ℕ → Outcome → Type 0) → P claim.count (outcome_of claim) → P state.count (claim_of state words sent)
   of-state P is = subst (P state.count) outcome (subst (λ (n : ℕ). P n (outcome_of claim)) count is)
 
-  pub is-extension : (new : RecordingParts) (new_text : List ℕ) → IsMore text inputs claim new → TextIn VERSION new_text new
+  pub is-extension : (new : RecordingParts) (new_text : List ℕ) → IsMore text inputs claim new → IsEncoding VERSION new_text new
       → IsExtension text inputs state words sent new_text
   is-extension new new_text more text_is = record {
     old = more.old;

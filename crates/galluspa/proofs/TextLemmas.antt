@@ -3,18 +3,18 @@ use Rattle.std.proofs.Common.{◌≡◌, ◌≢◌, ◌∙◌, ℕ, List, Err, I
 use Rattle.oberon_format.specs.Line.{IsNamedFault}
 use Rattle.oberon_format.specs.Recording.{RecordingParts}
 use Rattle.oberon_format.specs.Text.{Text}
-use Rattle.oberon_format.specs.TextFields.{AnswersText, first_fault_of}
+use Rattle.oberon_format.specs.ByteFields.{AnswersBytes, first_fault_of}
 use Rattle.oberon_format.specs.declared.fault.Fault.{Fault}
-use Rattle.oberon_format.proofs.Named.{text_named}
+use Rattle.oberon_format.proofs.Named.{fault_named}
 use Rattle.oberon_answers.proofs.ReadLemmas.{first-fault, good-answer}
 use Rattle.galluspa.specs.Claim.{IsNoRecording}
 
 -- what is read is the recording of the bytes
-pub read-text : (text : List ℕ) (recording : RecordingParts) → AnswersText text (Text text) (Ok recording) → Text text recording
+pub read-text : (text : List ℕ) (recording : RecordingParts) → AnswersBytes text (Text text) (Ok recording) → Text text recording
 read-text text recording = good-answer text (Text text) recording
 
 -- bytes that are read have no fault
-pub no-fault : {A : Type 0} (text : List ℕ) (IsGood : A → Type 0) (answer : A) → AnswersText text IsGood (Ok answer) → first_fault_of text ≡ None
+pub no-fault : {A : Type 0} (text : List ℕ) (IsGood : A → Type 0) (answer : A) → AnswersBytes text IsGood (Ok answer) → first_fault_of text ≡ None
 no-fault text IsGood answer is = search arith
 
 memory-only : {A : Type 0} (first : Option Fault) (IsGood : A → Type 0) (why : Fault)
@@ -26,10 +26,10 @@ memory-only (Some fault) IsGood why same memory named =
     absurd (subst IsNamedFault (sym other ∙ memory) named)
 
 -- .. nor have those for which memory ran out, since no rule is broken with that
-pub no-fault-memory : {A : Type 0} (text : List ℕ) (IsGood : A → Type 0) (why : Fault) → AnswersText text IsGood (Err why) → why ≡ Fault.Memory
+pub no-fault-memory : {A : Type 0} (text : List ℕ) (IsGood : A → Type 0) (why : Fault) → AnswersBytes text IsGood (Err why) → why ≡ Fault.Memory
     → first_fault_of text ≡ None
-no-fault-memory text IsGood why is memory = memory-only (first_fault_of text) IsGood why is memory (text_named text)
+no-fault-memory text IsGood why is memory = memory-only (first_fault_of text) IsGood why is memory (fault_named text)
 
 -- .. and they are not a recording
-pub no-text : (text : List ℕ) (why : Fault) → AnswersText text (Text text) (Err why) → why ≢ Fault.Memory → IsNoRecording text
+pub no-text : (text : List ℕ) (why : Fault) → AnswersBytes text (Text text) (Err why) → why ≢ Fault.Memory → IsNoRecording text
 no-text text why answer other = record { fault = why; is_first = first-fault text (Text text) why answer other }

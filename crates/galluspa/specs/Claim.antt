@@ -4,7 +4,7 @@ use Rattle.oberon_format.specs.declared.fault.Fault.{Fault}
 use Rattle.oberon_format.specs.Defined.{claimed}
 use Rattle.oberon_format.specs.Recording.{RecordingParts, count_at}
 use Rattle.oberon_format.specs.Text.{Text}
-use Rattle.oberon_format.specs.TextFields.{first_fault_of}
+use Rattle.oberon_format.specs.ByteFields.{first_fault_of}
 use Rattle.galluspa.specs.declared.raw.RawState.{RawState}
 use Rattle.galluspa.specs.Raw.{state_of}
 

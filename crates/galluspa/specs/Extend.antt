@@ -2,7 +2,7 @@
 use Rattle.std.specs.Prelude.{ℕ, ◌≡◌, ◌⊎◌, List}
 use Rattle.oberon_format.specs.Defined.{Outcome}
 use Rattle.oberon_format.specs.Recording.{RecordingParts}
-use Rattle.oberon_format.specs.Text.{Text, TextIn}
+use Rattle.oberon_format.specs.Text.{Text, IsEncoding}
 use Rattle.oberon_format.specs.declared.layout.TheConstants.{VERSION}
 use Rattle.oberon_session.specs.Extended.{HasRoom, IsBegun, IsExtendFault, IsExtended, IsNext}
 use Rattle.oberon_session.specs.declared.extend_fault.ExtendFault.{ExtendFault}
@@ -23,7 +23,7 @@ pub record IsBeginning (state : RawState) (words text : List ℕ) : Type 0 where
   pub begins : state.count ≡ 0
   pub recording : RecordingParts
   pub begun : IsBegun (state_of state words) recording
-  pub text_is : TextIn VERSION text recording
+  pub text_is : IsEncoding VERSION text recording
 
 -- ---- the next checkpoint
 
@@ -62,7 +62,7 @@ pub record IsExtension (text : List ℕ) (inputs : List RawInput) (state : RawSt
   pub room : HasRoom old events state.count (claim_of state words sent)
   pub new : RecordingParts
   pub extended : IsExtended old events state.count (claim_of state words sent) new
-  pub text_is : TextIn VERSION new_text new
+  pub text_is : IsEncoding VERSION new_text new
 
 -- the bytes are a recording, and this is why it is not extended by what follows
 pub record HasExtendFault (text : List ℕ) (inputs : List RawInput) (state : RawState) (words sent : List ℕ) (fault : ExtendFault)

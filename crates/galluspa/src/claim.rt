@@ -2,7 +2,7 @@
 ghost use Rattle.std.specs.Prelude.{◌≡◌, ◌≢◌, ◌<◌, ◌≤◌, None, OnErr, OnOk, length};
 ghost use Rattle.oberon_format.specs.Defined.{claimed};
 ghost use Rattle.oberon_format.specs.Recording.{count_at};
-ghost use Rattle.oberon_format.specs.TextFields.{first_fault_of};
+ghost use Rattle.oberon_format.specs.ByteFields.{first_fault_of};
 ghost use Rattle.galluspa.specs.Claim.{HasNoCheckpoint, IsClaim, IsNoRecording};
 ghost use Rattle.galluspa.specs.Raw.{IsWritten, state_of};
 

@@ -1,8 +1,8 @@
 //! Recordings that a caller makes while a machine runs: the beginning, and the next checkpoint.
 ghost use Rattle.std.specs.Prelude.{◌≡◌, ◌≢◌, ◌<◌, ◌≤◌, ◌⊎◌, IfErr, IfNone, IfOk, IfSome, drop, length, take};
 ghost use Rattle.risc_core.specs.declared.branch.TheConstants.{COUNTER_END};
-ghost use Rattle.oberon_format.specs.Text.{TextIn};
-ghost use Rattle.oberon_format.specs.TextFields.{first_fault_of};
+ghost use Rattle.oberon_format.specs.Text.{IsEncoding};
+ghost use Rattle.oberon_format.specs.ByteFields.{first_fault_of};
 ghost use Rattle.oberon_format.specs.declared.layout.TheConstants.{VERSION};
 ghost use Rattle.oberon_session.specs.Extended.{outcome_of};
 ghost use Rattle.oberon_session.specs.declared.extend_fault.ExtendFault.{ExtendFault};
@@ -88,7 +88,7 @@ fn claim_of<'a>(state: &RawState, words: &'a [u32], sent: &'a [u8]) -> Option<Cl
 }
 
 fn written(alloc: Global, recording: Recording) -> Result<Vec<u8>, Unrecorded>
-    ensures text { IfOk result (λ bytes. TextIn VERSION bytes.items recording) }
+    ensures text { IfOk result (λ bytes. IsEncoding VERSION bytes.items recording) }
     ensures memory { IfErr result (λ refusal. refusal ≡ Unrecorded.Memory) }
 {
     match write(alloc, &recording) {

@@ -2,7 +2,7 @@
 use Rattle.std.specs.Prelude.{◌≡◌, ◌⊎◌, ℕ, List, Option, Some, None, ◌++◌, codes}
 use Rattle.std.specs.Fmt.{decimal}
 use Rattle.oberon_format.specs.Recording.{RecordingParts, count_at, last_of}
-use Rattle.oberon_format.specs.Text.{TextIn}
+use Rattle.oberon_format.specs.Text.{IsEncoding}
 use Rattle.oberon_format.specs.declared.layout.TheConstants.{VERSION}
 use Rattle.oberon_check.specs.Headline.{IsLineOf}
 use Rattle.oberon_check.specs.Line.{line_of}
@@ -32,7 +32,7 @@ IsAccepted r bytes = IsLineOf bytes (line_of (Accepted (last_of r) (count_at r (
 -- the session's recording, in the current version; all its checkpoints are true
 pub record IsRecording (session : SessionParts) (output : List ℕ) (status : ℕ) : Type 0 where
   pub no_fault : record_fault_of session ≡ None
-  pub output_is : TextIn VERSION output (recording_of session)
+  pub output_is : IsEncoding VERSION output (recording_of session)
   pub accepted : IsAccepted (recording_of session) output
   pub status_is : status ≡ 0
 

@@ -2,7 +2,7 @@
 use Rattle.std.proofs.Common.{◌<◌, ℕ, List, arith, inl, length, refl}
 use Rattle.oberon_format.specs.Defined.{IsTrueAt}
 use Rattle.oberon_format.specs.Recording.{RecordingParts, count_at, last_of}
-use Rattle.oberon_format.specs.Text.{Text, TextIn}
+use Rattle.oberon_format.specs.Text.{Text, IsEncoding}
 use Rattle.oberon_format.specs.declared.layout.TheConstants.{VERSION}
 use Rattle.oberon_check.specs.Headline.{IsLineOf}
 use Rattle.oberon_check.specs.Line.{line_of}
@@ -25,6 +25,6 @@ accepted-text r bytes is_text truth = inl (record {
 })
 
 -- one of the version that is written
-pub accepted : (r : RecordingParts) (bytes : List ℕ) → TextIn VERSION bytes r → ((k : ℕ) → k < length r.checkpoints → IsTrueAt r k)
+pub accepted : (r : RecordingParts) (bytes : List ℕ) → IsEncoding VERSION bytes r → ((k : ℕ) → k < length r.checkpoints → IsTrueAt r k)
     → IsLineOf bytes (line_of (Accepted (last_of r) (count_at r (last_of r)))) 0
 accepted r bytes is_text = accepted-text r bytes (record { version = VERSION; is = is_text })

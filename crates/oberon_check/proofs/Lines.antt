@@ -4,7 +4,7 @@ use Rattle.std.specs.Prelude.{MatchOption}
 use Rattle.oberon_format.specs.declared.fault.Fault.{Fault}
 use Rattle.oberon_format.specs.Recording.{RecordingParts}
 use Rattle.oberon_format.specs.Text.{Text, AreBytes}
-use Rattle.oberon_format.specs.TextFields.{first_fault_of}
+use Rattle.oberon_format.specs.ByteFields.{first_fault_of}
 use Rattle.oberon_format.specs.Line.{fault_line}
 use Rattle.oberon_format.specs.Laws.{HasOneRecording, HasFileOrFault}
 use Rattle.oberon_check.specs.Verdict.{IsVerdict}

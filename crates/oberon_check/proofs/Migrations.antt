@@ -6,7 +6,7 @@ use Rattle.oberon_format.specs.declared.layout.TheConstants.{VERSION}
 use Rattle.oberon_format.specs.Laws.{HasOneRecording, HasFileOrFault}
 use Rattle.oberon_format.specs.Recording.{RecordingParts}
 use Rattle.oberon_format.specs.Text.{AreBytes, Text}
-use Rattle.oberon_format.specs.TextFields.{first_fault_of}
+use Rattle.oberon_format.specs.ByteFields.{first_fault_of}
 use Rattle.oberon_check.specs.Headline.{IsLineOf}
 use Rattle.oberon_check.specs.Laws.{SameLine}
 use Rattle.oberon_check.specs.Verdict.{IsVerdict}

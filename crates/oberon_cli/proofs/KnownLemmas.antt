@@ -25,7 +25,7 @@ use Rattle.oberon_cli.specs.declared.arguments.Request.TheVariants.{Check, Migra
 use Rattle.oberon_cli.specs.declared.failure.Failure.TheVariants.{Memory, Read, Words}
 use Rattle.oberon_format.specs.declared.layout.TheConstants.{LONGEST_TEXT}
 use Rattle.recording_limits.specs.declared.limits.TheConstants.{LONGEST_SESSION}
-use Rattle.oberon_format.proofs.Cut.{cut_is_no_text, first_fault_of-take}
+use Rattle.oberon_format.proofs.Cut.{cut_is_no_recording, first_fault_of-take}
 use Rattle.oberon_cli.proofs.Parsed.{asked_none}
 
 -- of a reader whose bytes are known, the first `limit` of them
@@ -52,17 +52,17 @@ cut_fault n bytes line status over within is =
 
 -- a file that is cut is no recording file, so its line is that of the whole
 cut_report : (n : ℕ) (bytes line : List ℕ) (status : ℕ) → LONGEST_TEXT < n → n ≤ length bytes → IsLineOf (take n bytes) line status → IsLineOf bytes line status
-cut_report n bytes line status over within (inl is) = absurd (cut_is_no_text n bytes is.recording over within is.is_text)
+cut_report n bytes line status over within (inl is) = absurd (cut_is_no_recording n bytes is.recording over within is.is_text)
 cut_report n bytes line status over within (inr is) = inr (cut_fault n bytes line status over within is)
 
 -- and so is the answer of `screen`
 cut_screen : (n at : ℕ) (bytes text : List ℕ) (status : ℕ) → LONGEST_TEXT < n → n ≤ length bytes → IsScreen at (take n bytes) text status → IsScreen at bytes text status
-cut_screen n at bytes text status over within (inl is) = absurd (cut_is_no_text n bytes is.recording over within is.read)
+cut_screen n at bytes text status over within (inl is) = absurd (cut_is_no_recording n bytes is.recording over within is.read)
 cut_screen n at bytes text status over within (inr is) = inr (cut_fault n bytes text status over within is)
 
 -- and that of `migrate`
 cut_migration : (n : ℕ) (bytes text : List ℕ) (status : ℕ) → LONGEST_TEXT < n → n ≤ length bytes → IsMigration (take n bytes) text status → IsMigration bytes text status
-cut_migration n bytes text status over within (inl is) = absurd (cut_is_no_text n bytes is.migrated.recording over within is.migrated.read)
+cut_migration n bytes text status over within (inl is) = absurd (cut_is_no_recording n bytes is.migrated.recording over within is.migrated.read)
 cut_migration n bytes text status over within (inr is) = inr (cut_fault n bytes text status over within is)
 
 -- the fault of a session that is cut after more bytes than a session may have is that of the whole

@@ -8,7 +8,7 @@ use Rattle.oberon_format.proofs.Encoded.{AreAt, encoding_parts, length-encoding,
 use Rattle.oberon_format.proofs.PartLemmas.{member, table_next}
 use Rattle.oberon_format.proofs.RuleLemmas.{version_cases}
 use Rattle.oberon_format.proofs.SameFields.{SameFields, mixed, same_rules, same_size}
-use Rattle.oberon_format.proofs.TextLemmas.{later_first, later_second, number_first, number_second, numbers_none}
+use Rattle.oberon_format.proofs.ReadRules.{later_first, later_second, number_first, number_second, numbers_none}
 use Rattle.oberon_format.specs.declared.fault.Fault.TheVariants as fault
 
 -- an event at an offset has its fields there

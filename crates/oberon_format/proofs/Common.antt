@@ -52,8 +52,8 @@ unfoldable pub use Rattle.oberon_format.specs.PartFields.{changes_in, checkpoint
 pub use Rattle.oberon_format.specs.Ranges.{are_keys, in_ranges, is_change, is_checkpoint, is_count, is_event, is_output, is_version}
 pub use Rattle.oberon_format.specs.Recording.{IsFit, IsLawful, RecordingParts, checkpoint_at, output_of, parts_of, table_before}
 unfoldable pub use Rattle.oberon_format.specs.Rules.{change_rules, changed_rules, checkpoint_rules, count_before, end_rules, event_floor, event_rules, field_rules, header_rules, limit_rules, named_len, offset_of_event, page_id_rules, slot_floor, prior_page_id, file_len, whole_rules}
-pub use Rattle.oberon_format.specs.Text.{AreBytes, HasStillTimer, Text, TextIn}
-unfoldable pub use Rattle.oberon_format.specs.TextFields.{change_at, change_of, checkpoint_of, event_of, fields_of, first_fault_of, page_id_before, page_id_of}
+pub use Rattle.oberon_format.specs.Text.{AreBytes, HasStillTimer, Text, IsEncoding}
+unfoldable pub use Rattle.oberon_format.specs.ByteFields.{change_at, change_of, checkpoint_of, event_of, fields_of, first_fault_of, page_id_before, page_id_of}
 pub use Rattle.oberon_format.specs.declared.change.Change.{Change}
 pub use Rattle.oberon_format.specs.declared.checkpoint.Checkpoint.{Checkpoint}
 pub use Rattle.oberon_format.specs.declared.fault.Fault.{Fault}

@@ -243,14 +243,14 @@ first_fault_of-take n bytes over within = same_rules (fields_of (take n bytes)) 
 
 -- the longest file has a header, 65,536 pages, 1,000,000 events, 4,097 checkpoints that change each
 -- slot of the table, and the output
-pub text_within : (bytes : List ℕ) (r : RecordingParts) → Text bytes r → length bytes ≤ LONGEST_TEXT
-text_within bytes r some =
+pub file_within : (bytes : List ℕ) (r : RecordingParts) → Text bytes r → length bytes ≤ LONGEST_TEXT
+file_within bytes r some =
     let lawful = some.is.lawful in
     let long = ap (λ (l : List ℕ). length l) some.is.is ∙ length-encoding some.version r lawful.pool (lawful_formed r lawful) in
     omega (arith, start_in_within some.version r (length r.checkpoints), lawful.pages, lawful.events, lawful.few, lawful.output)
 
 -- so no file of a recording is cut there
-pub cut_is_no_text : (n : ℕ) (bytes : List ℕ) (r : RecordingParts) → LONGEST_TEXT < n → n ≤ length bytes → Text (take n bytes) r → ⊥
-cut_is_no_text n bytes r over within is =
-    let short : length (take n bytes) ≤ LONGEST_TEXT = text_within (take n bytes) r is in
+pub cut_is_no_recording : (n : ℕ) (bytes : List ℕ) (r : RecordingParts) → LONGEST_TEXT < n → n ≤ length bytes → Text (take n bytes) r → ⊥
+cut_is_no_recording n bytes r over within is =
+    let short : length (take n bytes) ≤ LONGEST_TEXT = file_within (take n bytes) r is in
     omega (arith, simp length-take at short)

@@ -5,7 +5,7 @@ use Rattle.oberon_format.proofs.ChangeLemmas.{AreLawful, after-bounded, after-sa
 use Rattle.oberon_format.proofs.PartLemmas.{member, table_next}
 use Rattle.oberon_format.proofs.RuleLemmas.{each_holds, and_left, and_right, FieldsMet, checkpoint_holds, output_below, output_below_more, output_below_none, version_cases, none_hold}
 use Rattle.oberon_format.proofs.Walk.{change_rises, change_inside, change_differs}
-use Rattle.oberon_format.proofs.TextLemmas.{prior_is, checkpoint_changed, later_first, later_second, number_first, number_second, numbers_none}
+use Rattle.oberon_format.proofs.ReadRules.{prior_is, checkpoint_changed, later_first, later_second, number_first, number_second, numbers_none}
 use Rattle.oberon_format.proofs.Agree.{encoding_agrees}
 use Rattle.oberon_format.proofs.Bytes.{HasBytes, IsBytes, all_bytes, bytes_join, length-long_bytes, length-words_bytes, length-words_from, long_back, parts_back, word_of, words_back, serial_whole}
 use Rattle.oberon_format.proofs.Encoded.{AreAt, header_words, length-changes, length-common_bytes, length-key_bytes, parts_encoding}

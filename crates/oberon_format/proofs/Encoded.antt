@@ -1,5 +1,5 @@
 -- The parts of an encoding at their offsets.
-use Rattle.oberon_format.proofs.Common.{[], All-from_recursion, ap, AreFormed, ArePages, AreWritable, arith, Bool, cases_lt, Change, change_bytes, CHANGE_LEN, changes, CHANGES_AT, changes_in, checkpoint_at, checkpoint_bytes, CHECKPOINT_LEN, checkpoint_size, CheckpointParts, checkpoints_bytes, common_bytes, COMMON_LEN, cond, DeviceState, drop, drop_at, EachAt, encoding, Event, event_bytes, EVENT_LEN, event_start, false, field_words, FIRST_VERSION, flat_map, get_or, get_or_default, header_bytes, HEADER_LEN, inl, inr, is_phase, is_version, IsFormed, IsLawful, IsPhase, IsTable, IsWritable, key_bytes, tail_words, length, length-append, length-replicate, List, MAGIC, MAX_KEYS, mouse_word_fits, nat_tests, no_change, no_checkpoint, output_of, PAGE_LEN, page_offset, RecordingParts, refl, start_in, subst, suc, sym, table_before, tail_bytes, take, take-append-drop, TextIn, true, VERSION, words_bytes, zero, ℕ, ◌*◌, ◌++◌, ◌+◌, ◌<◌, ◌==◌, ◌^◌, ◌∙◌, ◌∷◌, ◌≡◌, ◌≤◌}
+use Rattle.oberon_format.proofs.Common.{[], All-from_recursion, ap, AreFormed, ArePages, AreWritable, arith, Bool, cases_lt, Change, change_bytes, CHANGE_LEN, changes, CHANGES_AT, changes_in, checkpoint_at, checkpoint_bytes, CHECKPOINT_LEN, checkpoint_size, CheckpointParts, checkpoints_bytes, common_bytes, COMMON_LEN, cond, DeviceState, drop, drop_at, EachAt, encoding, Event, event_bytes, EVENT_LEN, event_start, false, field_words, FIRST_VERSION, flat_map, get_or, get_or_default, header_bytes, HEADER_LEN, inl, inr, is_phase, is_version, IsFormed, IsLawful, IsPhase, IsTable, IsWritable, key_bytes, tail_words, length, length-append, length-replicate, List, MAGIC, MAX_KEYS, mouse_word_fits, nat_tests, no_change, no_checkpoint, output_of, PAGE_LEN, page_offset, RecordingParts, refl, start_in, subst, suc, sym, table_before, tail_bytes, take, take-append-drop, IsEncoding, true, VERSION, words_bytes, zero, ℕ, ◌*◌, ◌++◌, ◌+◌, ◌<◌, ◌==◌, ◌^◌, ◌∙◌, ◌∷◌, ◌≡◌, ◌≤◌}
 use Rattle.oberon_format.proofs.Bytes.{AreWide, HasBytes, HaveLength, bytes_whole, bytes_join, bytes_left, bytes_right, length-long_bytes, length-parts, length-word_bytes, length-words_bytes, parts_back, parts_read}
 use Rattle.oberon_format.proofs.ChangeLemmas.{change_in, changes-lawful, changes-new}
 use Rattle.oberon_format.proofs.LawfulLemmas.{flags_fit, lawful_formed, serial_fits}
@@ -206,9 +206,9 @@ writable r p = record {
 }
 
 -- a lawful recording has an encoding in the current version
-pub encoded : (r : RecordingParts) → IsLawful r → TextIn VERSION (encoding VERSION r) r
+pub encoded : (r : RecordingParts) → IsLawful r → IsEncoding VERSION (encoding VERSION r) r
 encoded r lawful = record { lawful = lawful; known = refl; still = λ first. absurd (omega arith); is = refl }
 
 -- the parts of a file's recording are in it
-pub text_parts : (v : ℕ) (bytes : List ℕ) (r : RecordingParts) → TextIn v bytes r → AreAt v bytes r
-text_parts v bytes r is = subst (λ (bytes : List ℕ). AreAt v bytes r) (sym is.is) (encoding_parts v r is.lawful.pool (lawful_formed r is.lawful))
+pub encoded_parts : (v : ℕ) (bytes : List ℕ) (r : RecordingParts) → IsEncoding v bytes r → AreAt v bytes r
+encoded_parts v bytes r is = subst (λ (bytes : List ℕ). AreAt v bytes r) (sym is.is) (encoding_parts v r is.lawful.pool (lawful_formed r is.lawful))

@@ -5,7 +5,7 @@ pub mod ChangeLemmas
 pub mod Walk
 pub mod Room
 pub mod Output
-pub mod TextLemmas
+pub mod ReadRules
 pub mod PartLemmas
 pub mod SameFields
 pub mod PartRules

@@ -35,8 +35,8 @@ first_named [] named = tt
 first_named ((true, fault) ∷ rules) named = first_named rules named.1
 first_named ((false, fault) ∷ rules) named = named.0
 
-pub text_named : (bytes : List ℕ) → IfSome (first_fault_of bytes) IsNamedFault
-text_named bytes = first_named (rules (fields_of bytes)) (rules_named (fields_of bytes))
+pub fault_named : (bytes : List ℕ) → IfSome (first_fault_of bytes) IsNamedFault
+fault_named bytes = first_named (rules (fields_of bytes)) (rules_named (fields_of bytes))
 
 pub parts_named : (r : RecordingParts) → IfSome (fault_of_parts r) IsNamedFault
 parts_named r = first_named (rules (fields_in VERSION r)) (rules_named (fields_in VERSION r))

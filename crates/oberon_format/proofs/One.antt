@@ -1,7 +1,7 @@
 -- A file is that of at most one recording: an encoding determines what it encodes, and where it ends.
-use Rattle.oberon_format.proofs.Common.{[], All, ap, AreWritable, arith, checkpoint_at, CheckpointParts, rate_and_phase, DeviceState, drop, drop_at, Event, field_words, FIRST_VERSION, Flags, flags_back, flags_number, flags_of, get_or, get_or_default, Input, is_version, HasStillTimer, key_bytes, length, List, MAX_KEYS, no_checkpoint, output_of, props, RecordingParts, refl, replicate, same_devices, same_input, same_lists, slice_index, start, start_in, subst, suc, sym, take, take_at, Text, TextIn, true, version, zero, ℕ, ◌-◌, ◌<◌, ◌^◌, ◌∙◌, ◌∷◌, ◌≡◌}
+use Rattle.oberon_format.proofs.Common.{[], All, ap, AreWritable, arith, checkpoint_at, CheckpointParts, rate_and_phase, DeviceState, drop, drop_at, Event, field_words, FIRST_VERSION, Flags, flags_back, flags_number, flags_of, get_or, get_or_default, Input, is_version, HasStillTimer, key_bytes, length, List, MAX_KEYS, no_checkpoint, output_of, props, RecordingParts, refl, replicate, same_devices, same_input, same_lists, slice_index, start, start_in, subst, suc, sym, take, take_at, Text, IsEncoding, true, version, zero, ℕ, ◌-◌, ◌<◌, ◌^◌, ◌∙◌, ◌∷◌, ◌≡◌}
 use Rattle.oberon_format.proofs.Agree.{version_of, pages_are, events_are, checkpoints_are, page_is, event_is, start_is, later, common, numbers_agree}
-use Rattle.oberon_format.proofs.Encoded.{AreAt, text_parts, writable}
+use Rattle.oberon_format.proofs.Encoded.{AreAt, encoded_parts, writable}
 
 -- events of one count and one input
 event_of_parts : (count : ℕ) (input : Input) → count < 2 ^ 64 → Event
@@ -105,11 +105,11 @@ module _ (v : ℕ) (bytes : List ℕ) (r s : RecordingParts) (known : is_version
       λ i. record { pool = pool i; inputs = inputs i; checkpoints = checkpoints i }
 
 -- the version of a file is its own
-pub in_version : (v : ℕ) (bytes : List ℕ) (r : RecordingParts) → version bytes ≡ v → Text bytes r → TextIn v bytes r
+pub in_version : (v : ℕ) (bytes : List ℕ) (r : RecordingParts) → version bytes ≡ v → Text bytes r → IsEncoding v bytes r
 in_version v bytes r is some =
     let w = some.version in
     let own = version_of w r some.is.known (writable r some.is.lawful) in
-    subst (λ (n : ℕ). TextIn n bytes r) (sym own ∙ ap version (sym some.is.is) ∙ is) some.is
+    subst (λ (n : ℕ). IsEncoding n bytes r) (sym own ∙ ap version (sym some.is.is) ∙ is) some.is
 
 -- a file is that of one recording
 pub same_recording : (bytes : List ℕ) (r s : RecordingParts) → Text bytes r → Text bytes s → r ≡ s
@@ -117,4 +117,4 @@ same_recording bytes r s is_r is_s =
     let v = version bytes in
     let a = in_version v bytes r refl is_r in
     let b = in_version v bytes s refl is_s in
-    same_parts v bytes r s a.known a.still b.still (writable r a.lawful) (writable s b.lawful) (text_parts v bytes r a) (text_parts v bytes s b)
+    same_parts v bytes r s a.known a.still b.still (writable r a.lawful) (writable s b.lawful) (encoded_parts v bytes r a) (encoded_parts v bytes s b)

@@ -10,8 +10,8 @@ use Rattle.oberon_format.specs.PartFields.{fault_of_parts}
 use Rattle.oberon_format.specs.Recording.{RecordingParts, IsLawful}
 use Rattle.oberon_format.specs.Layout.{version}
 use Rattle.oberon_format.specs.Encoding.{encoding}
-use Rattle.oberon_format.specs.Text.{AreBytes, TextIn, Text}
-use Rattle.oberon_format.specs.TextFields.{first_fault_of}
+use Rattle.oberon_format.specs.Text.{AreBytes, IsEncoding, Text}
+use Rattle.oberon_format.specs.ByteFields.{first_fault_of}
 
 -- a file is that of at most one recording
 abbrev pub HasOneRecording : Type 0
@@ -20,20 +20,21 @@ HasOneRecording = (bytes : List ℕ) (r s : RecordingParts) → Text bytes r →
 -- a recording has at most one file in each version
 abbrev pub HasOneFileAtMost : Type 0
 HasOneFileAtMost =
-    (version : ℕ) (r : RecordingParts) (bytes other : List ℕ) → TextIn version bytes r → TextIn version other r → other ≡ bytes
+    (version : ℕ) (r : RecordingParts) (bytes other : List ℕ) → IsEncoding version bytes r → IsEncoding version other r
+    → other ≡ bytes
 
 -- a lawful recording has a file in the current version
 abbrev pub HasOneFile : Type 0
-HasOneFile = (r : RecordingParts) → IsLawful r → (bytes : List ℕ) × AreBytes bytes × TextIn VERSION bytes r
+HasOneFile = (r : RecordingParts) → IsLawful r → (bytes : List ℕ) × AreBytes bytes × IsEncoding VERSION bytes r
 
 -- reading what is written of a recording returns that recording
 abbrev pub HasReadBack : Type 0
-HasReadBack = (r s : RecordingParts) (bytes : List ℕ) → TextIn VERSION bytes r → Text bytes s → s ≡ r
+HasReadBack = (r s : RecordingParts) (bytes : List ℕ) → IsEncoding VERSION bytes r → Text bytes s → s ≡ r
 
 -- writing what was read returns the file that was read, if that has the current version
 abbrev pub HasWrittenBack : Type 0
 HasWrittenBack =
-    (bytes other : List ℕ) (r : RecordingParts) → version bytes ≡ VERSION → Text bytes r → TextIn VERSION other r
+    (bytes other : List ℕ) (r : RecordingParts) → version bytes ≡ VERSION → Text bytes r → IsEncoding VERSION other r
     → other ≡ bytes
 
 -- migration is idempotent: a migrated file is its own migration

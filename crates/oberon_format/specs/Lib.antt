@@ -11,7 +11,7 @@ pub mod Encoding
 pub mod Text
 pub mod FirstFault
 pub mod Rules
-pub mod TextFields
+pub mod ByteFields
 pub mod Line
 pub mod Formed
 pub mod PartFields

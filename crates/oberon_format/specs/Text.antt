@@ -11,16 +11,16 @@ pub record HasStillTimer (c : CheckpointParts) : Type 0 where
   pub zeros : All (λ word. word ≡ 0) (rate_and_phase c.devices)
 
 -- the bytes are the encoding of a lawful recording in a known version. Version 1 has no field for some parts, so these are 0
-pub record TextIn (version : ℕ) (bytes : List ℕ) (r : RecordingParts) : Type 0 where
+pub record IsEncoding (version : ℕ) (bytes : List ℕ) (r : RecordingParts) : Type 0 where
   pub lawful : IsLawful r
   pub known : is_version version ≡ true
   pub still : version ≡ FIRST_VERSION → All HasStillTimer r.checkpoints
   pub is : bytes ≡ encoding version r
 
--- the bytes are the encoding of a recording in some version
+-- a text of a recording: the bytes are its encoding in some version
 pub record Text (bytes : List ℕ) (r : RecordingParts) : Type 0 where
   pub version : ℕ
-  pub is : TextIn version bytes r
+  pub is : IsEncoding version bytes r
 
 -- each member is a byte
 abbrev pub AreBytes : List ℕ → Type 0

@@ -21,7 +21,7 @@ pub(crate) struct Change {
 impl Change {
     ghost use Rattle.std.specs.Prelude.{◌≡◌, ◌≤◌, ◌+◌, length, slice_index};
     ghost use Rattle.oberon_format.specs.Ranges.{is_change};
-    ghost use Rattle.oberon_format.specs.TextFields.{change_at};
+    ghost use Rattle.oberon_format.specs.ByteFields.{change_at};
 
     /// Returns the change at an offset of a file.
     pub(crate) fn of_bytes(bytes: &[u8], offset: usize) -> Change

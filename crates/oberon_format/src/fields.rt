@@ -57,7 +57,7 @@ impl CheckpointFields {
     ghost use Rattle.oberon_format.specs.CheckpointParts.{checkpoint_parts};
     ghost use Rattle.oberon_format.specs.PartFields.{checkpoint_fields};
     ghost use Rattle.oberon_format.specs.Ranges.{in_ranges, are_keys, is_checkpoint};
-    ghost use Rattle.oberon_format.specs.TextFields.{checkpoint_of};
+    ghost use Rattle.oberon_format.specs.ByteFields.{checkpoint_of};
 
     /// Returns the fields of the checkpoint at an offset of a file. In either version 144 bytes are there, though not all of them
     /// are read.

@@ -1,7 +1,7 @@
 //! Migration: the recording of a file of any version, written again in the current version.
 
 ghost use Rattle.oberon_format.specs.Migration.{IsMigrated};
-ghost use Rattle.oberon_format.specs.TextFields.{AnswersText};
+ghost use Rattle.oberon_format.specs.ByteFields.{AnswersBytes};
 
 use crate::fault::Fault;
 use crate::reading::read;
@@ -12,7 +12,7 @@ use std::alloc::Global;
 /// file without a fault, as `read` does.
 pub fn migrate(alloc: Global, bytes: &[u8]) -> Result<Vec<u8>, Fault>
     // A file without a fault yields the file of its recording, or an allocation failed; any other yields its first fault.
-    ensures { AnswersText bytes.now (λ migrated. IsMigrated bytes.now migrated.items) result }
+    ensures { AnswersBytes bytes.now (λ migrated. IsMigrated bytes.now migrated.items) result }
 {
     let recording = read(alloc, bytes)?;
     match write(alloc, &recording) {

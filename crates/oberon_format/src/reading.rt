@@ -10,7 +10,7 @@ ghost use Rattle.oberon_format.specs.inner.Tested.{IsSized, Meets, HasPageIds, I
 ghost use Rattle.oberon_format.specs.Text.{Text};
 ghost use Rattle.oberon_format.specs.inner.Decoded.{EachAt, IsEvent, IsEventAt, checkpoint_from, checkpoints_at, cpu_at};
 ghost use Rattle.oberon_format.specs.inner.Decoded.{devices_at, pages_at, words_from};
-ghost use Rattle.oberon_format.specs.TextFields.{fields_of, checkpoint_of, change_of, page_id_of, AnswersText};
+ghost use Rattle.oberon_format.specs.ByteFields.{fields_of, checkpoint_of, change_of, page_id_of, AnswersBytes};
 ghost use Rattle.risc_devices.specs.InputKind.{IsInput};
 ghost use Rattle.risc_model.specs.MachineState.{cpu_state};
 
@@ -40,7 +40,7 @@ use std::alloc::{AllocError, Global};
 #[tactic(auto, using(crate::proofs::RuleLemmas::none_meets))]
 pub fn read(alloc: Global, bytes: &[u8]) -> Result<Recording, Fault>
     // A file without a fault yields its recording, or an allocation failed; any other yields its first fault.
-    ensures { AnswersText bytes.now (Text bytes.now) result }
+    ensures { AnswersBytes bytes.now (Text bytes.now) result }
 {
     let output = test_file(bytes)?;
     match recording_of(alloc, bytes, output) {
@@ -175,7 +175,7 @@ fn devices_of(bytes: &[u8], offset: usize) -> Devices
 }
 
 /// Changes a table into that of checkpoint k, which is at an offset. In version 2 it has to be the table before.
-#[tactic(auto, using(crate::proofs::Room::whole_there, crate::proofs::Room::changes_there, crate::proofs::TextLemmas::slots_inside, crate::proofs::RuleLemmas::later_by))]
+#[tactic(auto, using(crate::proofs::Room::whole_there, crate::proofs::Room::changes_there, crate::proofs::ReadRules::slots_inside, crate::proofs::RuleLemmas::later_by))]
 fn advance_table(bytes: &[u8], k: usize, offset: usize, table: &mut Table)
     requires meets { Meets bytes.now }
     requires below { k < checkpoints bytes.now }

@@ -12,7 +12,7 @@ ghost use Rattle.oberon_format.specs.Rules.{named_len, header_rules, event_floor
 ghost use Rattle.oberon_format.specs.Rules.{count_before, end_rules};
 ghost use Rattle.oberon_format.specs.inner.Tested.{IsSized, HasPageIds, IsChanged};
 ghost use Rattle.oberon_format.specs.inner.Tested.{AreTested, IsChangedTested, IsTested, IsWholeTested};
-ghost use Rattle.oberon_format.specs.TextFields.{fields_of, event_of, change_of, page_id_before};
+ghost use Rattle.oberon_format.specs.ByteFields.{fields_of, event_of, change_of, page_id_before};
 
 use crate::change::Change;
 use crate::fault::Fault;
@@ -235,7 +235,7 @@ struct End {
 }
 
 /// Returns the end of the checkpoints, or their first fault.
-#[tactic(auto, using(crate::proofs::Room::whole_room, crate::proofs::Room::events_there, crate::proofs::Room::start_none, crate::proofs::RuleLemmas::each_none, crate::proofs::RuleLemmas::output_below_none, crate::proofs::TextLemmas::numbers_none))]
+#[tactic(auto, using(crate::proofs::Room::whole_room, crate::proofs::Room::events_there, crate::proofs::Room::start_none, crate::proofs::RuleLemmas::each_none, crate::proofs::RuleLemmas::output_below_none, crate::proofs::ReadRules::numbers_none))]
 fn checkpoints_end(bytes: &[u8]) -> Result<End, Fault>
     requires { IsSized bytes.now }
     ensures { AreTested bytes.now result }

@@ -8,7 +8,7 @@ ghost use Rattle.oberon_format.specs.PartFields.{start_in};
 ghost use Rattle.oberon_format.specs.Recording.{IsLawful, output_of};
 ghost use Rattle.oberon_format.specs.Encoding.{word_bytes, long_bytes, words_bytes, event_bytes, field_words, common_bytes};
 ghost use Rattle.oberon_format.specs.Encoding.{change_bytes, checkpoint_bytes, checkpoints_bytes, header_bytes, encoding};
-ghost use Rattle.oberon_format.specs.Text.{TextIn};
+ghost use Rattle.oberon_format.specs.Text.{IsEncoding};
 
 use crate::change::change_count;
 use crate::checkpoint::{Checkpoint, table_before};
@@ -23,7 +23,7 @@ use std::alloc::{AllocError, Global};
 
 /// Returns the one file of a recording in version 2. Its capacity is allocated at once.
 pub fn write(alloc: Global, r: &Recording) -> Result<Vec<u8>, AllocError>
-    ensures { IfOk result (λ bytes. TextIn VERSION bytes.items r.now) }
+    ensures { IfOk result (λ bytes. IsEncoding VERSION bytes.items r.now) }
 {
     let bytes = encode(alloc, r)?;
     Ok(bytes)

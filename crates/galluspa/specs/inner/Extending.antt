@@ -3,7 +3,7 @@ use Rattle.std.specs.Prelude.{ℕ, ◌≡◌, List, None}
 use Rattle.risc_model.specs.declared.event.Event.{Event}
 use Rattle.oberon_format.specs.Recording.{IsLawful, RecordingParts}
 use Rattle.oberon_format.specs.Text.{Text}
-use Rattle.oberon_format.specs.TextFields.{first_fault_of}
+use Rattle.oberon_format.specs.ByteFields.{first_fault_of}
 use Rattle.oberon_session.specs.Extended.{HasRoom, IsExtendFault, IsExtended, outcome_of}
 use Rattle.oberon_session.specs.declared.claim.Claim.{Claim}
 use Rattle.oberon_session.specs.declared.extend_fault.ExtendFault.{ExtendFault}

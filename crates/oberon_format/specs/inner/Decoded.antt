@@ -13,7 +13,7 @@ use Rattle.oberon_format.specs.declared.layout.TheConstants.{WAITING_AT, KEYS_AT
 use Rattle.oberon_format.specs.CheckpointParts.{CheckpointParts}
 use Rattle.oberon_format.specs.Layout.{word_at, long_at, page_offset, event_offset, word_since_2, start, output_offset}
 use Rattle.oberon_format.specs.Fields.{sent_below}
-use Rattle.oberon_format.specs.TextFields.{fields_of, page_id_of}
+use Rattle.oberon_format.specs.ByteFields.{fields_of, page_id_of}
 
 -- each member of a list is as its index says
 abbrev pub EachAt : {X : Type 0} → (ℕ → X → Type 0) → List X → Type 0

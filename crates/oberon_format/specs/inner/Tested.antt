@@ -16,7 +16,7 @@ use Rattle.oberon_format.specs.Ranges.{is_version}
 use Rattle.oberon_format.specs.PartFields.{fields_in}
 use Rattle.oberon_format.specs.Recording.{RecordingParts}
 use Rattle.oberon_format.specs.Rules.{change_rules, event_rules, checkpoint_rules, named_len, file_len}
-use Rattle.oberon_format.specs.TextFields.{fields_of, first_fault_of, change_of, checkpoint_of, page_id_before}
+use Rattle.oberon_format.specs.ByteFields.{fields_of, first_fault_of, change_of, checkpoint_of, page_id_before}
 
 -- the header is there, its version is known, its numbers of pages, events and checkpoints are within their limits, and the parts
 -- that it counts are there

@@ -3,7 +3,7 @@ use Rattle.std.proofs.lemmas.Option.{none-some}
 use Rattle.std.proofs.lemmas.Result.{IfOk-weaker}
 use Rattle.oberon_format.specs.Defined.{IsTrueAt}
 use Rattle.oberon_format.specs.Recording.{RecordingParts}
-use Rattle.oberon_format.specs.Text.{TextIn}
+use Rattle.oberon_format.specs.Text.{IsEncoding}
 use Rattle.oberon_format.specs.declared.layout.TheConstants.{VERSION}
 use Rattle.oberon_check.proofs.Accepting.{accepted}
 use Rattle.oberon_session.specs.FaultNames.{record_fault_number}
@@ -15,8 +15,8 @@ returns-in_ok-bytes-in-Ok c =
     let made = c.in-Ok.ensures in
     let bytes = c.in_ok-bytes-in-Ok.bytes.items in
     let session = c.args.session.now in
-    let file : TextIn VERSION bytes (recording_of session) =
-    subst (λ (r : RecordingParts). TextIn VERSION bytes r) made.recording c.in_ok-bytes-in-Ok.ensures in
+    let file : IsEncoding VERSION bytes (recording_of session) =
+    subst (λ (r : RecordingParts). IsEncoding VERSION bytes r) made.recording c.in_ok-bytes-in-Ok.ensures in
     let truth : (k : ℕ) → k < length (recording_of session).checkpoints → IsTrueAt (recording_of session) k =
     subst (λ (r : RecordingParts). (k : ℕ) → k < length r.checkpoints → IsTrueAt r k) made.recording made.truth in
     inl (record { no_fault = made.made; output_is = file; accepted = accepted (recording_of session) bytes file truth; status_is = refl })

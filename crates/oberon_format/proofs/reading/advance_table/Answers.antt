@@ -1,6 +1,6 @@
 use Rattle.oberon_format.proofs.Common.{change_count, false, FIRST_VERSION, refl, sym, version, ◌==◌, ◌∙◌, ◌≡◌}
 use Rattle.oberon_format.proofs.RuleLemmas.{later_by}
-use Rattle.oberon_format.proofs.TextLemmas.{prior_is, numbers_next, number_second}
+use Rattle.oberon_format.proofs.ReadRules.{prior_is, numbers_next, number_second}
 use Rattle.oberon_format.proofs.reading.advance_table.Goals as goal
 
 pub returns-else-is_first_version : goal.returns-else-is_first_version

@@ -1,6 +1,6 @@
 use Rattle.oberon_format.proofs.Common.{arith, CHANGE_COUNT_AT, change_of, PAGE_SLOTS, slice_index, ◌+◌, ◌<◌}
 use Rattle.oberon_format.proofs.Walk.{change_made}
-use Rattle.oberon_format.proofs.TextLemmas.{later_second}
+use Rattle.oberon_format.proofs.ReadRules.{later_second}
 use Rattle.oberon_format.proofs.reading.change_table.Goals as goal
 
 pub loop-i-preserved : goal.loop-i-preserved

@@ -3,7 +3,7 @@ use Rattle.oberon_format.proofs.Decode.{table_made}
 use Rattle.oberon_format.proofs.RuleLemmas.{checkpoint_holds, output_below_none, output_below_more}
 use Rattle.oberon_format.proofs.Room.{offset_next}
 use Rattle.oberon_format.proofs.PartLemmas.{prior_more}
-use Rattle.oberon_format.proofs.TextLemmas.{prior_none}
+use Rattle.oberon_format.proofs.ReadRules.{prior_none}
 use Rattle.oberon_format.proofs.reading.checkpoints_of.Goals as goal
 
 pub loop-k-init : goal.loop-k-init

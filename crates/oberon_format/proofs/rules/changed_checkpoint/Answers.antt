@@ -1,6 +1,6 @@
 use Rattle.oberon_format.proofs.Common.{ap, arith, change_count, change_offset, CHANGES_AT, checkpoint_of, checkpoint_rules, CheckpointFields, false, fields_of, first_broken, le-leb, length, lt-leb, nat_le, None, pages, refl, start, suc, sym, true, ◌+◌, ◌∙◌, ◌≡◌, ◌≤◌}
 use Rattle.oberon_format.proofs.Room.{start_later}
-use Rattle.oberon_format.proofs.TextLemmas.{changed_read, numbers_next}
+use Rattle.oberon_format.proofs.ReadRules.{changed_read, numbers_next}
 use Rattle.oberon_format.proofs.rules.changed_checkpoint.Goals as goal
 
 pub returns-then-room-lt-CHANGES_AT : goal.returns-then-room-lt-CHANGES_AT

@@ -1,5 +1,5 @@
 use Rattle.oberon_format.proofs.Common.{checkpoint_rules, fields_of, first_broken, None, pages, refl, sym, ◌∙◌, ◌≡◌}
-use Rattle.oberon_format.proofs.TextLemmas.{whole_read}
+use Rattle.oberon_format.proofs.ReadRules.{whole_read}
 use Rattle.oberon_format.proofs.rules.whole_checkpoint.Goals as goal
 
 pub returns-in-Some : goal.returns-in-Some

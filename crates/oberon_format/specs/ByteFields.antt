@@ -84,6 +84,6 @@ abbrev pub first_fault_of : List ℕ → Option Fault
 first_fault_of bytes = first_broken (rules (fields_of bytes))
 
 -- an answer to a file: if the file has no fault, a good one or an allocation failure; else its first fault
-abbrev pub AnswersText : {Answer : Type 0} → List ℕ → (Answer → Type 0) → Result Answer Fault → Type 0
-AnswersText bytes IsGood answer =
+abbrev pub AnswersBytes : {Answer : Type 0} → List ℕ → (Answer → Type 0) → Result Answer Fault → Type 0
+AnswersBytes bytes IsGood answer =
     MatchOption (first_fault_of bytes) (MatchResult answer IsGood (λ f. f ≡ fault.Memory)) (λ f. answer ≡ Err f)
