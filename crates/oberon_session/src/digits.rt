@@ -62,7 +62,7 @@ fn hex_fault(refused: &FromHexError) -> SessionFault
 fn page_of(bytes: &[u8]) -> Page
     ensures { result.words ≡ words_of_bytes bytes.now }
 {
-    let mut words = [0; 256];
+    let mut words = [0; PAGE_WORDS as usize];
     for i in 0..PAGE_WORDS as usize {
         words[i] = word(bytes, i);
     }
@@ -71,7 +71,7 @@ fn page_of(bytes: &[u8]) -> Page
 
 /// Returns word `i` of the page: four bytes, the lowest first.
 fn word(bytes: &[u8], i: usize) -> u32
-    requires { i < 256 }
+    requires { i < PAGE_WORDS }
     ensures { result ≡ word_of_bytes bytes.now i }
 {
     let low = byte(bytes, 4 * i) + (byte(bytes, 4 * i + 1) << 8);

@@ -6,6 +6,7 @@ ghost use Rattle.risc_core.specs.declared.branch.TheConstants.{COUNTER_END};
 ghost use Rattle.risc_devices.specs.DeviceState.{IsDeviceState};
 ghost use Rattle.risc_model.specs.InputOrder.{AreOrdered};
 ghost use Rattle.risc_model.specs.MachineState.{cpu_state};
+ghost use Rattle.risc_pages.specs.declared.sizes.TheConstants.{MEMORY_WORDS};
 ghost use Rattle.risc_pages.specs.Pages.{ArePages};
 ghost use Rattle.risc_pages.specs.Tables.{IsNamed};
 ghost use Rattle.oberon_format.specs.CheckpointParts.{checkpoint_parts};
@@ -34,7 +35,7 @@ pub fn begin_recording(
 ) -> Result<Recording, AllocError>
     requires counter { cpu.pc < COUNTER_END }
     requires stop { cpu.stop ≤ 4 }
-    requires whole { length words.now ≡ 262144 }
+    requires whole { length words.now ≡ MEMORY_WORDS }
     // It begins with the state.
     ensures begun { IfOk result (IsBegun (record { cpu = cpu_state cpu; devices = devices; words = words.now })) }
     // It is within all limits.
@@ -54,7 +55,7 @@ pub fn begin_recording(
         sent: &[],
     };
     checkpoints.push(checkpoint_of(alloc, &claim, &stored.table)?)?;
-    // The contract of `len` states that each page of the pool has 256 words.
+    // The contract of `len` states that each page of the pool has all its words.
     let _pages = stored.pool.len();
     Ok(recording_of(stored.pool, no_inputs(alloc), checkpoints))
 }
@@ -71,7 +72,7 @@ pub fn extend_recording(
 ) -> Result<Recording, ExtendFault>
     requires counter { claim.now.cpu.pc < COUNTER_END }
     requires stop { claim.now.cpu.stop ≤ 4 }
-    requires whole { length claim.now.words.now ≡ 262144 }
+    requires whole { length claim.now.words.now ≡ MEMORY_WORDS }
     // The result has the inputs and the checkpoint, and is otherwise as the recording was.
     ensures extended { IfOk result (IsExtended recording inputs.now claim.now.count (outcome_of claim.now)) }
     // The recording had taken its inputs, and had room for what comes next.
@@ -111,7 +112,7 @@ fn next_checkpoints(
     recording: Recording,
     claim: &Claim<'_>,
 ) -> Result<(StoredPages, Vec<Checkpoint>), ExtendFault>
-    requires { length claim.now.words.now ≡ 262144 }
+    requires { length claim.now.words.now ≡ MEMORY_WORDS }
     ensures lawful { IsLawful recording }
     ensures grown { IfOk result (λ grown. HasGrown recording claim.now (stored_view grown.0) (map checkpoint_parts grown.1.items)) }
     ensures refused { IfErr result (NeedsPages (last_stored recording) claim.now.words.now) }
@@ -131,7 +132,7 @@ fn next_stored(
     table: &Table,
     words: &[u32],
 ) -> Result<StoredPages, ExtendFault>
-    requires whole { length words.now ≡ 262144 }
+    requires whole { length words.now ≡ MEMORY_WORDS }
     requires named { IsNamed pool table.now.numbers }
     requires room { length pool ≤ MAX_PAGES }
     ensures stored { IfOk result (λ stored. stored_view stored

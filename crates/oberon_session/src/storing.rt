@@ -2,6 +2,7 @@
 
 ghost use Rattle.std.specs.Prelude.{◌≡◌, ◌≢◌, ◌+◌, ◌<◌, ◌≤◌, ◌^◌, All, IfOk, OnOk, ℕ, length, map, slice_index};
 ghost use Rattle.risc_pages.specs.declared.page.Page.{Page};
+ghost use Rattle.risc_pages.specs.declared.sizes.TheConstants.{PAGE_SLOTS};
 ghost use Rattle.oberon_session.specs.Parts.{placed_view};
 ghost use Rattle.risc_pages.specs.Tables.{IsNamed, table_words};
 ghost use Rattle.oberon_session.specs.Stored.{changed_pages, is_blank, store, store_page, store_pages};
@@ -22,8 +23,8 @@ pub struct StoredPages {
 
 /// Stores the pages of a session's initial memory in their order, each named in its slot.
 pub fn store_first(alloc: Global, pages: &[PlacedPage]) -> Result<StoredPages, AllocError>
-    requires few { length pages.now ≤ 1024 }
-    requires slots { All (λ page. page.at < 1024) pages.now }
+    requires few { length pages.now ≤ PAGE_SLOTS }
+    requires slots { All (λ page. page.at < PAGE_SLOTS) pages.now }
     ensures { IfOk result (λ stored. stored_view stored ≡ first_stored (map placed_view pages.now)) }
 {
     let mut pool = Pool::new(alloc);
@@ -37,9 +38,9 @@ pub fn store_first(alloc: Global, pages: &[PlacedPage]) -> Result<StoredPages, A
 
 /// Stores pages one after another, each in its slot.
 pub fn store_pages(stored: &mut StoredPages, changed: &[(u16, Page)]) -> Result<(), AllocError>
-    requires few { length changed.now ≤ 1024 }
+    requires few { length changed.now ≤ PAGE_SLOTS }
     requires room { length stored.old.pool ≤ MAX_PAGES }
-    requires slots { All (λ (c : ℕ × Page). c.0 < 1024) changed.now }
+    requires slots { All (λ (c : ℕ × Page). c.0 < PAGE_SLOTS) changed.now }
     ensures stored { OnOk result (stored_view stored.new
         ≡ store_pages (stored_view stored.old) (map changed_page_view changed.now)) }
     ensures grown { OnOk result (length stored.new.pool ≤ length stored.old.pool + length changed.now) }
@@ -53,7 +54,7 @@ pub fn store_pages(stored: &mut StoredPages, changed: &[(u16, Page)]) -> Result<
 /// Stores a page in a slot: a page of zeros has the page id 0, and any other is added at the end of the pool.
 #[tactic(auto, unfolding(crate::specs::Stored::store_page))]
 fn store_page(stored: &mut StoredPages, slot: u16, page: &Page) -> Result<(), AllocError>
-    requires slot { slot < 1024 }
+    requires slot { slot < PAGE_SLOTS }
     requires room { length stored.old.pool < 2 ^ 31 }
     ensures stored { OnOk result (stored_view stored.new ≡ store_page (stored_view stored.old) (slot, page.now.words)) }
     ensures grown { OnOk result (length stored.new.pool ≤ length stored.old.pool + 1) }
@@ -77,12 +78,12 @@ fn is_blank(page: &Page) -> bool
 /// Stores a memory of these words after the memory of the last table: only the pages that differ.
 #[tactic(auto, unfolding(crate::specs::Stored::store))]
 pub fn store_words(alloc: Global, stored: &mut StoredPages, words: &[u32]) -> Result<(), AllocError>
-    requires whole { length words.now ≡ 262144 }
+    requires whole { length words.now ≡ MEMORY_WORDS }
     requires named { IsNamed stored.old.pool stored.old.table.numbers }
     requires room { length stored.old.pool ≤ MAX_PAGES }
     ensures stored { OnOk result (stored_view stored.new
         ≡ store (table_words stored.old.pool stored.old.table.numbers) words.now (stored_view stored.old)) }
-    ensures grown { OnOk result (length stored.new.pool ≤ length stored.old.pool + 1024) }
+    ensures grown { OnOk result (length stored.new.pool ≤ length stored.old.pool + PAGE_SLOTS) }
 {
     let changed = changed_pages(alloc, &stored.pool, &stored.table, words)?;
     store_pages(stored, &changed)
@@ -95,7 +96,7 @@ fn changed_pages(
     table: &Table,
     words: &[u32],
 ) -> Result<Vec<(u16, Page)>, AllocError>
-    requires whole { length words.now ≡ 262144 }
+    requires whole { length words.now ≡ MEMORY_WORDS }
     requires named { IsNamed pool.now table.now.numbers }
     ensures { IfOk result (λ changed. map changed_page_view changed.items
         ≡ changed_pages (table_words pool.now table.now.numbers) words.now) }
@@ -108,7 +109,7 @@ fn changed_pages(
 
 /// Writes these words to a memory. A page that has its words already stays shared.
 fn write_words(memory: &mut Memory<'_>, words: &[u32]) -> Result<(), AllocError>
-    requires { length words.now ≡ 262144 }
+    requires { length words.now ≡ MEMORY_WORDS }
     ensures words { OnOk result (memory.new.words ≡ words.now) }
     ensures base { memory.new.base ≡ memory.old.base }
 {
@@ -123,11 +124,11 @@ fn write_words(memory: &mut Memory<'_>, words: &[u32]) -> Result<(), AllocError>
 /// Writes a word to a memory, if the memory has another word there. Otherwise the memory stays as it is, and no page becomes
 /// private.
 fn write_word(memory: &mut Memory<'_>, word_no: u32, word: u32) -> Result<(), AllocError>
-    requires inside { word_no < 262144 }
-    requires whole { length memory.old.words ≡ 262144 }
+    requires inside { word_no < MEMORY_WORDS }
+    requires whole { length memory.old.words ≡ MEMORY_WORDS }
     ensures here { OnOk result (slice_index memory.new.words word_no ≡ word) }
     ensures others { OnOk result ((k : ℕ) → k ≢ word_no → slice_index memory.new.words k ≡ slice_index memory.old.words k) }
-    ensures whole { OnOk result (length memory.new.words ≡ 262144) }
+    ensures whole { OnOk result (length memory.new.words ≡ MEMORY_WORDS) }
     ensures base { memory.new.base ≡ memory.old.base }
     ensures same { slice_index memory.old.words word_no ≡ word → memory.new ≡ memory.old }
 {
