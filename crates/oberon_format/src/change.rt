@@ -23,7 +23,6 @@ impl Change {
     ghost use Rattle.oberon_format.specs.Ranges.{is_change};
     ghost use Rattle.oberon_format.specs.ByteFields.{change_at};
 
-    /// Returns the change at an offset of a file.
     pub(crate) fn of_bytes(bytes: &[u8], offset: usize) -> Change
         requires { offset + CHANGE_LEN ≤ length bytes.now }
         ensures { result ≡ change_at bytes.now offset }

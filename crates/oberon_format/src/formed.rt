@@ -24,7 +24,7 @@ pub(crate) fn all_formed_law(checkpoints: &[Checkpoint])
     }
 }
 
-/// States that each byte is below 256.
+/// States that each byte is below 256, which its type ensures.
 pub(crate) fn bytes_fit(bytes: &[u8])
     ensures { All (λ byte. byte < 2 ^ 8) bytes.now }
 {}

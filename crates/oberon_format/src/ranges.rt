@@ -36,7 +36,7 @@ pub(crate) fn is_input(kind: u32, value: u32) -> bool
     kind < 6 && Input::new(kind as u8, value).is_ok()
 }
 
-/// Reports whether the count of checkpoint k is in its range, after the count of the checkpoint before.
+/// Reports whether the count of checkpoint k is 0 if k is 0, and otherwise above the count before and at most `MAX_COUNT`.
 pub(crate) fn is_count(k: usize, before: u64, count: u64) -> bool
     ensures { result ≡ is_count k before count }
 {
@@ -47,7 +47,8 @@ pub(crate) fn is_count(k: usize, before: u64, count: u64) -> bool
     }
 }
 
-/// Reports whether checkpoint k may send a number of bytes, after those sent before it.
+/// Reports whether checkpoint k may have `own` bytes of output after `sent` bytes before: at most `MAX_OUTPUT` in all, and none
+/// if k is 0.
 pub(crate) fn is_output(k: usize, sent: u64, own: u64) -> bool
     requires sent { sent ≤ MAX_OUTPUT }
     ensures { result ≡ is_output k sent own }

@@ -92,7 +92,7 @@ fn pool_of(alloc: Global, bytes: &[u8]) -> Result<Pool, AllocError>
     Ok(pool)
 }
 
-/// States that each word fits in four bytes.
+/// States that each word fits in four bytes, which its type ensures.
 fn words_fit(words: &[u32])
     ensures all { All (λ word. word < 2 ^ 32) words.now }
     ensures each { (i : ℕ) → slice_index words.now i < 2 ^ 32 }

@@ -77,7 +77,7 @@ fn header_fault(bytes: &[u8]) -> Option<Fault>
     None
 }
 
-/// Returns the count of the event before event i.
+/// Returns the count of the event before event i, or 0 for event 0.
 fn event_floor(bytes: &[u8], i: usize) -> u64
     requires pages { pages bytes.now ≤ MAX_PAGES }
     requires events { i ≤ MAX_EVENTS }
@@ -91,7 +91,7 @@ fn event_floor(bytes: &[u8], i: usize) -> u64
     }
 }
 
-/// Reports whether the event at an offset is in its ranges.
+/// Reports whether the event at an offset is in its ranges, and its count is at least `floor`.
 fn is_event(bytes: &[u8], offset: usize, floor: u64) -> bool
     requires { offset + EVENT_LEN ≤ length bytes.now }
     ensures { result ≡ is_event floor (event_of bytes.now offset) }

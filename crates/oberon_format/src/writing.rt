@@ -66,7 +66,7 @@ fn output_len(r: &Recording) -> usize
     total
 }
 
-/// Appends the four bytes of a number.
+/// Appends the four bytes of a number, the lowest first.
 #[tactic(auto, unfolding(crate::specs::Encoding::word_bytes))]
 fn push_word(out: &mut Vec<u8>, number: u32) -> Result<(), AllocError>
     ensures { OnOk result (out.new.items ≡ out.old.items ++ word_bytes number) }
@@ -76,7 +76,7 @@ fn push_word(out: &mut Vec<u8>, number: u32) -> Result<(), AllocError>
     out.extend_from_slice(&bytes)
 }
 
-/// Appends the eight bytes of a number.
+/// Appends the eight bytes of a number, the lowest first.
 #[tactic(auto, unfolding(crate::specs::Encoding::long_bytes))]
 fn push_long(out: &mut Vec<u8>, number: u64) -> Result<(), AllocError>
     ensures { OnOk result (out.new.items ≡ out.old.items ++ long_bytes number) }
@@ -130,7 +130,7 @@ fn push_events(out: &mut Vec<u8>, events: &[Event]) -> Result<(), AllocError>
     Ok(())
 }
 
-/// Returns the fields of a checkpoint that are one word each, in their order.
+/// Returns the fields of a checkpoint that are one word each, from H to the number of keys.
 fn field_words(checkpoint: &Checkpoint) -> [u32; 10]
     ensures { result ≡ field_words (checkpoint_parts checkpoint.now) }
 {

@@ -47,7 +47,7 @@ fn placed_page(alloc: Global, draft: &PageDraft<'_>) -> Result<PlacedPage, Sessi
     }
 }
 
-/// Returns the fault for an error of `hex`: `Memory` if memory ran out, otherwise `Hex`.
+/// Returns the fault for an error of `hex`. The rules do not distinguish an odd number of digits from a wrong digit.
 fn hex_fault(refused: &FromHexError) -> SessionFault
     ensures memory { (result ≡ SessionFault.Memory) ↔ (refused.now ≡ FromHexError.OutOfMemory) }
     ensures hex { (result ≡ SessionFault.Hex) ↔ (refused.now ≢ FromHexError.OutOfMemory) }

@@ -2,7 +2,7 @@
 
 ghost use Rattle.std.specs.Prelude.{◌≡◌, length};
 
-/// An input: its count, the number of its kind, and its value.
+/// An input. Its kind is that of a known name; its count and its value are any numbers.
 #[derive(Clone, Copy)]
 pub struct InputDraft {
     pub count: u64,
@@ -10,7 +10,7 @@ pub struct InputDraft {
     pub value: u64,
 }
 
-/// A page: its slot, and the hexadecimal digits of its first bytes.
+/// A page: the slot `at`, any number, and the text `hex`, which should be the hexadecimal digits of its first bytes.
 #[derive(Clone, Copy)]
 pub struct PageDraft<'a> {
     pub at: u64,

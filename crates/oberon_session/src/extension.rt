@@ -90,7 +90,7 @@ pub fn extend_recording(
     Ok(recording_of(stored.pool, inputs, checkpoints))
 }
 
-/// Returns the inputs of a recording, followed by others.
+/// Returns the inputs of a recording, followed by others. They are in order, so `Inputs::new` does not refuse them.
 fn joined(alloc: Global, recording: &Recording, inputs: &[Event]) -> Result<Inputs, AllocError>
     requires ordered { AreOrdered (recording.now.inputs ++ inputs.now) }
     requires few { length recording.now.inputs + length inputs.now < 2 ^ 32 }

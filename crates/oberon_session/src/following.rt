@@ -64,7 +64,6 @@ fn has_taken_all(recording: &Recording) -> bool
     are_before(last, recording.inputs().events())
 }
 
-/// Reports whether all counts of inputs are below `to`.
 fn are_before(to: u64, inputs: &[Event]) -> bool
     ensures { IsTrue result ↔ All (λ e. e.count < to) inputs.now }
 {
@@ -84,7 +83,6 @@ fn is_next(recording: &Recording, inputs: &[Event], count: u64) -> bool
     are_between(last, count, inputs) && are_ordered(inputs)
 }
 
-/// Reports whether all counts of inputs are from `from` up to `to`, without `to`.
 fn are_between(from: u64, to: u64, inputs: &[Event]) -> bool
     ensures { IsTrue result ↔ All (λ e. (from ≤ e.count) × (e.count < to)) inputs.now }
 {

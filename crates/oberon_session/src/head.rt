@@ -69,7 +69,7 @@ fn has_minus(bytes: &[u8]) -> bool
     !bytes.is_empty() && bytes[0] == b'-'
 }
 
-/// The same for a numeral with no sign.
+/// Returns the number of a numeral with no sign, as `whole_number` does.
 fn unsigned(numeral: &Numeral<'_>) -> Option<Option<u64>>
     ensures { result ≡ option_map as_u64 (number_from false numeral.now) }
 {
@@ -79,7 +79,7 @@ fn unsigned(numeral: &Numeral<'_>) -> Option<Option<u64>>
     }
 }
 
-/// The same for the digits after a minus sign.
+/// Returns the number of a numeral after its minus sign, as `whole_number` does. It is never a whole number: -0 is a float.
 fn negative(numeral: &Numeral<'_>) -> Option<Option<u64>>
     ensures { result ≡ option_map as_u64 (number_from true numeral.now) }
 {
@@ -91,7 +91,7 @@ fn negative(numeral: &Numeral<'_>) -> Option<Option<u64>>
     fitting(true, numeral)
 }
 
-/// The same for one that is no integer of 64 bits.
+/// Refuses a numeral exactly if it is too large for a float. If it fits, it is no whole number below 2^64.
 fn fitting(negative: bool, numeral: &Numeral<'_>) -> Option<Option<u64>>
     ensures { result ≡ option_map as_u64 (float_of negative numeral.now) }
 {

@@ -33,7 +33,7 @@ pub fn inputs(
     }
 }
 
-/// Takes the items of an array, and its end.
+/// Takes the items of an array, and its end. Returns the inputs that they are, if each is one.
 fn inputs_inside(
     alloc: Global,
     reader: &mut Reader<'_>,
@@ -63,7 +63,7 @@ fn input(reader: &mut Reader<'_>, depth: usize) -> Result<Option<InputDraft>, Se
     }
 }
 
-/// Takes the items of an array, and its end.
+/// Takes the items of an array, and its end. Returns the input that they are, if they are three and of the right types.
 fn input_inside(reader: &mut Reader<'_>, depth: usize) -> Result<Option<InputDraft>, SessionFault>
     ensures { Takes (all_items depth reader.old) reader.new
         (λ items found. option_map input_view found ≡ triple_of (list_of items)) result }
@@ -99,7 +99,7 @@ fn input_in(count: Option<u64>, kind: Option<&str>, value: Option<u64>) -> Optio
     })
 }
 
-/// Returns the number of the kind of input of this name.
+/// Returns the number of the kind of input that a session calls by this name, or none for any other name.
 fn kind_number(name: &str) -> Option<u8>
     ensures { result ≡ kind_of name.now }
 {

@@ -46,7 +46,7 @@ pub fn numbers(
     }
 }
 
-/// Takes the items of an array, and its end.
+/// Takes the items of an array, and its end. Returns them if each is a whole number below 2^64.
 fn numbers_inside(
     alloc: Global,
     reader: &mut Reader<'_>,

@@ -43,7 +43,7 @@ pub fn pages<'a>(
     }
 }
 
-/// Takes the items of an array, and its end.
+/// Takes the items of an array, and its end. Returns the pages that they are, if each is one.
 fn pages_inside<'a>(
     alloc: Global,
     reader: &mut Reader<'a>,

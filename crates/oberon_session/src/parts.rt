@@ -62,7 +62,7 @@ fn are_in_order(pages: &[PlacedPage], counts: &[u64]) -> bool
     slots_rise(pages) && rises(counts)
 }
 
-/// Reports whether a processor runs, and its program counter is in its range.
+/// Reports whether a session may begin with this processor. Its other numbers are in their ranges by their types.
 fn runs(cpu: &Cpu) -> bool
     ensures { IsTrue result ↔ ((cpu.now.pc < COUNTER_END) × (cpu.now.stop ≡ 0)) }
 {

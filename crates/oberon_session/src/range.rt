@@ -17,14 +17,15 @@ use risc_pages::{PAGE_SLOTS, PAGE_WORDS};
 /// The most digits of a page: two for each of its bytes, of which a word has four.
 const MOST_DIGITS: usize = 8 * PAGE_WORDS as usize;
 
-/// Reports whether the numbers of the initial state, of pages and of checkpoints are in their ranges.
+/// Reports whether the numbers of the initial state, of pages and of checkpoints are in their ranges. `events` tests those of
+/// inputs.
 pub fn is_in_range(draft: &Draft<'_>) -> bool
     ensures { IsTrue result ↔ NumbersFit draft.now }
 {
     start_fits(&draft.start) && pages_fit(&draft.pages) && counts_fit(&draft.checkpoints)
 }
 
-/// Reports whether the slots of pages and the counts of checkpoints rise.
+/// Reports whether the slots of pages and the counts of checkpoints rise. `events` tests the order of inputs.
 pub fn is_rising(draft: &Draft<'_>) -> bool
     ensures { IsTrue result ↔ NumbersRise draft.now }
 {

@@ -120,7 +120,7 @@ pub fn bytes_fit(bytes: &[u8])
     ensures { All (λ byte. byte < 2 ^ 8) bytes.now }
 {}
 
-/// Returns the recording of all that was recorded.
+/// Returns the recording of all that was recorded. It copies the inputs, which the session keeps.
 fn finish(alloc: Global, inputs: &Inputs, recorder: Recorder) -> Result<Recording, RecordFault>
     requires { IsLawful (parts_of recorder.stored.pool inputs.now recorder.checkpoints.items) }
     ensures recording { IfOk result (λ recording. recording ≡ parts_of recorder.stored.pool inputs.now recorder.checkpoints.items) }

@@ -80,7 +80,7 @@ impl Session {
         })
     }
 
-    /// Returns the processor of the initial state.
+    /// Returns the processor of the initial state. It is not stopped.
     pub(crate) fn cpu(&self) -> Cpu
         ensures cpu { cpu_state result ≡ self.now.cpu }
         ensures lawful { IsLawful self.now }
@@ -88,7 +88,7 @@ impl Session {
         self.cpu
     }
 
-    /// Returns the rate of the initial state's timer.
+    /// Returns the number of instructions in a millisecond of the timer; 0 if inputs alone set the timer.
     pub(crate) fn rate(&self) -> u32
         ensures rate { result ≡ self.now.rate }
         ensures lawful { IsLawful self.now }
@@ -96,7 +96,8 @@ impl Session {
         self.rate
     }
 
-    /// Returns the phase of the initial state's timer.
+    /// Returns how many instructions of the timer's first millisecond are done in the initial state: below the rate, or 0 if the
+    /// rate is 0.
     pub(crate) fn phase(&self) -> u32
         ensures phase { result ≡ self.now.phase }
         ensures lawful { IsLawful self.now }
@@ -112,7 +113,7 @@ impl Session {
         &self.pages
     }
 
-    /// Returns the inputs, with their counts.
+    /// Returns the inputs, in the order of their counts.
     pub(crate) fn inputs(&self) -> &Inputs
         ensures inputs { result.now ≡ self.now.inputs }
         ensures lawful { IsLawful self.now }
@@ -120,7 +121,7 @@ impl Session {
         &self.inputs
     }
 
-    /// Returns the counts of checkpoints 1 to K.
+    /// Returns the counts of checkpoints 1 to K, in rising order. Checkpoint 0, at count 0, is not among them.
     pub(crate) fn counts(&self) -> &[u64]
         ensures counts { result.now ≡ self.now.counts }
         ensures lawful { IsLawful self.now }

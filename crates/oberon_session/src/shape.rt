@@ -78,7 +78,6 @@ fn session<'a>(
 }
 
 impl<'a> SessionMembers<'a> {
-    /// No members.
     fn new() -> SessionMembers<'a>
         ensures { session_found_view result ≡ session_found no_members }
     {

@@ -52,7 +52,6 @@ pub fn start(
 }
 
 impl StartMembers {
-    /// No members.
     fn new() -> StartMembers
         ensures { start_found_view result ≡ start_found no_members }
     {

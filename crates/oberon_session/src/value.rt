@@ -13,7 +13,7 @@ use crate::head::{Head, take_head};
 use json::Reader;
 use std::alloc::Global;
 
-/// Takes a value.
+/// Takes a value, and drops it.
 #[cycle(pass)]
 pub fn pass(reader: &mut Reader<'_>, depth: usize) -> Result<(), SessionFault>
     ensures { Takes (one_value depth reader.old) reader.new (λ _ _. ⊤) result }

@@ -2,6 +2,7 @@
 use Rattle.std.specs.Prelude.{ℕ, ◌≡◌, ◌≢◌, ◌+◌, ◌-◌, ◌<◌, ◌≤◌, List, length, map, None}
 use Rattle.std.specs.List.{range_with_len}
 use Rattle.risc_pages.specs.declared.page.Page.{Page}
+use Rattle.risc_pages.specs.declared.sizes.TheConstants.{MEMORY_WORDS}
 use Rattle.risc_pages.specs.Tables.{table_words}
 use Rattle.risc_model.specs.declared.event.Event.{Event}
 use Rattle.risc_model.specs.MachineState.{State, cpu_state, IsCpuState}
@@ -32,7 +33,7 @@ pub record IsReached (begun : List ℕ) (state : State) (sent : List ℕ) (r : R
   pub output : r.sent.items ≡ sent
   pub changed : map changed_page_view r.changed.items ≡ changed_pages begun state.words
   pub range : IsCpuState state.cpu
-  pub whole : length state.words ≡ 262144
+  pub whole : length state.words ≡ MEMORY_WORDS
 
 -- checkpoints 0 to k of the session
 abbrev pub checkpoints_to : SessionParts → ℕ → List CheckpointParts

@@ -11,6 +11,7 @@ use Rattle.risc_model.specs.declared.cpu.Cpu.{Cpu}
 use Rattle.risc_model.specs.declared.event.Event.{Event}
 use Rattle.risc_model.specs.InputOrder.{AreOrdered}
 use Rattle.risc_model.specs.declared.inputs.TheConstants.{MAX_COUNT}
+use Rattle.risc_pages.specs.declared.sizes.TheConstants.{PAGE_SLOTS}
 use Rattle.oberon_session.specs.Digits.{all_placed_of}
 use Rattle.oberon_session.specs.Draft.{Draft, InputNumbers, PageText, Start, draft_of}
 use Rattle.oberon_session.specs.inner.Drafts.{page_view, start_view}
@@ -32,13 +33,13 @@ StartFits start =
     × IsTrue (timer_fits start.rate start.phase)
 
 abbrev pub PageFits : PageText → Type 0
-PageFits page = (page.at < 1024) × (length page.hex ≤ 2048)
+PageFits page = (page.at < PAGE_SLOTS) × (length page.hex ≤ 2048)
 
 abbrev pub InputFits : InputNumbers → Type 0
 InputFits input = (input.count ≤ MAX_COUNT) × IsInput input.kind input.value
 
 abbrev pub PagesFit : List PageText → Type 0
-PagesFit pages = (length pages ≤ 1024) × All PageFits pages
+PagesFit pages = (length pages ≤ PAGE_SLOTS) × All PageFits pages
 
 abbrev pub InputsFit : List InputNumbers → Type 0
 InputsFit inputs = (length inputs ≤ MAX_EVENTS) × All InputFits inputs
@@ -66,7 +67,7 @@ RisesBy {X} number xs = (k : ℕ) (d : X) → k + 1 < length xs → number (slic
 
 -- not too many pages, each in its ranges
 abbrev pub DraftPagesFit : List PageDraft → Type 0
-DraftPagesFit pages = (length pages ≤ 1024) × All (λ page. PageFits (page_view page)) pages
+DraftPagesFit pages = (length pages ≤ PAGE_SLOTS) × All (λ page. PageFits (page_view page)) pages
 
 -- the numbers of the initial state, of pages and of checkpoints are in their ranges
 abbrev pub NumbersFit : DraftValue → Type 0
@@ -80,7 +81,7 @@ NumbersRise d = RisesBy (λ page. page.at) d.pages.items × IsStrictlyIncreasing
 
 -- not too many pages, each in one of the 1,024 slots
 abbrev pub PlacedFit : List PlacedPage → Type 0
-PlacedFit pages = (length pages ≤ 1024) × All (λ page. page.at < 1024) pages
+PlacedFit pages = (length pages ≤ PAGE_SLOTS) × All (λ page. page.at < PAGE_SLOTS) pages
 
 -- a processor that runs, and numbers that are in their ranges
 abbrev pub PartsFit : Cpu → ℕ → ℕ → List PlacedPage → List Event → List ℕ → Type 0
