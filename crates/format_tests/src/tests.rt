@@ -9,12 +9,12 @@ mod second;
 use oberon_format::Fault;
 use std::alloc::Global;
 
-/// The text of each fault.
-const TEXTS: [(Fault, &str); 9] = [
-    (Fault::Short(1), "the text ends too early, at byte 1"),
+/// The message of each fault.
+const MESSAGES: [(Fault, &str); 9] = [
+    (Fault::Short(1), "the recording ends too early, at byte 1"),
     (
         Fault::Magic(0),
-        "the text is not that of a recording, at byte 0",
+        "the bytes do not begin with ORSR, at byte 0",
     ),
     (Fault::Version(4), "the version is not known, at byte 4"),
     (
@@ -31,28 +31,28 @@ const TEXTS: [(Fault, &str); 9] = [
     ),
     (
         Fault::Page(156),
-        "a page number is out of its range, at byte 156",
+        "a page id is out of its range, at byte 156",
     ),
     (
         Fault::Trailing(4252),
-        "the text goes on after its end, at byte 4252",
+        "there are bytes after the end of the recording, at byte 4252",
     ),
     (Fault::Memory, "no memory"),
 ];
 
-/// Reports whether a fault has this text.
-fn is_shown(alloc: Global, fault: Fault, text: &str) -> bool {
+/// Reports whether a fault has this message.
+fn is_shown(alloc: Global, fault: Fault, message: &str) -> bool {
     match format!(in alloc; "{fault}") {
-        Ok(shown) => shown.as_str() == text,
+        Ok(shown) => shown.as_str() == message,
         Err(_) => false,
     }
 }
 
-/// Returns the text of the first fault whose text is another one, if there is one.
+/// Returns the message of the first fault that shows another one, if there is one.
 fn message_not_shown(alloc: Global) -> Option<&'static str> {
-    for (fault, text) in &TEXTS {
-        if !is_shown(alloc, *fault, text) {
-            return Some(text);
+    for (fault, message) in &MESSAGES {
+        if !is_shown(alloc, *fault, message) {
+            return Some(message);
         }
     }
     None
@@ -60,7 +60,7 @@ fn message_not_shown(alloc: Global) -> Option<&'static str> {
 
 #[test]
 fn shows_each_fault(rt: HostRuntime) {
-    if let Some(text) = message_not_shown(rt.alloc()) {
-        panic!(rt; "not shown: {text}");
+    if let Some(message) = message_not_shown(rt.alloc()) {
+        panic!(rt; "not shown: {message}");
     }
 }

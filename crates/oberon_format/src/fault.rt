@@ -8,10 +8,10 @@ use thiserror::Error;
 #[derive(Clone, Copy, Debug, PartialEq, Eq, Error)]
 pub enum Fault {
     /// 1: the file ends too early. The byte is its length.
-    #[error("the text ends too early, at byte {0}")]
+    #[error("the recording ends too early, at byte {0}")]
     Short(u64),
     /// 2: the file does not begin with `ORSR`. The byte is 0.
-    #[error("the text is not that of a recording, at byte {0}")]
+    #[error("the bytes do not begin with ORSR, at byte {0}")]
     Magic(u64),
     /// 3: the version is neither 1 nor 2. The byte is 4.
     #[error("the version is not known, at byte {0}")]
@@ -27,10 +27,10 @@ pub enum Fault {
     Checkpoint(u64),
     /// 7: a page id of version 1 is not that of a page: the byte is its offset. Or a change of version 2 is not lawful: the byte
     /// is its start.
-    #[error("a page number is out of its range, at byte {0}")]
+    #[error("a page id is out of its range, at byte {0}")]
     Page(u64),
     /// 8: there are bytes after the output. The byte is the first of them.
-    #[error("the text goes on after its end, at byte {0}")]
+    #[error("there are bytes after the end of the recording, at byte {0}")]
     Trailing(u64),
     /// An allocation failed. This is no fault of the file.
     #[error("no memory")]

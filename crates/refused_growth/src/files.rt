@@ -12,34 +12,34 @@ const CHANGED_LENGTH: usize = 1_216;
 /// Returns a file of version 1 with a page of zeros, a timer's event at count 0 and a checkpoint that is all zeros, and one byte
 /// more.
 fn sound_file() -> [u8; LENGTH + 1] {
-    let mut text = [0; LENGTH + 1];
-    text[0] = b'O';
-    text[1] = b'R';
-    text[2] = b'S';
-    text[3] = b'R';
-    text[4] = 1;
-    text[8] = 1;
-    text[12] = 1;
-    text[16] = 1;
-    text[1_056] = 1;
-    text
+    let mut file = [0; LENGTH + 1];
+    file[0] = b'O';
+    file[1] = b'R';
+    file[2] = b'S';
+    file[3] = b'R';
+    file[4] = 1;
+    file[8] = 1;
+    file[12] = 1;
+    file[16] = 1;
+    file[1_056] = 1;
+    file
 }
 
 /// Returns a file of version 2 with that page, which its checkpoint has in slot 0, and that event.
 fn changed_file() -> [u8; CHANGED_LENGTH] {
-    let mut text = [0; CHANGED_LENGTH];
-    text[0] = b'O';
-    text[1] = b'R';
-    text[2] = b'S';
-    text[3] = b'R';
-    text[4] = 2;
-    text[8] = 1;
-    text[12] = 1;
-    text[16] = 1;
-    text[1_056] = 1;
-    text[1_204] = 1;
-    text[1_212] = 1;
-    text
+    let mut file = [0; CHANGED_LENGTH];
+    file[0] = b'O';
+    file[1] = b'R';
+    file[2] = b'S';
+    file[3] = b'R';
+    file[4] = 2;
+    file[8] = 1;
+    file[12] = 1;
+    file[16] = 1;
+    file[1_056] = 1;
+    file[1_204] = 1;
+    file[1_212] = 1;
+    file
 }
 
 /// The length of a file of version 2 with one checkpoint more, which has no change.
@@ -47,16 +47,16 @@ const STEPPING_LENGTH: usize = CHANGED_LENGTH + 144;
 
 /// Returns that file with a checkpoint at count 1: its first instruction is a zero, which moves R0 to itself and sets Z.
 pub(crate) fn stepping_file() -> [u8; STEPPING_LENGTH] {
-    let mut text = [0; STEPPING_LENGTH];
-    for (there, byte) in text.iter_mut().zip(changed_file()) {
+    let mut file = [0; STEPPING_LENGTH];
+    for (there, byte) in file.iter_mut().zip(changed_file()) {
         *there = byte;
     }
-    text[16] = 2;
+    file[16] = 2;
     // the count, the program counter and the flags
-    text[CHANGED_LENGTH] = 1;
-    text[CHANGED_LENGTH + 76] = 1;
-    text[CHANGED_LENGTH + 80] = 4;
-    text
+    file[CHANGED_LENGTH] = 1;
+    file[CHANGED_LENGTH + 76] = 1;
+    file[CHANGED_LENGTH + 80] = 4;
+    file
 }
 
 /// A file that is cut at a length and has another byte at an offset: the length, the offset, the byte. (`b'O'` at offset 0 leaves
@@ -99,8 +99,8 @@ const SECOND: [Broken; 7] = [
 ];
 
 /// Returns the first bytes of a file, or all that it has.
-fn first_bytes(text: &[u8], length: usize) -> &[u8] {
-    &text[..length.min(text.len())]
+fn first_bytes(file: &[u8], length: usize) -> &[u8] {
+    &file[..length.min(file.len())]
 }
 
 /// Reads a file without a fault of each version, and files with each of the eight faults, and prints the result of each.
@@ -119,18 +119,18 @@ pub(crate) fn files<H: AllocGlobal + Print>(rt: &H) -> io::Result<()> {
 /// Prints the result of a file with one of these faults.
 fn show_broken<H: AllocGlobal + Print>(
     rt: &H,
-    text: &mut [u8],
-    (length, place, byte): Broken,
+    file: &mut [u8],
+    (length, offset, byte): Broken,
 ) -> io::Result<()> {
-    if let Some(there) = text.get_mut(place) {
+    if let Some(there) = file.get_mut(offset) {
         *there = byte;
     }
-    show(rt, "text", first_bytes(text, length))
+    show(rt, "broken", first_bytes(file, length))
 }
 
 /// Prints the fault of a file under a name.
-fn show<H: AllocGlobal + Print>(rt: &H, name: &str, text: &[u8]) -> io::Result<()> {
-    match read(rt.alloc(), text) {
+fn show<H: AllocGlobal + Print>(rt: &H, name: &str, file: &[u8]) -> io::Result<()> {
+    match read(rt.alloc(), file) {
         Ok(_) => println!(rt; "{name}: read"),
         Err(fault) => println!(rt; "{name}: {fault}"),
     }

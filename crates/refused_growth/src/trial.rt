@@ -5,7 +5,7 @@ ghost use Rattle.std.specs.Prelude.{◌≡◌, ◌≤◌, ◌<◌, All, IfOk, le
 use risc_devices::Devices;
 use risc_machine::{Machine, RunFault};
 use risc_model::{Cpu, Flags, Inputs};
-use risc_pages::{Page, Pool, Table};
+use risc_pages::{PAGE_WORDS, Page, Pool, Table};
 use std::alloc::{AllocError, Global};
 use std::io;
 
@@ -70,7 +70,7 @@ impl Trial {
         let devices = machine.devices();
         let memory = machine.memory();
         println!(rt;
-            "{}: R0 {:08X}, PC {}, timer {}, phase {}, word 256 {:08X}, place 1 owned {}, sent {:?}",
+            "{}: R0 {:08X}, PC {}, timer {}, phase {}, word 256 {:08X}, slot 1 owned {}, sent {:?}",
             self.name,
             cpu.r[0],
             cpu.pc,
@@ -84,14 +84,14 @@ impl Trial {
 }
 
 /// Writes a word of a page.
-fn write(page: &mut Page, place: usize, word: u32)
-    requires { place < 256 }
+fn write(page: &mut Page, index: usize, word: u32)
+    requires { index < PAGE_WORDS }
 {
-    page.words[place] = word;
+    page.words[index] = word;
 }
 
 /// Returns the table with the pool's first page in slot 0 and zeros elsewhere.
-fn first_place() -> Table
+fn first_slot() -> Table
     ensures { All (λ n. n ≤ 1) result.numbers }
 {
     let mut table = Table::zeros();
@@ -119,7 +119,7 @@ fn start(alloc: Global, pool: &Pool) -> Result<Machine<'_>, AllocError>
         flags,
         stop: 0,
     };
-    Machine::start(alloc, pool, &first_place(), cpu, devices)
+    Machine::start(alloc, pool, &first_slot(), cpu, devices)
 }
 
 /// Continues after a refusal: does the instruction that was refused, whose inputs were taken, and runs on from the next.
