@@ -4,7 +4,7 @@ use Rattle.std.specs.List.{fold}
 use Rattle.recording_texts.specs.Bytes.{put_word}
 use Rattle.recording_texts.specs.declared.spot.Spot.{Spot}
 use Rattle.recording_texts.specs.declared.spot.Spot.TheVariants.{Word, Register, H, Flags, Stop, Leds}
-use Rattle.recording_texts.specs.declared.spot.Spot.TheVariants.{Waiting, Keys, Rate, Phase, Place}
+use Rattle.recording_texts.specs.declared.spot.Spot.TheVariants.{Waiting, Keys, Rate, Phase, PageId}
 
 -- the offset, in the file, of a number of a page
 abbrev pub offset_in_pages : Spot → Option ℕ
@@ -28,7 +28,7 @@ offset_in_both _ k = None
 
 -- the offset from the start of checkpoint k, in version 1
 abbrev pub offset_in_first : Spot → ℕ → Option ℕ
-offset_in_first (Place of slot) k = offset_if of k (132 + 4 * slot)
+offset_in_first (PageId of slot) k = offset_if of k (132 + 4 * slot)
 offset_in_first spot k = offset_in_both spot k
 
 -- the offset from the start of checkpoint k, in version 2

@@ -26,10 +26,10 @@ pub enum Spot {
     /// The timer's phase, for which only version 2 has a field.
     Phase(u16),
     /// The page id in this slot at this checkpoint, which only version 1 has for each slot.
-    Place(u16, u16),
+    PageId(u16, u16),
 }
 
-use Spot::{Flags, H, Keys, Leds, Phase, Place, Rate, Register, Stop, Waiting, Word};
+use Spot::{Flags, H, Keys, Leds, PageId, Phase, Rate, Register, Stop, Waiting, Word};
 
 impl Spot {
     /// Returns the offset of the number in the file, if it is one of a page.
@@ -48,7 +48,7 @@ impl Spot {
         ensures offset { result ≡ offset_in_first self k }
         ensures bound { IfSome result (λ offset. offset < 2 ^ 32) }
     {
-        let Place(of, slot) = self else {
+        let PageId(of, slot) = self else {
             return self.offset_in_both(k);
         };
         offset_if(of, k, 132 + 4 * usize::from(slot))
@@ -79,7 +79,7 @@ impl Spot {
             Leds(of) => (of, 96),
             Waiting(of) => (of, 108),
             Keys(of) => (of, 112),
-            Word(..) | Rate(_) | Phase(_) | Place(..) => return None,
+            Word(..) | Rate(_) | Phase(_) | PageId(..) => return None,
         };
         offset_if(of, k, offset)
     }

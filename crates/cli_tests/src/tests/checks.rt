@@ -1,7 +1,7 @@
 //! Recordings that are checked, each with its verdict line.
 
 use super::served::{gives, served};
-use recording_texts::Spot::{Flags, Keys, Leds, Place, Register, Stop, Waiting};
+use recording_texts::Spot::{Flags, Keys, Leds, PageId, Register, Stop, Waiting};
 use recording_texts::{
     Claim, EMPTY, EQUAL_PAGES, Event, FIRST_PAGE, JUMP, JUMPS, ONE_BYTE_SENT, STORED_RUN, Sketch,
     Spot, ZEROS,
@@ -363,7 +363,7 @@ const WRITES: &[Example] = &[
     (PAGE_WRITTEN, &[], "accepted 1 checkpoints 2 steps\n", 0),
     (
         PAGE_WRITTEN,
-        &[(Place(1, 0), 2)],
+        &[(PageId(1, 0), 2)],
         "false checkpoint 1 at 2 part page 0\n",
         1,
     ),
