@@ -7,6 +7,7 @@ use Rattle.atomic_table.specs.Table.{State, Splits, Joins, opening}
 use Rattle.atomic_table.proofs.Lists.{at_set}
 use Rattle.oberon_claims.specs.declared.book.View.{View}
 use Rattle.oberon_claims.specs.declared.book.Plan.{Plan}
+use Rattle.oberon_claims.specs.declared.claims.TheConstants.{MAX_JOBS, MAX_WORKERS}
 use Rattle.oberon_claims.specs.Counts.{times, once_below}
 use Rattle.oberon_claims.specs.inner.Book.{total, nothing, times_reported, IsSeat, IsLegal, Kept, own_seat, own_view}
 use Rattle.oberon_claims.specs.inner.Steps.{view_with_one_less, fresh_view, joined_view, spent_view}
@@ -36,7 +37,7 @@ resum jobs workers next least views views' same seats legal = record {
 }
 
 -- a new book is legal
-pub begins : (plan : Plan) → plan.jobs ≤ 4096 → plan.workers ≤ 64 → Kept plan (opening (0 ∷ nothing ∷ []) [] (own_seat plan))
+pub begins : (plan : Plan) → plan.jobs ≤ MAX_JOBS → plan.workers ≤ MAX_WORKERS → Kept plan (opening (0 ∷ nothing ∷ []) [] (own_seat plan))
 begins plan few_jobs few_workers = (
   refl,
   record {

@@ -37,7 +37,7 @@ pub struct View {
 /// The two numbers that a book is made with, which never change.
 #[derive(Clone, Copy)]
 pub struct Plan {
-    /// The number of jobs, at most 4,096.
+    /// The number of jobs, at most `MAX_JOBS`.
     pub jobs: u32,
     /// The number of passes, 1 to `MAX_WORKERS`.
     pub workers: u32,

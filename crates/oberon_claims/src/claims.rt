@@ -18,9 +18,12 @@ use std::marker::Model;
 /// The most passes that a book has, and so the most workers that share it (this project's own choice).
 pub const MAX_WORKERS: u32 = 64;
 
+/// The most jobs that a book has: as many as a recording has segments at most (this project's own choice).
+pub const MAX_JOBS: u32 = 4_096;
+
 /// A book of jobs, numbered from 0, which threads share by reference.
 ///
-/// Contracts see its identity, its number of jobs and its number of passes, which is 1 to `MAX_WORKERS`.
+/// Contracts see its identity, its number of jobs, at most `MAX_JOBS`, and its number of passes, 1 to `MAX_WORKERS`.
 #[derive(Drop)]
 pub struct Claims {
     table: Table<u8, View, Plan, Legal, Global>,
@@ -41,11 +44,11 @@ impl Model for Claims {
 }
 
 impl Claims {
-    /// Makes a book of `jobs` jobs, at most 4,096, and `workers` fresh passes of it, 1 to `MAX_WORKERS`.
+    /// Makes a book of `jobs` jobs, at most `MAX_JOBS`, and `workers` fresh passes of it, 1 to `MAX_WORKERS`.
     ///
     /// It fails only if memory runs out.
     pub fn new(alloc: Global, jobs: u32, workers: u32) -> Result<(Claims, Vec<Pass>), AllocError>
-        requires jobs { jobs ≤ 4096 }
+        requires jobs { jobs ≤ MAX_JOBS }
         requires workers { (1 ≤ workers) × (workers ≤ MAX_WORKERS) }
         ensures jobs { IfOk result (λ r. r.0.jobs ≡ jobs) }
         ensures workers { IfOk result (λ r. r.0.workers ≡ workers) }

@@ -12,6 +12,6 @@ mod ledger;
 mod own;
 mod pass;
 
-pub use claims::{Claims, MAX_WORKERS};
+pub use claims::{Claims, MAX_JOBS, MAX_WORKERS};
 pub use ledger::Ledger;
 pub use pass::Pass;

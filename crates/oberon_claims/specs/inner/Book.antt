@@ -6,7 +6,7 @@ use Rattle.atomic_table.specs.Table.{State}
 use Rattle.oberon_claims.specs.Counts.{times, once_below}
 use Rattle.oberon_claims.specs.declared.book.View.{View}
 use Rattle.oberon_claims.specs.declared.book.Plan.{Plan}
-use Rattle.oberon_claims.specs.declared.claims.TheConstants.{MAX_WORKERS}
+use Rattle.oberon_claims.specs.declared.claims.TheConstants.{MAX_JOBS, MAX_WORKERS}
 
 -- the sum of f over all seats
 abbrev pub total : (View → ℕ) → List View → ℕ
@@ -53,7 +53,7 @@ pub record IsSeat (v : View) : Type 0 where
 -- a book of `jobs` jobs and `workers` passes is legal, if its words are `next` and `least` and its seats have these views
 pub record IsLegal (jobs workers next least : ℕ) (views : List View) : Type 0 where
   -- the numbers are small, so `next` cannot wrap
-  pub few_jobs : jobs ≤ 4096
+  pub few_jobs : jobs ≤ MAX_JOBS
   pub few_workers : workers ≤ MAX_WORKERS
   -- each job below `next` was taken once, and no other number was: no job is lost, and none is taken twice
   pub each_once : (x : ℕ) → times_taken x views ≡ once_below x (min next jobs)
