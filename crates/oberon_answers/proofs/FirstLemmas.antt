@@ -6,33 +6,33 @@ use Rattle.std.proofs.lemmas.List.{get_or_append_left, get_or_push, length-map, 
 use Rattle.std.proofs.lemmas.List.Elements.{All-push}
 use Rattle.oberon_format.specs.Recording.{RecordingParts, last_of}
 use Rattle.oberon_check.specs.Collecting.{IsCollectFault, part_at, segment_at}
-use Rattle.oberon_check.specs.Segment.{Finding}
+use Rattle.oberon_check.specs.Segment.{SegmentVerdictRecord}
 use Rattle.oberon_check.specs.declared.collector.CollectFault.{CollectFault}
 use Rattle.oberon_check.specs.declared.collector.CollectFault.TheVariants.{Double, Missing}
 use Rattle.oberon_check.specs.declared.part.Part.{Part}
 use Rattle.oberon_answers.specs.inner.Replaying.{AreFirst}
 
-segment_before : (vs : List Finding) (v : Finding) (k : ℕ) → k < length vs → segment_at (vs ++ v ∷ []) k ≡ segment_at vs k
+segment_before : (vs : List SegmentVerdictRecord) (v : SegmentVerdictRecord) (k : ℕ) → k < length vs → segment_at (vs ++ v ∷ []) k ≡ segment_at vs k
 segment_before vs v k lt =
-    let f = λ (w : Finding). w.segment in
+    let f = λ (w : SegmentVerdictRecord). w.segment in
     ap (λ (ns : List ℕ). get_or ns k 0) (map_push f vs v) ∙ get_or_append_left (map f vs) (v.segment ∷ []) 0 k (omega (arith, length-map vs f))
 
-segment_last : (vs : List Finding) (v : Finding) (k : ℕ) → length vs ≡ k → segment_at (vs ++ v ∷ []) k ≡ v.segment
+segment_last : (vs : List SegmentVerdictRecord) (v : SegmentVerdictRecord) (k : ℕ) → length vs ≡ k → segment_at (vs ++ v ∷ []) k ≡ v.segment
 segment_last vs v k at =
-    let f = λ (w : Finding). w.segment in
+    let f = λ (w : SegmentVerdictRecord). w.segment in
     ap (λ (ns : List ℕ). get_or ns k 0) (map_push f vs v) ∙ get_or_push (map f vs) v.segment 0 k (length-map vs f ∙ at)
 
 -- the part of the last verdict
-pub part_last : (vs : List Finding) (v : Finding) (k : ℕ) → length vs ≡ k → part_at (vs ++ v ∷ []) k ≡ v.part
+pub part_last : (vs : List SegmentVerdictRecord) (v : SegmentVerdictRecord) (k : ℕ) → length vs ≡ k → part_at (vs ++ v ∷ []) k ≡ v.part
 part_last vs v k at =
-    let f = λ (w : Finding). w.part in
+    let f = λ (w : SegmentVerdictRecord). w.part in
     ap (λ (ps : List (Option Part)). get_or ps k None) (map_push f vs v) ∙ get_or_push (map f vs) v.part None k (length-map vs f ∙ at)
 
 -- a verdict more, on the next segment
-pub first_more : (r : RecordingParts) (vs : List Finding) (v : Finding) → AreFirst r vs → v.recording ≡ r → v.segment ≡ length vs
+pub first_more : (r : RecordingParts) (vs : List SegmentVerdictRecord) (v : SegmentVerdictRecord) → AreFirst r vs → v.recording ≡ r → v.segment ≡ length vs
     → AreFirst r (vs ++ v ∷ [])
 first_more r vs v first of at = record {
-  of_recording = All-push (λ (w : Finding). w.recording ≡ r) vs v first.of_recording of;
+  of_recording = All-push (λ (w : SegmentVerdictRecord). w.recording ≡ r) vs v first.of_recording of;
   in_order = λ k lt.
       elim (cases_lt k (length vs)) [
         | inl less ↦ segment_before vs v k less ∙ first.in_order k less
@@ -43,7 +43,7 @@ first_more r vs v first of at = record {
 }
 
 -- no segment has two verdicts
-no_double : (r : RecordingParts) (vs : List Finding) → AreFirst r vs → (segment : ℕ) → ¬ (IsCollectFault r vs (Double segment))
+no_double : (r : RecordingParts) (vs : List SegmentVerdictRecord) → AreFirst r vs → (segment : ℕ) → ¬ (IsCollectFault r vs (Double segment))
 no_double r vs first segment double =
     let k = double.occurred.0 in
     let before : k < double.at = double.occurred.1 in
@@ -55,7 +55,7 @@ no_double r vs first segment double =
     absurd (omega arith)
 
 -- each segment has a verdict
-pub whole_all : (r : RecordingParts) (vs : List Finding) → AreFirst r vs → length vs ≡ last_of r → (fault : CollectFault) → ¬ (IsCollectFault r vs fault)
+pub whole_all : (r : RecordingParts) (vs : List SegmentVerdictRecord) → AreFirst r vs → length vs ≡ last_of r → (fault : CollectFault) → ¬ (IsCollectFault r vs fault)
 whole_all r vs first all (Double segment) double = no_double r vs first segment double
 whole_all r vs first all (Missing segment) missing =
     let inside : segment < last_of r = missing.1.inside in
@@ -63,7 +63,7 @@ whole_all r vs first all (Missing segment) missing =
     missing.1.missing (segment, there, first.in_order segment there)
 
 -- the last verdict is of a segment that failed
-pub whole_failed : (r : RecordingParts) (vs : List Finding) (last : ℕ) → AreFirst r vs → length vs ≡ last + 1 → IsSome (part_at vs last)
+pub whole_failed : (r : RecordingParts) (vs : List SegmentVerdictRecord) (last : ℕ) → AreFirst r vs → length vs ≡ last + 1 → IsSome (part_at vs last)
     → (fault : CollectFault) → ¬ (IsCollectFault r vs fault)
 whole_failed r vs last first long failed (Double segment) double = no_double r vs first segment double
 whole_failed r vs last first long failed (Missing segment) missing =

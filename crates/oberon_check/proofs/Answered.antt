@@ -11,11 +11,11 @@ use Rattle.oberon_check.specs.declared.part.Part.{Part}
 use Rattle.oberon_check.specs.declared.verdict.Verdict.{Verdict}
 use Rattle.oberon_check.specs.declared.verdict.Verdict.TheVariants.{Accepted, FalseAt}
 use Rattle.oberon_check.specs.Difference.{first_difference, IsDifference}
-use Rattle.oberon_check.specs.Segment.{replayed, IsSegmentPart, Finding, IsTrueFinding}
+use Rattle.oberon_check.specs.Segment.{replayed, IsSegmentPart, SegmentVerdictRecord, IsTrueSegmentVerdict}
 use Rattle.oberon_check.specs.Collecting.{segment_at, part_at, OccursBelow}
 use Rattle.oberon_check.specs.Verdict.{IsVerdict}
 use Rattle.oberon_check.specs.Work.{DoneRecord}
-use Rattle.oberon_check.specs.Gathering.{IsEachOnce, HasFinding, below_answer, HasAnswer, IsAfterLeast, IsGathered, all_findings, passes_of}
+use Rattle.oberon_check.specs.Gathering.{IsEachOnce, HasSegmentVerdict, below_answer, HasAnswer, IsAfterLeast, IsGathered, all_verdicts, passes_of}
 use Rattle.oberon_check.proofs.Replays.{HoldBelow, replayed-defined}
 use Rattle.oberon_check.proofs.Collects.{IsTruth, truth}
 use Rattle.oberon_check.proofs.Tallying.{not_some}
@@ -58,13 +58,13 @@ this_part x y p None first same = absurd (not_first x y p same first)
 this_part x y p (Some q) first is = sym is ∙ first
 
 -- a verdict of a segment below the answer's says that the segment held
-held_below : (r : RecordingParts) → IsLawful r → (vs : List Finding) → ((k : ℕ) → k < length vs → IsTruth r vs k) → (v : Verdict) → IsVerdict r v
+held_below : (r : RecordingParts) → IsLawful r → (vs : List SegmentVerdictRecord) → ((k : ℕ) → k < length vs → IsTruth r vs k) → (v : Verdict) → IsVerdict r v
     → (k : ℕ) → k < length vs → segment_at vs k < below_answer v → part_at vs k ≡ None
 held_below r lawful vs truths v is k inside below =
     no_part _ _ (part_at vs k) (hold_below_answer r lawful v is (segment_at vs k) below) (truths k inside).replay
 
 -- so no segment below the answer's was reported
-none_reported_below : (r : RecordingParts) (cut : ℕ) (ps : List PassRecord) (vs : List Finding) → AllBack (last_of r) cut ps vs → IsLawful r → ((k : ℕ) → k < length vs → IsTruth r vs k)
+none_reported_below : (r : RecordingParts) (cut : ℕ) (ps : List PassRecord) (vs : List SegmentVerdictRecord) → AllBack (last_of r) cut ps vs → IsLawful r → ((k : ℕ) → k < length vs → IsTruth r vs k)
     → (v : Verdict) → IsVerdict r v → (x : ℕ) → Contains (all_reported ps) x → x < below_answer v → ⊥
 none_reported_below r cut ps vs b lawful truths v is x reported below =
     let k = reported_occurs (last_of r) cut ps vs b x reported in
@@ -72,7 +72,7 @@ none_reported_below r cut ps vs b lawful truths v is x reported below =
     not_some _ (held_below r lawful vs truths v is k.0 k.1 (omega arith)) k.3
 
 -- each segment up to the answer's has a verdict
-occurs_to : (r : RecordingParts) (cut : ℕ) (ps : List PassRecord) (vs : List Finding) → AllBack (last_of r) cut ps vs → IsLawful r → ((k : ℕ) → k < length vs → IsTruth r vs k)
+occurs_to : (r : RecordingParts) (cut : ℕ) (ps : List PassRecord) (vs : List SegmentVerdictRecord) → AllBack (last_of r) cut ps vs → IsLawful r → ((k : ℕ) → k < length vs → IsTruth r vs k)
     → (v : Verdict) → IsVerdict r v → (s : ℕ) → s < last_of r → s ≤ below_answer v → OccursBelow vs (length vs) s
 occurs_to r cut ps vs b lawful truths v is s inside within =
     ⊎_elim
@@ -80,8 +80,8 @@ occurs_to r cut ps vs b lawful truths v is s inside within =
     (λ (w : (x : ℕ) × Contains (all_reported ps) x × (x < s)). (let before = w.2 in absurd (none_reported_below r cut ps vs b lawful truths v is w.0 w.1 (omega arith))))
     (occurs_or_after (last_of r) cut ps vs b s inside)
 
-has_below : (r : RecordingParts) (cut : ℕ) (ps : List PassRecord) (vs : List Finding) → AllBack (last_of r) cut ps vs → IsLawful r → ((k : ℕ) → k < length vs → IsTruth r vs k)
-    → (v : Verdict) → IsVerdict r v → (s : ℕ) → s < below_answer v → HasFinding r vs s None
+has_below : (r : RecordingParts) (cut : ℕ) (ps : List PassRecord) (vs : List SegmentVerdictRecord) → AllBack (last_of r) cut ps vs → IsLawful r → ((k : ℕ) → k < length vs → IsTruth r vs k)
+    → (v : Verdict) → IsVerdict r v → (s : ℕ) → s < below_answer v → HasSegmentVerdict r vs s None
 has_below r cut ps vs b lawful truths v is s below =
     let within = below_within r v is in
     let at = occurs_to r cut ps vs b lawful truths v is s (omega arith) (omega arith) in
@@ -94,7 +94,7 @@ has_below r cut ps vs b lawful truths v is s below =
       replay = hold_below_answer r lawful v is s below;
     }
 
-has_answer : (r : RecordingParts) (cut : ℕ) (ps : List PassRecord) (vs : List Finding) → AllBack (last_of r) cut ps vs → IsLawful r → ((k : ℕ) → k < length vs → IsTruth r vs k)
+has_answer : (r : RecordingParts) (cut : ℕ) (ps : List PassRecord) (vs : List SegmentVerdictRecord) → AllBack (last_of r) cut ps vs → IsLawful r → ((k : ℕ) → k < length vs → IsTruth r vs k)
     → (v : Verdict) → IsVerdict r v → HasAnswer r vs v
 has_answer r cut ps vs b lawful truths (Accepted checkpoints steps) is = tt
 has_answer r cut ps vs b lawful truths (FalseAt checkpoint count part) is =
@@ -119,7 +119,7 @@ has_answer r cut ps vs b lawful truths (FalseAt checkpoint count part) is =
     }
 
 -- a segment without a verdict is after the least segment reported
-after_least : (last cut : ℕ) (ps : List PassRecord) (vs : List Finding) → AllBack last cut ps vs → (least : Option ℕ) → IsLeastOf (all_reported ps) least → (s : ℕ) → s < last → ¬ (OccursBelow vs (length vs) s) → IsAfterLeast (all_reported ps) s
+after_least : (last cut : ℕ) (ps : List PassRecord) (vs : List SegmentVerdictRecord) → AllBack last cut ps vs → (least : Option ℕ) → IsLeastOf (all_reported ps) least → (s : ℕ) → s < last → ¬ (OccursBelow vs (length vs) s) → IsAfterLeast (all_reported ps) s
 after_least last cut ps vs b least is s inside not =
     ⊎_elim
     (λ (occurs : OccursBelow vs (length vs) s). absurd (not occurs))
@@ -133,7 +133,7 @@ after_least last cut ps vs b least is s inside not =
         let le : y ≤ get_or (all_reported ps) reported.0 x = is.1 reported.0 x reported.1 in
         (y, is, omega arith)
 
-each_once : (last cut : ℕ) (ps : List PassRecord) (vs : List Finding) → AllBack last cut ps vs → IsEachOnce vs
+each_once : (last cut : ℕ) (ps : List PassRecord) (vs : List SegmentVerdictRecord) → AllBack last cut ps vs → IsEachOnce vs
 each_once last cut ps vs b j k inside_j inside_k same =
     dite (dec_lt j k)
     (λ (before : j < k). absurd (at_most_once last cut ps vs b j k before inside_k same))
@@ -141,12 +141,12 @@ each_once last cut ps vs b j k inside_j inside_k same =
     (λ (after : k < j). absurd (at_most_once last cut ps vs b k j after inside_j (sym same)))
     (λ nor. omega arith))
 
-pub answered : (r : RecordingParts) (cut : ℕ) (ds : List DoneRecord) → AllBack (last_of r) cut (passes_of ds) (all_findings ds) → All (λ v. v.recording ≡ r) (all_findings ds)
-    → (least : Option ℕ) → IsLeastOf (all_reported (passes_of ds)) least → IsLawful r → All IsTrueFinding (all_findings ds) → (v : Verdict) → IsVerdict r v → IsGathered r ds v
-answered r cut ds b of least is_least lawful findings v is =
-    let truths = truth r (all_findings ds) of findings in record {
-      once = each_once (last_of r) cut (passes_of ds) (all_findings ds) b;
-      below = has_below r cut (passes_of ds) (all_findings ds) b lawful truths v is;
-      answer = has_answer r cut (passes_of ds) (all_findings ds) b lawful truths v is;
-      skipped = after_least (last_of r) cut (passes_of ds) (all_findings ds) b least is_least;
+pub answered : (r : RecordingParts) (cut : ℕ) (ds : List DoneRecord) → AllBack (last_of r) cut (passes_of ds) (all_verdicts ds) → All (λ v. v.recording ≡ r) (all_verdicts ds)
+    → (least : Option ℕ) → IsLeastOf (all_reported (passes_of ds)) least → IsLawful r → All IsTrueSegmentVerdict (all_verdicts ds) → (v : Verdict) → IsVerdict r v → IsGathered r ds v
+answered r cut ds b of least is_least lawful each v is =
+    let truths = truth r (all_verdicts ds) of each in record {
+      once = each_once (last_of r) cut (passes_of ds) (all_verdicts ds) b;
+      below = has_below r cut (passes_of ds) (all_verdicts ds) b lawful truths v is;
+      answer = has_answer r cut (passes_of ds) (all_verdicts ds) b lawful truths v is;
+      skipped = after_least (last_of r) cut (passes_of ds) (all_verdicts ds) b least is_least;
     }

@@ -12,7 +12,7 @@ use Rattle.oberon_check.specs.declared.part.Part.TheVariants.{R, H, Pc, Flags, S
 use Rattle.oberon_check.specs.declared.verdict.Verdict.TheVariants.{Accepted, FalseAt}
 use Rattle.oberon_check.specs.Difference.{register_parts, control_parts, device_parts}
 use Rattle.oberon_check.specs.Line.{part_name, line_of, status_of}
-use Rattle.oberon_check.specs.Segment.{Finding}
+use Rattle.oberon_check.specs.Segment.{SegmentVerdictRecord}
 use Rattle.oberon_check.specs.inner.Tally.{lesser_of, end_of}
 use Rattle.oberon_check.specs.Work.{IsAfterShown, IsJob, failed_of}
 
@@ -79,10 +79,10 @@ not_eight x is below = absurd (omega arith)
 
 -- ten segments in jobs of four. Segment 2 failed: job 0 ends with it, and no other segment is reported
 module _ (r : RecordingParts) where
-  abbrev found : ℕ → Option Part → Finding
+  abbrev found : ℕ → Option Part → SegmentVerdictRecord
   found segment part = record { recording = r; segment = segment; part = part }
 
-  abbrev first_job : List Finding
+  abbrev first_job : List SegmentVerdictRecord
   first_job = found 0 None ∷ found 1 None ∷ found 2 (Some Leds) ∷ []
 
   job_ends_with_its_failed : IsJob 10 4 [] 0 first_job

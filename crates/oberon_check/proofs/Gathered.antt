@@ -15,20 +15,20 @@ use Rattle.oberon_format.specs.Recording.{RecordingParts, last_of}
 use Rattle.oberon_check.specs.declared.part.Part.{Part}
 use Rattle.oberon_check.specs.declared.collector.CollectFault.{CollectFault}
 use Rattle.oberon_check.specs.declared.collector.CollectFault.TheVariants.{Double, Missing}
-use Rattle.oberon_check.specs.Segment.{Finding, IsSeries}
+use Rattle.oberon_check.specs.Segment.{SegmentVerdictRecord, IsSeries}
 use Rattle.oberon_check.specs.Collecting.{segment_at, part_at, OccursBelow, IsCollectFault}
 use Rattle.oberon_check.specs.Work.{IsJob, IsAfterShown, InPieces, one_failed, failed_of, HasDone}
 use Rattle.oberon_check.proofs.Series.{failed_append}
 
-abbrev pub segments : List Finding → List ℕ
-segments vs = map (λ (v : Finding). v.segment) vs
+abbrev pub segments : List SegmentVerdictRecord → List ℕ
+segments vs = map (λ (v : SegmentVerdictRecord). v.segment) vs
 
-segments_append : (xs ys : List Finding) → segments (xs ++ ys) ≡ segments xs ++ segments ys
+segments_append : (xs ys : List SegmentVerdictRecord) → segments (xs ++ ys) ≡ segments xs ++ segments ys
 segments_append [] ys = refl
 segments_append (x ∷ xs) ys = ap (λ (l : List ℕ). x.segment ∷ l) (segments_append xs ys)
 
-times_pieces : (s : ℕ) (vs piece rest : List Finding) → vs ≡ piece ++ rest → times s (segments vs) ≡ times s (segments piece) + times s (segments rest)
-times_pieces s vs piece rest is = ap (λ (l : List Finding). times s (segments l)) is ∙ ap (times s) (segments_append piece rest) ∙ times_append s (segments piece) (segments rest)
+times_pieces : (s : ℕ) (vs piece rest : List SegmentVerdictRecord) → vs ≡ piece ++ rest → times s (segments vs) ≡ times s (segments piece) + times s (segments rest)
+times_pieces s vs piece rest is = ap (λ (l : List SegmentVerdictRecord). times s (segments l)) is ∙ ap (times s) (segments_append piece rest) ∙ times_append s (segments piece) (segments rest)
 
 one_other : (x y : ℕ) → x ≢ y → cond {A = ℕ} (nat_eq x y) 1 0 ≡ 0
 one_other x y ne = go (cond (nat_eq x y) 1 0) refl
@@ -42,19 +42,19 @@ one_small true = omega arith
 one_small false = omega arith
 
 -- after a verdict, a segment does not occur if no series from the next segment on has it: what follows is such a series, or nothing
-none_after : (first end s : ℕ) (vs : List Finding) (o : Option Part) → (IsSeries first end vs → times s (segments vs) ≡ 0) → MatchOption o (IsSeries first end vs) (λ _. vs ≡ []) → times s (segments vs) ≡ 0
+none_after : (first end s : ℕ) (vs : List SegmentVerdictRecord) (o : Option Part) → (IsSeries first end vs → times s (segments vs) ≡ 0) → MatchOption o (IsSeries first end vs) (λ _. vs ≡ []) → times s (segments vs) ≡ 0
 none_after first end s vs None next series = next series
-none_after first end s vs (Some p) next is = ap (λ (l : List Finding). times s (segments l)) is
+none_after first end s vs (Some p) next is = ap (λ (l : List SegmentVerdictRecord). times s (segments l)) is
 
 -- a segment before the first of a series, or after its end, does not occur in it
-series_before : (first end s : ℕ) (vs : List Finding) → IsSeries first end vs → s < first → times s (segments vs) ≡ 0
+series_before : (first end s : ℕ) (vs : List SegmentVerdictRecord) → IsSeries first end vs → s < first → times s (segments vs) ≡ 0
 series_before first end s [] h below = refl
 series_before first end s (v ∷ vs) h below =
     let here = one_other v.segment s (λ e. (let f = h.1 in absurd (omega arith))) in
     let counted = times_cons s v.segment (segments vs) in
     let rest = none_after (first + 1) end s vs v.part (λ series. series_before (first + 1) end s vs series (omega arith)) h.2 in omega arith
 
-series_past : (first end s : ℕ) (vs : List Finding) → IsSeries first end vs → end ≤ s → times s (segments vs) ≡ 0
+series_past : (first end s : ℕ) (vs : List SegmentVerdictRecord) → IsSeries first end vs → end ≤ s → times s (segments vs) ≡ 0
 series_past first end s [] h past = refl
 series_past first end s (v ∷ vs) h past =
     let below = h.0 in
@@ -62,7 +62,7 @@ series_past first end s (v ∷ vs) h past =
     let counted = times_cons s v.segment (segments vs) in
     let rest = none_after (first + 1) end s vs v.part (λ series. series_past (first + 1) end s vs series past) h.2 in omega arith
 
-series_once : (first end s : ℕ) (vs : List Finding) → IsSeries first end vs → times s (segments vs) ≤ 1
+series_once : (first end s : ℕ) (vs : List SegmentVerdictRecord) → IsSeries first end vs → times s (segments vs) ≤ 1
 series_once first end s [] h = omega arith
 series_once first end s (v ∷ vs) h = tail v.part (λ series. series_once (first + 1) end s vs series) h.2
   where
@@ -71,10 +71,10 @@ series_once first end s (v ∷ vs) h = tail v.part (λ series. series_once (firs
         dite (ℕ_discrete v.segment s)
         (λ (same : v.segment ≡ s). (let f = h.1 in let counted = times_cons s v.segment (segments vs) in let rest = series_before (first + 1) end s vs series (omega arith) in let one = one_small (nat_eq v.segment s) in omega arith))
         (λ other. (let here = one_other v.segment s other in let counted = times_cons s v.segment (segments vs) in let rest = next series in omega arith))
-    tail (Some p) next is = let counted = times_cons s v.segment (segments vs) in let rest : times s (segments vs) ≡ 0 = ap (λ (l : List Finding). times s (segments l)) is in let one = one_small (nat_eq v.segment s) in omega arith
+    tail (Some p) next is = let counted = times_cons s v.segment (segments vs) in let rest : times s (segments vs) ≡ 0 = ap (λ (l : List SegmentVerdictRecord). times s (segments l)) is in let one = one_small (nat_eq v.segment s) in omega arith
 
 -- a segment of a series has a verdict, or one before it failed
-series_has : (first end s : ℕ) (vs : List Finding) → IsSeries first end vs → first ≤ s → s < end → Contains (segments vs) s ⊎ ((f : ℕ) × Contains (failed_of vs) f × (f < s))
+series_has : (first end s : ℕ) (vs : List SegmentVerdictRecord) → IsSeries first end vs → first ≤ s → s < end → Contains (segments vs) s ⊎ ((f : ℕ) × Contains (failed_of vs) f × (f < s))
 series_has first end s [] h from below = absurd (omega arith)
 series_has first end s (v ∷ vs) h from below =
     dite (ℕ_discrete v.segment s)
@@ -108,10 +108,10 @@ in_job cut s job some from below =
     (λ (gt : q < job). (let b : (q + 1) * cut ≤ job * cut = mul-le-mul_right cut (omega arith) in absurd (omega arith)))
     (λ le. omega arith))
 
-job_once : (last cut s job : ℕ) (shown : List ℕ) (vs : List Finding) → 0 < cut → IsJob last cut shown job vs → times s (segments vs) ≤ cond (nat_eq job (s / cut)) 1 0
+job_once : (last cut s job : ℕ) (shown : List ℕ) (vs : List SegmentVerdictRecord) → 0 < cut → IsJob last cut shown job vs → times s (segments vs) ≤ cond (nat_eq job (s / cut)) 1 0
 job_once last cut s job shown vs some h =
     ⊎_elim
-    (λ (w : (vs ≡ []) × IsAfterShown shown (job * cut)). (let none : times s (segments vs) ≡ 0 = ap (λ (l : List Finding). times s (segments l)) w.0 in omega arith))
+    (λ (w : (vs ≡ []) × IsAfterShown shown (job * cut)). (let none : times s (segments vs) ≡ 0 = ap (λ (l : List SegmentVerdictRecord). times s (segments l)) w.0 in omega arith))
     (λ (series : IsSeries (job * cut) (min (job * cut + cut) last) vs).
     dite (dec_lt s (job * cut))
     (λ before. (let none = series_before _ _ s vs series before in omega arith))
@@ -119,16 +119,16 @@ job_once last cut s job shown vs some h =
     (λ past. (let none = series_past _ _ s vs series (omega arith) in omega arith))
     (λ below. (let one = one_same job (s / cut) (in_job cut s job some (omega arith) (omega arith)) in let o = series_once _ _ s vs series in omega arith)))) h
 
-jobs_once : (last cut s : ℕ) (shown taken : List ℕ) (vs : List Finding) → 0 < cut → InPieces (IsJob last cut shown) taken vs → times s (segments vs) ≤ times (s / cut) taken
-jobs_once last cut s shown [] vs some h = let none : times s (segments vs) ≡ 0 = ap (λ (l : List Finding). times s (segments l)) h in omega arith
+jobs_once : (last cut s : ℕ) (shown taken : List ℕ) (vs : List SegmentVerdictRecord) → 0 < cut → InPieces (IsJob last cut shown) taken vs → times s (segments vs) ≤ times (s / cut) taken
+jobs_once last cut s shown [] vs some h = let none : times s (segments vs) ≡ 0 = ap (λ (l : List SegmentVerdictRecord). times s (segments l)) h in omega arith
 jobs_once last cut s shown (job ∷ taken) vs some h =
     let here = job_once last cut s job shown h.0 some h.3 in
     let rest = jobs_once last cut s shown taken h.1 some h.4 in
     let counted = times_cons (s / cut) job taken in
     let both = times_pieces s vs h.0 h.1 h.2 in omega arith
 
-all_once : (last cut s : ℕ) (ps : List PassRecord) (vs : List Finding) → 0 < cut → InPieces (HasDone last cut) ps vs → times s (segments vs) ≤ times (s / cut) (all_taken ps)
-all_once last cut s [] vs some h = let none : times s (segments vs) ≡ 0 = ap (λ (l : List Finding). times s (segments l)) h in omega arith
+all_once : (last cut s : ℕ) (ps : List PassRecord) (vs : List SegmentVerdictRecord) → 0 < cut → InPieces (HasDone last cut) ps vs → times s (segments vs) ≤ times (s / cut) (all_taken ps)
+all_once last cut s [] vs some h = let none : times s (segments vs) ≡ 0 = ap (λ (l : List SegmentVerdictRecord). times s (segments l)) h in omega arith
 all_once last cut s (p ∷ ps) vs some h =
     let here = jobs_once last cut s p.shown p.taken h.0 some h.3.jobs in
     let rest = all_once last cut s ps h.1 some h.4 in
@@ -147,14 +147,14 @@ two_times s (x ∷ xs) j zero before inside a b = absurd (omega arith)
 two_times s (x ∷ xs) zero (suc k) before inside a b = let counted = times_cons s x xs in let one = one_same x s a in let r = one_time s xs k (omega arith) b in omega arith
 two_times s (x ∷ xs) (suc j) (suc k) before inside a b = let counted = times_cons s x xs in let r = two_times s xs j k (omega arith) (omega arith) a b in omega arith
 
-contained_occurs : (vs : List Finding) (s : ℕ) → Contains (segments vs) s → OccursBelow vs (length vs) s
+contained_occurs : (vs : List SegmentVerdictRecord) (s : ℕ) → Contains (segments vs) s → OccursBelow vs (length vs) s
 contained_occurs vs s c =
-    let l = length-map vs (λ (v : Finding). v.segment) in
+    let l = length-map vs (λ (v : SegmentVerdictRecord). v.segment) in
     let inside = c.1 in
     (c.0, omega arith, get_or_default (segments vs) c.0 0 s inside ∙ c.2)
 
 -- a segment that failed has a verdict
-failed_occurs : (vs : List Finding) (f : ℕ) → Contains (failed_of vs) f → (k : ℕ) × (k < length vs) × (segment_at vs k ≡ f) × IsSome (part_at vs k)
+failed_occurs : (vs : List SegmentVerdictRecord) (f : ℕ) → Contains (failed_of vs) f → (k : ℕ) × (k < length vs) × (segment_at vs k ≡ f) × IsSome (part_at vs k)
 failed_occurs [] f c = let h = c.1 in absurd (omega arith)
 failed_occurs (v ∷ vs) f c =
     ⊎_elim
@@ -170,25 +170,25 @@ failed_occurs (v ∷ vs) f c =
         (0, omega arith, ap (λ (k : ℕ). get_or (v.segment ∷ []) k f) (sym zero_place) ∙ here.2, ap is_some e)
 
 -- the verdicts of one job, which are a piece of vs
-pub record Piece (last cut job : ℕ) (vs : List Finding) (shown : List ℕ) : Type 0 where
-  pub verdicts : List Finding
+pub record Piece (last cut job : ℕ) (vs : List SegmentVerdictRecord) (shown : List ℕ) : Type 0 where
+  pub verdicts : List SegmentVerdictRecord
   pub is_job : IsJob last cut shown job verdicts
   pub in_segments : (s : ℕ) → Contains (segments verdicts) s → Contains (segments vs) s
   pub in_failed : (f : ℕ) → Contains (failed_of verdicts) f → Contains (failed_of vs) f
 
-left_in : (vs piece rest : List Finding) → vs ≡ piece ++ rest → (s : ℕ) → Contains (segments piece) s → Contains (segments vs) s
+left_in : (vs piece rest : List SegmentVerdictRecord) → vs ≡ piece ++ rest → (s : ℕ) → Contains (segments piece) s → Contains (segments vs) s
 left_in vs piece rest is s c = subst (λ (l : List ℕ). Contains l s) (sym (ap segments is ∙ segments_append piece rest)) (Contains-append_left (segments piece) (segments rest) s c)
 
-right_in : (vs piece rest : List Finding) → vs ≡ piece ++ rest → (s : ℕ) → Contains (segments rest) s → Contains (segments vs) s
+right_in : (vs piece rest : List SegmentVerdictRecord) → vs ≡ piece ++ rest → (s : ℕ) → Contains (segments rest) s → Contains (segments vs) s
 right_in vs piece rest is s c = subst (λ (l : List ℕ). Contains l s) (sym (ap segments is ∙ segments_append piece rest)) (Contains-append_right (segments piece) (segments rest) s c)
 
-left_failed : (vs piece rest : List Finding) → vs ≡ piece ++ rest → (s : ℕ) → Contains (failed_of piece) s → Contains (failed_of vs) s
+left_failed : (vs piece rest : List SegmentVerdictRecord) → vs ≡ piece ++ rest → (s : ℕ) → Contains (failed_of piece) s → Contains (failed_of vs) s
 left_failed vs piece rest is s c = subst (λ (l : List ℕ). Contains l s) (sym (ap failed_of is ∙ failed_append piece rest)) (Contains-append_left (failed_of piece) (failed_of rest) s c)
 
-right_failed : (vs piece rest : List Finding) → vs ≡ piece ++ rest → (s : ℕ) → Contains (failed_of rest) s → Contains (failed_of vs) s
+right_failed : (vs piece rest : List SegmentVerdictRecord) → vs ≡ piece ++ rest → (s : ℕ) → Contains (failed_of rest) s → Contains (failed_of vs) s
 right_failed vs piece rest is s c = subst (λ (l : List ℕ). Contains l s) (sym (ap failed_of is ∙ failed_append piece rest)) (Contains-append_right (failed_of piece) (failed_of rest) s c)
 
-job_piece : (last cut job : ℕ) (shown taken : List ℕ) (vs : List Finding) → InPieces (IsJob last cut shown) taken vs → 0 < times job taken → Piece last cut job vs shown
+job_piece : (last cut job : ℕ) (shown taken : List ℕ) (vs : List SegmentVerdictRecord) → InPieces (IsJob last cut shown) taken vs → 0 < times job taken → Piece last cut job vs shown
 job_piece last cut job shown [] vs h there = absurd (omega arith)
 job_piece last cut job shown (j ∷ taken) vs h there =
     dite (ℕ_discrete j job)
@@ -206,12 +206,12 @@ job_piece last cut job shown (j ∷ taken) vs h there =
     }))
 
 -- the verdicts of one job that some pass took, and what that pass was shown
-pub record Found (last cut job : ℕ) (ps : List PassRecord) (vs : List Finding) : Type 0 where
+pub record Found (last cut job : ℕ) (ps : List PassRecord) (vs : List SegmentVerdictRecord) : Type 0 where
   pub shown : List ℕ
   pub piece : Piece last cut job vs shown
   pub in_shown : (x : ℕ) → Contains shown x → Contains (all_shown ps) x
 
-taken_piece : (last cut job : ℕ) (ps : List PassRecord) (vs : List Finding) → InPieces (HasDone last cut) ps vs → 0 < times job (all_taken ps) → Found last cut job ps vs
+taken_piece : (last cut job : ℕ) (ps : List PassRecord) (vs : List SegmentVerdictRecord) → InPieces (HasDone last cut) ps vs → 0 < times job (all_taken ps) → Found last cut job ps vs
 taken_piece last cut job [] vs h there = absurd (omega arith)
 taken_piece last cut job (p ∷ ps) vs h there =
     let split = times_append job p.taken (all_taken ps) in
@@ -237,7 +237,7 @@ taken_piece last cut job (p ∷ ps) vs h there =
       in_shown = λ x c. Contains-append_right p.shown (all_shown ps) x (r.in_shown x c);
     }))
 
-reported_failed : (last cut : ℕ) (ps : List PassRecord) (vs : List Finding) → InPieces (HasDone last cut) ps vs → all_reported ps ≡ failed_of vs
+reported_failed : (last cut : ℕ) (ps : List PassRecord) (vs : List SegmentVerdictRecord) → InPieces (HasDone last cut) ps vs → all_reported ps ≡ failed_of vs
 reported_failed last cut [] vs h = sym (ap failed_of h)
 reported_failed last cut (p ∷ ps) vs h =
     ap (λ (l : List ℕ). l ++ all_reported ps) h.3.reported ∙ ap (λ (l : List ℕ). failed_of h.0 ++ l) (reported_failed last cut ps h.1 h.4) ∙ sym (failed_append h.0 h.1) ∙ ap failed_of (sym h.2)
@@ -252,24 +252,24 @@ job_below last cut s some below =
     (λ gt. lt_of_not-le gt)
 
 -- what is known once all shares are back: each job was taken once, and each segment shown was reported
-pub record AllBack (last cut : ℕ) (ps : List PassRecord) (vs : List Finding) : Type 0 where
+pub record AllBack (last cut : ℕ) (ps : List PassRecord) (vs : List SegmentVerdictRecord) : Type 0 where
   pub some : 0 < cut
   pub done : InPieces (HasDone last cut) ps vs
   pub each : (x : ℕ) → times x (all_taken ps) ≡ once_below x (div_ceil last cut)
   pub shown_reported : All (λ x. Contains (all_reported ps) x) (all_shown ps)
 
 -- no segment has two verdicts
-pub at_most_once : (last cut : ℕ) (ps : List PassRecord) (vs : List Finding) → AllBack last cut ps vs → (j k : ℕ) → j < k → k < length vs → segment_at vs j ≢ segment_at vs k
+pub at_most_once : (last cut : ℕ) (ps : List PassRecord) (vs : List SegmentVerdictRecord) → AllBack last cut ps vs → (j k : ℕ) → j < k → k < length vs → segment_at vs j ≢ segment_at vs k
 at_most_once last cut ps vs b j k before inside same =
     let s : ℕ = segment_at vs k in
-    let l = length-map vs (λ (v : Finding). v.segment) in
+    let l = length-map vs (λ (v : SegmentVerdictRecord). v.segment) in
     let two = two_times s (segments vs) j k before (omega arith) same refl in
     let once = all_once last cut s ps vs b.some b.done in
     let e = b.each (s / cut) in
     let o = one_small (nat_lt (s / cut) (div_ceil last cut)) in omega arith
 
 -- a segment has a verdict, or is after one that was reported
-pub occurs_or_after : (last cut : ℕ) (ps : List PassRecord) (vs : List Finding) → AllBack last cut ps vs → (s : ℕ) → s < last → OccursBelow vs (length vs) s ⊎ ((x : ℕ) × Contains (all_reported ps) x × (x < s))
+pub occurs_or_after : (last cut : ℕ) (ps : List PassRecord) (vs : List SegmentVerdictRecord) → AllBack last cut ps vs → (s : ℕ) → s < last → OccursBelow vs (length vs) s ⊎ ((x : ℕ) × Contains (all_reported ps) x × (x < s))
 occurs_or_after last cut ps vs b s inside =
     let some = b.some in
     let job : ℕ = s / cut in
@@ -295,11 +295,11 @@ occurs_or_after last cut ps vs b s inside =
     has xs x all c = subst (λ (y : ℕ). Contains (all_reported ps) y) c.2 (all c.0 x c.1)
 
 -- each segment reported has a verdict that it failed
-pub reported_occurs : (last cut : ℕ) (ps : List PassRecord) (vs : List Finding) → AllBack last cut ps vs → (x : ℕ) → Contains (all_reported ps) x → (k : ℕ) × (k < length vs) × (segment_at vs k ≡ x) × IsSome (part_at vs k)
+pub reported_occurs : (last cut : ℕ) (ps : List PassRecord) (vs : List SegmentVerdictRecord) → AllBack last cut ps vs → (x : ℕ) → Contains (all_reported ps) x → (k : ℕ) × (k < length vs) × (segment_at vs k ≡ x) × IsSome (part_at vs k)
 reported_occurs last cut ps vs b x c = failed_occurs vs x (subst (λ (l : List ℕ). Contains l x) (reported_failed last cut ps vs b.done) c)
 
 -- so there is no fault for the collector to find
-pub no_fault : (r : RecordingParts) (cut : ℕ) (ps : List PassRecord) (vs : List Finding) → AllBack (last_of r) cut ps vs → (f : CollectFault) → IsCollectFault r vs f → ⊥
+pub no_fault : (r : RecordingParts) (cut : ℕ) (ps : List PassRecord) (vs : List SegmentVerdictRecord) → AllBack (last_of r) cut ps vs → (f : CollectFault) → IsCollectFault r vs f → ⊥
 no_fault r cut ps vs b (Double s) d =
     at_most_once (last_of r) cut ps vs b d.occurred.0 d.at d.occurred.1 d.inside (d.occurred.2 ∙ sym d.is)
 no_fault r cut ps vs b (Missing s) (single, m) =

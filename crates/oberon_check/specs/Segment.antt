@@ -20,19 +20,19 @@ abbrev pub IsSegmentPart : RecordingParts → ℕ → Option Part → Type 0
 IsSegmentPart r i part = IsDifference (claimed r (i + 1)) (replayed r i) part
 
 -- a segment verdict as contracts see it: its recording, its segment, and the part that was found to differ
-pub record Finding : Type 0 where
+pub record SegmentVerdictRecord : Type 0 where
   pub recording : RecordingParts
   pub segment : ℕ
   pub part : Option Part
 
 -- the segment verdict is true of its recording
-pub record IsTrueFinding (f : Finding) : Type 0 where
-  pub lawful : IsLawful f.recording
-  pub inside : f.segment < last_of f.recording
-  pub replay : IsSegmentPart f.recording f.segment f.part
+pub record IsTrueSegmentVerdict (v : SegmentVerdictRecord) : Type 0 where
+  pub lawful : IsLawful v.recording
+  pub inside : v.segment < last_of v.recording
+  pub replay : IsSegmentPart v.recording v.segment v.part
 
 -- the list has the verdicts of the segments from `first` to `end - 1` in order, or only up to the first that failed
-abbrev pub IsSeries : ℕ → ℕ → List Finding → Type 0
+abbrev pub IsSeries : ℕ → ℕ → List SegmentVerdictRecord → Type 0
 IsSeries first end [] = first ≡ end
 IsSeries first end (v ∷ vs) =
     (first < end) × (v.segment ≡ first) × MatchOption v.part (IsSeries (first + 1) end vs) (λ _. vs ≡ [])

@@ -5,14 +5,14 @@
 ghost use Rattle.std.specs.Prelude.{◌≡◌, ◌<◌, ◌≤◌, All, IfOk, IfErr, OnOk, length};
 ghost use Rattle.oberon_format.specs.Recording.{IsLawful};
 ghost use Rattle.oberon_check.specs.Verdict.{IsVerdict};
-ghost use Rattle.oberon_check.specs.Segment.{Finding, IsTrueFinding};
+ghost use Rattle.oberon_check.specs.Segment.{SegmentVerdictRecord, IsTrueSegmentVerdict};
 ghost use Rattle.oberon_check.specs.Collecting.{IsFirstDouble, IsCollectFault, collect_fault_number};
 ghost use Rattle.oberon_check.specs.inner.Tally.{IsFirstUnmarked, IsTally, end_of, lesser_of};
 
 use crate::part::Part;
 use crate::segment::SegmentVerdict;
 use crate::verdict::Verdict;
-use oberon_format::Recording;
+use oberon_format::{LAST_CHECKPOINT, Recording};
 use thiserror::Error;
 
 /// Why no verdict on the recording follows from a list of segment verdicts.
@@ -39,10 +39,13 @@ impl CollectFault {
     }
 }
 
+/// The largest number of segments: one up to each checkpoint but checkpoint 0.
+const MAX_SEGMENTS: usize = LAST_CHECKPOINT as usize;
+
 /// Which segments have a verdict, and the least failed segment with its part.
 #[derive(Clone, Copy)]
 struct Tally {
-    seen: [bool; 4096],
+    seen: [bool; MAX_SEGMENTS],
     least: Option<(u32, Part)>,
 }
 
@@ -72,10 +75,10 @@ fn end(least: Option<(u32, Part)>, last: u32) -> u32
 /// Tallies the verdicts. Returns the segment of the first verdict whose segment occurred before, if there is one, as an error.
 fn tally_of(verdicts: &[SegmentVerdict]) -> Result<Tally, u32>
     ensures ok { IfOk result (λ t. IsTally verdicts.now (length verdicts.now) t.seen t.least) }
-    ensures findings { IfOk result (λ t. All IsTrueFinding verdicts.now) }
+    ensures truth { IfOk result (λ t. All IsTrueSegmentVerdict verdicts.now) }
     ensures double { IfErr result (IsFirstDouble verdicts.now) }
 {
-    let mut seen = [false; 4096];
+    let mut seen = [false; MAX_SEGMENTS];
     let mut least = None;
     for verdict in verdicts {
         let segment = verdict.segment();
@@ -89,8 +92,8 @@ fn tally_of(verdicts: &[SegmentVerdict]) -> Result<Tally, u32>
 }
 
 /// Returns the first segment below `end` that is not marked as seen.
-fn first_unmarked(seen: &[bool; 4096], end: u32) -> Option<u32>
-    requires { end ≤ 4096 }
+fn first_unmarked(seen: &[bool; MAX_SEGMENTS], end: u32) -> Option<u32>
+    requires { end ≤ MAX_SEGMENTS }
     ensures { IsFirstUnmarked seen.now end result }
 {
     for segment in 0..end {
@@ -110,7 +113,7 @@ pub fn collect(r: &Recording, verdicts: &[SegmentVerdict]) -> Result<Verdict, Co
     ensures verdict { IfOk result (IsVerdict r.now) }
     ensures whole { OnOk result ((fault : _) → ¬ (IsCollectFault r.now verdicts.now fault)) }
     ensures fault { IfErr result (IsCollectFault r.now verdicts.now) }
-    ensures findings { OnOk result (All IsTrueFinding verdicts.now) }
+    ensures truth { OnOk result (All IsTrueSegmentVerdict verdicts.now) }
     ensures lawful { IsLawful r.now }
 {
     let last = r.count() - 1;

@@ -2,7 +2,7 @@
 ghost use Rattle.std.specs.Prelude.{◌≡◌, ℕ, [], ◌∷◌, ◌++◌, vec_len, All, IfOk, OnOk};
 ghost use Rattle.oberon_check.specs.declared.collector.CollectFault.{CollectFault};
 ghost use Rattle.oberon_check.specs.Collecting.{IsCollectFault};
-ghost use Rattle.oberon_check.specs.Gathering.{all_findings, IsGathered};
+ghost use Rattle.oberon_check.specs.Gathering.{all_verdicts, IsGathered};
 ghost use Rattle.oberon_check.specs.Verdict.{IsVerdict};
 ghost use Rattle.oberon_check.specs.Work.{IsDone, IsShareOf};
 ghost use Rattle.oberon_check.specs.inner.Progress.{IsGatheredIfTrue};
@@ -41,7 +41,7 @@ fn all_verdicts(
 ) -> Result<Vec<SegmentVerdict>, AllocError>
     requires all { vec_len done ≡ claims.workers }
     requires shares { (cut : ℕ) × All (IsShareOf r.now cut claims) done.items }
-    ensures findings { IfOk result (λ vs. vs.items ≡ all_findings done.items) }
+    ensures verdicts { IfOk result (λ vs. vs.items ≡ all_verdicts done.items) }
     ensures recordings { IfOk result (λ vs. All (λ v. v.recording ≡ r.now) vs.items) }
     ensures whole { IfOk result (λ vs. (fault : CollectFault) → ¬ (IsCollectFault r.now vs.items fault)) }
     ensures gathered { IfOk result (λ vs. IsGatheredIfTrue r.now done.items vs.items) }

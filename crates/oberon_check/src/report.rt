@@ -25,8 +25,9 @@ pub struct Report {
 /// Checks the bytes of a recording file, and returns the line to print with the exit status.
 ///
 /// If the bytes encode a recording, the line is the verdict of one uninterrupted replay from checkpoint 0. If not, it names the
-/// first rule that they break. Any bytes will do. The answer depends neither on `workers`, 1 to 64 threads, nor on `cut`, the
-/// number of consecutive segments in a job. The gate is called before each job. It returns `Memory` only if memory runs out.
+/// first rule that they break. Any bytes will do. The answer depends neither on `workers`, 1 to 64 threads (`MAX_WORKERS`), nor on
+/// `cut`, the number of consecutive segments in a job. The gate is called before each job. It returns `Memory` only if memory runs
+/// out.
 pub fn check_bytes<R: Threads + Wait + Sync, G: Gate + Sync>(
     rt: &R,
     alloc: Global,

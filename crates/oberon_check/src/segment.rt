@@ -4,7 +4,7 @@
 ghost use Rattle.std.specs.Prelude.{◌≡◌, ◌+◌, ◌<◌, IfOk, IfNone};
 ghost use Rattle.oberon_format.specs.Defined.{claimed};
 ghost use Rattle.oberon_format.specs.Recording.{last_of};
-ghost use Rattle.oberon_check.specs.Segment.{IsTrueFinding};
+ghost use Rattle.oberon_check.specs.Segment.{IsTrueSegmentVerdict};
 
 use crate::difference::first_difference;
 use crate::part::Part;
@@ -17,7 +17,7 @@ use std::snapshot::Snapshot;
 /// A segment verdict: the result of the replay of one segment. Segment i leads from checkpoint i to checkpoint i + 1.
 ///
 /// By its type it is true of its recording, which only contracts see: the part is the first one in which what checkpoint
-/// i + 1 claims differs from a replay that starts at what checkpoint i claims. In contracts it is a `Finding`.
+/// i + 1 claims differs from a replay that starts at what checkpoint i claims. In contracts it is a `SegmentVerdictRecord`.
 #[derive(Drop)]
 pub struct SegmentVerdict {
     recording: Snapshot<Recording>,
@@ -26,22 +26,22 @@ pub struct SegmentVerdict {
 }
 
 impl Model for SegmentVerdict {
-    ghost use Rattle.oberon_check.specs.Segment.{Finding, IsTrueFinding};
+    ghost use Rattle.oberon_check.specs.Segment.{SegmentVerdictRecord, IsTrueSegmentVerdict};
 
-    ghost Value = { Finding };
+    ghost Value = { SegmentVerdictRecord };
 
     ghost view = { λ v. record { recording = v.recording.value; segment = v.segment; part = v.part } };
 
-    ghost invariant = { λ v. IsTrueFinding (record { recording = v.recording.value; segment = v.segment; part = v.part }) };
+    ghost invariant = { λ v. IsTrueSegmentVerdict (record { recording = v.recording.value; segment = v.segment; part = v.part }) };
 }
 
 impl SegmentVerdict {
-    ghost use Rattle.oberon_check.specs.Segment.{IsTrueFinding};
+    ghost use Rattle.oberon_check.specs.Segment.{IsTrueSegmentVerdict};
 
     /// Returns the segment's number, counted from 0.
     pub fn segment(&self) -> u32
         ensures segment { result ≡ self.now.segment }
-        ensures finding { IsTrueFinding self.now }
+        ensures truth { IsTrueSegmentVerdict self.now }
     {
         self.segment
     }
@@ -49,7 +49,7 @@ impl SegmentVerdict {
     /// Returns the first part that differs, or `None` if the segment held.
     pub fn part(&self) -> Option<Part>
         ensures part { result ≡ self.now.part }
-        ensures finding { IsTrueFinding self.now }
+        ensures truth { IsTrueSegmentVerdict self.now }
     {
         self.part
     }
@@ -78,7 +78,7 @@ fn replayed_part(
 ) -> Result<Option<Part>, AllocError>
     requires segment { i < last_of r.now }
     requires state { machine.old.state ≡ (claimed r.now i).state }
-    ensures part { IfOk result (λ part. IsTrueFinding (record { recording = r.now; segment = i; part = part })) }
+    ensures part { IfOk result (λ part. IsTrueSegmentVerdict (record { recording = r.now; segment = i; part = part })) }
     ensures state { IfOk result (λ part. IfNone part (machine.new.state ≡ (claimed r.now (i + 1)).state)) }
 {
     let from = r.checkpoint(i);

@@ -6,7 +6,7 @@ ghost use Rattle.oberon_format.specs.Recording.{last_of};
 ghost use Rattle.oberon_check.specs.Work.{IsShareOf};
 
 use super::jumps::{FALSE_LEDS, LIT_LEDS, jump_recording};
-use super::segments::are_findings;
+use super::segments::are_verdicts;
 use oberon_check::{Done, FreeGate, Part, Verdict, gather, work};
 use oberon_claims::{Claims, Pass};
 use oberon_format::Recording;
@@ -115,7 +115,7 @@ const FIRST_SHARE: [(u32, Option<Part>); 3] = [(0, None), (1, None), (2, Some(Pa
 fn first_has_all(done: &[Done]) -> bool {
     match done {
         [first, second] => {
-            are_findings(first.verdicts(), &FIRST_SHARE) && second.verdicts().is_empty()
+            are_verdicts(first.verdicts(), &FIRST_SHARE) && second.verdicts().is_empty()
         }
         _ => false,
     }

@@ -28,7 +28,7 @@ fn verdicts_of(
 }
 
 /// Reports whether verdicts have these segments and parts, in this order.
-pub(crate) fn are_findings(verdicts: &[SegmentVerdict], expected: &[(u32, Option<Part>)]) -> bool {
+pub(crate) fn are_verdicts(verdicts: &[SegmentVerdict], expected: &[(u32, Option<Part>)]) -> bool {
     if verdicts.len() != expected.len() {
         return false;
     }
@@ -41,20 +41,20 @@ pub(crate) fn are_findings(verdicts: &[SegmentVerdict], expected: &[(u32, Option
 }
 
 /// Reports whether the verdicts of the first three segments have these segments and parts, in this order.
-fn has_findings(
+fn has_verdicts(
     alloc: Global,
     r: &Recording,
     expected: &[(u32, Option<Part>)],
 ) -> Result<bool, AllocError> {
     let verdicts = verdicts_of(alloc, r, &[0, 1, 2])?;
-    Ok(are_findings(verdicts.as_slice(), expected))
+    Ok(are_verdicts(verdicts.as_slice(), expected))
 }
 
 #[test]
 fn segments_of_a_false_h(rt: HostRuntime) -> Result<(), Fail> {
     let r = jump_recording(rt.alloc(), 3, &GIVEN_H)?;
     let expected = [(0, None), (1, Some(Part::H)), (2, None)];
-    let same = has_findings(rt.alloc(), &r, &expected)?;
+    let same = has_verdicts(rt.alloc(), &r, &expected)?;
     assert!(rt; same, "another segment or part");
     Ok(())
 }

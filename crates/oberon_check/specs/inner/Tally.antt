@@ -1,8 +1,9 @@
 -- The tally of the first n segment verdicts.
 use Rattle.std.specs.Prelude.{ℕ, ◌≡◌, ◌<◌, ◌≤◌, ◌↔◌, List, Bool, true, false, Option, None, Some, IsSome, MatchOption}
 use Rattle.std.specs.Prelude.{slice_index_or, nat_lt, if◌then◌else◌}
+use Rattle.oberon_check.specs.declared.collector.TheConstants.{MAX_SEGMENTS}
 use Rattle.oberon_check.specs.declared.part.Part.{Part}
-use Rattle.oberon_check.specs.Segment.{Finding}
+use Rattle.oberon_check.specs.Segment.{SegmentVerdictRecord}
 use Rattle.oberon_check.specs.Collecting.{segment_at, part_at, OccursBelow}
 
 -- the least failed segment with its part, after one more segment verdict
@@ -21,15 +22,15 @@ abbrev pub IsMarked : List Bool → ℕ → Type 0
 IsMarked seen s = slice_index_or seen s false ≡ true
 
 -- this is the least failed segment of the first n verdicts with its part, or `None` if none of them failed
-abbrev pub IsLeastFailed : List Finding → ℕ → Option (ℕ × Part) → Type 0
+abbrev pub IsLeastFailed : List SegmentVerdictRecord → ℕ → Option (ℕ × Part) → Type 0
 IsLeastFailed vs n least = MatchOption least
     ((k : ℕ) → k < n → part_at vs k ≡ None)
     (λ f. ((k : ℕ) × (k < n) × (segment_at vs k ≡ f.0) × (part_at vs k ≡ Some f.1))
     × ((k : ℕ) → k < n → IsSome (part_at vs k) → f.0 ≤ segment_at vs k))
 
 -- `seen` marks the segments of the first n verdicts, each of which has only one, and `least` is the least that failed
-pub record IsTally (vs : List Finding) (n : ℕ) (seen : List Bool) (least : Option (ℕ × Part)) : Type 0 where
-  pub marks : (s : ℕ) → s < 4096 → IsMarked seen s ↔ OccursBelow vs n s
+pub record IsTally (vs : List SegmentVerdictRecord) (n : ℕ) (seen : List Bool) (least : Option (ℕ × Part)) : Type 0 where
+  pub marks : (s : ℕ) → s < MAX_SEGMENTS → IsMarked seen s ↔ OccursBelow vs n s
   pub single : (k : ℕ) → k < n → ¬ (OccursBelow vs k (segment_at vs k))
   pub least_failed : IsLeastFailed vs n least
 

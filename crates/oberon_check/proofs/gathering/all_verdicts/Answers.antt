@@ -5,13 +5,13 @@ use Rattle.oberon_claims.specs.Counts.{times, once_below}
 use Rattle.oberon_claims.specs.Pass.{PassRecord}
 use Rattle.oberon_claims.specs.Ledger.{all_taken, all_reported, all_shown, SomeEnded, IsLeastOf}
 use Rattle.oberon_format.specs.Recording.{last_of}
-use Rattle.oberon_check.specs.Segment.{Finding, IsTrueFinding}
+use Rattle.oberon_check.specs.Segment.{SegmentVerdictRecord, IsTrueSegmentVerdict}
 use Rattle.oberon_check.specs.Collecting.{IsCollectFault}
 use Rattle.oberon_check.specs.Work.{DoneRecord, IsDone}
-use Rattle.oberon_check.specs.Gathering.{passes_of, all_findings}
+use Rattle.oberon_check.specs.Gathering.{passes_of, all_verdicts}
 use Rattle.std.proofs.lemmas.List.{nil_from_length}
 use Rattle.std.proofs.lemmas.List.Elements.{All-push}
-use Rattle.oberon_check.proofs.Shares.{findings_snoc, books, recordings, pieces, first_share}
+use Rattle.oberon_check.proofs.Shares.{verdicts_snoc, books, recordings, pieces, first_share}
 use Rattle.oberon_check.proofs.Gathered.{AllBack, no_fault}
 use Rattle.oberon_check.proofs.Answered.{answered}
 use Rattle.oberon_check.proofs.gathering.all_verdicts.Goals as goal
@@ -25,7 +25,7 @@ loop-share-preserved c =
     let step = c.in-Some.ensures.steps in
     let at = ap (λ (l : List DoneRecord). c.loop-share.yielded ++ l) (sym step.0) ∙ i.rest in record {
       passes = apart.passes ∙ ap (λ (l : List PassRecord). l ++ share.pass ∷ []) i.passes ∙ sym (map-append (λ (d : DoneRecord). d.pass) c.loop-share.yielded (share ∷ []));
-      verdicts = apart.verdicts ∙ ap (λ (l : List Finding). l ++ share.verdicts) i.verdicts ∙ sym (findings_snoc c.loop-share.yielded share);
+      verdicts = apart.verdicts ∙ ap (λ (l : List SegmentVerdictRecord). l ++ share.verdicts) i.verdicts ∙ sym (verdicts_snoc c.loop-share.yielded share);
       done = All-push IsDone c.loop-share.yielded share i.done apart.done;
       rest = append_assoc c.loop-share.yielded (share ∷ []) _ ∙ at;
     }
@@ -40,13 +40,13 @@ whole c =
 passes_are : (c : After-drop-share-iterator-2) → c.loop-share.passes.items ≡ passes_of c.args.done.items
 passes_are c = c.loop-share.invariant.passes ∙ ap passes_of (whole c)
 
-verdicts_are : (c : After-drop-share-iterator-2) → c.loop-share.verdicts.items ≡ all_findings c.args.done.items
-verdicts_are c = c.loop-share.invariant.verdicts ∙ ap all_findings (whole c)
+verdicts_are : (c : After-drop-share-iterator-2) → c.loop-share.verdicts.items ≡ all_verdicts c.args.done.items
+verdicts_are c = c.loop-share.invariant.verdicts ∙ ap all_verdicts (whole c)
 
 all_done : (c : After-drop-share-iterator-2) (k : ℕ) (d : DoneRecord) → k < length c.args.done.items → IsDone (get_or c.args.done.items k d)
 all_done c = subst (λ (ds : List DoneRecord). (k : ℕ) (d : DoneRecord) → k < length ds → IsDone (get_or ds k d)) (whole c) c.loop-share.invariant.done
 
-all_of : (c : After-drop-share-iterator-2) (k : ℕ) (v : Finding) → k < length (all_findings c.args.done.items) → (get_or (all_findings c.args.done.items) k v).recording ≡ c.args.r.now
+all_of : (c : After-drop-share-iterator-2) (k : ℕ) (v : SegmentVerdictRecord) → k < length (all_verdicts c.args.done.items) → (get_or (all_verdicts c.args.done.items) k v).recording ≡ c.args.r.now
 all_of c = recordings c.args.r.now c.requires.shares.0 c.args.claims c.args.done.items (all_done c) c.requires.shares.1
 
 pub finish-ledger-requires-clause-all : goal.finish-ledger-requires-clause-all
@@ -58,7 +58,7 @@ finish-ledger-requires-clause-book c =
     subst (λ (ps : List PassRecord). (k : ℕ) (p : PassRecord) → k < length ps → (get_or ps k p).book ≡ c.args.claims) (sym (passes_are c))
     (books c.args.r.now c.requires.shares.0 c.args.claims c.args.done.items c.requires.shares.1)
 
-back : (c : After-finish-ledger) → AllBack (last_of c.args.r.now) c.requires.shares.0 (passes_of c.args.done.items) (all_findings c.args.done.items)
+back : (c : After-finish-ledger) → AllBack (last_of c.args.r.now) c.requires.shares.0 (passes_of c.args.done.items) (all_verdicts c.args.done.items)
 back c =
     let f = c.finish-ledger.ensures in
     let ds : List DoneRecord = c.args.done.items in
@@ -77,20 +77,20 @@ back c =
       shown_reported = subst (λ (ps : List PassRecord). All (λ x. Contains (all_reported ps) x) (all_shown ps)) passes f.shown;
     }
 
-pub returns-clause-findings : goal.returns-clause-findings
-returns-clause-findings c = verdicts_are c.before
+pub returns-clause-verdicts : goal.returns-clause-verdicts
+returns-clause-verdicts c = verdicts_are c.before
 
 pub returns-clause-recordings : goal.returns-clause-recordings
 returns-clause-recordings c =
-    subst (λ (vs : List Finding). (k : ℕ) (v : Finding) → k < length vs → (get_or vs k v).recording ≡ c.args.r.now) (sym (verdicts_are c.before)) (all_of c.before)
+    subst (λ (vs : List SegmentVerdictRecord). (k : ℕ) (v : SegmentVerdictRecord) → k < length vs → (get_or vs k v).recording ≡ c.args.r.now) (sym (verdicts_are c.before)) (all_of c.before)
 
 pub returns-clause-whole : goal.returns-clause-whole
 returns-clause-whole c fault is =
-    no_fault c.args.r.now c.requires.shares.0 (passes_of c.args.done.items) (all_findings c.args.done.items) (back c) fault
-    (subst (λ (vs : List Finding). IsCollectFault c.args.r.now vs fault) (verdicts_are c.before) is)
+    no_fault c.args.r.now c.requires.shares.0 (passes_of c.args.done.items) (all_verdicts c.args.done.items) (back c) fault
+    (subst (λ (vs : List SegmentVerdictRecord). IsCollectFault c.args.r.now vs fault) (verdicts_are c.before) is)
 
 pub returns-clause-gathered : goal.returns-clause-gathered
-returns-clause-gathered c lawful findings verdict is =
+returns-clause-gathered c lawful truth verdict is =
     let least = subst (λ (ps : List PassRecord). IsLeastOf (all_reported ps) c.finish-ledger.result.least) (passes_are c.before) c.finish-ledger.ensures.least in
     answered c.args.r.now c.requires.shares.0 c.args.done.items (back c) (all_of c.before) c.finish-ledger.result.least least lawful
-    (subst (λ (vs : List Finding). All IsTrueFinding vs) (verdicts_are c.before) findings) verdict is
+    (subst (λ (vs : List SegmentVerdictRecord). All IsTrueSegmentVerdict vs) (verdicts_are c.before) truth) verdict is
