@@ -6,6 +6,7 @@ use Rattle.clap.specs.Walk.{Row}
 use Rattle.clap.specs.Matches.{subcommand_name_of}
 use Rattle.clap.specs.declared.parser.matches.ArgMatches.{ArgMatches}
 use Rattle.clap.specs.declared.parser.matches.ArgMatches.TheViews.{out-ArgMatches, out-SubCommand}
+use Rattle.oberon_claims.specs.declared.claims.TheConstants.{MAX_WORKERS}
 use Rattle.recording_limits.specs.declared.limits.TheConstants.{LAST_CHECKPOINT}
 use Rattle.oberon_cli.specs.Asked.{number_at, request_of}
 use Rattle.oberon_cli.specs.declared.arguments.Request.TheVariants.{Check, Migrate, Record, Screen}
@@ -33,7 +34,7 @@ pub asked_record : (o : Option (Text × List Row)) (name : Text) (rows : List Ro
 asked_record o name rows is named = rw (is, named) refl
 
 pub asked_check : (o : Option (Text × List Row)) (name : Text) (rows : List Row) (workers cut : ℕ) → o ≡ Some (name, rows) → name ≡ codes "check"
-    → Some workers ≡ number_at 1 64 (codes "workers") rows → Some cut ≡ number_at 1 LAST_CHECKPOINT (codes "cut") rows
+    → Some workers ≡ number_at 1 MAX_WORKERS (codes "workers") rows → Some cut ≡ number_at 1 LAST_CHECKPOINT (codes "cut") rows
     → Some (Check workers cut) ≡ option_and_then (λ p. request_of p.0 p.1) o
 asked_check o name rows workers cut is named one other = rw (is, named, ← one, ← other) refl
 

@@ -11,6 +11,7 @@ use Rattle.clap.specs.declared.error.kind.ErrorKind.TheVariants.{DisplayHelp}
 use Rattle.oberon_cli.specs.Program.{program_app}
 use Rattle.oberon_cli.specs.declared.arguments.Request.{Request}
 use Rattle.oberon_cli.specs.declared.arguments.Request.TheVariants.{Check, Migrate, Record, Screen}
+use Rattle.oberon_claims.specs.declared.claims.TheConstants.{MAX_WORKERS}
 use Rattle.recording_limits.specs.declared.limits.TheConstants.{LAST_CHECKPOINT}
 
 -- the number that the string writes in decimal digits, with an optional plus sign, if it is in the range
@@ -25,7 +26,7 @@ number_at low high id rows = option_and_then (whole_number low high) (one_of id 
 -- a check with the numbers of workers and of segments in a job that `clap` finds
 abbrev pub check_of : List Row → Option Request
 check_of rows = option_and_then (λ workers. option_map (λ cut. Check workers cut)
-    (number_at 1 LAST_CHECKPOINT (codes "cut") rows)) (number_at 1 64 (codes "workers") rows)
+    (number_at 1 LAST_CHECKPOINT (codes "cut") rows)) (number_at 1 MAX_WORKERS (codes "workers") rows)
 
 -- what a subcommand with its options asks for
 abbrev pub request_of : Text → List Row → Option Request

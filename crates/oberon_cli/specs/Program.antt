@@ -4,6 +4,7 @@ use Rattle.clap.specs.Walk.{Rule}
 use Rattle.clap.specs.Simple.{App, Shape, new_app, new_rule, new_shape, with_rule, with_subcommand}
 use Rattle.clap.specs.declared.builder.action.ArgAction.TheVariants.{Set}
 use Rattle.clap.specs.declared.builder.value_parser.ValueParser.TheVariants.{Signed}
+use Rattle.oberon_claims.specs.declared.claims.TheConstants.{MAX_WORKERS}
 use Rattle.recording_limits.specs.declared.limits.TheConstants.{LAST_CHECKPOINT}
 
 -- an option that takes one value
@@ -12,7 +13,8 @@ number_rule name = record (new_rule name) { long = Some name; action = Some Set;
 
 -- `--workers`, from 1 to 64, or 2
 abbrev pub workers_rule : Rule
-workers_rule = record (number_rule (codes "workers")) { defaults = codes "2" ∷ []; parser = Some (Signed (pos 1) (pos 64)) }
+workers_rule =
+    record (number_rule (codes "workers")) { defaults = codes "2" ∷ []; parser = Some (Signed (pos 1) (pos MAX_WORKERS)) }
 
 -- `--cut`, from 1 to 4,096, or 1
 abbrev pub cut_rule : Rule

@@ -7,6 +7,7 @@ ghost use Rattle.oberon_cli.specs.Asked.{request_in, number_at, request_of};
 use crate::command::program;
 use clap::error::ErrorKind;
 use clap::{ArgMatches, Error};
+use oberon_claims::MAX_WORKERS;
 use oberon_format::{LAST_CHECKPOINT, LONGEST_TEXT};
 use oberon_session::LONGEST_SESSION;
 use std::alloc::{AllocError, Global};
@@ -101,7 +102,7 @@ fn request_of(matches: &ArgMatches<'_>) -> Option<Request>
     let (name, inner) = matches.subcommand()?;
     match name {
         "check" => Some(Request::Check {
-            workers: whole_number(inner, "workers", 1, 64)?,
+            workers: whole_number(inner, "workers", 1, MAX_WORKERS)?,
             cut: whole_number(inner, "cut", 1, LAST_CHECKPOINT)?,
         }),
         "record" => Some(Request::Record),
@@ -113,7 +114,7 @@ fn request_of(matches: &ArgMatches<'_>) -> Option<Request>
     }
 }
 
-/// Returns the number of an option, if it is in the range.
+/// Tests the range of a number again, which `clap` has tested: `number_at` speaks of any rows.
 fn whole_number(matches: &ArgMatches<'_>, id: &str, low: u32, high: u32) -> Option<u32>
     ensures value { result ≡ number_at low high id.now (rows_of (found_of matches.now)) }
     ensures limits { IfSome result (λ number. (low ≤ number) × (number ≤ high)) }

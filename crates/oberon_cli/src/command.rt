@@ -9,6 +9,7 @@ ghost use Rattle.oberon_cli.specs.Program.{program_app, replaying_app, without_c
 ghost use Rattle.clap.specs.declared.builder.command.Command.TheViews.{out-Command as fields_of};
 
 use clap::{Arg, ArgAction, Command, value_parser};
+use oberon_claims::MAX_WORKERS;
 use oberon_format::LAST_CHECKPOINT;
 use std::alloc::{AllocError, Global};
 
@@ -32,7 +33,6 @@ fn replaying<'a>(alloc: Global) -> Result<Command<'a>, AllocError>
         .subcommand(record(alloc))
 }
 
-/// Returns the program's name, texts and settings.
 fn without_commands<'a>(alloc: Global) -> Result<Command<'a>, AllocError>
     ensures app { IfOk result (λ command. app_of command ≡ without_commands_app) }
 {
@@ -99,7 +99,7 @@ fn migrate<'a>(alloc: Global) -> Command<'a>
     )
 }
 
-/// Returns a command without options, with its help texts.
+/// Returns a command without options. No contract says anything about help texts.
 fn command<'a>(alloc: Global, name: &'a str, about: &'a str, example: &'a str) -> Command<'a>
     ensures app { app_of result ≡ new_app name.entry.now }
     ensures local { (fields_of result).has_globals ≡ false }
@@ -118,7 +118,7 @@ fn workers<'a>(alloc: Global) -> Arg<'a>
         "How many threads replay segments, from 1 to 64",
     )
     .default_value("2")
-    .value_parser(value_parser!(u32).range(1..=64))
+    .value_parser(value_parser!(u32).range(1..=MAX_WORKERS as i64))
 }
 
 fn cut<'a>(alloc: Global) -> Arg<'a>

@@ -8,6 +8,7 @@ use Rattle.oberon_cli.specs.declared.arguments.Request.{Request}
 use Rattle.oberon_cli.specs.declared.arguments.Request.TheVariants.{Check, Migrate, Record, Screen}
 use Rattle.oberon_cli.specs.declared.arguments.Refusal.{Refusal}
 use Rattle.oberon_cli.specs.declared.arguments.Refusal.TheVariants.{Help, Words, Memory}
+use Rattle.oberon_claims.specs.declared.claims.TheConstants.{MAX_WORKERS}
 use Rattle.recording_limits.specs.declared.limits.TheConstants.{LAST_CHECKPOINT}
 use Rattle.oberon_answers.specs.declared.answer.Answer.{Answer}
 use Rattle.oberon_cli.specs.Asked.{IsHelp, IsRefused}
@@ -16,7 +17,7 @@ use Rattle.oberon_cli.specs.Transfer.{Known}
 
 -- the numbers of a request are in their ranges
 abbrev pub IsWithinLimits : Request → Type 0
-IsWithinLimits (Check workers cut) = (1 ≤ workers) × (workers ≤ 64) × (1 ≤ cut) × (cut ≤ LAST_CHECKPOINT)
+IsWithinLimits (Check workers cut) = (1 ≤ workers) × (workers ≤ MAX_WORKERS) × (1 ≤ cut) × (cut ≤ LAST_CHECKPOINT)
 IsWithinLimits Record = ⊤
 IsWithinLimits (Screen at) = at ≤ LAST_CHECKPOINT
 IsWithinLimits Migrate = ⊤
