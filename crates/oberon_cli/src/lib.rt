@@ -16,7 +16,7 @@ mod sink;
 mod source;
 
 pub use failure::Failure;
-pub use process::{fail, process_words, run, texts};
+pub use process::{fail, process_arguments, run, texts};
 pub use service::{refuse, serve};
 pub use sink::{Sink, WriteFault};
 pub use source::Source;

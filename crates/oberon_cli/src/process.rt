@@ -21,7 +21,7 @@ use std::thread::Threads;
 /// Returns the arguments of the process. By convention the first is the program's name, whatever starts it; a process that is
 /// started with no arguments at all has none. No contract can say which these are, since the kit's `env::args` has none:
 /// `tests/library` runs the built program with the arguments of each command.
-pub fn process_words<H: AllocGlobal + Env>(rt: &H) -> Result<Vec<String>, Failure> {
+pub fn process_arguments<H: AllocGlobal + Env>(rt: &H) -> Result<Vec<String>, Failure> {
     Ok(
         env::args(rt)
             .map_err(|error| failure_of(error.kind()))?
@@ -41,7 +41,7 @@ fn failure_of(kind: ErrorKind) -> Failure
     }
 }
 
-/// Returns the strings of the arguments.
+/// Borrows each argument as a `&str`, in order. Fails only if memory runs out.
 pub fn texts<'a>(alloc: Global, arguments: &'a [String]) -> Result<Vec<&'a str>, AllocError>
     ensures { IfOk result (λ texts. map (λ text. text.now) texts.items ≡ map string_bytes arguments.now) }
 {
@@ -79,7 +79,8 @@ fn after_name<'a>(arguments: &'a [&'a str]) -> &'a [&'a str]
     &arguments[arguments.len().min(1)..]
 }
 
-/// Writes the line of a failure, and returns the exit status.
+/// Writes the line of a failure, and returns the exit status: 4 for refused arguments, 3 for the others or after a write fault.
+/// Allocates nothing.
 pub fn fail<W: Sink>(output: &mut W, failure: Failure) -> ExitCode
     ensures { IsSentText (failure_line failure) (failure_status failure) (W.known output.old) (W.known output.new)
         (exit_status result) }

@@ -4,18 +4,18 @@
 //! That is the whole program as a function over any reader and writer; this file only passes the process to it.
 #![tactic(auto)]
 
-use oberon_cli::{Failure, fail, process_words, run, texts};
+use oberon_cli::{Failure, fail, process_arguments, run, texts};
 use std::io;
 use std::process::ExitCode;
 
 fn main(rt: HostRuntime) -> ExitCode {
     let output = &mut io::writer(&rt);
-    let words = match process_words(&rt) {
-        Ok(words) => words,
+    let arguments = match process_arguments(&rt) {
+        Ok(arguments) => arguments,
         Err(failure) => return fail(output, failure),
     };
-    match texts(rt.alloc(), &words) {
-        Ok(words) => run(&rt, rt.alloc(), &words, &mut rt.stdin(), output),
+    match texts(rt.alloc(), &arguments) {
+        Ok(texts) => run(&rt, rt.alloc(), &texts, &mut rt.stdin(), output),
         Err(error) => fail(output, Failure::from(error)),
     }
 }
