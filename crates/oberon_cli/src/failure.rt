@@ -16,7 +16,7 @@ pub enum Failure {
 }
 
 impl Failure {
-    /// Returns the line of the failure. Allocates nothing.
+    /// Returns the line of the failure, ended by a line feed. Allocates nothing.
     pub fn line(self) -> &'static str
         ensures { result.now ≡ failure_line self }
     {
@@ -27,7 +27,7 @@ impl Failure {
         }
     }
 
-    /// Returns the status with which the program exits.
+    /// Returns the exit status: 4 for refused arguments, 3 for the others.
     pub fn status(self) -> u8
         ensures { result ≡ failure_status self }
     {

@@ -58,7 +58,8 @@ pub fn serve<'a, H: Threads + Wait + Sync, R: Source, W: Sink>(
     }
 }
 
-/// Writes the line of a failure, and returns its status, or 3 after a write fault. Allocates nothing.
+/// Writes the line of a failure, and returns its status: 4 for refused arguments, 3 for the others or after a write fault.
+/// Allocates nothing.
 pub fn refuse<W: Sink>(output: &mut W, failure: Failure) -> u8
     ensures { IsSentText (failure_line failure) (failure_status failure) (W.known output.old)
         (W.known output.new) result }
@@ -66,7 +67,6 @@ pub fn refuse<W: Sink>(output: &mut W, failure: Failure) -> u8
     send(output, failure.line().as_bytes(), failure.status())
 }
 
-/// Writes the bytes, and returns their status, or 3 after a write fault.
 fn send<W: Sink>(output: &mut W, bytes: &[u8], status: u8) -> u8
     ensures { IsSentText bytes.now status (W.known output.old) (W.known output.new) result }
 {
@@ -76,7 +76,7 @@ fn send<W: Sink>(output: &mut W, bytes: &[u8], status: u8) -> u8
     }
 }
 
-/// Returns what to write, and its status. The input is read only if the arguments ask for a command.
+/// Reads the input only if the arguments ask for a command.
 fn reply<'a, H: Threads + Wait + Sync, R: Source>(
     rt: &H,
     alloc: Global,

@@ -59,7 +59,8 @@ pub fn read_up_to<R: Source>(alloc: Global, input: &mut R, limit: usize) -> Resu
     Err(Failure::Read)
 }
 
-/// Reads once, and appends the bytes to `bytes`: at least one if the input has not ended. Returns whether it has ended.
+/// Reads once, and returns whether the input has ended: a read that returns no bytes is its end. Nothing is read again after an
+/// error, an interruption too.
 fn read_turn<R: Source>(
     input: &mut R,
     chunk: &mut [u8],
