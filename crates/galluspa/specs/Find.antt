@@ -2,7 +2,6 @@
 use Rattle.std.specs.Prelude.{ℕ, ◌≡◌, ◌≤◌, ◌^◌, ◌==◌, ◌&&◌, nat_lt, nat_le, if◌then◌else◌}
 use Rattle.std.specs.Prelude.{List, All, Option, None, Some, IsSome, length, map, option_map}
 use Rattle.risc_model.specs.declared.event.Event.{Event}
-use Rattle.risc_model.specs.MachineState.{State}
 use Rattle.risc_search.specs.declared.condition.Condition.{Condition}
 use Rattle.risc_search.specs.declared.condition.Condition.TheVariants.{Counter, Store, Change, Load, Becomes}
 use Rattle.risc_search.specs.declared.condition.Condition.TheVariants.{Sends, SendsByte, Takes, Stops}
@@ -50,8 +49,8 @@ abbrev pub AreConditions : List RawCondition → Type 0
 AreConditions raws = All (λ c. IsSome (condition_of c)) raws
 
 -- all that a search is given is in its range: what a run is given, at most 64 conditions, and 0 or 1 for what is wanted
-pub record IsInSearchRange (inputs : List RawInput) (to : ℕ) (state : RawState) (words : List ℕ) (raws : List RawCondition) (wanted : ℕ)
-    : Type 0 where
+pub record IsInSearchRange (inputs : List RawInput) (to : ℕ) (state : RawState) (words : List ℕ) (raws : List RawCondition)
+    (wanted : ℕ) : Type 0 where
   pub run : IsInRange inputs to state words
   pub conditions : AreConditions raws
   pub few : length raws ≤ MAX_CONDITIONS
@@ -59,8 +58,8 @@ pub record IsInSearchRange (inputs : List RawInput) (to : ℕ) (state : RawState
 
 -- a search from the count of a state up to, but not including, a later count, for the first count at which a condition holds if 0
 -- is wanted, and for the last if 1 is
-pub record HasSearched (inputs : List RawInput) (to : ℕ) (state : RawState) (words : List ℕ) (raws : List RawCondition) (wanted : ℕ)
-    (found : Option Hit) : Type 0 where
+pub record HasSearched (inputs : List RawInput) (to : ℕ) (state : RawState) (words : List ℕ) (raws : List RawCondition)
+    (wanted : ℕ) (found : Option Hit) : Type 0 where
   pub events : List Event
   pub are_events : AreEvents inputs events
   pub conditions : List Condition

@@ -6,6 +6,7 @@ use Rattle.risc_model.specs.declared.event.Event.{Event}
 use Rattle.risc_model.specs.InputOrder.{count_at}
 use Rattle.risc_model.specs.MachineState.{State}
 use Rattle.risc_model.specs.Replay.{run_of, sent_of}
+use Rattle.risc_pages.specs.declared.sizes.TheConstants.{MEMORY_WORDS}
 use Rattle.oberon_format.specs.Defined.{IsTrueAt, claimed}
 use Rattle.oberon_format.specs.Recording.{RecordingParts, last_of}
 use Rattle.oberon_format.specs.Text.{Text}
@@ -16,7 +17,6 @@ use Rattle.galluspa.specs.declared.raw.RawState.{RawState}
 use Rattle.galluspa.specs.declared.refusal.TheConstants.{DONE, NO_CHECKPOINT, NO_RECORDING, NO_ROOM, NOT_FOUND}
 use Rattle.galluspa.specs.declared.refusal.TheConstants.{OUT_OF_MEMORY, OUT_OF_RANGE, PENDING_INPUTS}
 use Rattle.galluspa.specs.declared.refusal.TheConstants.{TOO_MANY_CHECKPOINTS, TOO_MANY_INPUTS, TOO_MANY_PAGES, TOO_MUCH_OUTPUT}
-use Rattle.galluspa.specs.declared.words.TheConstants.{WORDS}
 use Rattle.galluspa.specs.Advance.{HasRun}
 use Rattle.galluspa.specs.Extend.{IsBeginning, IsExtension}
 use Rattle.galluspa.specs.Raw.{state_of}
@@ -77,4 +77,4 @@ pub record HasCodes : Type 0 where
   pub too_many_pages : TOO_MANY_PAGES ≡ 9
   pub pending_inputs : PENDING_INPUTS ≡ 10
   pub not_found : NOT_FOUND ≡ 11
-  pub words : WORDS ≡ 262144
+  pub words : MEMORY_WORDS ≡ 262144

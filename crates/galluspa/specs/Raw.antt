@@ -7,9 +7,9 @@ use Rattle.risc_devices.specs.Input.{kind_of, value_of}
 use Rattle.risc_model.specs.declared.event.Event.{Event}
 use Rattle.risc_model.specs.InputOrder.{AreOrdered}
 use Rattle.risc_model.specs.MachineState.{CpuState, State}
+use Rattle.risc_pages.specs.declared.sizes.TheConstants.{MEMORY_WORDS}
 use Rattle.galluspa.specs.declared.raw.RawState.{RawState}
 use Rattle.galluspa.specs.declared.raw.RawInput.{RawInput}
-use Rattle.galluspa.specs.declared.words.TheConstants.{WORDS}
 
 -- the processor
 abbrev pub cpu_of : RawState → CpuState
@@ -33,7 +33,7 @@ state_of s words = record { cpu = cpu_of s; devices = devices_of s; words = word
 
 -- a state with as many words as a memory has, each number in its range
 pub record IsWhole (state : RawState) (words : List ℕ) : Type 0 where
-  pub whole : length words ≡ WORDS
+  pub whole : length words ≡ MEMORY_WORDS
   pub cpu : IsCpu state
   pub devices : AreDevices state
 

@@ -5,6 +5,7 @@ ghost use Rattle.risc_devices.specs.InputKind.{IsInput};
 ghost use Rattle.risc_machine.specs.Allocation.{MayFail};
 ghost use Rattle.risc_model.specs.MachineState.{cpu_state};
 ghost use Rattle.risc_model.specs.Replay.{run_of, sent_of};
+ghost use Rattle.risc_pages.specs.declared.sizes.TheConstants.{MEMORY_WORDS};
 ghost use Rattle.galluspa.specs.Advance.{HasRun, IsInRange, SendsMore};
 ghost use Rattle.galluspa.specs.Raw.{AreEvents, AreInOrder, IsWhole, IsWritten, cpu_of, devices_of, raw_input, state_of};
 ghost use Rattle.galluspa.specs.inner.Running.{IsAdvanceRefusal, IsRun, IsRunRefusal};
@@ -12,7 +13,7 @@ ghost use Rattle.galluspa.specs.inner.Running.{IsAdvanceRefusal, IsRun, IsRunRef
 use crate::front::copy_to_front;
 use crate::raw::{RawInput, RawState, parts_of, state_of};
 use crate::refusal::{DONE, NO_ROOM, OUT_OF_MEMORY, OUT_OF_RANGE, Refusal};
-use crate::words::{WORDS, paged, write_delta};
+use crate::words::{paged, write_delta};
 use risc_devices::{Devices, Input};
 use risc_machine::Machine;
 use risc_model::{Cpu, Event, Inputs, MAX_COUNT};
@@ -171,7 +172,7 @@ fn run_machine(
 ) -> Result<Vec<u8>, Refusal>
     requires state { machine.state ≡ state_of state.old words.old }
     requires base { machine.base ≡ words.old }
-    requires words { length words.old ≡ WORDS }
+    requires words { length words.old ≡ MEMORY_WORDS }
     requires forward { state.old.count ≤ to }
     ensures run { IfOk result (λ sent. IsRun inputs.now to state.old words.old state.new words.new sent.items) }
     ensures room { IfOk result (λ sent. length sent.items ≤ room) }

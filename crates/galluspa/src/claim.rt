@@ -8,9 +8,9 @@ ghost use Rattle.galluspa.specs.Raw.{IsWritten, state_of};
 
 use crate::raw::{RawState, state_of};
 use crate::refusal::{DONE, NO_CHECKPOINT, NO_RECORDING, NO_ROOM, OUT_OF_MEMORY, OUT_OF_RANGE};
-use crate::words::{WORDS, copy_words};
+use crate::words::copy_words;
 use oberon_format::{Fault, Recording, read};
-use risc_pages::Memory;
+use risc_pages::{MEMORY_WORDS, Memory};
 use std::alloc::{AllocError, Global};
 
 /// Writes what checkpoint `at` of a recording claims: its state and its words. If memory runs out, nothing is written.
@@ -22,7 +22,7 @@ fn write_claim(
     words: &mut [u32],
 ) -> Result<(), AllocError>
     requires there { at < length recording.now.checkpoints }
-    requires words { length words.old ≡ WORDS }
+    requires words { length words.old ≡ MEMORY_WORDS }
     ensures count { OnOk result (state.new.count ≡ count_at recording.now at) }
     ensures claim { OnOk result (state_of state.new words.new ≡ (claimed recording.now at).state) }
     ensures written { OnOk result (IsWritten state.new words.new) }
@@ -52,14 +52,14 @@ pub extern "C" fn galluspa_claim(
     ensures claim { result ≡ DONE → IsClaim text.now at state.new words.new }
     ensures written { result ≡ DONE → IsWritten state.new words.new }
     ensures unchanged { result ≢ DONE → (state.new ≡ state.old) × (words.new ≡ words.old) }
-    ensures in_range { result ≢ OUT_OF_RANGE → length words.old ≡ WORDS }
-    ensures range { result ≡ OUT_OF_RANGE → length words.old ≢ WORDS }
+    ensures in_range { result ≢ OUT_OF_RANGE → length words.old ≡ MEMORY_WORDS }
+    ensures range { result ≡ OUT_OF_RANGE → length words.old ≢ MEMORY_WORDS }
     ensures no_recording { result ≡ NO_RECORDING → IsNoRecording text.now }
     ensures no_checkpoint { result ≡ NO_CHECKPOINT → HasNoCheckpoint text.now at }
     ensures memory { result ≡ OUT_OF_MEMORY → first_fault_of text.now ≡ None }
     ensures codes { (result ≢ NO_ROOM) × (result ≤ NO_CHECKPOINT) }
 {
-    if words.len() != WORDS {
+    if words.len() != MEMORY_WORDS as usize {
         return OUT_OF_RANGE;
     }
     let recording = match read(alloc, text) {

@@ -1,6 +1,7 @@
 //! Recordings that a caller makes while a machine runs: the beginning, and the next checkpoint.
 ghost use Rattle.std.specs.Prelude.{◌≡◌, ◌≢◌, ◌<◌, ◌≤◌, ◌⊎◌, IfErr, IfNone, IfOk, IfSome, drop, length, take};
 ghost use Rattle.risc_core.specs.declared.branch.TheConstants.{COUNTER_END};
+ghost use Rattle.risc_pages.specs.declared.sizes.TheConstants.{MEMORY_WORDS};
 ghost use Rattle.oberon_format.specs.Text.{IsEncoding};
 ghost use Rattle.oberon_format.specs.ByteFields.{first_fault_of};
 ghost use Rattle.oberon_format.specs.declared.layout.TheConstants.{VERSION};
@@ -19,7 +20,6 @@ use crate::refusal::{
     DONE, NO_CHECKPOINT, NO_RECORDING, NO_ROOM, OUT_OF_MEMORY, OUT_OF_RANGE, PENDING_INPUTS,
     TOO_MANY_CHECKPOINTS, TOO_MANY_INPUTS, TOO_MANY_PAGES, TOO_MUCH_OUTPUT,
 };
-use crate::words::WORDS;
 use oberon_format::{Fault, Recording, read, write};
 use oberon_session::{Claim, ExtendFault, begin_recording, extend_recording};
 use std::alloc::Global;
@@ -69,7 +69,7 @@ impl Unrecorded {
 fn claim_of<'a>(state: &RawState, words: &'a [u32], sent: &'a [u8]) -> Option<Claim<'a>>
     ensures count { IfSome result (λ claim. claim.count ≡ state.now.count) }
     ensures outcome { IfSome result (λ claim. outcome_of claim ≡ claim_of state.now words.now sent.now) }
-    ensures words { IfSome result (λ claim. length claim.words.now ≡ WORDS) }
+    ensures words { IfSome result (λ claim. length claim.words.now ≡ MEMORY_WORDS) }
     ensures counter { IfSome result (λ claim. claim.cpu.pc < COUNTER_END) }
     ensures stop { IfSome result (λ claim. claim.cpu.stop ≤ 4) }
     ensures whole { IfSome result (λ _. IsWhole state.now words.now) }
@@ -140,7 +140,7 @@ fn extended(
 ) -> Result<Recording, Unrecorded>
     requires counter { claim.now.cpu.pc < COUNTER_END }
     requires stop { claim.now.cpu.stop ≤ 4 }
-    requires whole { length claim.now.words.now ≡ WORDS }
+    requires whole { length claim.now.words.now ≡ MEMORY_WORDS }
     requires ordered { AreInOrder inputs.now }
     ensures more { IfOk result (IsMore text.now inputs.now claim.now) }
     ensures refused { IfErr result (IsNoMore text.now inputs.now claim.now) }

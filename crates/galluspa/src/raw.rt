@@ -7,10 +7,10 @@ ghost use Rattle.risc_model.specs.MachineState.{cpu_state};
 ghost use Rattle.galluspa.specs.Raw.{AreDevices, IsCpu, IsWhole, cpu_of, devices_of};
 
 use crate::front::copy_to_front;
-use crate::words::WORDS;
 use risc_core::COUNTER_END;
 use risc_devices::Devices;
 use risc_model::{Cpu, Flags};
+use risc_pages::MEMORY_WORDS;
 
 /// A machine's state without the words of its memory, and the count of instructions before it: 136 bytes. The fields are those of
 /// a recording's checkpoint, and have their ranges.
@@ -123,7 +123,7 @@ pub fn parts_of(state: &RawState, words: &[u32]) -> Option<(Cpu, Devices)>
     ensures whole { IfSome result (λ _. IsWhole state.now words.now) }
     ensures range { IfNone result (¬ (IsWhole state.now words.now)) }
 {
-    if words.len() != WORDS {
+    if words.len() != MEMORY_WORDS as usize {
         return None;
     }
     let Some(cpu) = cpu_of(state) else {

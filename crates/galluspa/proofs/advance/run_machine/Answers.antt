@@ -1,4 +1,4 @@
-use Rattle.std.proofs.Common.{◌≡◌, ◌∙◌, ◌-◌, ℕ, List, ap, arith, length, sym}
+use Rattle.std.proofs.Common.{◌≡◌, ◌∙◌, ◌-◌, ℕ, List, ap, length, sym}
 use Rattle.risc_model.specs.MachineState.{State}
 use Rattle.risc_model.specs.Replay.{run_of}
 use Rattle.galluspa.specs.Raw.{cpu_of, devices_of, state_of}

@@ -43,20 +43,20 @@ returns-in-Ok-write_claim-clause-no_checkpoint c = λ is. absurd (omega arith)
 pub write_claim-requires-clause-there : goal.write_claim-requires-clause-there
 write_claim-requires-clause-there c = omega (arith, c.count.ensures.count, c.if-at-count.false)
 
-pub returns-then-words-ne-WORDS-clause-claim : goal.returns-then-words-ne-WORDS-clause-claim
-returns-then-words-ne-WORDS-clause-claim c = λ is. absurd (omega arith)
+pub returns-then-words-clause-claim : goal.returns-then-words-clause-claim
+returns-then-words-clause-claim c = λ is. absurd (omega arith)
 
-pub returns-then-words-ne-WORDS-clause-written : goal.returns-then-words-ne-WORDS-clause-written
-returns-then-words-ne-WORDS-clause-written c = λ is. absurd (omega arith)
+pub returns-then-words-clause-written : goal.returns-then-words-clause-written
+returns-then-words-clause-written c = λ is. absurd (omega arith)
 
-pub returns-then-words-ne-WORDS-clause-no_recording : goal.returns-then-words-ne-WORDS-clause-no_recording
-returns-then-words-ne-WORDS-clause-no_recording c = λ is. absurd (omega arith)
+pub returns-then-words-clause-no_recording : goal.returns-then-words-clause-no_recording
+returns-then-words-clause-no_recording c = λ is. absurd (omega arith)
 
-pub returns-then-words-ne-WORDS-clause-no_checkpoint : goal.returns-then-words-ne-WORDS-clause-no_checkpoint
-returns-then-words-ne-WORDS-clause-no_checkpoint c = λ is. absurd (omega arith)
+pub returns-then-words-clause-no_checkpoint : goal.returns-then-words-clause-no_checkpoint
+returns-then-words-clause-no_checkpoint c = λ is. absurd (omega arith)
 
-pub returns-then-words-ne-WORDS-clause-in_range : goal.returns-then-words-ne-WORDS-clause-in_range
-returns-then-words-ne-WORDS-clause-in_range c = λ other. absurd (other refl)
+pub returns-then-words-clause-in_range : goal.returns-then-words-clause-in_range
+returns-then-words-clause-in_range c = λ other. absurd (other refl)
 
 pub returns-then-at-count-clause-claim : goal.returns-then-at-count-clause-claim
 returns-then-at-count-clause-claim c = λ is. absurd (omega arith)

@@ -1,4 +1,4 @@
-use Rattle.std.proofs.Common.{refl, ◌∙◌, List, Option, Some, arith, subst, sym, take_all}
+use Rattle.std.proofs.Common.{refl, ◌∙◌, List, Option, arith, subst, sym, take_all}
 use Rattle.std.proofs.lemmas.List.Elements.{All-more}
 use Rattle.std.specs.Option.{IsSome}
 use Rattle.risc_search.specs.declared.condition.Condition.{Condition}
