@@ -19,7 +19,7 @@ use risc_machine::Machine;
 use risc_model::{Cpu, Event, Inputs, MAX_COUNT};
 use std::alloc::{AllocError, Global};
 
-/// Returns the event of an input at a count, if its kind and its value are in their ranges.
+/// Tests a kind before it is cut to a byte, or 257 would pass for 1. `Input::new` tests the value.
 fn event_at(count: u64, kind: u32, value: u32) -> Option<Event>
     ensures event { IfSome result (λ event. raw_input event ≡ record { count = count; kind = kind; value = value }) }
     ensures range { IfNone result (¬ (IsInput kind value)) }
@@ -33,7 +33,8 @@ fn event_at(count: u64, kind: u32, value: u32) -> Option<Event>
     }
 }
 
-/// Reports whether each input of a caller is in its range, and their counts are in order. Allocates nothing.
+/// Reports whether each input of a caller has a kind from 1 to 5 and a value in the range of its kind, and their counts do not fall
+/// and are at most 2^40 (`MAX_COUNT`).
 pub fn are_in_order(inputs: &[RawInput]) -> bool
     ensures { IsTrue result ↔ AreInOrder inputs.now }
 {
@@ -50,7 +51,6 @@ pub fn are_in_order(inputs: &[RawInput]) -> bool
     true
 }
 
-/// Returns the events of inputs that are in order.
 fn events_of(alloc: Global, inputs: &[RawInput]) -> Result<Vec<Event>, AllocError>
     requires { AreInOrder inputs.now }
     ensures { IfOk result (λ events. map raw_input events.items ≡ inputs.now) }
@@ -65,7 +65,7 @@ fn events_of(alloc: Global, inputs: &[RawInput]) -> Result<Vec<Event>, AllocErro
     Ok(events)
 }
 
-/// Returns the inputs of a caller, which are in order.
+/// Returns the inputs of a caller, which `are_in_order` has tested. Fails only if memory runs out.
 pub fn inputs_of(alloc: Global, inputs: &[RawInput]) -> Result<Inputs, AllocError>
     requires { AreInOrder inputs.now }
     ensures { IfOk result (λ events. AreEvents inputs.now events) }
@@ -109,8 +109,8 @@ fn sent_by(
     Ok(sent)
 }
 
-/// Runs the piece of a run that begins at a count, and returns the count at which it ends. The bytes that the machine sends are
-/// added to `sent`.
+/// Runs one piece, and returns the count at which it ends. It may send up to `PIECE` bytes more than there is room for, and then
+/// fails.
 fn run_piece(
     machine: &mut Machine<'_>,
     inputs: &Inputs,
@@ -159,8 +159,7 @@ fn piece_end(machine: &Machine<'_>, at: u64, to: u64, left: usize) -> u64
     }
 }
 
-/// Runs the machine of a state with its words up to a count. Writes the state and the words after it, and returns the bytes that it
-/// sends, of which there are at most `room`. Otherwise nothing is written.
+/// Writes nothing before the machine is closed, the last step that can be refused.
 fn run_machine(
     alloc: Global,
     mut machine: Machine<'_>,
@@ -188,7 +187,7 @@ fn run_machine(
     Ok(sent)
 }
 
-/// Runs the machine of a state with its words, whose processor and devices are `parts`, as `run_machine` does.
+/// Copies the words into pages, starts a machine on these with `parts`, and runs it as `run_machine` does.
 fn run_parts(
     alloc: Global,
     parts: (Cpu, Devices),
@@ -213,8 +212,7 @@ fn run_parts(
     run_machine(alloc, machine, state, words, inputs, to, room)
 }
 
-/// Runs a machine up to a count, and returns the bytes that it sends, of which there are at most `room`. All numbers are tested
-/// before anything is allocated.
+/// Tests all numbers before it allocates, so that a number out of its range is never answered with `OUT_OF_MEMORY`.
 fn run(
     alloc: Global,
     state: &mut RawState,

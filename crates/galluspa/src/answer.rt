@@ -9,8 +9,7 @@ use crate::front::copy_to_front;
 use oberon_answers::{Answer, check, migrate, record};
 use std::alloc::Global;
 
-/// Writes an answer to the front of `out` with its status, if there is room, and returns its length. An empty
-/// answer, which there never is, counts as out of memory.
+/// Writes an answer if there is room. An empty one, which there never is, would be reported as out of memory: its length is 0, too.
 fn put(answer: &Answer, out: &mut [u8], status: &mut u8) -> usize
     ensures len { result ≡ vec_len answer.now.bytes }
     ensures bytes { 0 < result → result ≤ length out.old → take result out.new ≡ answer.now.bytes.items }

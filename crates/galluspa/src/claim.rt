@@ -13,7 +13,7 @@ use oberon_format::{Fault, Recording, read};
 use risc_pages::{MEMORY_WORDS, Memory};
 use std::alloc::{AllocError, Global};
 
-/// Writes what checkpoint `at` of a recording claims: its state and its words. If memory runs out, nothing is written.
+/// Makes the memory, which alone can be refused, before anything is written.
 fn write_claim(
     alloc: Global,
     recording: &Recording,

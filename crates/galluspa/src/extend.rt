@@ -65,7 +65,7 @@ impl Unrecorded {
     }
 }
 
-/// Returns the claim of a state with its words and the bytes that were sent, if its numbers are in their ranges.
+/// Borrows the words and the bytes; nothing is copied or allocated.
 fn claim_of<'a>(state: &RawState, words: &'a [u32], sent: &'a [u8]) -> Option<Claim<'a>>
     ensures count { IfSome result (λ claim. claim.count ≡ state.now.count) }
     ensures outcome { IfSome result (λ claim. outcome_of claim ≡ claim_of state.now words.now sent.now) }
@@ -97,7 +97,6 @@ fn written(alloc: Global, recording: Recording) -> Result<Vec<u8>, Unrecorded>
     }
 }
 
-/// Returns the bytes of the recording that begins with a state.
 fn beginning(alloc: Global, state: &RawState, words: &[u32]) -> Result<Vec<u8>, Unrecorded>
     ensures beginning { IfOk result (λ bytes. IsBeginning state.now words.now bytes.items) }
     ensures whole { IfOk result (λ _. CanBegin state.now words.now) }
@@ -131,7 +130,6 @@ fn unextended(fault: ExtendFault) -> Unrecorded
     }
 }
 
-/// Returns the recording of the bytes, extended by a claim and inputs that are in order.
 fn extended(
     alloc: Global,
     text: &[u8],
@@ -159,7 +157,7 @@ fn extended(
     }
 }
 
-/// Returns the bytes of the recording with the inputs and the state that come next.
+/// Tests the numbers and the order of the inputs before the bytes are read, which allocates.
 fn extension(
     alloc: Global,
     text: &[u8],
@@ -186,7 +184,7 @@ fn extension(
     written(alloc, more)
 }
 
-/// Writes bytes to the front of `out`, and their number; or only their number, if there is no room.
+/// Writes only the number of the bytes if there is no room for them, so that a caller knows how much is needed.
 fn put(bytes: &[u8], out: &mut [u8], out_count: &mut usize) -> u8
     ensures done { result ≡ DONE → (out_count.new ≤ length out.old) × (take out_count.new out.new ≡ bytes.now) }
     ensures no_room { result ≡ NO_ROOM → (out_count.new ≡ length bytes.now) × (length out.old < out_count.new) }

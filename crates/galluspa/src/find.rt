@@ -72,7 +72,6 @@ impl From<AllocError> for Unsearched {
     }
 }
 
-/// Returns the range of a condition, if it is not empty and ends at `most` or before.
 fn span_of(raw: &RawCondition, most: u32) -> Option<Span>
     ensures { result ≡ span_of most raw.now }
 {
@@ -86,7 +85,6 @@ fn span_of(raw: &RawCondition, most: u32) -> Option<Span>
     }
 }
 
-/// Returns the condition that a register has become a value.
 fn becomes(raw: &RawCondition) -> Option<Condition>
     ensures { result ≡ becomes raw.now }
 {
@@ -98,7 +96,6 @@ fn becomes(raw: &RawCondition) -> Option<Condition>
     }
 }
 
-/// Returns the condition of a caller's numbers, if they are in their ranges.
 #[tactic(auto, unfolding(crate::specs::Find::condition_of))]
 fn condition_of(raw: &RawCondition) -> Option<Condition>
     ensures { result ≡ condition_of raw.now }
@@ -129,7 +126,7 @@ fn condition_of(raw: &RawCondition) -> Option<Condition>
     }
 }
 
-/// Reports whether each condition of a caller is in its range. Allocates nothing.
+/// Tests all conditions before anything is allocated, so that one out of its range is never answered with `OUT_OF_MEMORY`.
 fn are_conditions(raws: &[RawCondition]) -> bool
     ensures { IsTrue result ↔ AreConditions raws.now }
 {
@@ -141,7 +138,6 @@ fn are_conditions(raws: &[RawCondition]) -> bool
     true
 }
 
-/// Returns the conditions of a caller, which are in their ranges.
 fn conditions_of(alloc: Global, raws: &[RawCondition]) -> Result<Vec<Condition>, AllocError>
     requires { AreConditions raws.now }
     ensures { IfOk result (λ conditions. map condition_of raws.now ≡ map (λ c. Some c) conditions.items) }
@@ -156,7 +152,7 @@ fn conditions_of(alloc: Global, raws: &[RawCondition]) -> Result<Vec<Condition>,
     Ok(conditions)
 }
 
-/// Searches through the run of the machine of a state with its words, whose processor and devices are `parts`.
+/// Copies the words into pages, starts a machine on these with `parts`, and searches on it: the caller's words stay as they are.
 fn search_parts(
     alloc: Global,
     parts: (Cpu, Devices),
@@ -185,7 +181,7 @@ fn search_parts(
     }
 }
 
-/// Searches through the run of a machine up to a count. All numbers are tested before anything is allocated.
+/// Tests all numbers before it allocates.
 fn search(
     alloc: Global,
     state: &RawState,

@@ -79,7 +79,6 @@ fn cpu_of_parts(r: [u32; 16], h: u32, pc: u32, flags: u32, stop: u8) -> Cpu
     }
 }
 
-/// Returns the processor of a state, if its numbers are in their ranges.
 fn cpu_of(state: &RawState) -> Option<Cpu>
     ensures cpu { IfSome result (λ cpu. cpu_state cpu ≡ cpu_of state.now) }
     ensures counter { IfSome result (λ cpu. cpu.pc < COUNTER_END) }
@@ -92,7 +91,8 @@ fn cpu_of(state: &RawState) -> Option<Cpu>
     Some(cpu_of_parts(state.r, state.h, state.pc, state.flags, state.stop as u8))
 }
 
-/// Returns the devices of a state, if their numbers are in their ranges.
+/// Tests the numbers that are cut to fewer bits before they are cut, and how many keys there are; `Devices::new` tests the phase
+/// and the mouse word.
 fn devices_of(state: &RawState) -> Option<Devices>
     ensures devices { IfSome result (λ devices. devices ≡ devices_of state.now) }
     ensures range { IsSome result ↔ AreDevices state.now }
@@ -114,7 +114,8 @@ fn devices_of(state: &RawState) -> Option<Devices>
     .ok()
 }
 
-/// Returns the processor and the devices of a state, if its numbers are in their ranges and it has the words of a memory.
+/// Returns the processor and the devices of a state; or none if a number is out of its range, as the fields of [`RawState`] have
+/// them, or `words` is not of 262,144 words. Allocates nothing.
 pub fn parts_of(state: &RawState, words: &[u32]) -> Option<(Cpu, Devices)>
     ensures cpu { IfSome result (λ parts. cpu_state parts.0 ≡ cpu_of state.now) }
     ensures devices { IfSome result (λ parts. parts.1 ≡ devices_of state.now) }
@@ -135,7 +136,7 @@ pub fn parts_of(state: &RawState, words: &[u32]) -> Option<(Cpu, Devices)>
     Some((cpu, devices))
 }
 
-/// Returns key codes, followed by zeros.
+/// Pads key codes to the length of the field `keys`.
 fn sixteen(codes: &[u8]) -> [u8; 16]
     requires { length codes.now ≤ 16 }
     ensures { result ≡ codes.now ++ replicate (16 - length codes.now) 0 }
@@ -145,7 +146,7 @@ fn sixteen(codes: &[u8]) -> [u8; 16]
     keys
 }
 
-/// Returns the state of a processor and devices at a count.
+/// Returns the state of a processor and devices at a count, in the layout of C. The bytes after the key codes are 0.
 pub fn state_of(count: u64, cpu: &Cpu, devices: &Devices) -> RawState
     requires counter { cpu.now.pc < COUNTER_END }
     requires stop { cpu.now.stop ≤ 4 }
