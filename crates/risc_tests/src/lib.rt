@@ -1,7 +1,7 @@
 //! Tests of `risc_core`, `risc_pages`, `risc_devices`, `risc_model` and `risc_machine`, over their public names.
 //!
-//! `instructions` tests `risc_core`, `pages` `risc_pages`, `devices` `risc_devices`, and `machine` the last two. They are in a crate of
-//! their own, so that the tested crates are proved once, without them. Nothing is exported.
+//! `instructions` tests `risc_core`, `pages` `risc_pages`, `devices` `risc_devices`, and `machine` the last two.
+//! They are in a crate of their own, so that the tested crates are proved once, without them. Nothing is exported.
 #![tactic(auto)]
 
 #[cfg(test)]
