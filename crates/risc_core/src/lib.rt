@@ -22,7 +22,7 @@ mod word;
 
 pub use address::Place;
 pub use arithmetic::{AluOut, alu, alu_beside_sums, multiply, quotient, simple_value};
-pub use branch::{COUNTER_END, LINK_REGISTER, link, reg_target, taken, target};
+pub use branch::{COUNTER_END, LINK_REGISTER, link, reg_target, taken, taken_by_table, target};
 pub use decoding::decode;
 pub use flags::{Flags, written};
 pub use instruction::Instr;
