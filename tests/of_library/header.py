@@ -74,11 +74,11 @@ def constants() -> Iterator[tuple[str, int]]:
     for file, names in (
         (CRATE / "src/refusal.rt", REFUSALS),
         (TOP / "crates/risc_pages/src/sizes.rt", ["MEMORY_WORDS"]),
-        (TOP / "crates/oberon_format/src/layout.rt", ["LONGEST_TEXT"]),
+        (TOP / "crates/oberon_format/src/layout.rt", ["LONGEST_RECORDING"]),
     ):
         for name in names:
             value = group(rf"^pub const {name}: \w+ = ([\d_]+);$", file.read_text())
-            yield "GALLUSPA_" + name.removesuffix("_TEXT").removeprefix("MEMORY_"), int(value.replace("_", ""))
+            yield "GALLUSPA_" + name.replace("LONGEST_RECORDING", "LONGEST").removeprefix("MEMORY_"), int(value.replace("_", ""))
 
 
 def header_test() -> str:

@@ -23,7 +23,7 @@ use Rattle.oberon_cli.specs.Transfer.{Known}
 use Rattle.oberon_cli.specs.declared.arguments.Request.{Request}
 use Rattle.oberon_cli.specs.declared.arguments.Request.TheVariants.{Check, Migrate, Record, Screen}
 use Rattle.oberon_cli.specs.declared.failure.Failure.TheVariants.{Memory, Read, Words}
-use Rattle.oberon_format.specs.declared.layout.TheConstants.{LONGEST_TEXT}
+use Rattle.oberon_format.specs.declared.layout.TheConstants.{LONGEST_RECORDING}
 use Rattle.recording_limits.specs.declared.limits.TheConstants.{LONGEST_SESSION}
 use Rattle.oberon_format.proofs.Cut.{cut_is_no_recording, first_fault_of-take}
 use Rattle.oberon_cli.proofs.Parsed.{asked_none}
@@ -46,22 +46,22 @@ known_bytes limit xs bytes (Some rest) taken within end = go (nat_lt (length byt
         rw (taken, same) (sym (take-append_seam bytes rest))
 
 -- the line of the fault of a file that is cut is that of the whole
-cut_fault : (n : ℕ) (bytes line : List ℕ) (status : ℕ) → LONGEST_TEXT < n → n ≤ length bytes → IsLineOfFault (take n bytes) line status → IsLineOfFault bytes line status
+cut_fault : (n : ℕ) (bytes line : List ℕ) (status : ℕ) → LONGEST_RECORDING < n → n ≤ length bytes → IsLineOfFault (take n bytes) line status → IsLineOfFault bytes line status
 cut_fault n bytes line status over within is =
     record { fault = is.fault; is_first = sym (first_fault_of-take n bytes over within) ∙ is.is_first; line_is = is.line_is; status_is = is.status_is }
 
 -- a file that is cut is no recording file, so its line is that of the whole
-cut_report : (n : ℕ) (bytes line : List ℕ) (status : ℕ) → LONGEST_TEXT < n → n ≤ length bytes → IsLineOf (take n bytes) line status → IsLineOf bytes line status
+cut_report : (n : ℕ) (bytes line : List ℕ) (status : ℕ) → LONGEST_RECORDING < n → n ≤ length bytes → IsLineOf (take n bytes) line status → IsLineOf bytes line status
 cut_report n bytes line status over within (inl is) = absurd (cut_is_no_recording n bytes is.recording over within is.is_text)
 cut_report n bytes line status over within (inr is) = inr (cut_fault n bytes line status over within is)
 
 -- and so is the answer of `screen`
-cut_screen : (n at : ℕ) (bytes text : List ℕ) (status : ℕ) → LONGEST_TEXT < n → n ≤ length bytes → IsScreen at (take n bytes) text status → IsScreen at bytes text status
+cut_screen : (n at : ℕ) (bytes text : List ℕ) (status : ℕ) → LONGEST_RECORDING < n → n ≤ length bytes → IsScreen at (take n bytes) text status → IsScreen at bytes text status
 cut_screen n at bytes text status over within (inl is) = absurd (cut_is_no_recording n bytes is.recording over within is.read)
 cut_screen n at bytes text status over within (inr is) = inr (cut_fault n bytes text status over within is)
 
 -- and that of `migrate`
-cut_migration : (n : ℕ) (bytes text : List ℕ) (status : ℕ) → LONGEST_TEXT < n → n ≤ length bytes → IsMigration (take n bytes) text status → IsMigration bytes text status
+cut_migration : (n : ℕ) (bytes text : List ℕ) (status : ℕ) → LONGEST_RECORDING < n → n ≤ length bytes → IsMigration (take n bytes) text status → IsMigration bytes text status
 cut_migration n bytes text status over within (inl is) = absurd (cut_is_no_recording n bytes is.migrated.recording over within is.migrated.read)
 cut_migration n bytes text status over within (inr is) = inr (cut_fault n bytes text status over within is)
 
@@ -95,13 +95,13 @@ whole P n bytes more first = go (nat_lt (length bytes) n) refl
 -- the answer to the bytes read is the answer to all bytes
 whole_answer : (request : Request) (bytes text : List ℕ) (status : ℕ) → IsAnswer request (take (limit_of request) bytes) text status → IsAnswer request bytes text status
 whole_answer (Check workers cut) bytes text status =
-    whole (λ input. IsLineOf input text status) (LONGEST_TEXT + 1) bytes (λ within. cut_report (LONGEST_TEXT + 1) bytes text status (omega arith) within)
+    whole (λ input. IsLineOf input text status) (LONGEST_RECORDING + 1) bytes (λ within. cut_report (LONGEST_RECORDING + 1) bytes text status (omega arith) within)
 whole_answer Record bytes text status =
     whole (λ input. IsRecord input text status) (LONGEST_SESSION + 1) bytes (λ within. cut_record (LONGEST_SESSION + 1) bytes text status (omega arith) within)
 whole_answer (Screen at) bytes text status =
-    whole (λ input. IsScreen at input text status) (LONGEST_TEXT + 1) bytes (λ within. cut_screen (LONGEST_TEXT + 1) at bytes text status (omega arith) within)
+    whole (λ input. IsScreen at input text status) (LONGEST_RECORDING + 1) bytes (λ within. cut_screen (LONGEST_RECORDING + 1) at bytes text status (omega arith) within)
 whole_answer Migrate bytes text status =
-    whole (λ input. IsMigration input text status) (LONGEST_TEXT + 1) bytes (λ within. cut_migration (LONGEST_TEXT + 1) bytes text status (omega arith) within)
+    whole (λ input. IsMigration input text status) (LONGEST_RECORDING + 1) bytes (λ within. cut_migration (LONGEST_RECORDING + 1) bytes text status (omega arith) within)
 
 -- no arguments are no request for help
 no_help : IsHelp [] → ⊥

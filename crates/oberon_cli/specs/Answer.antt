@@ -6,15 +6,15 @@ use Rattle.oberon_answers.specs.Record.{IsRecord}
 use Rattle.oberon_answers.specs.Screen.{IsScreen}
 use Rattle.oberon_cli.specs.declared.arguments.Request.{Request}
 use Rattle.oberon_cli.specs.declared.arguments.Request.TheVariants.{Check, Migrate, Record, Screen}
-use Rattle.oberon_format.specs.declared.layout.TheConstants.{LONGEST_TEXT}
+use Rattle.oberon_format.specs.declared.layout.TheConstants.{LONGEST_RECORDING}
 use Rattle.recording_limits.specs.declared.limits.TheConstants.{LONGEST_SESSION}
 
 -- the most bytes that the command reads: one more than the longest file of a recording or of a session
 abbrev pub limit_of : Request → ℕ
-limit_of (Check workers cut) = LONGEST_TEXT + 1
+limit_of (Check workers cut) = LONGEST_RECORDING + 1
 limit_of Record = LONGEST_SESSION + 1
-limit_of (Screen at) = LONGEST_TEXT + 1
-limit_of Migrate = LONGEST_TEXT + 1
+limit_of (Screen at) = LONGEST_RECORDING + 1
+limit_of Migrate = LONGEST_RECORDING + 1
 
 -- the most bytes that are read if the arguments ask for this: none if they ask for no command
 abbrev pub limit_for : Option Request → ℕ

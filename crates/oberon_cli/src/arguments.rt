@@ -8,13 +8,13 @@ use crate::command::program;
 use clap::error::ErrorKind;
 use clap::{ArgMatches, Error};
 use oberon_claims::MAX_WORKERS;
-use oberon_format::{LAST_CHECKPOINT, LONGEST_TEXT};
+use oberon_format::{LAST_CHECKPOINT, LONGEST_RECORDING};
 use oberon_session::LONGEST_SESSION;
 use std::alloc::{AllocError, Global};
 
 /// One byte more than the longest recording file. A longer input has a fault within these bytes, and no rule looks at a later
 /// byte.
-const RECORDING_LIMIT: usize = LONGEST_TEXT + 1;
+const RECORDING_LIMIT: usize = LONGEST_RECORDING + 1;
 
 /// One byte more than the longest file of a session. A longer input is refused for its length alone.
 const SESSION_LIMIT: usize = LONGEST_SESSION + 1;

@@ -1,5 +1,5 @@
 -- The rules of a checkpoint of parts, as the code tests them: the lengths are right, and changes are those between two tables.
-use Rattle.oberon_format.proofs.Common.{add-one, ap, arith, change_rules, changes, CHANGES_AT, Checkpoint, checkpoint_at, checkpoint_fields, checkpoint_parts, checkpoint_rules, checkpoint_size, CheckpointFields, CheckpointParts, count_before, each, encoded_change_rules, Event, Fault, field_rules, fields_in, first_broken, get_or, le-leb, length, length-map, List, LONGEST_TEXT, map, MAX_CHECKPOINTS, MAX_EVENTS, MAX_PAGES, nat_le, None, Option, option_or, parts_of, prior_page_id, RecordingParts, refl, Rule, sent_below, slice_index, Some, start_in, suc, sym, table_before, VERSION, ℕ, ◌++◌, ◌+◌, ◌<◌, ◌∙◌, ◌∷◌, ◌≡◌, ◌≤◌}
+use Rattle.oberon_format.proofs.Common.{add-one, ap, arith, change_rules, changes, CHANGES_AT, Checkpoint, checkpoint_at, checkpoint_fields, checkpoint_parts, checkpoint_rules, checkpoint_size, CheckpointFields, CheckpointParts, count_before, each, encoded_change_rules, Event, Fault, field_rules, fields_in, first_broken, get_or, le-leb, length, length-map, List, LONGEST_RECORDING, map, MAX_CHECKPOINTS, MAX_EVENTS, MAX_PAGES, nat_le, None, Option, option_or, parts_of, prior_page_id, RecordingParts, refl, Rule, sent_below, slice_index, Some, start_in, suc, sym, table_before, VERSION, ℕ, ◌++◌, ◌+◌, ◌<◌, ◌∙◌, ◌∷◌, ◌≡◌, ◌≤◌}
 use Rattle.oberon_format.proofs.ChangeLemmas.{change_in}
 use Rattle.oberon_format.proofs.CheckpointLemmas.{checkpoint_at-is}
 use Rattle.oberon_format.proofs.PartLemmas.{start_in_rises, start_in_next, start_in_within, changed_room, prior_encoded}
@@ -64,5 +64,5 @@ next_offset r k offset size fields at are long =
 
 -- no checkpoint within the limits begins after the longest file
 pub offset_small : (r : RecordingParts) (k : ℕ) → length r.pool ≤ MAX_PAGES → length r.inputs ≤ MAX_EVENTS → k ≤ MAX_CHECKPOINTS
-    → start_in VERSION r k ≤ LONGEST_TEXT
+    → start_in VERSION r k ≤ LONGEST_RECORDING
 offset_small r k pages events few = let within = start_in_within VERSION r k in omega arith

@@ -2,7 +2,7 @@
 use Rattle.std.specs.Prelude.{ℕ, ◌≡◌, ◌≤◌, ◌<◌, ◌↔◌, List, length, take, None, IfSome, MatchOption}
 use Rattle.risc_model.specs.InputOrder.{AreOrdered}
 use Rattle.risc_pages.specs.Pages.{ArePages}
-use Rattle.oberon_format.specs.declared.layout.TheConstants.{LONGEST_TEXT, VERSION}
+use Rattle.oberon_format.specs.declared.layout.TheConstants.{LONGEST_RECORDING, VERSION}
 use Rattle.oberon_format.specs.Formed.{AreFormed, AreWritable}
 use Rattle.oberon_format.specs.Line.{IsNamedFault}
 use Rattle.oberon_format.specs.Migration.{IsMigrated}
@@ -61,13 +61,13 @@ HasFaultOfParts = (r : RecordingParts) → AreWritable r → first_fault_of (enc
 
 -- no file of a recording is longer than the longest file
 abbrev pub HasLongestFile : Type 0
-HasLongestFile = (bytes : List ℕ) (r : RecordingParts) → Text bytes r → length bytes ≤ LONGEST_TEXT
+HasLongestFile = (bytes : List ℕ) (r : RecordingParts) → Text bytes r → length bytes ≤ LONGEST_RECORDING
 
 -- a longer file has the same first fault as when it is cut anywhere after that many bytes: it has a fault within them, and no
 -- rule looks at a later byte
 abbrev pub HasFaultWithin : Type 0
 HasFaultWithin =
-    (n : ℕ) (bytes : List ℕ) → LONGEST_TEXT < n → n ≤ length bytes → first_fault_of (take n bytes) ≡ first_fault_of bytes
+    (n : ℕ) (bytes : List ℕ) → LONGEST_RECORDING < n → n ≤ length bytes → first_fault_of (take n bytes) ≡ first_fault_of bytes
 
 -- parts are lawful if and only if they have no fault
 abbrev pub IsMadeOfParts : Type 0

@@ -5,7 +5,7 @@ use Rattle.risc_core.specs.declared.branch.TheConstants.{COUNTER_END}
 use Rattle.risc_model.specs.declared.inputs.TheConstants.{MAX_COUNT}
 use Rattle.risc_pages.specs.declared.sizes.TheConstants.{PAGE_SLOTS}
 use Rattle.oberon_format.specs.declared.layout.TheConstants.{MAGIC, FIRST_VERSION, VERSION, HEADER_LEN, PAGE_LEN, EVENT_LEN}
-use Rattle.oberon_format.specs.declared.layout.TheConstants.{CHECKPOINT_LEN, COMMON_LEN, CHANGE_LEN, LONGEST_TEXT, MAGIC_AT}
+use Rattle.oberon_format.specs.declared.layout.TheConstants.{CHECKPOINT_LEN, COMMON_LEN, CHANGE_LEN, LONGEST_RECORDING, MAGIC_AT}
 use Rattle.oberon_format.specs.declared.layout.TheConstants.{VERSION_AT, PAGES_AT, EVENTS_AT, CHECKPOINTS_AT, LAST_AT, KIND_AT}
 use Rattle.oberon_format.specs.declared.layout.TheConstants.{VALUE_AT, PAGE_ID_AT, REGISTERS_AT, AUXILIARY_AT, COUNTER_AT, FLAGS_AT}
 use Rattle.oberon_format.specs.declared.layout.TheConstants.{STOP_AT, TIMER_AT, SWITCHES_AT, LEDS_AT, MOUSE_AT, SERIAL_AT}
@@ -26,7 +26,7 @@ pub record HasLengths : Type 0 where
   pub common_len : COMMON_LEN ≡ 132
   pub change_len : CHANGE_LEN ≡ 8
   pub page_slots : PAGE_SLOTS ≡ 1024
-  pub longest_text : LONGEST_TEXT ≡ 118310056
+  pub longest_recording : LONGEST_RECORDING ≡ 118310056
 
 -- the offsets of the numbers of a header, and of the fields of an event and of a change from their starts
 pub record HasHeaderOffsets : Type 0 where

@@ -50,12 +50,12 @@ pub fn named_fault_law()
     ensures { HasNamedFault }
 {}
 
-/// States that the file of a recording has at most `LONGEST_TEXT` bytes.
+/// States that the file of a recording has at most `LONGEST_RECORDING` bytes.
 pub fn longest_file_law()
     ensures { HasLongestFile }
 {}
 
-/// States that a file longer than `LONGEST_TEXT` bytes has the same first fault if it is cut after them.
+/// States that a file longer than `LONGEST_RECORDING` bytes has the same first fault if it is cut after them.
 pub fn cut_file_law()
     ensures { HasFaultWithin }
 {}

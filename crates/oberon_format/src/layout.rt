@@ -33,7 +33,7 @@ pub(crate) const CHANGE_LEN: usize = 8;
 
 /// The length of the longest file without a fault: that of version 2 of a recording at all limits, in which each table differs
 /// from the one before in all slots.
-pub const LONGEST_TEXT: usize = 118_310_056;
+pub const LONGEST_RECORDING: usize = 118_310_056;
 
 // Offsets of the numbers of a header.
 

@@ -32,7 +32,7 @@ pub use laws::{
     longest_file_law, migrated_again_law, named_fault_law, numbers_law, one_file_at_most_law,
     one_file_law, one_recording_law, read_back_law, written_back_law,
 };
-pub use layout::{LONGEST_TEXT, VERSION};
+pub use layout::{LONGEST_RECORDING, VERSION};
 pub use line::refusal;
 pub use migration::migrate;
 pub use reading::read;

@@ -15,7 +15,7 @@ use crate::checkpoint::{Checkpoint, table_before};
 use crate::fault::Fault;
 use crate::fields::{CheckpointFields, fields_fault};
 use crate::formed::all_formed_law;
-use crate::layout::{CHANGE_LEN, CHANGES_AT, LONGEST_TEXT, VERSION, changed_len, event_start};
+use crate::layout::{CHANGE_LEN, CHANGES_AT, LONGEST_RECORDING, VERSION, changed_len, event_start};
 use crate::limits::limits_fault;
 use crate::ranges::MAX_CHECKPOINTS;
 use recording_limits::{MAX_EVENTS, MAX_PAGES};
@@ -53,7 +53,7 @@ fn counts_fault(pool: &Pool, inputs: &Inputs, checkpoints: &[Checkpoint]) -> Opt
 /// Returns the first fault of the changes from one table to another, in a checkpoint at an offset.
 #[tactic(auto, using(crate::proofs::Walk::below_none, crate::proofs::Walk::below_few, crate::proofs::RuleLemmas::each_none))]
 fn changes_fault(pages: u32, offset: usize, before: &Table, table: &Table) -> Option<Fault>
-    requires { offset ≤ LONGEST_TEXT }
+    requires { offset ≤ LONGEST_RECORDING }
     ensures { result ≡ first_broken (encoded_change_rules pages offset before.now.numbers table.now.numbers) }
 {
     let mut change_offset = offset + CHANGES_AT;

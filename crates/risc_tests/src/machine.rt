@@ -73,7 +73,7 @@ fn pool_of(alloc: Global, example: Example) -> Result<Pool, AllocError>
 }
 
 /// Returns the table with page id 1 in slot 0, and the page of zeros in the others.
-fn first_place() -> Table
+fn first_slot() -> Table
     ensures { All (λ n. n ≤ 1) result.numbers }
 {
     let mut table = Table::zeros();
@@ -123,7 +123,7 @@ fn machine_at<'a>(
     requires { length pool.now ≡ 1 }
 {
     let devices = Devices::with_timer(clock.timer, clock.rate, clock.phase).ok()?;
-    Machine::start(alloc, pool, &first_place(), cpu_of(example), devices).ok()
+    Machine::start(alloc, pool, &first_slot(), cpu_of(example), devices).ok()
 }
 
 /// Returns the list of inputs with these counts, kinds and values.

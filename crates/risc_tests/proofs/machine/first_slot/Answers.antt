@@ -1,7 +1,7 @@
 use Rattle.std.proofs.Common.{◌≤◌, ℕ, List, All, subst, sym, arith}
 use Rattle.std.proofs.lemmas.List.Elements.{All-replicate, All-set}
 use Rattle.risc_pages.specs.Tables.{zero_numbers}
-use Rattle.risc_tests.proofs.machine.first_place.Goals as goal
+use Rattle.risc_tests.proofs.machine.first_slot.Goals as goal
 
 zeros-named : All (λ n. n ≤ 1) zero_numbers
 unfolding zero_numbers
