@@ -17,6 +17,11 @@
  *   modules   calls a procedure in each of 200 modules, which change variables that lie beside their code
  *   mouse     waits for the mouse, and counts its changes; it moves each 8,000,000 counts
  *   oberon    the main loop of Oberon: waits for the mouse and the keyboard, and does the tasks that are due; the mouse moves as often
+ *   far       branches over more than a page of code: one that is taken each other time, and one that always is
+ *   carries   adds and subtracts, with C in four of eight instructions
+ *   lamps     writes to the LEDs in one of eight instructions
+ *   loader    writes 64 procedures over older ones, and calls each of them once
+ *   spaced    does what sort does while a switch moves at each 100th count: at most 100,000,000 steps
  */
 #include "recording.h"
 
@@ -29,6 +34,7 @@ static uint32_t reg(uint32_t op, uint32_t a, uint32_t b, uint32_t c) { return a 
 static uint32_t high(uint32_t a, uint32_t im) { return 0x60000000u | a << 24 | im; }
 static uint32_t load(uint32_t a, uint32_t b, int32_t off) { return 0x80000000u | a << 24 | b << 20 | (off & 0xfffff); }
 static uint32_t store(uint32_t a, uint32_t b, int32_t off) { return 0x20000000u | load(a, b, off); }
+static uint32_t with_carry(uint32_t sum) { return sum | 0x20000000u; }
 static uint32_t jump_by_register(uint32_t link, uint32_t c) { return 0xC7000000u | link << 28 | c; }
 enum { BYTE = 1 << 28, MOV = 0, LSL, ASR, ROR, AND, ANN, IOR, XOR, ADD, SUB, MUL, DIV };
 enum { EQ = 1, LT = 5, LE = 6, ALWAYS = 7, NE = 9, GE = 13, GT = 14 };
@@ -366,6 +372,54 @@ static void sends(uint32_t *memory) {
     jump(&c, ALWAYS, 1);
 }
 
+/* ---- programs that meet one slow spot each ---- */
+
+static void far(uint32_t *memory) {
+    enum { FIRST = 16, APART = 300, BLOCKS = 24 };
+    Code c = {memory, 0};
+    jump(&c, ALWAYS, FIRST);
+    for (uint32_t block = 0; block < BLOCKS; block++) {
+        uint32_t next = FIRST + APART * ((block + 1) % BLOCKS);
+        c.at = FIRST + APART * block;
+        emit(&c, imm(ADD, 0, 0, 1)); emit(&c, imm(AND, 1, 0, 1)); jump(&c, EQ, next);
+        emit(&c, imm(SUB, 2, 0, 0)); jump(&c, ALWAYS, next);
+    }
+}
+
+static void carries(uint32_t *memory) {
+    Code c = {memory, 0};
+    emit(&c, reg(ADD, 0, 0, 1)); emit(&c, with_carry(reg(ADD, 2, 2, 3))); emit(&c, with_carry(imm(ADD, 4, 4, 7)));
+    emit(&c, reg(SUB, 5, 5, 0)); emit(&c, with_carry(reg(SUB, 6, 6, 2))); emit(&c, with_carry(imm(SUB, 7, 7, 9)));
+    emit(&c, imm(ADD, 1, 1, 77)); jump(&c, ALWAYS, 0);
+}
+
+static void lamps(uint32_t *memory) {
+    Code c = {memory, 0};
+    uint32_t loop;
+    emit(&c, imm(MOV, 12, 0, DEVICES));
+    loop = c.at;
+    emit(&c, store(3, 12, SWITCHES)); emit(&c, reg(SUB, 1, 0, 2)); emit(&c, imm(ADD, 2, 0, 0)); emit(&c, imm(ADD, 3, 3, 1));
+    emit(&c, imm(AND, 4, 3, 7)); emit(&c, imm(XOR, 5, 4, 1)); emit(&c, imm(ADD, 6, 6, 1)); jump(&c, ALWAYS, loop);
+}
+
+static void loader(uint32_t *memory) {
+    enum { KEPT = 0x2000, LOADED = 0x4000, LENGTH = 8, PROCEDURES = 64 };
+    Code c = {memory, KEPT};
+    uint32_t turn, loop;
+    for (int32_t i = 0; i < PROCEDURES; i++) {
+        emit(&c, imm(ADD, 4, 4, i)); emit(&c, imm(SUB, 5, 4, 3)); emit(&c, reg(ADD, 6, 5, 4)); emit(&c, reg(XOR, 6, 6, 5));
+        emit(&c, imm(AND, 6, 6, 255)); emit(&c, imm(ADD, 7, 7, 1)); emit(&c, reg(SUB, 8, 7, 6)); emit(&c, jump_by_register(0, LINK));
+    }
+    c.at = 0;
+    turn = c.at;
+    emit(&c, imm(MOV, 1, 0, 4 * KEPT)); emit(&c, high(2, 4 * LOADED >> 16)); emit(&c, imm(MOV, 3, 0, 0));
+    loop = c.at;
+    emit(&c, load(0, 1, 0)); emit(&c, store(0, 2, 0)); emit(&c, imm(ADD, 1, 1, 4)); emit(&c, imm(ADD, 2, 2, 4));
+    emit(&c, imm(ADD, 3, 3, 1)); emit(&c, imm(SUB, 0, 3, LENGTH * PROCEDURES)); jump(&c, LT, loop);
+    for (uint32_t i = 0; i < PROCEDURES; i++) call(&c, LOADED + LENGTH * i);
+    jump(&c, ALWAYS, turn);
+}
+
 typedef struct {
     const char *name;
     void (*assemble)(uint32_t *memory);
@@ -377,6 +431,7 @@ static const Program programs[] = {
     {"sort", sort, 0, 0}, {"calls", calls, 0, 0}, {"poll", poll, 4, 10000}, {"display", display, 0, 0},
     {"inputs", inputs, 2, 1}, {"sends", sends, 0, 0}, {"small", small, 0, 0}, {"medium", medium, 0, 0}, {"large", large, 0, 0},
     {"division", division, 0, 0}, {"modules", modules, 0, 0}, {"mouse", mouse, 3, 8000000}, {"oberon", oberon, 3, 8000000},
+    {"far", far, 0, 0}, {"carries", carries, 0, 0}, {"lamps", lamps, 0, 0}, {"loader", loader, 0, 0}, {"spaced", sort, 2, 100},
 };
 
 /* ---- their recordings ---- */
