@@ -2,20 +2,7 @@
  * inputs, with conditions that never hold: a word that the program counter never comes to; a word that is never stored to as well;
  * a value that R11 never becomes as well, which few programs write; and one that R0 never becomes, which most write all the time. The best
  * of so many turns, by the processor's time. */
-#include "galluspa.h"
-#include <stdio.h>
-#include <stdlib.h>
-#include <time.h>
-
-static uint8_t text[GALLUSPA_LONGEST + 1];
-static uint32_t words[GALLUSPA_WORDS];
-static galluspa_state state;
-
-static double seconds(void) {
-    struct timespec now;
-    clock_gettime(CLOCK_PROCESS_CPUTIME_ID, &now);
-    return (double)now.tv_sec + 1e-9 * (double)now.tv_nsec;
-}
+#include "library.h"
 
 /* The seconds of one search with the first of the conditions, of which the last one is on a register. */
 static double search(uint64_t steps, size_t conditions, uint32_t number) {
@@ -24,7 +11,6 @@ static double search(uint64_t steps, size_t conditions, uint32_t number) {
         {.kind = GALLUSPA_STORE, .from = 0xFFF00, .end = 0xFFF04},
         {.kind = GALLUSPA_BECOMES, .from = number, .value = 0x12345678},
     };
-    static const galluspa_input none; /* no pointer may be null */
     galluspa_hit hit;
     double start = seconds();
     uint8_t answer = galluspa_find(&state, words, GALLUSPA_WORDS, &none, 0, state.count + steps, never, conditions, GALLUSPA_FIRST, &hit);
@@ -47,11 +33,7 @@ static void measure(uint64_t steps, int turns, size_t conditions, uint32_t numbe
 
 int main(int argc, char **argv) {
     if (argc != 4) return 4;
-    FILE *file = fopen(argv[1], "rb");
-    if (!file) { perror(argv[1]); return 3; }
-    size_t length = fread(text, 1, sizeof text, file);
-    fclose(file);
-    if (galluspa_claim(text, length, 0, &state, words, GALLUSPA_WORDS)) return 2;
+    begin(argv[1]);
     uint64_t steps = strtoull(argv[2], NULL, 10);
     int turns = atoi(argv[3]);
     for (size_t conditions = 1; conditions <= 3; conditions++) measure(steps, turns, conditions, 11);
