@@ -1,4 +1,6 @@
-//! The length of a verdict line. These functions do nothing: their contracts state what follows from the types of the numbers.
+//! That the line of a verdict or of a fault has fewer than 256 bytes, so that it fits into a caller's buffer of that size.
+//!
+//! These functions do nothing: their contracts state what follows from the types of the numbers, each of which has at most 20 digits.
 ghost use Rattle.std.specs.Prelude.{◌≤◌, ◌<◌, length};
 ghost use Rattle.std.specs.Fmt.{decimal};
 ghost use Rattle.oberon_format.specs.Line.{fault_line};

@@ -1,10 +1,9 @@
--- The worked example of docs/claims.md: three jobs, and the passes A and B, which claimed all of them; and the limits of a book.
+-- The worked example of docs/claims.md: three jobs, and the passes A and B, which claimed all of them.
 use Rattle.std.proofs.Common.{◌≡◌, ℕ, zero, suc, ◌+◌, ◌<◌, ◌≤◌, List, [], ◌∷◌, length, true, Option, Some, None, inl, inr, refl, sym, subst, arith}
 use Rattle.std.proofs.lemmas.Bool.Decides.{nat_tests}
 use mathlib.Core.Option.{some, some-injective, some-ne-none}
 use lib.ListN.{get_elem?}
 use Rattle.oberon_claims.specs.declared.book.View.{View}
-use Rattle.oberon_claims.specs.declared.claims.TheConstants.{MAX_JOBS, MAX_WORKERS}
 use Rattle.oberon_claims.specs.Counts.{times, once_below}
 use Rattle.oberon_claims.specs.inner.Book.{IsSeat, IsLegal}
 
@@ -46,10 +45,3 @@ twice_is_not_legal next least v w one two legal =
     let p : times 0 v.taken ≡ 1 = subst (λ (l : List ℕ). times 0 l ≡ 1) (sym one) refl in
     let q : times 0 w.taken ≡ 1 = subst (λ (l : List ℕ). times 0 l ≡ 1) (sym two) refl in
     absurd (omega arith)
-
--- each limit by its value, so that a mistyped number cannot change a contract unnoticed
-pub most_jobs : MAX_JOBS ≡ 4096
-most_jobs = refl
-
-pub most_workers : MAX_WORKERS ≡ 64
-most_workers = refl

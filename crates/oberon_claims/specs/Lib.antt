@@ -2,4 +2,5 @@
 pub mod Pass
 pub mod Counts
 pub mod Ledger
+pub mod Laws
 pub mod inner

@@ -8,10 +8,12 @@
 
 mod book;
 mod claims;
+mod laws;
 mod ledger;
 mod own;
 mod pass;
 
 pub use claims::{Claims, MAX_JOBS, MAX_WORKERS};
+pub use laws::book_limits_law;
 pub use ledger::Ledger;
 pub use pass::Pass;

@@ -21,7 +21,7 @@ pub const fn flags_law()
     ensures { FlagsLaw }
 {}
 
-/// States the number of each operation and of each condition.
+/// States the number of each operation, of each condition and of the link register.
 pub const fn numbers_law()
     ensures { NumbersLaw }
 {}

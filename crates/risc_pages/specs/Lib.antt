@@ -3,4 +3,5 @@ pub mod Pages
 pub mod Tables
 pub mod Contents
 pub mod Delta
+pub mod Laws
 pub mod inner

@@ -7,6 +7,7 @@
 //! This crate has pages, pools, tables, memories, and the changes of a memory. Addresses, bytes and devices are elsewhere.
 #![tactic(auto)]
 
+mod laws;
 mod memory;
 mod page;
 mod pool;
@@ -14,6 +15,7 @@ mod sizes;
 mod slot;
 mod table;
 
+pub use laws::sizes_law;
 pub use memory::{Delta, Memory};
 pub use page::Page;
 pub use pool::Pool;

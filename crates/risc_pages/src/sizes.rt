@@ -1,4 +1,4 @@
-//! The sizes of a memory and its pages. The definitions in `specs/` have them as plain numbers.
+//! The sizes of a memory and its pages. The definitions in `specs/` have them as plain numbers, and a law states each by its value.
 
 /// The number of words of a page.
 pub const PAGE_WORDS: u32 = 256;
