@@ -4,4 +4,6 @@ pub mod RunLemmas
 pub mod CountLemmas
 pub mod LawLemmas
 pub mod IdleLoopLemmas
+pub mod VisitLemmas
+pub mod IdleVisitLemmas
 pub mod Examples

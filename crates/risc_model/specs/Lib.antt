@@ -6,4 +6,5 @@ pub mod InputOrder
 pub mod Replay
 pub mod OneRun
 pub mod IdleLoops
+pub mod Visits
 pub mod Laws

@@ -14,5 +14,7 @@ mod laws;
 pub use cpu::Cpu;
 pub use event::Event;
 pub use inputs::{Inputs, MAX_COUNT, Unordered};
-pub use laws::{idle_loop_law, lane_law, run_law, stop_law, stopped_law};
+pub use laws::{
+    idle_loop_law, idle_visit_law, lane_law, run_law, stop_law, stopped_law, visit_law,
+};
 pub use risc_core::Flags;
