@@ -5,6 +5,7 @@ pub mod DueLemmas
 pub mod StepLemmas
 pub mod CountLemmas
 pub mod RangeLemmas
+pub mod SinkLemmas
 pub mod KeepLemmas
 pub mod OutcomeLemmas
 pub mod SilentLemmas
@@ -18,3 +19,6 @@ pub mod PlacedLemmas
 pub mod DecodedLemmas
 pub mod WrittenLemmas
 pub mod WatchLemmas
+pub mod TallyLemmas
+pub mod BranchLemmas
+pub mod CountingLemmas

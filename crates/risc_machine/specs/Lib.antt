@@ -2,4 +2,6 @@
 pub mod Allocation
 pub mod StoreLogs
 pub mod Watches
+pub mod Tallies
+pub mod Laws
 pub mod inner

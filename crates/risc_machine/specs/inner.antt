@@ -12,3 +12,5 @@ pub mod Operands
 pub mod RunExits
 pub mod Destinations
 pub mod Notes
+pub mod Jumps
+pub mod Branches

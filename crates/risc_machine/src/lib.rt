@@ -5,8 +5,13 @@
 #![tactic(auto)]
 
 mod board;
+mod branch_log;
 mod bus;
 mod clocked;
+mod counted_search;
+mod counters;
+mod counting;
+mod counting_run;
 mod decode_cache;
 mod decoded_op;
 mod destination;
@@ -16,10 +21,12 @@ mod frame;
 mod idle_loop;
 mod interpreter;
 mod lane;
+mod laws;
 mod lines;
 mod machine;
 mod old_word;
 mod operand;
+mod output;
 mod perform;
 mod predecode;
 mod processor;
@@ -32,11 +39,14 @@ mod status;
 mod store_log;
 mod watch;
 
+pub use counters::Counters;
+pub use laws::capacity_law;
 pub use machine::Machine;
 pub use old_word::OldWord;
+pub use output::Output;
 pub use risc_model::{
-    Cpu, Event, Flags, Inputs, MAX_COUNT, Unordered, idle_loop_law, lane_law, run_law, stop_law,
-    stopped_law,
+    Cpu, Event, Flags, Inputs, MAX_COUNT, Unordered, idle_loop_law, idle_visit_law, lane_law,
+    run_law, stop_law, stopped_law, visit_law,
 };
 pub use run_exit::RunFault;
 pub use store_log::StoreLog;

@@ -1,21 +1,25 @@
-//! Sinks of the bytes that a machine sends: a vector, or a comparison with expected bytes.
-ghost use Rattle.std.specs.Prelude.{◌≡◌, ◌++◌, ◌∷◌, [], List, ℕ, Bool, true, false, IsTrue, OnOk, OnErr, ◌↔◌};
+//! Sinks of the bytes that a machine sends: a vector, output with room for so many bytes, none, or a comparison with expected bytes.
+ghost use Rattle.std.specs.Prelude.{◌≡◌, ◌≤◌, ◌++◌, ◌∷◌, [], List, ℕ, Bool, true, false, IsTrue, OnOk, OnErr, length, ◌↔◌};
 ghost use Rattle.risc_machine.specs.inner.Matched.{HasMatched};
 
-use std::alloc::AllocError;
+use crate::output::Output;
+
+/// A sink did not take a byte, since it has no room for it, or no memory.
+#[derive(Clone, Copy)]
+pub(crate) struct NotTaken;
 
 /// Takes the bytes that a machine sends, in order.
 pub(crate) trait Sink {
     // the bytes that were taken so far
     ghost has_sent: { Self → List ℕ → Type 0 };
 
-    // whether it may fail to take a byte, for lack of memory
+    // whether it may fail to take a byte
     ghost can_fail: { Bool };
 
     // what stays the same
     ghost kept: { Self → List ℕ };
 
-    fn put(&mut self, byte: u8) -> Result<(), AllocError>
+    fn put(&mut self, byte: u8) -> Result<(), NotTaken>
         ensures ok { OnOk result ((l : List ℕ) → has_sent self.old l → has_sent self.new (l ++ byte ∷ [])) }
         ensures err { OnErr result ((l : List ℕ) → has_sent self.old l → has_sent self.new l) }
         ensures fails { OnErr result (IsTrue can_fail) }
@@ -30,8 +34,43 @@ impl Sink for Vec<u8> {
     ghost kept = { λ _. [] };
 
     #[inline]
-    fn put(&mut self, byte: u8) -> Result<(), AllocError> {
-        self.push(byte)?;
+    fn put(&mut self, byte: u8) -> Result<(), NotTaken> {
+        match self.push(byte) {
+            Ok(()) => Ok(()),
+            Err(_) => Err(NotTaken),
+        }
+    }
+}
+
+impl Sink for Output {
+    ghost has_sent = { λ o l. (o.bytes.items ≡ l) × (length l ≤ o.room) };
+
+    ghost can_fail = { true };
+
+    ghost kept = { λ o. o.room ∷ [] };
+
+    #[inline]
+    fn put(&mut self, byte: u8) -> Result<(), NotTaken> {
+        if self.bytes.len() >= self.room {
+            return Err(NotTaken);
+        }
+        self.bytes.put(byte)
+    }
+}
+
+/// Drops the bytes that it takes.
+#[derive(Drop)]
+pub(crate) struct Dropped;
+
+impl Sink for Dropped {
+    ghost has_sent = { λ _ _. Unit {0} };
+
+    ghost can_fail = { false };
+
+    ghost kept = { λ _. [] };
+
+    #[inline]
+    fn put(&mut self, _byte: u8) -> Result<(), NotTaken> {
         Ok(())
     }
 }
@@ -52,7 +91,7 @@ impl<'a> Sink for Matching<'a> {
     ghost kept = { λ m. m.expected.now };
 
     #[inline]
-    fn put(&mut self, byte: u8) -> Result<(), AllocError> {
+    fn put(&mut self, byte: u8) -> Result<(), NotTaken> {
         if self.same {
             if self.taken < self.expected.len() && self.expected[self.taken] == byte {
                 self.taken += 1;

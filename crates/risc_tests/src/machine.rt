@@ -1,10 +1,10 @@
 //! Tests of `risc_machine`: worked examples, and each call at least once.
-ghost use Rattle.std.specs.Prelude.{◌≡◌, ◌≤◌, ◌<◌, All, IfOk, length};
+ghost use Rattle.std.specs.Prelude.{◌≡◌, ◌≤◌, ◌<◌, All, IfOk, IfSome, length};
 
 use risc_devices::{Devices, Input};
-use risc_machine::Machine;
+use risc_machine::{Counters, Machine};
 use risc_model::{Cpu, Event, Flags, Inputs, MAX_COUNT};
-use risc_pages::{Page, Pool, Table};
+use risc_pages::{MEMORY_WORDS, Page, Pool, Table};
 use std::alloc::{AllocError, Global};
 use std::process::Abort;
 
@@ -458,7 +458,10 @@ fn counts_no_instruction_that_stops(rt: HostRuntime) {
     }
 }
 
-/// The clocks of a program that reads the timer for ever.
+/// A program that reads the timer for ever.
+const READER: [u32; 4] = [0x5100_FFC0, 0x8010_0000, 0xE7FF_FFFE, 0];
+
+/// The clocks of that program.
 const READ: [Counted; 4] = [
     ((0, 1, 0), 2, (2, 1, 0), 1),
     ((0, 1, 0), 4, (4, 1, 0), 3),
@@ -468,7 +471,7 @@ const READ: [Counted; 4] = [
 
 #[test]
 fn reads_the_timer_before_the_read_is_counted(rt: HostRuntime) {
-    let reader = example_of([0x5100_FFC0, 0x8010_0000, 0xE7FF_FFFE, 0], [0; 4]);
+    let reader = example_of(READER, [0; 4]);
     check_rows(&rt, row_of_another_clock(rt.alloc(), reader, &READ));
 }
 
@@ -928,4 +931,100 @@ fn row_of_another_outcome_in_two(alloc: Global) -> Option<usize> {
 #[test]
 fn runs_code_that_it_wrote_across_a_checkpoint(rt: HostRuntime) {
     check_rows(&rt, row_of_another_outcome_in_two(rt.alloc()));
+}
+
+/// How often each of the first four words was visited, and left by a branch or a stop.
+type Counts = ([u64; 4], [u64; 4]);
+
+/// Returns so many zeros.
+fn zeros(alloc: Global, count: usize) -> Option<Vec<u64>>
+    ensures { IfSome result (λ v. length v.items ≡ count) }
+{
+    match vec![in alloc; 0; count] {
+        Ok(numbers) => Some(numbers),
+        Err(_) => None,
+    }
+}
+
+/// Returns a number of a list, or 0 after its end.
+fn number_at(numbers: &[u64], index: usize) -> u64 {
+    match numbers.get(index) {
+        Some(number) => *number,
+        None => 0,
+    }
+}
+
+/// Returns the first four of some numbers.
+fn first_four(numbers: &[u64]) -> [u64; 4] {
+    [
+        number_at(numbers, 0),
+        number_at(numbers, 1),
+        number_at(numbers, 2),
+        number_at(numbers, 3),
+    ]
+}
+
+/// Returns the counts of a run of an example, whose timer does not count instructions.
+fn counts_of(alloc: Global, example: Example, steps: u64) -> Option<Counts> {
+    counts_at(alloc, example, UNCOUNTED, steps)
+}
+
+/// Returns the counts of a run of an example, with this clock.
+fn counts_at(alloc: Global, example: Example, clock: Clock, steps: u64) -> Option<Counts> {
+    let pool = pool_of(alloc, example).ok()?;
+    let mut machine = machine_at(alloc, &pool, example, clock)?;
+    let inputs = inputs_of(alloc, &[])?;
+    let mut counters = Counters::new(alloc).ok()?;
+    let mut sent = Vec::new(alloc);
+    let first = *machine.cpu();
+    if machine
+        .run_counting(&inputs, 0, steps, &mut sent, &mut counters)
+        .is_err()
+    {
+        return None;
+    }
+    let mut visits = zeros(alloc, MEMORY_WORDS as usize)?;
+    let mut departures = zeros(alloc, MEMORY_WORDS as usize)?;
+    counters.visits(&first, machine.cpu(), &mut visits);
+    counters.departures(&mut departures);
+    Some((first_four(&visits), first_four(&departures)))
+}
+
+/// Takes R0 down to 0 in a loop of two words, and jumps to itself.
+const COUNTDOWN: [u32; 4] = [0x4109_0001, 0x4009_0001, 0xE9FF_FFFE, JUMP];
+
+#[test]
+fn counts_visits(rt: HostRuntime) {
+    let sender = counts_of(rt.alloc(), example_of(SENDER, [0; 4]), 10);
+    assert!(rt; sender == Some(([1, 1, 1, 7], [0, 0, 0, 7])), "sender");
+    let stopper = example_of([0xA010_0000, 0, 0, 0], [5, 0x20_0000, 6, 0]);
+    let stopped = counts_of(rt.alloc(), stopper, 9);
+    assert!(rt; stopped == Some(([1, 0, 0, 0], [1, 0, 0, 0])), "stop");
+    let countdown = counts_of(rt.alloc(), example_of(COUNTDOWN, [3, 0, 0, 0]), 12);
+    assert!(rt;
+        countdown == Some(([1, 3, 3, 5], [0, 0, 2, 5])),
+        "countdown"
+    );
+}
+
+/// The steps of a run that would take half an hour, were its idle loop not skipped.
+const LONG_WAIT: u64 = 1_000_000_000_000;
+
+#[test]
+fn counts_visits_of_a_long_wait(rt: HostRuntime) {
+    let jump = counts_of(rt.alloc(), example_of([JUMP, 0, 0, 0], [0; 4]), LONG_WAIT);
+    assert!(rt;
+        jump == Some(([LONG_WAIT, 0, 0, 0], [LONG_WAIT, 0, 0, 0])),
+        "jump"
+    );
+    let clock = timer_clock(0, 1_000_000_000, 0);
+    let reader = counts_at(rt.alloc(), example_of(READER, [0; 4]), clock, LONG_WAIT);
+    assert!(rt;
+        reader
+            == Some((
+                [1, 500_000_000_000, 499_999_999_999, 0],
+                [0, 0, 499_999_999_999, 0]
+            )),
+        "reader"
+    );
 }
