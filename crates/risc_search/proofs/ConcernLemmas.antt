@@ -251,6 +251,18 @@ holds-not (SendsByte byte) concerns es at s covers quiet fed here holds = none-s
 holds-not (Takes kind) concerns es at s covers quiet fed here holds = quiet holds.1.index holds.1.inside holds.1.count
 holds-not Stops concerns es at s covers quiet fed here holds = holds.1 (ap (λ (x : State). (exec x).0.cpu.stop) fed ∙ here.goes_on)
 
+-- an instruction is ignored if its place, its register and its access are of no concern
+pub is_ignored : (concerns : Concerns) (pc : ℕ) (r : List ℕ) (word : ℕ) (i : Instr) (register : Option ℕ) (access : Option Access) → i ≡ instruction_of word → register ≡ written i → access ≡ accessed i r
+    → ¬ (IsIn concerns.counters pc) → IfSome register (λ a. IsNamed concerns a ≡ false) → ¬ (Accesses true concerns.stores access) → ¬ (Accesses false concerns.loads access) → IsIgnored concerns pc r word
+is_ignored concerns pc r word i register access decoded writes accesses counter unnamed stores loads =
+    let same : access ≡ accessed (instruction_of word) r = accesses ∙ ap (λ (j : Instr). accessed j r) decoded in
+    record {
+      counter = counter;
+      stores = subst (λ (o : Option Access). ¬ (Accesses true concerns.stores o)) same stores;
+      loads = subst (λ (o : Option Access). ¬ (Accesses false concerns.loads o)) same loads;
+      register = subst (λ (o : Option ℕ). IfSome o (λ a. IsNamed concerns a ≡ false)) (writes ∙ ap (λ (j : Instr). written j) decoded) unnamed;
+    }
+
 -- no condition holds while instructions are ignored
 pub ignored-none : (conditions : List Condition) (concerns : Concerns) (es : List Event) (at due n : ℕ) (s : State) → CoverAll concerns conditions → IsQuiet es at due → at + n ≤ due → AreUnwatched (IsIgnored concerns) n s
     → NoneIn conditions es at s at (at + n)

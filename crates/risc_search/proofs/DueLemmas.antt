@@ -27,8 +27,8 @@ split-quiet es index n due ordered is least = λ m after before k inside same.
     ]
 
 -- the first input of a count comes before the first of a later one
-pub split-order : (es : List Event) (first end n : ℕ) → IsSplitAt es first n → IsSplitAt es end (n + 1) → first ≤ end
-split-order es first end n low high =
+pub split-order : (es : List Event) (first end n m : ℕ) → IsSplitAt es first n → IsSplitAt es end m → n ≤ m → first ≤ end
+split-order es first end n m low high later =
     elim (cases_lt end first) [
       | inl h ↦ let b = low.before end h in let r = high.rest end (omega arith) (omega (arith, low.inside)) in absurd (omega arith)
       | inr h ↦ h

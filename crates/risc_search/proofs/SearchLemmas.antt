@@ -1,4 +1,4 @@
--- How far a search is, step by step, and that nothing holds once the machine has stopped.
+-- How far a search is and where it ends, and that nothing holds once the machine has stopped.
 use Rattle.std.proofs.Common.{◌≡◌, ◌≢◌, ◌∙◌, ◌+◌, ◌-◌, ◌<◌, ◌≤◌, ℕ, false, List, Option, None, Some, nat_eq, refl, ap, sym, subst, inl, inr, arith}
 use Rattle.std.proofs.lemmas.Bool.{cases_eq, cases_lt}
 use Rattle.std.proofs.lemmas.Option.{none-some}
@@ -12,10 +12,13 @@ use Rattle.risc_search.specs.declared.access.Access.{Access}
 use Rattle.risc_search.specs.declared.condition.Condition.{Condition}
 use Rattle.risc_search.specs.declared.condition.Condition.TheVariants.{Counter, Store, Change, Load, Becomes, Sends, SendsByte, Takes, Stops}
 use Rattle.risc_search.specs.declared.hit.Hit.{Hit}
+use Rattle.risc_search.specs.declared.search.Wanted.{Wanted}
+use Rattle.risc_search.specs.declared.search.Wanted.TheVariants.{First, Last}
 use Rattle.risc_search.specs.Access.{next_access}
 use Rattle.risc_search.specs.Condition.{Holds}
-use Rattle.risc_search.specs.Search.{IsFirst, IsLast, IsMet, NoneHolds, NoneIn}
+use Rattle.risc_search.specs.Search.{IsFirst, IsLast, IsMet, NoneHolds, NoneIn, count_after}
 use Rattle.risc_search.specs.Step.{Step, step_at, step_from}
+use Rattle.risc_search.specs.inner.Wanted.{end_of}
 
 -- the counts up to one more
 pub none-more : (conditions : List Condition) (es : List Event) (from : ℕ) (s : State) (low at : ℕ) → NoneIn conditions es from s low at → NoneHolds conditions es (step_at es from s at) → NoneIn conditions es from s low (at + 1)
@@ -127,3 +130,13 @@ last-stopped conditions es from at to s (Some hit) within before later =
 -- the step of a machine that has come so far
 pub step-here : (es : List Event) (from at : ℕ) (s t : State) → t ≡ run_of es from (at - from) s → step_from es at t ≡ step_at es from s at
 step-here es from at s t is = ap (λ (x : State). step_from es at x) is
+
+-- a search for the first count ends after its step
+pub end-here : (wanted : Wanted) (to p index : ℕ) → wanted ≢ Last → 0 < p → end_of wanted to (Some (record { count = p - 1; condition = index })) ≡ p
+end-here First to p index not some = omega (arith, some)
+end-here Last to p index not some = absurd (not refl)
+
+-- a search that found nothing, or looks for the last count, ends with the range
+pub end-whole : (wanted : Wanted) (to : ℕ) (found : Option Hit) → (wanted ≡ First → found ≡ None) → end_of wanted to found ≡ to
+end-whole First to found none = ap (λ (h : Option Hit). count_after to h) (none refl)
+end-whole Last to found none = refl

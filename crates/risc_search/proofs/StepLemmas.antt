@@ -65,3 +65,7 @@ none-of (Some x) none = absurd (true≢false none)
 pub not-not : (b : Bool) → not b ≡ false → b ≡ true
 not-not true h = refl
 not-not false h = absurd (true≢false h)
+
+pub not-true : (b : Bool) → not b ≡ true → b ≡ false
+not-true true h = absurd (true≢false (sym h))
+not-true false h = refl

@@ -5,4 +5,5 @@ pub mod Step
 pub mod Changes
 pub mod Condition
 pub mod Search
+pub mod Laws
 pub mod inner

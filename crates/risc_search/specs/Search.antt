@@ -1,5 +1,5 @@
--- The answers of a search: the first count, or the last, at which a condition of a list holds.
-use Rattle.std.specs.Prelude.{ℕ, ◌≡◌, ◌<◌, ◌≤◌, ◌+◌, List, All, Option, Some, MatchOption, slice_get, take}
+-- The answers of a search: the first count, or the last, at which a condition of a list holds; and how far its machine runs.
+use Rattle.std.specs.Prelude.{ℕ, ◌≡◌, ◌<◌, ◌≤◌, ◌+◌, List, All, Option, None, Some, MatchOption, slice_get, take}
 use Rattle.risc_model.specs.declared.event.Event.{Event}
 use Rattle.risc_model.specs.MachineState.{State}
 use Rattle.risc_search.specs.declared.condition.Condition.{Condition}
@@ -39,3 +39,9 @@ abbrev pub IsLast : List Condition → List Event → ℕ → ℕ → State → 
 IsLast conditions es from to s found =
     MatchOption found (NoneIn conditions es from s from to)
     (λ hit. IsHit conditions es from to s hit × NoneIn conditions es from s (hit.count + 1) to)
+
+-- the count at which a search for the first count ends: its machine has done the instruction of the hit, and no other after it; or
+-- it is at the end of the range if there is none
+abbrev pub count_after : ℕ → Option Hit → ℕ
+count_after to None = to
+count_after to (Some hit) = hit.count + 1

@@ -13,7 +13,7 @@ use risc_pages::Memory;
 pub(crate) struct Before {
     /// The bytes that it loads or stores.
     pub(crate) access: Option<Access>,
-    /// The word of RAM that it stores to, or 0 if there is none.
+    /// The value of the word of RAM that it stores to, before it is done; or 0 if there is none.
     pub(crate) old: u32,
 }
 

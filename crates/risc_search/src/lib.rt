@@ -1,8 +1,10 @@
 //! A search through a run: the first count, or the last, at which a condition of a list holds. Debuggers know such conditions as
 //! breakpoints (the program counter comes here) and watchpoints (this word changes).
 //!
-//! What a condition speaks of is defined over the model of `risc_model`, in `specs/`. The search runs a machine of `risc_machine`
-//! step by step. It changes nothing that its caller keeps.
+//! What a condition speaks of is defined over the model of `risc_model`, in `specs/`. A search runs the caller's machine, one of
+//! `risc_machine`: at full speed past the instructions that concern no condition, and the others in single steps. Afterwards the
+//! machine is in a state of the run that is searched: right after the instruction of the first count that holds, or at the end of
+//! the range if none does or the last one is looked for.
 #![tactic(auto)]
 
 mod access;
@@ -13,6 +15,7 @@ mod condition;
 mod due;
 mod hit;
 mod idle;
+mod laws;
 mod meeting;
 mod pace;
 mod register;
@@ -23,6 +26,7 @@ mod stored_word;
 pub use access::Access;
 pub use condition::Condition;
 pub use hit::Hit;
+pub use laws::condition_limit_law;
 pub use register::Register;
 pub use search::{MAX_CONDITIONS, find_first, find_last};
 pub use span::Span;

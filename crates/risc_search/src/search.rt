@@ -1,14 +1,14 @@
-//! The search: a machine runs step by step, and each step is tested.
+//! The search: a machine runs at full speed past the instructions that concern no condition, and each step of the others is tested.
 ghost use Rattle.std.specs.Prelude.{◌≡◌, ◌≤◌, ◌<◌, ◌+◌, ◌-◌, ◌^◌, true, None, IfOk, OnErr, OnOk, length, max};
 ghost use Rattle.risc_machine.specs.Allocation.{MayFail};
 ghost use Rattle.risc_model.specs.Exec.{exec};
 ghost use Rattle.risc_model.specs.Replay.{feed, run_of};
-ghost use Rattle.risc_search.specs.Search.{IsFirst, IsLast};
+ghost use Rattle.risc_search.specs.Search.{IsFirst, IsLast, count_after};
 ghost use Rattle.risc_search.specs.inner.Concerns.{CoverAll};
 ghost use Rattle.risc_search.specs.inner.Due.{IsQuiet};
 ghost use Rattle.risc_search.specs.inner.Idle.{HasPassed};
 ghost use Rattle.risc_search.specs.inner.Observed.{IsAnswerFrom, IsBefore, IsSilentFrom};
-ghost use Rattle.risc_search.specs.inner.Wanted.{IsFirstOf, IsLastOf};
+ghost use Rattle.risc_search.specs.inner.Wanted.{IsFirstOf, IsLastOf, end_of};
 
 use crate::before::Before;
 use crate::concerns::Concerns;
@@ -185,12 +185,16 @@ impl Search<'_> {
     }
 
     /// Runs a machine from one count up to another, and returns the wanted one of the counts at which a condition holds.
+    ///
+    /// Where the first is wanted and there is one, the machine comes to the count after it; else to the end of the range.
     fn run(&self, machine: &mut Machine<'_>, from: u64, to: u64) -> Result<Option<Hit>, AllocError>
         requires forward { from ≤ to }
         requires few { length self.now.conditions.now ≤ MAX_CONDITIONS }
         requires concerns { CoverAll self.now.concerns self.now.conditions.now }
         ensures first { self.now.wanted ≡ Wanted.First → IfOk result (IsFirstOf self.now from to machine.old.state) }
         ensures last { self.now.wanted ≡ Wanted.Last → IfOk result (IsLastOf self.now from to machine.old.state) }
+        ensures state { IfOk result (λ found.
+            machine.new.state ≡ run_of self.now.inputs.now from (end_of self.now.wanted to found - from) machine.old.state) }
         ensures cause { OnErr result (MayFail machine.new) }
     {
         let events = self.inputs.events();
@@ -218,9 +222,10 @@ impl Search<'_> {
 }
 
 /// Finds the first count, from `from` up to but not including `to`, at which a condition of the list holds, in a run of the machine
-/// that begins at the count `from`. The machine runs up to there, or further.
+/// that begins at the count `from`.
 ///
-/// Fails only if memory runs out.
+/// Afterwards the machine is in the state of that run right after the instruction of the count that is returned, or in that of the
+/// count `to` if there is none. Fails only if memory runs out.
 pub fn find_first(
     alloc: Global,
     machine: &mut Machine<'_>,
@@ -232,6 +237,8 @@ pub fn find_first(
     requires forward { from ≤ to }
     requires few { length conditions.now ≤ MAX_CONDITIONS }
     ensures first { IfOk result (IsFirst conditions.now inputs.now from to machine.old.state) }
+    ensures state { IfOk result (λ found.
+        machine.new.state ≡ run_of inputs.now from (count_after to found - from) machine.old.state) }
     ensures cause { OnErr result (MayFail machine.new) }
 {
     let search = Search {
@@ -245,9 +252,9 @@ pub fn find_first(
 }
 
 /// Finds the last count, from `from` up to but not including `to`, at which a condition of the list holds, in a run of the machine
-/// that begins at the count `from`. The machine runs up to `to`.
+/// that begins at the count `from`.
 ///
-/// Fails only if memory runs out.
+/// Afterwards the machine is in the state of that run at the count `to`. Fails only if memory runs out.
 pub fn find_last(
     alloc: Global,
     machine: &mut Machine<'_>,
@@ -259,6 +266,7 @@ pub fn find_last(
     requires forward { from ≤ to }
     requires few { length conditions.now ≤ MAX_CONDITIONS }
     ensures last { IfOk result (IsLast conditions.now inputs.now from to machine.old.state) }
+    ensures state { OnOk result (machine.new.state ≡ run_of inputs.now from (to - from) machine.old.state) }
     ensures cause { OnErr result (MayFail machine.new) }
 {
     let search = Search {

@@ -1,15 +1,16 @@
 use Rattle.std.proofs.Common.{refl, ◌∙◌, ◌-◌, ℕ, List, Option, ap, arith, subst, sym}
-use Rattle.std.proofs.lemmas.Bool.{false≢true, ne_eqb}
+use Rattle.std.proofs.lemmas.Bool.{false≢true, ne_eqb, true≢false}
 use Rattle.std.proofs.lemmas.Option.{MatchOption-at_none, MatchOption-at_some}
 use Rattle.risc_model.specs.declared.event.Event.{Event}
 use Rattle.risc_model.specs.MachineState.{CpuState}
-use Rattle.risc_model.proofs.RunLemmas.{run_of-none}
+use Rattle.risc_model.specs.Replay.{run_of}
+use Rattle.risc_model.proofs.RunLemmas.{run_of-none, run_of-over}
 use Rattle.risc_search.specs.declared.hit.Hit.{Hit}
 use Rattle.risc_search.specs.Search.{IsLast, IsMet}
 use Rattle.risc_search.specs.Step.{Step}
 use Rattle.risc_search.specs.inner.Due.{IsQuiet}
 use Rattle.risc_search.proofs.IdleLemmas.{quiet-later}
-use Rattle.risc_search.proofs.SearchLemmas.{first-here, first-none, last-here, last-more, last-stopped, none-from, none-later, run-on, step-on}
+use Rattle.risc_search.proofs.SearchLemmas.{end-here, end-whole, first-here, first-none, last-here, last-more, last-stopped, none-from, none-later, run-on, step-on}
 use Rattle.risc_search.proofs.search.Search.run.Goals as goal
 use Rattle.risc_search.proofs.search.Search.run.Goals.{in-Some+else-eq, in_default}
 
@@ -98,3 +99,26 @@ pub returns-else-cpu-eq0-clause-first : goal.returns-else-cpu-eq0-clause-first
 returns-else-cpu-eq0-clause-first c = λ wanted.
     first-none c.args.self.now.conditions.now c.args.self.now.inputs.now c.args.from c.args.to c.args.machine.now.state c.loop-at.found (c.loop-at.invariant.first wanted)
     (over c)
+
+pub returns-then-eq-clause-state : goal.returns-then-eq-clause-state
+returns-then-eq-clause-state c =
+    let es = c.args.self.now.inputs.now in
+    let i = c.loop-at.invariant in
+    let from = c.args.from in
+    let p : ℕ = c.in_ok-passed.passed.at in
+    let s = c.args.machine.now.state in
+    let passed = c.in_ok-passed.ensures in
+    let same = c.if-eq.ensures in
+    passed.state
+    ∙ run-on es from c.loop-at.at p s c.loop-at.machine.state i.reached (omega (arith, passed.further)) i.state
+    ∙ ap (λ (k : ℕ). run_of es from (k - from) s) (sym (end-here c.args.self.now.wanted c.args.to p c.in-Some.condition (λ wanted. absurd (true≢false (rw wanted at same))) (omega (arith, passed.further))))
+
+pub returns-else-cpu-eq0-clause-state : goal.returns-else-cpu-eq0-clause-state
+returns-else-cpu-eq0-clause-state c =
+    let es = c.args.self.now.inputs.now in
+    let i = c.loop-at.invariant in
+    let from = c.args.from in
+    let s = c.args.machine.now.state in
+    let stopped = ne_eqb c.loop-at.machine.state.cpu.stop 0 (λ same. c.if-cpu-eq0.false (ap (λ (x : CpuState). x.stop) c.cpu.ensures.cpu ∙ same)) in
+    run_of-over es from c.loop-at.at c.args.to s c.loop-at.machine.state i.reached i.within i.state stopped
+    ∙ ap (λ (k : ℕ). run_of es from (k - from) s) (sym (end-whole c.args.self.now.wanted c.args.to c.loop-at.found i.first))
