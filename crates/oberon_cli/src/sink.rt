@@ -50,7 +50,8 @@ impl<W: Write> Sink for W {
 
 /// Writes all of the bytes, and flushes the writer, in at most one turn more than there are bytes.
 ///
-/// The first call that fails ends it; then a prefix of the bytes was written, and nothing else.
+/// The first call that fails ends it; then a prefix of the bytes was written, and nothing else. No contract says that it flushes, since
+/// a writer of the standard library shows only its bytes: a test of `cli_tests` does.
 pub fn write_whole<W: Sink>(output: &mut W, bytes: &[u8]) -> Result<(), WriteFault>
     ensures whole { OnOk result (GainsWhole bytes.now (W.known output.old) (W.known output.new)) }
     ensures prefix { OnErr result (GainsPrefix bytes.now (W.known output.old) (W.known output.new)) }

@@ -1,4 +1,5 @@
--- Laws of the definitions: what storing a memory does to the pool and the table, and that any bytes have one answer.
+-- Laws of the definitions: what storing a memory does to the pool and the table, that any bytes have one answer, and how long a piece
+-- of the recorder's run is.
 use Rattle.std.specs.Prelude.{ℕ, ◌≡◌, ◌≢◌, ◌+◌, ◌<◌, true, false, List, ◌++◌, All, Some, Result, Ok, Err, length, slice_index}
 use Rattle.std.specs.List.Sorted.{IsStrictlyIncreasing}
 use Rattle.risc_pages.specs.Tables.{IsNamed, table_words}
@@ -10,6 +11,7 @@ use Rattle.oberon_session.specs.Rules.{first_fault_of}
 use Rattle.oberon_session.specs.Session.{IsSession}
 use Rattle.oberon_session.specs.SessionParts.{SessionParts, slots_in}
 use Rattle.oberon_session.specs.declared.fault.SessionFault.{SessionFault}
+use Rattle.oberon_session.specs.declared.running.TheConstants.{PIECE}
 
 -- the table names pages of the pool, one for each slot
 pub record IsTableOf (stored : Stored) : Type 0 where
@@ -58,3 +60,7 @@ OneAnswer =
     (bytes : List ℕ)
     → (answer : Result SessionParts SessionFault) × IsAnswer bytes answer
     × ((other : Result SessionParts SessionFault) → IsAnswer bytes other → other ≡ answer)
+
+-- the most steps of a piece by value, so that a mistyped number cannot change a contract unnoticed (this project's own choice)
+abbrev pub HasPiece : Type 0
+HasPiece = PIECE ≡ 1048576

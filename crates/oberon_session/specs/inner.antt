@@ -1,5 +1,5 @@
--- Definitions for contracts of private functions and for the insides of types. No public contract and no law uses them. Where the
--- view of a type passes through them, the contracts of its getters say what it shows.
+-- Definitions for contracts of private functions. No public contract, no law and no view of a type (`impl Model`) uses them, so
+-- nobody has to believe them.
 pub mod Progress
 pub mod Growing
 pub mod Drafts

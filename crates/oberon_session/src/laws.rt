@@ -1,6 +1,6 @@
-//! The laws of sessions and of stored memories, each the contract of a function that does nothing.
+//! The laws of sessions, of stored memories and of the recorder, each the contract of a function that does nothing.
 
-ghost use Rattle.oberon_session.specs.Laws.{FirstTableLaw, StoredLaw, OneAnswer};
+ghost use Rattle.oberon_session.specs.Laws.{FirstTableLaw, StoredLaw, OneAnswer, HasPiece};
 
 /// Any bytes have exactly one answer: their session, or the first rule that they break.
 pub fn answer_law()
@@ -17,4 +17,9 @@ pub fn first_table_law()
 /// page. The memory is then the content of its table.
 pub fn laid_law()
     ensures { StoredLaw }
+{}
+
+/// The recorder runs a machine in pieces of at most 1,048,576 steps, and tests the length of the output after each.
+pub fn piece_law()
+    ensures { HasPiece }
 {}

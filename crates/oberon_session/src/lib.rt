@@ -36,7 +36,7 @@ pub use digits::PlacedPage;
 pub use extend_fault::ExtendFault;
 pub use extension::{begin_recording, extend_recording};
 pub use fault::SessionFault;
-pub use laws::{answer_law, first_table_law, laid_law};
+pub use laws::{answer_law, first_table_law, laid_law, piece_law};
 pub use reading::read_session;
 pub use record_fault::RecordFault;
 pub use recorder::make_recording;

@@ -1,6 +1,6 @@
 //! The run of a machine from one checkpoint to the next.
 
-ghost use Rattle.std.specs.Prelude.{◌≡◌, ◌-◌, ◌<◌, ◌≤◌, IfOk, IfErr, OnOk, length};
+ghost use Rattle.std.specs.Prelude.{◌≡◌, ◌≢◌, ◌⊎◌, ◌+◌, ◌-◌, ◌<◌, ◌≤◌, IfOk, IfErr, OnOk, length};
 ghost use Rattle.risc_core.specs.declared.branch.TheConstants.{COUNTER_END};
 ghost use Rattle.risc_pages.specs.Tables.{IsNamed};
 ghost use Rattle.risc_machine.specs.Allocation.{MayFail};
@@ -90,12 +90,13 @@ fn run_in_pieces(
     Ok(sent)
 }
 
-/// Returns the count at which the piece of a run that begins at a count ends. For a stopped machine that is `to`, since no step is
-/// left to do.
+/// Returns the count at which the piece of a run that begins at a count ends: at most `PIECE` steps on. For a stopped machine it is
+/// `to`, since no step is left to do.
 fn piece_end(machine: &Machine<'_>, at: u64, to: u64) -> u64
     requires { at < to }
     ensures further { at < result }
     ensures within { result ≤ to }
+    ensures few { (machine.now.state.cpu.stop ≢ 0) ⊎ (result ≤ at + PIECE) }
 {
     if machine.cpu().stop != 0 || to - at <= PIECE {
         to

@@ -49,9 +49,12 @@ fn put(text: &mut [u8], at: usize, byte: u8) {
     }
 }
 
+/// The arguments of the commands that read a recording.
+const READING: [&[&str]; 3] = [&["check"], &["migrate"], &["screen", "--at=0"]];
+
 fn refuse(rt: &(impl Abort + AllocGlobal + Threads + Wait + Sync), text: &[u8], line: &str) {
-    for command in ["check", "migrate"] {
-        gives(rt, &[command], text, line.as_bytes(), 2);
+    for arguments in &READING {
+        gives(rt, arguments, text, line.as_bytes(), 2);
     }
 }
 

@@ -87,6 +87,37 @@ fn refuse_each(
     Ok(())
 }
 
+/// Bytes before and after the stored run's session with which it is no JSON: bytes that are not UTF-8, and more than one value.
+const BESIDE: [(&[u8], &[u8]); 5] = [
+    (b"\xFF", b""),
+    (b"", b"\xFF"),
+    (b"", b"{}"),
+    (b" ", b"\n0"),
+    (b"\xEF\xBB\xBF", b""),
+];
+
+#[test]
+fn refuses_bytes_beside_the_session(rt: HostRuntime) -> Result<(), Fail> {
+    let text = session(rt.alloc(), "05000040", "100")?;
+    for (before, after) in &BESIDE {
+        refuse_between(&rt, before, &text, after)?;
+    }
+    Ok(())
+}
+
+fn refuse_between(
+    rt: &(impl Abort + AllocGlobal + Threads + Wait + Sync),
+    before: &[u8],
+    session: &str,
+    after: &[u8],
+) -> Result<(), Fail> {
+    let mut bytes = Vec::from_slice(rt.alloc(), before)?;
+    bytes.extend_from_slice(session.as_bytes())?;
+    bytes.extend_from_slice(after)?;
+    gives(rt, &["record"], &bytes, b"session refused 1 json\n", 2);
+    Ok(())
+}
+
 /// A version, members of an initial state that this version does not have or that are out of range, and the line of the session.
 const STARTS: [(&str, &str, &str); 3] = [
     ("1", ",\"rate\":10", "session refused 2 shape\n"),
@@ -181,5 +212,36 @@ fn refuses_more_output(rt: HostRuntime) -> Result<(), Fail> {
         let text = session(rt.alloc(), SENDS, counts)?;
         refuses(&rt, &text, "record refused 1 output\n");
     }
+    Ok(())
+}
+
+/// The digits of a page of a program that writes to each page in rounds of 4,100 instructions, from count 2 on. The round's number
+/// becomes the last word of each page.
+///
+/// | word | instruction | what it does |
+/// |---|---|---|
+/// | 0, 1 | `42000001` `64000010` | R2 := 1, the round; R4 := 100000, the end of memory |
+/// | 2 | `41000000` | R1 := 0, a page |
+/// | 3, 4 | `A21003FC` `41180400` | the page's last word becomes R2; the next page |
+/// | 5, 6 | `03190004` `E9FFFFFC` | back to 3 until R1 is R4 |
+/// | 7, 8 | `42280001` `E7FFFFF9` | the next round |
+const FILLS: &str = "010000421000006400000041fc0310a20004184104001903fcffffe901002842f9ffffe7";
+
+/// Returns the counts after each of this many rounds, and then the rest.
+fn after_rounds(alloc: Global, rounds: u8, rest: &str) -> Result<String, AllocError> {
+    let mut counts = String::new(alloc);
+    for round in 1..=rounds {
+        let count = 4_099 * round as u64 + 2;
+        counts = format!(in alloc; "{counts}{count},")?;
+    }
+    format!(in alloc; "{counts}{rest}")
+}
+
+/// Each round changes all 1,024 pages, so that the recording of 64 rounds needs 65,537 pages: one too many.
+#[test]
+fn refuses_a_page_too_many(rt: HostRuntime) -> Result<(), Fail> {
+    let counts = after_rounds(rt.alloc(), 63, "262338")?;
+    let text = session(rt.alloc(), FILLS, &counts)?;
+    refuses(&rt, &text, "record refused 2 pages\n");
     Ok(())
 }
