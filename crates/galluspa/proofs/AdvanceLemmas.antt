@@ -1,13 +1,11 @@
--- Runs of a caller's machine: why one is refused, and how many bytes a piece of a run sends.
-use Rattle.std.proofs.Common.{◌≡◌, ◌≢◌, ◌≤◌, ◌+◌, ◌-◌, ◌++◌, ◌∙◌, ◌⊎◌, ℕ, zero, suc, List, [], None, Option, Some, inl, inr, ap, arith, length, length-append, max, refl, sym}
-use Rattle.std.proofs.lemmas.Bool.{ne_eqb}
+-- Runs of a caller's machine: why one is refused, and a run that goes on by one step.
+use Rattle.std.proofs.Common.{◌≡◌, ◌≤◌, ◌+◌, ◌-◌, ◌++◌, ◌∙◌, ℕ, suc, List, Option, ap, arith, sym}
 use Rattle.std.specs.Option.{option_to_list}
 use Rattle.risc_model.specs.Exec.{exec}
 use Rattle.risc_model.specs.MachineState.{State}
-use Rattle.risc_model.specs.Replay.{feed, run_of, sent_of}
+use Rattle.risc_model.specs.Replay.{begun_at, feed, run_of, sent_of}
 use Rattle.risc_model.specs.declared.event.Event.{Event}
-use Rattle.risc_model.proofs.RunLemmas.{run_of-none, sent_of-none, sent_of-stays, sent_of-suc}
-use Rattle.galluspa.specs.declared.advance.TheConstants.{PIECE}
+use Rattle.risc_model.proofs.RunLemmas.{run_of-suc, sent_of-suc}
 use Rattle.galluspa.specs.declared.raw.RawInput.{RawInput}
 use Rattle.galluspa.specs.declared.raw.RawState.{RawState}
 use Rattle.galluspa.specs.declared.refusal.Refusal.{Refusal}
@@ -27,36 +25,26 @@ no-run inputs events to old words room Room given are more = (
 )
 no-run inputs events to old words room Memory given are none = given
 
--- ---- the bytes of a piece
+-- ---- a run that goes on by one step
 
-one : (sent : Option ℕ) → length (option_to_list sent) ≤ 1
-one None = omega arith
-one (Some byte) = omega arith
+-- a run up to a count, and then the instruction of that count: the state, and the bytes that are sent
+module _ (es : List Event) (from at : ℕ) (s t : State) (sent : Option ℕ) (on : from ≤ at) (did : exec (begun_at es from at s) ≡ (t, sent)) where
+  same : at + 1 - from ≡ suc (at - from)
+  same = omega (arith, on)
 
--- an instruction sends one byte at most
-sent-few : (es : List Event) (from n : ℕ) (s : State) → length (sent_of es from n s) ≤ n
-sent-few es from zero s = rw (sent_of-none es from 0 s refl) (omega arith)
-sent-few es from (suc n) s =
-    let last = (exec (feed es (from + n) (run_of es from n s))).1 in
-    let before = sent-few es from n s in
-    rw (sent_of-suc es from n s) (omega (arith, before, one last, length-append (sent_of es from n s) (option_to_list last)))
+  here : from + (at - from) ≡ at
+  here = omega (arith, on)
 
--- a stopped machine sends nothing
-sent-none : (es : List Event) (from n : ℕ) (s : State) → s.cpu.stop ≢ 0 → sent_of es from n s ≡ []
-sent-none es from n s stopped =
-    let whole : n ≡ 0 + n = omega arith in
-    ap (λ (k : ℕ). sent_of es from k s) whole
-    ∙ sent_of-stays es from 0 s s (sym (run_of-none es from 0 s refl)) (ne_eqb s.cpu.stop 0 stopped) n
-    ∙ sent_of-none es from 0 s refl
+  pub run-step : t ≡ run_of es from (at + 1 - from) s
+  run-step =
+      sym (ap (λ (r : State × Option ℕ). r.0) did)
+      ∙ ap (λ (n : ℕ). (exec (feed es n (run_of es from (at - from) s))).0) (sym here)
+      ∙ sym (run_of-suc es from (at - from) s)
+      ∙ ap (λ (n : ℕ). run_of es from n s) (sym same)
 
--- so no more bytes are held than there is room for, and those of a piece
-pub held : (es : List Event) (at end n room : ℕ) (s : State) (old new : List ℕ) → at ≤ end → n ≤ end - at → length old ≤ room
-    → (s.cpu.stop ≢ 0) ⊎ (end ≤ at + max PIECE (room - length old)) → new ≡ old ++ sent_of es at n s → length new ≤ room + PIECE
-held es at end n room s old new on within few (inl stopped) is =
-    let long = ap length is in
-    let none = ap length (sent-none es at n s stopped) in
-    omega (arith, long, none, few, length-append old (sent_of es at n s))
-held es at end n room s old new on within few (inr piece) is =
-    let long = ap length is in
-    let sent = sent-few es at n s in
-    omega (arith, long, sent, few, on, within, piece, length-append old (sent_of es at n s))
+  pub sent-step : sent_of es from (at - from) s ++ option_to_list sent ≡ sent_of es from (at + 1 - from) s
+  sent-step =
+      ap (λ (r : State × Option ℕ). sent_of es from (at - from) s ++ option_to_list r.1) (sym did)
+      ∙ ap (λ (n : ℕ). sent_of es from (at - from) s ++ option_to_list (exec (feed es n (run_of es from (at - from) s))).1) (sym here)
+      ∙ sym (sent_of-suc es from (at - from) s)
+      ∙ ap (λ (n : ℕ). sent_of es from n s) (sym same)

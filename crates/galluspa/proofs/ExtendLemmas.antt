@@ -85,6 +85,7 @@ module _ (text : List ℕ) (inputs : List RawInput) (state : RawState) (words se
   out-of-place has = inr (inr (record {
     recording = has.recording;
     is_text = has.is_text;
+    taken = has.is_fault.0;
     events = has.events;
     are_events = has.are_events;
     misplaced = λ next. has.is_fault.1 (subst (λ (n : ℕ). IsNext has.recording has.events n) (sym count) next);

@@ -4,6 +4,7 @@ mod TextLemmas
 mod FrameLemmas
 mod InputLemmas
 mod AdvanceLemmas
+mod ProfileLemmas
 mod ExtendLemmas
 mod RecordLemmas
 mod JoinLemmas

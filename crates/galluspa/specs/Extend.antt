@@ -4,7 +4,7 @@ use Rattle.oberon_format.specs.Defined.{Outcome}
 use Rattle.oberon_format.specs.Recording.{RecordingParts}
 use Rattle.oberon_format.specs.Text.{Text, IsEncoding}
 use Rattle.oberon_format.specs.declared.layout.TheConstants.{VERSION}
-use Rattle.oberon_session.specs.Extended.{HasRoom, IsBegun, IsExtendFault, IsExtended, IsNext}
+use Rattle.oberon_session.specs.Extended.{HasRoom, HasTakenAll, IsBegun, IsExtendFault, IsExtended, IsNext}
 use Rattle.oberon_session.specs.declared.extend_fault.ExtendFault.{ExtendFault}
 use Rattle.risc_model.specs.declared.event.Event.{Event}
 use Rattle.galluspa.specs.declared.raw.RawState.{RawState}
@@ -41,10 +41,11 @@ pub record CanFollow (text : List ℕ) (inputs : List RawInput) (state : RawStat
   pub are_events : AreEvents inputs events
   pub next : IsNext recording events state.count
 
--- the bytes are a recording, and the inputs are in order, but they and the state do not come next
+-- the bytes are a recording that has taken its inputs, and the new inputs are in order, but they and the state do not come next
 pub record IsOutOfPlace (text : List ℕ) (inputs : List RawInput) (state : RawState) : Type 0 where
   pub recording : RecordingParts
   pub is_text : Text text recording
+  pub taken : HasTakenAll recording
   pub events : List Event
   pub are_events : AreEvents inputs events
   pub misplaced : ¬ (IsNext recording events state.count)

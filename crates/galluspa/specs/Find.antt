@@ -29,13 +29,17 @@ becomes c =
     else if c.from == 17 && nat_lt c.value 16 then Some (Becomes Flags c.value)
     else None
 
+-- a bit that the mask names has changed, of a byte in the range. A mask that names no bit is out of its range
+abbrev pub changes : RawCondition → Option Condition
+changes c = if c.value == 0 then None else option_map (λ bytes. Change bytes c.value) (span_of (2 ^ 20) c)
+
 -- the condition of a caller's numbers, if they are in their ranges. Program counters are below 2^22, addresses below 2^24, and
 -- those of RAM below 2^20
 unfoldable pub condition_of : RawCondition → Option Condition
 condition_of c =
     if c.kind == 1 then option_map (λ words. Counter words) (span_of (2 ^ 22) c)
     else if c.kind == 2 then option_map (λ bytes. Store bytes) (span_of (2 ^ 24) c)
-    else if c.kind == 3 then option_map (λ bytes. Change bytes c.value) (span_of (2 ^ 20) c)
+    else if c.kind == 3 then changes c
     else if c.kind == 4 then option_map (λ bytes. Load bytes) (span_of (2 ^ 24) c)
     else if c.kind == 5 then becomes c
     else if c.kind == 6 then Some Sends

@@ -14,7 +14,7 @@ use Rattle.oberon_session.specs.Extended.{last_count}
 use Rattle.oberon_answers.specs.Record.{IsAccepted}
 use Rattle.galluspa.specs.declared.raw.RawInput.{RawInput}
 use Rattle.galluspa.specs.declared.raw.RawState.{RawState}
-use Rattle.galluspa.specs.declared.refusal.TheConstants.{DONE, NO_CHECKPOINT, NO_RECORDING, NO_ROOM, NOT_FOUND}
+use Rattle.galluspa.specs.declared.refusal.TheConstants.{DONE, NO_ANSWER, NO_CHECKPOINT, NO_RECORDING, NO_ROOM, NOT_FOUND}
 use Rattle.galluspa.specs.declared.refusal.TheConstants.{OUT_OF_MEMORY, OUT_OF_RANGE, PENDING_INPUTS}
 use Rattle.galluspa.specs.declared.refusal.TheConstants.{TOO_MANY_CHECKPOINTS, TOO_MANY_INPUTS, TOO_MANY_PAGES, TOO_MUCH_OUTPUT}
 use Rattle.galluspa.specs.Advance.{HasRun}
@@ -77,4 +77,5 @@ pub record HasCodes : Type 0 where
   pub too_many_pages : TOO_MANY_PAGES ≡ 9
   pub pending_inputs : PENDING_INPUTS ≡ 10
   pub not_found : NOT_FOUND ≡ 11
+  pub no_answer : NO_ANSWER ≡ 0
   pub words : MEMORY_WORDS ≡ 262144

@@ -5,5 +5,6 @@ pub mod Advance
 pub mod Claim
 pub mod Extend
 pub mod Find
+pub mod Profile
 pub mod Laws
 pub mod inner

@@ -2,3 +2,4 @@
 pub mod Extending
 pub mod Pages
 pub mod Running
+pub mod Counting

@@ -1,8 +1,8 @@
 //! A run of a machine in the memory of a caller.
-ghost use Rattle.std.specs.Prelude.{◌≡◌, ◌≢◌, ◌<◌, ◌≤◌, ◌+◌, ◌-◌, ◌++◌, ◌⊎◌, ◌↔◌, drop, length, map, max, take};
+ghost use Rattle.std.specs.Prelude.{◌≡◌, ◌≢◌, ◌<◌, ◌≤◌, ◌+◌, ◌-◌, ◌++◌, ◌⊎◌, ◌↔◌, drop, length, map, take};
 ghost use Rattle.std.specs.Prelude.{IfErr, IfNone, IfOk, IfSome, IsTrue, OnErr, OnOk};
 ghost use Rattle.risc_devices.specs.InputKind.{IsInput};
-ghost use Rattle.risc_machine.specs.Allocation.{MayFail};
+ghost use Rattle.risc_machine.specs.Allocation.{MayFail, MayFailToAllocate};
 ghost use Rattle.risc_model.specs.MachineState.{cpu_state};
 ghost use Rattle.risc_model.specs.Replay.{run_of, sent_of};
 ghost use Rattle.risc_pages.specs.declared.sizes.TheConstants.{MEMORY_WORDS};
@@ -15,7 +15,7 @@ use crate::raw::{RawInput, RawState, parts_of, state_of};
 use crate::refusal::{DONE, NO_ROOM, OUT_OF_MEMORY, OUT_OF_RANGE, Refusal};
 use crate::words::{paged, write_delta};
 use risc_devices::{Devices, Input};
-use risc_machine::Machine;
+use risc_machine::{Machine, Output};
 use risc_model::{Cpu, Event, Inputs, MAX_COUNT};
 use std::alloc::{AllocError, Global};
 
@@ -76,13 +76,7 @@ pub fn inputs_of(alloc: Global, inputs: &[RawInput]) -> Result<Inputs, AllocErro
     }
 }
 
-/// The most steps of a piece of a run for which there may be no room. The output is compared with the room after each piece.
-const PIECE: u64 = 65_536;
-
 /// Runs a machine from one count up to another, and returns the bytes that it sends, of which there are at most `room`.
-///
-/// It runs in pieces, and stops after the first for which there is no room. So no more than `room + PIECE` bytes are held at any
-/// time.
 fn sent_by(
     alloc: Global,
     machine: &mut Machine<'_>,
@@ -101,61 +95,59 @@ fn sent_by(
     ensures memory { IfErr result (λ refusal. refusal ≡ Refusal.Memory → MayFail machine.new) }
     ensures refusal { IfErr result (λ refusal. refusal ≢ Refusal.Range) }
 {
-    let mut sent = Vec::new(alloc);
+    let mut output = Output {
+        bytes: Vec::new(alloc),
+        room,
+    };
     let mut at = from;
     while at < to {
-        at = run_piece(machine, inputs, at, to, room, &mut sent)?;
+        at = run_on(machine, inputs, at, to, &mut output)?;
     }
-    Ok(sent)
+    Ok(output.bytes)
 }
 
-/// Runs one piece, and returns the count at which it ends. It may send up to `PIECE` bytes more than there is room for, and then
-/// fails.
-fn run_piece(
+/// Runs a machine on, as long as there is room for what it sends. Returns the count that it reached: `to`, or that after an
+/// instruction for which memory ran out, and was there when it was tried again.
+///
+/// A run that ends early when all room is taken ends before an instruction that sends, or for which memory ran out. A step of
+/// that instruction tells the two apart.
+fn run_on(
     machine: &mut Machine<'_>,
     inputs: &Inputs,
     at: u64,
     to: u64,
-    room: usize,
-    sent: &mut Vec<u8>,
+    output: &mut Output,
 ) -> Result<u64, Refusal>
     requires forward { at < to }
-    requires room { length sent.old.items ≤ room }
+    requires room { length output.old.bytes.items ≤ output.old.room }
     ensures further { IfOk result (λ end. (at < end) × (end ≤ to)) }
     ensures state { IfOk result (λ end. machine.new.state ≡ run_of inputs.now at (end - at) machine.old.state) }
-    ensures sent { IfOk result (λ end. sent.new.items ≡ sent.old.items ++ sent_of inputs.now at (end - at) machine.old.state) }
-    ensures room { OnOk result (length sent.new.items ≤ room) }
+    ensures sent { IfOk result (λ end.
+        output.new.bytes.items ≡ output.old.bytes.items ++ sent_of inputs.now at (end - at) machine.old.state) }
     ensures kept { machine.new.base ≡ machine.old.base }
     ensures no_room { IfErr result (λ refusal.
-        refusal ≡ Refusal.Room → room < length sent.old.items + length (sent_of inputs.now at (to - at) machine.old.state)) }
+        refusal ≡ Refusal.Room →
+        output.old.room < length output.old.bytes.items + length (sent_of inputs.now at (to - at) machine.old.state)) }
     ensures memory { IfErr result (λ refusal. refusal ≡ Refusal.Memory → MayFail machine.new) }
+    ensures full { IfErr result (λ refusal.
+        refusal ≡ Refusal.Memory → length output.new.bytes.items ≡ output.old.room → MayFailToAllocate machine.new) }
     ensures refusal { IfErr result (λ refusal. refusal ≢ Refusal.Range) }
-    // Whatever comes, so many bytes are held.
-    ensures held { length sent.new.items ≤ room + PIECE }
+    // Whatever comes, no more bytes are held.
+    ensures held { length output.new.bytes.items ≤ output.new.room }
+    ensures room { output.new.room ≡ output.old.room }
 {
-    let end = piece_end(machine, at, to, room - sent.len());
-    let Ok(()) = machine.run(inputs, at, end, sent) else {
-        return Err(Refusal::Memory);
-    };
-    if sent.len() > room {
-        return Err(Refusal::Room);
-    }
-    Ok(end)
-}
-
-/// Returns the count at which the piece of a run ends that begins at a count, if there is room for `left` bytes more. For a stopped
-/// machine that is `to`, since no step is left to do.
-fn piece_end(machine: &Machine<'_>, at: u64, to: u64, left: usize) -> u64
-    requires { at < to }
-    ensures further { at < result }
-    ensures within { result ≤ to }
-    ensures few { (machine.now.state.cpu.stop ≢ 0) ⊎ (result ≤ at + max PIECE left) }
-{
-    let most = PIECE.max(left as u64);
-    if machine.cpu().stop != 0 || to - at <= most {
-        to
-    } else {
-        at + most
+    match machine.run_within(inputs, at, to, output) {
+        Ok(()) => Ok(to),
+        Err(fault) => {
+            if output.bytes.len() < output.room {
+                return Err(Refusal::Memory);
+            }
+            match machine.step() {
+                Ok(None) => Ok(fault.at + 1),
+                Ok(Some(_)) => Err(Refusal::Room),
+                Err(_) => Err(Refusal::Memory),
+            }
+        }
     }
 }
 

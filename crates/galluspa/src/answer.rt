@@ -6,6 +6,7 @@ ghost use Rattle.oberon_check.specs.Headline.{IsLineOf};
 ghost use Rattle.galluspa.specs.Room.{IsAnswer, NeedsRoom};
 
 use crate::front::copy_to_front;
+use crate::refusal::NO_ANSWER;
 use oberon_answers::{Answer, check, migrate, record};
 use std::alloc::Global;
 
@@ -30,25 +31,25 @@ fn put(answer: &Answer, out: &mut [u8], status: &mut u8) -> usize
 /// 1 if it is false and 2 if the bytes are not a recording. The line and the status are those of the program. What is after the
 /// line stays as it was.
 ///
-/// Returns the length of the line, which is below 256. If that is more than `line` has room for, nothing is written. Returns 0 if
-/// memory ran out; nothing is written then, either.
+/// Returns the length of the line, which is below 256. If that is more than `line` has room for, nothing is written. Returns 0
+/// (`NO_ANSWER`) if memory ran out; nothing is written then, either.
 #[unsafe(no_mangle)]
 pub extern "C" fn galluspa_check(
     alloc: Global,
-    text: &[u8],
+    recording: &[u8],
     line: &mut [u8],
     status: &mut u8,
 ) -> usize
-    ensures line { 0 < result → result ≤ length line.old → IsLineOf text.now (take result line.new) status.new }
+    ensures line { 0 < result → result ≤ length line.old → IsLineOf recording.now (take result line.new) status.new }
     ensures rest { drop result line.new ≡ drop result line.old }
     ensures short { result < 256 }
-    ensures needed { length line.old < result → NeedsRoom (IsAnswer (IsLineOf text.now)) (length line.old) result }
+    ensures needed { length line.old < result → NeedsRoom (IsAnswer (IsLineOf recording.now)) (length line.old) result }
     ensures no_room { length line.old < result → (line.new ≡ line.old) × (status.new ≡ status.old) }
     ensures no_memory { result ≡ 0 → (line.new ≡ line.old) × (status.new ≡ status.old) }
 {
-    match check(alloc, text) {
+    match check(alloc, recording) {
         Ok(answer) => put(&answer, line, status),
-        Err(_) => 0,
+        Err(_) => NO_ANSWER,
     }
 }
 
@@ -71,7 +72,7 @@ pub extern "C" fn galluspa_record(
 {
     match record(alloc, session) {
         Ok(answer) => put(&answer, out, status),
-        Err(_) => 0,
+        Err(_) => NO_ANSWER,
     }
 }
 
@@ -82,18 +83,18 @@ pub extern "C" fn galluspa_record(
 #[unsafe(no_mangle)]
 pub extern "C" fn galluspa_migrate(
     alloc: Global,
-    text: &[u8],
+    recording: &[u8],
     out: &mut [u8],
     status: &mut u8,
 ) -> usize
-    ensures migrated { 0 < result → result ≤ length out.old → IsMigration text.now (take result out.new) status.new }
+    ensures migrated { 0 < result → result ≤ length out.old → IsMigration recording.now (take result out.new) status.new }
     ensures rest { drop result out.new ≡ drop result out.old }
-    ensures needed { length out.old < result → NeedsRoom (IsAnswer (IsMigration text.now)) (length out.old) result }
+    ensures needed { length out.old < result → NeedsRoom (IsAnswer (IsMigration recording.now)) (length out.old) result }
     ensures no_room { length out.old < result → (out.new ≡ out.old) × (status.new ≡ status.old) }
     ensures no_memory { result ≡ 0 → (out.new ≡ out.old) × (status.new ≡ status.old) }
 {
-    match migrate(alloc, text) {
+    match migrate(alloc, recording) {
         Ok(answer) => put(&answer, out, status),
-        Err(_) => 0,
+        Err(_) => NO_ANSWER,
     }
 }

@@ -44,33 +44,33 @@ fn write_claim(
 #[unsafe(no_mangle)]
 pub extern "C" fn galluspa_claim(
     alloc: Global,
-    text: &[u8],
+    recording: &[u8],
     at: u32,
     state: &mut RawState,
     words: &mut [u32],
 ) -> u8
-    ensures claim { result ≡ DONE → IsClaim text.now at state.new words.new }
+    ensures claim { result ≡ DONE → IsClaim recording.now at state.new words.new }
     ensures written { result ≡ DONE → IsWritten state.new words.new }
     ensures unchanged { result ≢ DONE → (state.new ≡ state.old) × (words.new ≡ words.old) }
     ensures in_range { result ≢ OUT_OF_RANGE → length words.old ≡ MEMORY_WORDS }
     ensures range { result ≡ OUT_OF_RANGE → length words.old ≢ MEMORY_WORDS }
-    ensures no_recording { result ≡ NO_RECORDING → IsNoRecording text.now }
-    ensures no_checkpoint { result ≡ NO_CHECKPOINT → HasNoCheckpoint text.now at }
-    ensures memory { result ≡ OUT_OF_MEMORY → first_fault_of text.now ≡ None }
+    ensures no_recording { result ≡ NO_RECORDING → IsNoRecording recording.now }
+    ensures no_checkpoint { result ≡ NO_CHECKPOINT → HasNoCheckpoint recording.now at }
+    ensures memory { result ≡ OUT_OF_MEMORY → first_fault_of recording.now ≡ None }
     ensures codes { (result ≢ NO_ROOM) × (result ≤ NO_CHECKPOINT) }
 {
     if words.len() != MEMORY_WORDS as usize {
         return OUT_OF_RANGE;
     }
-    let recording = match read(alloc, text) {
-        Ok(recording) => recording,
+    let valid = match read(alloc, recording) {
+        Ok(valid) => valid,
         Err(Fault::Memory) => return OUT_OF_MEMORY,
         Err(_) => return NO_RECORDING,
     };
-    if at >= recording.count() {
+    if at >= valid.count() {
         return NO_CHECKPOINT;
     }
-    match write_claim(alloc, &recording, at, state, words) {
+    match write_claim(alloc, &valid, at, state, words) {
         Ok(()) => DONE,
         Err(_) => OUT_OF_MEMORY,
     }

@@ -132,7 +132,7 @@ fn unextended(fault: ExtendFault) -> Unrecorded
 
 fn extended(
     alloc: Global,
-    text: &[u8],
+    bytes: &[u8],
     inputs: &[RawInput],
     claim: &Claim<'_>,
 ) -> Result<Recording, Unrecorded>
@@ -140,10 +140,10 @@ fn extended(
     requires stop { claim.now.cpu.stop ≤ 4 }
     requires whole { length claim.now.words.now ≡ MEMORY_WORDS }
     requires ordered { AreInOrder inputs.now }
-    ensures more { IfOk result (IsMore text.now inputs.now claim.now) }
-    ensures refused { IfErr result (IsNoMore text.now inputs.now claim.now) }
+    ensures more { IfOk result (IsMore bytes.now inputs.now claim.now) }
+    ensures refused { IfErr result (IsNoMore bytes.now inputs.now claim.now) }
 {
-    let recording = match read(alloc, text) {
+    let recording = match read(alloc, bytes) {
         Ok(recording) => recording,
         Err(Fault::Memory) => return Err(Unrecorded::Memory),
         Err(_) => return Err(Unrecorded::NoRecording),
@@ -160,19 +160,19 @@ fn extended(
 /// Tests the numbers and the order of the inputs before the bytes are read, which allocates.
 fn extension(
     alloc: Global,
-    text: &[u8],
+    bytes: &[u8],
     inputs: &[RawInput],
     state: &RawState,
     words: &[u32],
     sent: &[u8],
 ) -> Result<Vec<u8>, Unrecorded>
-    ensures extension { IfOk result (λ bytes. IsExtension text.now inputs.now state.now words.now sent.now bytes.items) }
-    ensures follows { IfOk result (λ _. CanFollow text.now inputs.now state.now words.now) }
-    ensures refused { IfErr result (IsUnextended text.now inputs.now state.now words.now sent.now) }
+    ensures extension { IfOk result (λ out. IsExtension bytes.now inputs.now state.now words.now sent.now out.items) }
+    ensures follows { IfOk result (λ _. CanFollow bytes.now inputs.now state.now words.now) }
+    ensures refused { IfErr result (IsUnextended bytes.now inputs.now state.now words.now sent.now) }
     ensures whole { IfErr result (λ refusal. refusal ≢ Unrecorded.Range → IsWhole state.now words.now) }
     ensures ordered { IfErr result (λ refusal. refusal ≢ Unrecorded.Range → AreInOrder inputs.now) }
     ensures reason { IfErr result (λ refusal.
-        refusal ≡ Unrecorded.Range → DoesNotFollow text.now inputs.now state.now words.now) }
+        refusal ≡ Unrecorded.Range → DoesNotFollow bytes.now inputs.now state.now words.now) }
 {
     let Some(claim) = claim_of(state, words, sent) else {
         return Err(Unrecorded::Range);
@@ -180,7 +180,7 @@ fn extension(
     if !are_in_order(inputs) {
         return Err(Unrecorded::Range);
     }
-    let more = extended(alloc, text, inputs, &claim)?;
+    let more = extended(alloc, bytes, inputs, &claim)?;
     written(alloc, more)
 }
 
@@ -246,7 +246,7 @@ pub extern "C" fn galluspa_begin(
 #[unsafe(no_mangle)]
 pub extern "C" fn galluspa_extend(
     alloc: Global,
-    text: &[u8],
+    recording: &[u8],
     inputs: &[RawInput],
     state: &RawState,
     words: &[u32],
@@ -254,30 +254,34 @@ pub extern "C" fn galluspa_extend(
     out: &mut [u8],
     out_count: &mut usize,
 ) -> u8
-    ensures extended { result ≡ DONE → IsExtension text.now inputs.now state.now words.now sent.now (take out_count.new out.new) }
+    ensures extended { result ≡ DONE →
+        IsExtension recording.now inputs.now state.now words.now sent.now (take out_count.new out.new) }
     ensures room { result ≡ DONE → out_count.new ≤ length out.old }
     ensures rest { drop out_count.new out.new ≡ drop out_count.new out.old }
     ensures no_room { result ≡ NO_ROOM →
-        NeedsRoom (IsExtension text.now inputs.now state.now words.now sent.now) (length out.old) out_count.new }
+        NeedsRoom (IsExtension recording.now inputs.now state.now words.now sent.now) (length out.old) out_count.new }
     ensures unchanged { result ≢ DONE → out.new ≡ out.old }
     ensures uncounted { result ≢ DONE → result ≢ NO_ROOM → out_count.new ≡ out_count.old }
-    ensures in_range { result ≤ NO_ROOM → result ≢ OUT_OF_RANGE → CanFollow text.now inputs.now state.now words.now }
+    ensures in_range { result ≤ NO_ROOM → result ≢ OUT_OF_RANGE → CanFollow recording.now inputs.now state.now words.now }
     ensures whole { result ≢ OUT_OF_RANGE → IsWhole state.now words.now }
     ensures ordered { result ≢ OUT_OF_RANGE → AreInOrder inputs.now }
-    ensures range { result ≡ OUT_OF_RANGE → ¬ (CanFollow text.now inputs.now state.now words.now) }
-    ensures reason { result ≡ OUT_OF_RANGE → DoesNotFollow text.now inputs.now state.now words.now }
-    ensures no_recording { result ≡ NO_RECORDING → IsNoRecording text.now }
-    ensures memory { result ≡ OUT_OF_MEMORY → first_fault_of text.now ≡ None }
+    ensures range { result ≡ OUT_OF_RANGE → ¬ (CanFollow recording.now inputs.now state.now words.now) }
+    ensures reason { result ≡ OUT_OF_RANGE → DoesNotFollow recording.now inputs.now state.now words.now }
+    ensures no_recording { result ≡ NO_RECORDING → IsNoRecording recording.now }
+    ensures memory { result ≡ OUT_OF_MEMORY → first_fault_of recording.now ≡ None }
     ensures pending { result ≡ PENDING_INPUTS →
-        HasExtendFault text.now inputs.now state.now words.now sent.now ExtendFault.Pending }
-    ensures inputs { result ≡ TOO_MANY_INPUTS → HasExtendFault text.now inputs.now state.now words.now sent.now ExtendFault.Inputs }
+        HasExtendFault recording.now inputs.now state.now words.now sent.now ExtendFault.Pending }
+    ensures inputs { result ≡ TOO_MANY_INPUTS →
+        HasExtendFault recording.now inputs.now state.now words.now sent.now ExtendFault.Inputs }
     ensures checkpoints { result ≡ TOO_MANY_CHECKPOINTS →
-        HasExtendFault text.now inputs.now state.now words.now sent.now ExtendFault.Checkpoints }
-    ensures output { result ≡ TOO_MUCH_OUTPUT → HasExtendFault text.now inputs.now state.now words.now sent.now ExtendFault.Output }
-    ensures pages { result ≡ TOO_MANY_PAGES → HasExtendFault text.now inputs.now state.now words.now sent.now ExtendFault.Pages }
+        HasExtendFault recording.now inputs.now state.now words.now sent.now ExtendFault.Checkpoints }
+    ensures output { result ≡ TOO_MUCH_OUTPUT →
+        HasExtendFault recording.now inputs.now state.now words.now sent.now ExtendFault.Output }
+    ensures pages { result ≡ TOO_MANY_PAGES →
+        HasExtendFault recording.now inputs.now state.now words.now sent.now ExtendFault.Pages }
     ensures codes { (result ≢ NO_CHECKPOINT) × (result ≤ PENDING_INPUTS) }
 {
-    match extension(alloc, text, inputs, state, words, sent) {
+    match extension(alloc, recording, inputs, state, words, sent) {
         Ok(bytes) => put(&bytes, out, out_count),
         Err(refusal) => refusal.code(),
     }

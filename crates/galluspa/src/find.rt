@@ -3,7 +3,8 @@ ghost use Rattle.std.specs.Prelude.{◌≡◌, ◌≢◌, ◌≤◌, ◌⊎◌, 
 ghost use Rattle.std.specs.Prelude.{All, IfErr, IfOk, IsSome, IsTrue, None, Option, OnOk, Some};
 ghost use Rattle.risc_model.specs.MachineState.{cpu_state};
 ghost use Rattle.risc_search.specs.Search.{IsFirst, IsLast};
-ghost use Rattle.galluspa.specs.Find.{AreConditions, HasSearched, IsInSearchRange, becomes, condition_of, hit_of, span_of};
+ghost use Rattle.galluspa.specs.Find.{AreConditions, HasSearched, IsInSearchRange, becomes, changes, condition_of};
+ghost use Rattle.galluspa.specs.Find.{hit_of, span_of};
 ghost use Rattle.galluspa.specs.Raw.{IsWhole, cpu_of, devices_of, state_of};
 
 use crate::advance::{are_in_order, inputs_of};
@@ -22,7 +23,7 @@ use std::alloc::{AllocError, Global};
 /// |---|---|---|
 /// | 1 | the machine runs, and its program counter is in the range | `from`, `end`: word numbers, at most 2^22 |
 /// | 2 | the instruction stores to a byte in the range | `from`, `end`: addresses, at most 2^24 |
-/// | 3 | it changes a bit of a byte in the range that the mask names | `from`, `end`: addresses, at most 2^20; `value`: the mask |
+/// | 3 | it changes a bit of a byte in the range that the mask names | `from`, `end`: addresses, at most 2^20; `value`: the mask, not 0 |
 /// | 4 | it loads a byte in the range | `from`, `end`: addresses, at most 2^24 |
 /// | 5 | a register is not the value before it, and is after it | `from`: 0 to 15, 16 for H, 17 for the flags; `value` |
 /// | 6 | it sends a byte | |
@@ -85,6 +86,18 @@ fn span_of(raw: &RawCondition, most: u32) -> Option<Span>
     }
 }
 
+fn changes(raw: &RawCondition) -> Option<Condition>
+    ensures { result ≡ changes raw.now }
+{
+    if raw.value == 0 {
+        return None;
+    }
+    match span_of(raw, 1 << 20) {
+        Some(bytes) => Some(Condition::Change(bytes, raw.value)),
+        None => None,
+    }
+}
+
 fn becomes(raw: &RawCondition) -> Option<Condition>
     ensures { result ≡ becomes raw.now }
 {
@@ -109,10 +122,7 @@ fn condition_of(raw: &RawCondition) -> Option<Condition>
             Some(bytes) => Some(Condition::Store(bytes)),
             None => None,
         },
-        3 => match span_of(raw, 1 << 20) {
-            Some(bytes) => Some(Condition::Change(bytes, raw.value)),
-            None => None,
-        },
+        3 => changes(raw),
         4 => match span_of(raw, 1 << 24) {
             Some(bytes) => Some(Condition::Load(bytes)),
             None => None,

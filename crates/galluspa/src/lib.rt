@@ -1,11 +1,12 @@
 //! Galluspa as a static library for C: it checks, records and migrates recordings, reads what a checkpoint claims, advances a
-//! machine, and makes a recording while one runs. `include/galluspa.h` declares its functions, and `docs/from-c.md` shows them at
-//! work.
+//! machine, searches its run, counts its instructions, and makes a recording while a machine runs. `include/galluspa.h` declares its
+//! functions, and `docs/from-c.md` shows them at work.
 //!
 //! Each function takes all that it needs in slices of the caller's memory, and keeps nothing: there are no handles, and nothing has
 //! to be freed. A machine lives with the caller as plain numbers: a `RawState` and its 262,144 words. A slice that a call writes
-//! must not overlap another of its slices, and no pointer is null, not even that of an empty slice. Nothing else is asked of the
-//! caller: each number is tested, and one that is out of its range is refused.
+//! must not overlap another of its slices, and no pointer is null, not even that of an empty slice. Each slice is valid memory of its
+//! length, aligned for its type, which no other thread writes during the call. Nothing else is asked of the caller: each number is
+//! tested, and one that is out of its range is refused.
 //!
 //! Three laws join the calls. A run needs only the inputs of its own counts (`frame_law`). Calls from count to count are one run
 //! (`join_law`). A recording whose claims are true, and which is extended by what `galluspa_advance` returns from its last
@@ -19,8 +20,10 @@ mod extend;
 mod find;
 mod front;
 mod laws;
+mod profile;
 mod raw;
 mod refusal;
+mod steps;
 mod words;
 
 pub use advance::galluspa_advance;
@@ -29,8 +32,10 @@ pub use claim::galluspa_claim;
 pub use extend::{galluspa_begin, galluspa_extend};
 pub use find::{RawCondition, RawHit, galluspa_find};
 pub use laws::{codes_law, frame_law, join_law, record_law};
+pub use profile::galluspa_profile;
 pub use raw::{RawInput, RawState};
 pub use refusal::{
-    DONE, NO_CHECKPOINT, NO_RECORDING, NO_ROOM, NOT_FOUND, OUT_OF_MEMORY, OUT_OF_RANGE,
+    DONE, NO_ANSWER, NO_CHECKPOINT, NO_RECORDING, NO_ROOM, NOT_FOUND, OUT_OF_MEMORY, OUT_OF_RANGE,
     PENDING_INPUTS, TOO_MANY_CHECKPOINTS, TOO_MANY_INPUTS, TOO_MANY_PAGES, TOO_MUCH_OUTPUT,
 };
+pub use steps::{RawProcessor, galluspa_steps};

@@ -1,6 +1,10 @@
 //! Why a call on a machine was refused, and the number that a caller in C gets.
 use std::alloc::AllocError;
 
+/// The length that `galluspa_check`, `galluspa_record` and `galluspa_migrate` return in place of that of an answer, if memory ran
+/// out. No answer is empty. It is 0, as `DONE` is, which they never return.
+pub const NO_ANSWER: usize = 0;
+
 /// The call did what it is for.
 pub const DONE: u8 = 0;
 

@@ -14,8 +14,9 @@ loop-at-init c =
       begun = omega arith;
       within = c.requires.forward;
       state = sym (run_of-none es from (from - from) s (omega arith));
-      output = c.new-sent.ensures.items ∙ sym (sent_of-none es from (from - from) s (omega arith));
-      room = rw c.new-sent.ensures.items (omega arith);
+      output = c.new.ensures.items ∙ sym (sent_of-none es from (from - from) s (omega arith));
+      held = rw c.new.ensures.items (omega arith);
+      room = refl;
       base = refl;
     }
 
@@ -33,7 +34,8 @@ loop-at-preserved c =
       within = piece.further.1;
       state = piece.state ∙ run-on es from c.loop-at.at c.in_ok-at.at s i.begun on c.loop-at.machine.state i.state;
       output = piece.sent ∙ ap (λ (sent : List ℕ). sent ++ more) i.output ∙ sent-on es from c.loop-at.at c.in_ok-at.at s i.begun on c.loop-at.machine.state i.state;
-      room = piece.room;
+      held = piece.held;
+      room = piece.room ∙ i.room;
       base = piece.kept ∙ i.base;
     }
 
@@ -46,4 +48,4 @@ returns-in_err-at-clause-no_room c =
     let many = ap length (ap (λ (sent : List ℕ). sent ++ sent_of es c.loop-at.at (c.args.to - c.loop-at.at) c.loop-at.machine.state) i.output ∙ whole) in
     rw from-err.1 (λ room.
     let over = c.in_err-at.ensures.no_room (sym from-err.2 ∙ room) in
-    omega (arith, over, many, length-append c.loop-at.sent.items (sent_of es c.loop-at.at (c.args.to - c.loop-at.at) c.loop-at.machine.state)))
+    omega (arith, over, many, i.room, length-append c.loop-at.output.bytes.items (sent_of es c.loop-at.at (c.args.to - c.loop-at.at) c.loop-at.machine.state)))

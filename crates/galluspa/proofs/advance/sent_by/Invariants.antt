@@ -7,8 +7,9 @@ invariant-loop-at l = record {
   begun : l.from ≤ l.at;
   within : l.at ≤ l.to;
   state : l.machine.state ≡ run_of l.inputs l.from (l.at - l.from) l.initial.machine.state;
-  output : l.sent.items ≡ sent_of l.inputs l.from (l.at - l.from) l.initial.machine.state;
-  room : length l.sent.items ≤ l.room;
+  output : l.output.bytes.items ≡ sent_of l.inputs l.from (l.at - l.from) l.initial.machine.state;
+  held : length l.output.bytes.items ≤ l.output.room;
+  room : l.output.room ≡ l.room;
   base : l.machine.base ≡ l.initial.machine.base;
 }
 

@@ -5,8 +5,8 @@ use Rattle.galluspa.proofs.claim.galluspa_claim.Goals as goal
 
 pub returns-then-at-count-clause-no_checkpoint : goal.returns-then-at-count-clause-no_checkpoint
 returns-then-at-count-clause-no_checkpoint c = λ _. record {
-  recording = c.in-Ok.recording;
-  is_text = read-text c.args.text.now c.in-Ok.recording c.in-Ok.ensures;
+  recording = c.in-Ok.valid;
+  is_text = read-text c.args.recording.now c.in-Ok.valid c.in-Ok.ensures;
   beyond = omega (arith, c.count.ensures.count, c.if-at-count.true);
 }
 
@@ -15,8 +15,8 @@ returns-in-Err-Memory-clause-no_recording c = λ is. absurd (omega arith)
 
 pub returns-in-Ok-write_claim-clause-claim : goal.returns-in-Ok-write_claim-clause-claim
 returns-in-Ok-write_claim-clause-claim c = λ _. record {
-  recording = c.in-Ok.recording;
-  is_text = read-text c.args.text.now c.in-Ok.recording c.in-Ok.ensures;
+  recording = c.in-Ok.valid;
+  is_text = read-text c.args.recording.now c.in-Ok.valid c.in-Ok.ensures;
   there = omega (arith, c.count.ensures.count, c.if-at-count.false);
   count_is = c.in-Ok-write_claim.ensures.count;
   state_is = c.in-Ok-write_claim.ensures.claim;
@@ -89,7 +89,7 @@ pub returns-in-Err-Memory-clause-in_range : goal.returns-in-Err-Memory-clause-in
 returns-in-Err-Memory-clause-in_range c = λ _. omega arith
 
 pub returns-in-Err-Memory-clause-memory : goal.returns-in-Err-Memory-clause-memory
-returns-in-Err-Memory-clause-memory c = λ _. no-fault-memory c.args.text.now (Text c.args.text.now) _ c.in-Err-Memory.ensures c.in-Err-Memory.field-0-is
+returns-in-Err-Memory-clause-memory c = λ _. no-fault-memory c.args.recording.now (Text c.args.recording.now) _ c.in-Err-Memory.ensures c.in-Err-Memory.field-0-is
 
 pub returns-clause-memory : goal.returns-clause-memory
-returns-clause-memory c = λ _. no-fault c.args.text.now (Text c.args.text.now) c.in-Ok.recording c.in-Ok.ensures
+returns-clause-memory c = λ _. no-fault c.args.recording.now (Text c.args.recording.now) c.in-Ok.valid c.in-Ok.ensures

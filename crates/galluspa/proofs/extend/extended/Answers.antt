@@ -6,7 +6,7 @@ use Rattle.galluspa.proofs.TextLemmas.{no-fault, no-fault-memory, no-text, read-
 use Rattle.galluspa.proofs.extend.extended.Goals as goal
 
 pub returns-in-Err-Memory-clause-refused : goal.returns-in-Err-Memory-clause-refused
-returns-in-Err-Memory-clause-refused c = no-fault-memory c.args.text.now (Text c.args.text.now) _ c.in-Err-Memory.ensures c.in-Err-Memory.field-0-is
+returns-in-Err-Memory-clause-refused c = no-fault-memory c.args.bytes.now (Text c.args.bytes.now) _ c.in-Err-Memory.ensures c.in-Err-Memory.field-0-is
 
 pub returns-in-Err-Memory-clause-more : goal.returns-in-Err-Memory-clause-more
 returns-in-Err-Memory-clause-more c = tt
@@ -25,9 +25,9 @@ returns-in-Ok-extend_recording-clause-refused c = tt
 
 pub returns-in-Ok-extend_recording-clause-more : goal.returns-in-Ok-extend_recording-clause-more
 returns-in-Ok-extend_recording-clause-more c = record {
-  no_fault = no-fault c.args.text.now (Text c.args.text.now) c.in-Ok.recording c.in-Ok.ensures;
+  no_fault = no-fault c.args.bytes.now (Text c.args.bytes.now) c.in-Ok.recording c.in-Ok.ensures;
   old = c.in-Ok.recording;
-  is_text = read-text c.args.text.now c.in-Ok.recording c.in-Ok.ensures;
+  is_text = read-text c.args.bytes.now c.in-Ok.recording c.in-Ok.ensures;
   events = c.in-Ok-inputs_of.inputs;
   are_events = c.in-Ok-inputs_of.ensures;
   room = rw c.events.ensures.events at c.in-Ok-extend_recording.ensures.room;
@@ -38,12 +38,12 @@ returns-in-Ok-extend_recording-clause-more c = record {
 pub returns-clause-refused : goal.returns-clause-refused
 returns-clause-refused c =
     rw c.unextended.ensures
-    (unextended-full c.args.text.now c.args.inputs.now c.in-Ok-inputs_of.inputs c.args.claim.now c.in-Ok.recording
-    (read-text c.args.text.now c.in-Ok.recording c.in-Ok.ensures) c.in-Ok-inputs_of.ensures
-    (no-fault c.args.text.now (Text c.args.text.now) c.in-Ok.recording c.in-Ok.ensures)
+    (unextended-full c.args.bytes.now c.args.inputs.now c.in-Ok-inputs_of.inputs c.args.claim.now c.in-Ok.recording
+    (read-text c.args.bytes.now c.in-Ok.recording c.in-Ok.ensures) c.in-Ok-inputs_of.ensures
+    (no-fault c.args.bytes.now (Text c.args.bytes.now) c.in-Ok.recording c.in-Ok.ensures)
     c.in-Err-extend_recording.fault (rw c.events.ensures.events at c.in-Err-extend_recording.ensures.refused))
 
 pub returns-in-Err : goal.returns-in-Err
 returns-in-Err c =
     let other : c.in-Err.field-0 ≢ Fault.Memory = search arith in
-    record { more = tt; refused = no-text c.args.text.now c.in-Err.field-0 c.in-Err.ensures other }
+    record { more = tt; refused = no-text c.args.bytes.now c.in-Err.field-0 c.in-Err.ensures other }

@@ -9,20 +9,20 @@ pub returns-in_err-more-clause-refused : goal.returns-in_err-more-clause-refused
 returns-in_err-more-clause-refused c =
     let from = err_from_is_err_and c.from_residual.result c.from_residual.ensures.1 in
     rw (from.1, from.2)
-    (unextended c.args.text.now c.args.inputs.now c.args.state.now c.args.words.now c.args.sent.now c.in-Some.claim
+    (unextended c.args.bytes.now c.args.inputs.now c.args.state.now c.args.words.now c.args.sent.now c.in-Some.claim
     c.in-Some.ensures.count c.in-Some.ensures.outcome same_recording _ c.in_err-more.ensures.refused)
 
 pub returns-clause-extension : goal.returns-clause-extension
 returns-clause-extension c =
     IfOk-weaker c.written.result _ _ (λ bytes text.
-    is-extension c.args.text.now c.args.inputs.now c.args.state.now c.args.words.now c.args.sent.now c.in-Some.claim
+    is-extension c.args.bytes.now c.args.inputs.now c.args.state.now c.args.words.now c.args.sent.now c.in-Some.claim
     c.in-Some.ensures.count c.in-Some.ensures.outcome c.in_ok-more.more bytes.items c.in_ok-more.ensures.more text)
     c.written.ensures.text
 
 pub returns-clause-follows : goal.returns-clause-follows
 returns-clause-follows c =
     IfOk-weaker c.written.result _ _ (λ _ _.
-    can-follow c.args.text.now c.args.inputs.now c.args.state.now c.args.words.now c.args.sent.now c.in-Some.claim
+    can-follow c.args.bytes.now c.args.inputs.now c.args.state.now c.args.words.now c.args.sent.now c.in-Some.claim
     c.in-Some.ensures.count c.in-Some.ensures.outcome c.in_ok-more.more c.in_ok-more.ensures.more c.in-Some.ensures.whole)
     c.written.ensures.text
 
@@ -39,13 +39,13 @@ returns-in_err-more-clause-ordered c =
 pub returns-in_err-more-clause-reason : goal.returns-in_err-more-clause-reason
 returns-in_err-more-clause-reason c =
     let from = err_from_is_err_and c.from_residual.result c.from_residual.ensures.1 in
-    let no-more = IsNoMore c.args.text.now c.args.inputs.now c.in-Some.claim in
-    rw from.1 (λ is. out-of-place c.args.text.now c.args.inputs.now c.args.state.now c.args.words.now c.args.sent.now c.in-Some.claim
+    let no-more = IsNoMore c.args.bytes.now c.args.inputs.now c.in-Some.claim in
+    rw from.1 (λ is. out-of-place c.args.bytes.now c.args.inputs.now c.args.state.now c.args.words.now c.args.sent.now c.in-Some.claim
     c.in-Some.ensures.count c.in-Some.ensures.outcome (subst no-more (sym from.2 ∙ is) c.in_err-more.ensures.refused))
 
 pub returns-clause-refused : goal.returns-clause-refused
 returns-clause-refused c =
-    IfErr-weaker c.written.result _ (IsUnextended c.args.text.now c.args.inputs.now c.args.state.now c.args.words.now c.args.sent.now)
+    IfErr-weaker c.written.result _ (IsUnextended c.args.bytes.now c.args.inputs.now c.args.state.now c.args.words.now c.args.sent.now)
     (λ refusal is. rw is c.in_ok-more.ensures.more.no_fault) c.written.ensures.memory
 
 pub returns-clause-whole : goal.returns-clause-whole

@@ -7,12 +7,12 @@ use Rattle.galluspa.proofs.extend.galluspa_extend.Goals as goal
 
 pub returns-in-Ok-clause-extended : goal.returns-in-Ok-clause-extended
 returns-in-Ok-clause-extended c = λ done.
-    subst (IsExtension c.args.text.now c.args.inputs.now c.args.state.now c.args.words.now c.args.sent.now)
+    subst (IsExtension c.args.recording.now c.args.inputs.now c.args.state.now c.args.words.now c.args.sent.now)
     (sym c.deref.ensures.value ∙ sym (c.put.ensures.done done).1) c.in-Ok.ensures.extension
 
 pub returns-in-Ok-clause-no_room : goal.returns-in-Ok-clause-no_room
 returns-in-Ok-clause-no_room c = λ full.
-    let is = subst (IsExtension c.args.text.now c.args.inputs.now c.args.state.now c.args.words.now c.args.sent.now) (sym c.deref.ensures.value)
+    let is = subst (IsExtension c.args.recording.now c.args.inputs.now c.args.state.now c.args.words.now c.args.sent.now) (sym c.deref.ensures.value)
     c.in-Ok.ensures.extension in
     let needed = c.put.ensures.no_room full in
     (c.deref.result.now, is, needed.0, needed.1)
@@ -31,7 +31,7 @@ returns-in-Err-clause-ordered c = λ some. c.in-Err.ensures.ordered (λ is. some
 
 pub returns-in-Err-clause-range : goal.returns-in-Err-clause-range
 returns-in-Err-clause-range c =
-    unextended-by c.args.text.now c.args.inputs.now c.args.state.now c.args.words.now c.args.sent.now c.in-Err.refusal c.in-Err.ensures.refused
+    unextended-by c.args.recording.now c.args.inputs.now c.args.state.now c.args.words.now c.args.sent.now c.in-Err.refusal c.in-Err.ensures.refused
     c.code.result c.code.ensures.code OUT_OF_RANGE
 
 pub returns-in-Err-clause-reason : goal.returns-in-Err-clause-reason
@@ -39,37 +39,37 @@ returns-in-Err-clause-reason c = λ is. c.in-Err.ensures.reason (refusal-by c.in
 
 pub returns-in-Err-clause-no_recording : goal.returns-in-Err-clause-no_recording
 returns-in-Err-clause-no_recording c =
-    unextended-by c.args.text.now c.args.inputs.now c.args.state.now c.args.words.now c.args.sent.now c.in-Err.refusal c.in-Err.ensures.refused
+    unextended-by c.args.recording.now c.args.inputs.now c.args.state.now c.args.words.now c.args.sent.now c.in-Err.refusal c.in-Err.ensures.refused
     c.code.result c.code.ensures.code NO_RECORDING
 
 pub returns-in-Err-clause-memory : goal.returns-in-Err-clause-memory
 returns-in-Err-clause-memory c =
-    unextended-by c.args.text.now c.args.inputs.now c.args.state.now c.args.words.now c.args.sent.now c.in-Err.refusal c.in-Err.ensures.refused
+    unextended-by c.args.recording.now c.args.inputs.now c.args.state.now c.args.words.now c.args.sent.now c.in-Err.refusal c.in-Err.ensures.refused
     c.code.result c.code.ensures.code OUT_OF_MEMORY
 
 pub returns-in-Err-clause-pending : goal.returns-in-Err-clause-pending
 returns-in-Err-clause-pending c =
-    unextended-by c.args.text.now c.args.inputs.now c.args.state.now c.args.words.now c.args.sent.now c.in-Err.refusal c.in-Err.ensures.refused
+    unextended-by c.args.recording.now c.args.inputs.now c.args.state.now c.args.words.now c.args.sent.now c.in-Err.refusal c.in-Err.ensures.refused
     c.code.result c.code.ensures.code PENDING_INPUTS
 
 pub returns-in-Err-clause-inputs : goal.returns-in-Err-clause-inputs
 returns-in-Err-clause-inputs c =
-    unextended-by c.args.text.now c.args.inputs.now c.args.state.now c.args.words.now c.args.sent.now c.in-Err.refusal c.in-Err.ensures.refused
+    unextended-by c.args.recording.now c.args.inputs.now c.args.state.now c.args.words.now c.args.sent.now c.in-Err.refusal c.in-Err.ensures.refused
     c.code.result c.code.ensures.code TOO_MANY_INPUTS
 
 pub returns-in-Err-clause-checkpoints : goal.returns-in-Err-clause-checkpoints
 returns-in-Err-clause-checkpoints c =
-    unextended-by c.args.text.now c.args.inputs.now c.args.state.now c.args.words.now c.args.sent.now c.in-Err.refusal c.in-Err.ensures.refused
+    unextended-by c.args.recording.now c.args.inputs.now c.args.state.now c.args.words.now c.args.sent.now c.in-Err.refusal c.in-Err.ensures.refused
     c.code.result c.code.ensures.code TOO_MANY_CHECKPOINTS
 
 pub returns-in-Err-clause-output : goal.returns-in-Err-clause-output
 returns-in-Err-clause-output c =
-    unextended-by c.args.text.now c.args.inputs.now c.args.state.now c.args.words.now c.args.sent.now c.in-Err.refusal c.in-Err.ensures.refused
+    unextended-by c.args.recording.now c.args.inputs.now c.args.state.now c.args.words.now c.args.sent.now c.in-Err.refusal c.in-Err.ensures.refused
     c.code.result c.code.ensures.code TOO_MUCH_OUTPUT
 
 pub returns-in-Err-clause-pages : goal.returns-in-Err-clause-pages
 returns-in-Err-clause-pages c =
-    unextended-by c.args.text.now c.args.inputs.now c.args.state.now c.args.words.now c.args.sent.now c.in-Err.refusal c.in-Err.ensures.refused
+    unextended-by c.args.recording.now c.args.inputs.now c.args.state.now c.args.words.now c.args.sent.now c.in-Err.refusal c.in-Err.ensures.refused
     c.code.result c.code.ensures.code TOO_MANY_PAGES
 
 pub returns-in-Ok-clause-range : goal.returns-in-Ok-clause-range
