@@ -1,4 +1,4 @@
-/* What find.c and frames.c share: the initial state of a recording in the memory that the library's calls take, and the processor's clock. */
+/* What counted.c, find.c and frames.c share: the initial state of a recording in the memory that the library's calls take, and the processor's clock. */
 #include "galluspa.h"
 #include <stdio.h>
 #include <stdlib.h>

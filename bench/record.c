@@ -21,6 +21,7 @@
  *   carries   adds and subtracts, with C in four of eight instructions
  *   lamps     writes to the LEDs in one of eight instructions
  *   loader    writes 64 procedures over older ones, and calls each of them once
+ *   patched   changes two neighbouring words of its own loop in each turn, right before it comes to them
  *   spaced    does what sort does while a switch moves at each 100th count: at most 100,000,000 steps
  */
 #include "recording.h"
@@ -420,6 +421,23 @@ static void loader(uint32_t *memory) {
     jump(&c, ALWAYS, turn);
 }
 
+/* R1 and R2 have the two words: an ADD of 0 and one of 1, and the other way round in each second turn. */
+static void patched(uint32_t *memory) {
+    enum { KEPT = 64 };
+    Code c = {memory, KEPT};
+    uint32_t loop, patch;
+    emit(&c, imm(ADD, 4, 4, 0)); emit(&c, imm(ADD, 5, 5, 1));
+    c.at = 0;
+    emit(&c, load(1, 13, 4 * KEPT)); emit(&c, load(2, 13, 4 * KEPT + 4));
+    loop = c.at;
+    patch = loop + 6;
+    emit(&c, imm(XOR, 1, 1, 1)); emit(&c, imm(XOR, 2, 2, 1)); emit(&c, imm(ADD, 3, 3, 1));
+    emit(&c, store(1, 13, (int32_t)(4 * patch))); emit(&c, store(2, 13, (int32_t)(4 * patch) + 4)); emit(&c, reg(ADD, 6, 3, 4));
+    c.at = patch + 2;
+    emit(&c, reg(SUB, 7, 6, 5)); emit(&c, imm(AND, 7, 7, 255)); emit(&c, reg(XOR, 8, 8, 7)); emit(&c, imm(ADD, 9, 8, 3));
+    emit(&c, reg(ADD, 10, 9, 3)); emit(&c, imm(LSL, 11, 10, 2)); jump(&c, ALWAYS, loop);
+}
+
 typedef struct {
     const char *name;
     void (*assemble)(uint32_t *memory);
@@ -432,6 +450,7 @@ static const Program programs[] = {
     {"inputs", inputs, 2, 1}, {"sends", sends, 0, 0}, {"small", small, 0, 0}, {"medium", medium, 0, 0}, {"large", large, 0, 0},
     {"division", division, 0, 0}, {"modules", modules, 0, 0}, {"mouse", mouse, 3, 8000000}, {"oberon", oberon, 3, 8000000},
     {"far", far, 0, 0}, {"carries", carries, 0, 0}, {"lamps", lamps, 0, 0}, {"loader", loader, 0, 0}, {"spaced", sort, 2, 100},
+    {"patched", patched, 0, 0},
 };
 
 /* ---- their recordings ---- */
