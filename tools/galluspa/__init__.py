@@ -1,9 +1,21 @@
-"""The modules of the tools for users of oberon_replay. Nothing here replays, judges or draws: the program does."""
+"""Emulates the workstation of Project Oberon, records sessions of it and checks recordings, over a proved library.
 
-import os
-import signal
-import sys
+`check` and `record` are the program's commands, and `Machine` is the machine in the run of a recording. What these
+names offer stays as it is; the modules are those of the command `galluspa`, and may change.
+"""
 
-if os.path.dirname(os.path.abspath(sys.argv[0])) == os.path.dirname(os.path.dirname(os.path.abspath(__file__))):
-    # A tool that is interrupted before it has begun ends without a traceback; once it runs, `command.run` sees to it.
-    signal.signal(signal.SIGINT, signal.SIG_DFL)
+from typing import TYPE_CHECKING
+
+if TYPE_CHECKING:
+    from galluspa.interface import Failed, Hit, Machine, Refused, State, Step, Verdict, check, record
+
+__all__ = ["Failed", "Hit", "Machine", "Refused", "State", "Step", "Verdict", "check", "record"]
+
+
+def __getattr__(name: str) -> object:
+    """Imports a name of the interface once it is used, since most tools do without."""
+    if name not in __all__:
+        raise AttributeError(f"module {__name__!r} has no attribute {name!r}")
+    from galluspa import interface
+
+    return getattr(interface, name)

@@ -11,13 +11,14 @@ from dataclasses import dataclass, field
 
 from galluspa.assembler import DEVICES, KEY, MOUSE, SERIAL, STATUS, SWITCHES, TIMER
 from galluspa.expressions import Value, deeper, evaluate
-from galluspa.mnemonics import REGISTER, SPECIALS, encoded, operand_of
-from galluspa.others import REGISTERS, are_alike
+from galluspa.mnemonics import REGISTER, SPECIALS, encoded, operand_of, register_of
+from galluspa.others import REGISTERS, alike_of
 from galluspa.recording import DISPLAY_START
 from galluspa.sessions import MEMORY_BYTES
+from galluspa.sources import SourceLine, lines_of
 from galluspa.statements import (
-    BYTE, CONSTANT, INSTRUCTION, OFFSETS, ORIGIN, SETTINGS, STRING, WORD, Argument, Statement, content, is_string,
-    statement_of,
+    BYTE, CONSTANT, INCLUDE, INSTRUCTION, OFFSETS, ORIGIN, SETTINGS, STRING, WORD, Argument, Statement, content,
+    is_string, statement_of,
 )
 from galluspa.tokens import Token, Wrong
 
@@ -29,16 +30,23 @@ BUILT_IN = {
     )},
     "DISPLAY": DISPLAY_START,
 }
+# Each in capital letters, and its place among the names: after all those that a source defines.
+BUILT_IN_SPELLED = {name: ((1 << 32) + at, name) for at, name in enumerate(BUILT_IN)}
+
+# The names of registers in Project Oberon, unless a source gives them to something else.
+REGISTER_NAMES = {"SP": 14, "LNK": 15}
 
 # A number that another assembler may read.
 HEXADECIMAL = re.compile(r"[A-Fa-f][0-9A-Fa-f]*[Hh]")
+# To so many names that are not defined, and no more, is said what may be meant.
+SUGGESTIONS = 1000
 # With how many bits the offsets of branches may be written.
 NARROW, WIDE = 22, 24
 
 
 @dataclass(frozen=True, order=True)
 class Problem:
-    """What is wrong at a line and a column, both counted from 1."""
+    """What is wrong at a line and a column, both counted from 1; lines are counted through all sources."""
 
     line: int
     column: int
@@ -59,14 +67,19 @@ class Region:
 
 @dataclass
 class Assembly:
-    """A source that is assembled: its statements, its names, its memory, and what is wrong with it."""
+    """Sources that are assembled: their lines, which are counted through all of them, their statements, their names,
+    their memory, and what is wrong with them."""
 
+    sources: Sequence[SourceLine] = ()
     statements: list[Statement] = field(default_factory=list)
     problems: list[Problem] = field(default_factory=list)
     regions: list[Region] = field(default_factory=lambda: [Region(1, 1, 0, 0)])
     labels: dict[str, int] = field(default_factory=dict)
     constants: dict[str, Statement] = field(default_factory=dict)
+    registers: dict[str, int] = field(default_factory=dict)
     lines: dict[str, int] = field(default_factory=dict)
+    spelled: dict[str, tuple[int, str]] = field(default_factory=lambda: dict(BUILT_IN_SPELLED))
+    suggestions: int = 0
     memory: bytearray = field(default_factory=bytearray)
     waiting: list[tuple[int, Token]] = field(default_factory=list)
     known: dict[str, Value] = field(default_factory=dict)
@@ -81,6 +94,20 @@ class Assembly:
         except Wrong as wrong:
             self.problems.append(Problem(line, wrong.column, str(wrong)))
 
+    def source(self, line: int) -> SourceLine:
+        """The line of a file that a line of all sources is."""
+        return self.sources[line - 1]
+
+    def line_text(self, line: int, near: int) -> str:
+        """How a line is named in a message at another one: with its file, if that is another one."""
+        source = self.source(line)
+        return f"line {source.number}" + (f" of {source.file}" if source.file != self.source(near).file else "")
+
+    def register_of(self, name: str) -> int | None:
+        """The number of a register by a name for it; None of any other name."""
+        number = self.registers.get(name, register_of(name))
+        return REGISTER_NAMES.get(name.upper()) if number is None and name not in self.lines else number
+
     def value(self, argument: Argument, here: int, depth: int = 0) -> Value:
         """The value of an argument of a statement at an address."""
         return evaluate(argument.tokens, argument.end, self.named, here, depth)
@@ -94,7 +121,7 @@ class Assembly:
             return self._constant(token, depth)
         if name.upper() in BUILT_IN:
             return Value(BUILT_IN[name.upper()])
-        if REGISTER.fullmatch(name) or name.upper() in SPECIALS:
+        if self.register_of(name) is not None or name.upper() in SPECIALS:
             raise Wrong(token.column, f"{name} is a register, where a number is wanted")
         raise Wrong(token.column, f"{name} is not defined{' above' if name in self.lines else self._advice(name)}")
 
@@ -104,7 +131,8 @@ class Assembly:
             return f": {register}"
         if HEXADECIMAL.fullmatch(name):
             return f": a number that ends with H begins with a digit, 0{name}"
-        meant = next((other for other in (*self.lines, *BUILT_IN) if are_alike(name, other)), "")
+        self.suggestions += 1
+        meant = alike_of(name, self.spelled) if self.suggestions <= SUGGESTIONS else ""
         return f": did you mean {meant}?" if meant else ""
 
     def _constant(self, token: Token, depth: int) -> Value:
@@ -122,12 +150,14 @@ class Assembly:
         return self.known[name]
 
 
-def assembled(source: str) -> Assembly:
-    """A source, assembled; it has a memory only if there are no problems."""
-    it = Assembly()
-    for number, line in enumerate(source.split("\n"), 1):
+def assembled(source: str | Sequence[SourceLine]) -> Assembly:
+    """A source, assembled, or the lines of several; it has a memory only if there are no problems."""
+    it = Assembly(lines_of(source) if isinstance(source, str) else source)
+    for number, line in enumerate(it.sources, 1):
         with it.keeping(number):
-            it.statements.append(statement_of(number, line.rstrip("\r")))
+            if line.mistake:
+                raise Wrong(1, line.mistake)
+            it.statements.append(statement_of(number, line.text.rstrip("\r")))
     for statement in it.statements:
         with it.keeping(statement.line):
             _lay_out(it, statement)
@@ -157,6 +187,11 @@ def _lay_out(it: Assembly, statement: Statement) -> None:
     statement.here, statement.is_narrow = region.end, it.is_narrow
     if statement.does == OFFSETS:
         it.is_narrow = _offset_bits(it, statement) == NARROW
+    elif statement.does == INCLUDE:
+        raise Wrong(statement.name.column, 'include needs a line of its own, and a file, as in include "x.asm"')
+    elif statement.does == CONSTANT and (register := _named_register(it, statement)) is not None:
+        _define(it, statement.line, statement.name)
+        it.registers[statement.name.text] = register
     elif statement.does == CONSTANT:
         _define(it, statement.line, statement.name)
         it.constants[statement.name.text] = statement
@@ -168,6 +203,12 @@ def _lay_out(it: Assembly, statement: Statement) -> None:
             raise Wrong(statement.name.column, f"from here on it is beyond the memory of {MEMORY_BYTES:,} bytes")
 
 
+def _named_register(it: Assembly, statement: Statement) -> int | None:
+    """The register that a statement gives a name to; None if it defines a constant."""
+    tokens = statement.arguments[0].tokens
+    return it.register_of(tokens[0].text) if len(tokens) == 1 else None
+
+
 def _define(it: Assembly, line: int, name: Token) -> None:
     text = name.text
     if REGISTER.fullmatch(text) or text.upper() in SPECIALS or text.upper() in BUILT_IN:
@@ -176,7 +217,8 @@ def _define(it: Assembly, line: int, name: Token) -> None:
     if text.endswith("'"):
         raise Wrong(name.column, f"{text} has an apostrophe, which no name has")
     if text in it.lines:
-        raise Wrong(name.column, f"{text} is defined in line {it.lines[text]} already")
+        raise Wrong(name.column, f"{text} is defined in {it.line_text(it.lines[text], line)} already")
+    it.spelled.setdefault(text.upper(), (len(it.lines), text))
     it.lines[text] = line
 
 
@@ -206,7 +248,7 @@ def _offset_bits(it: Assembly, statement: Statement) -> int:
 def only(statement: Statement) -> Argument:
     """The one argument of a statement."""
     if len(statement.arguments) != 1:
-        raise Wrong(statement.name.column, f"{statement.name.text} wants one value")
+        raise Wrong(statement.name.column, f"{statement.name.text} needs one value")
     return statement.arguments[0]
 
 
@@ -220,7 +262,8 @@ def _find_overlaps(it: Assembly) -> None:
         if region.start < furthest.end:
             first, second = sorted((furthest, region), key=lambda one: one.line)
             last = min(region.end, furthest.end) - 1
-            text = f"the bytes from {region.start:X}H to {last:X}H are filled from line {first.line} on, too"
+            where = it.line_text(first.line, second.line)
+            text = f"the bytes from {region.start:X}H to {last:X}H are filled from {where} on, too"
             it.problems.append(Problem(second.line, second.column, text))
         furthest = max(furthest, region, key=lambda one: one.end)
 
@@ -236,17 +279,19 @@ def _contents(it: Assembly) -> Iterator[tuple[int, bytes]]:
 
 
 def _instruction(it: Assembly, statement: Statement) -> int:
-    operands = [operand_of(one.tokens, one.end, it.named, statement.here) for one in statement.arguments]
+    operands = [
+        operand_of(one.tokens, one.end, it.named, statement.here, it.register_of) for one in statement.arguments
+    ]
     return encoded(statement.name, operands, statement.here, statement.is_narrow)
 
 
 def _data(it: Assembly, statement: Statement) -> bytes:
     if not statement.arguments:
-        raise Wrong(statement.name.column, f"{statement.name.text} wants a value")
+        raise Wrong(statement.name.column, f"{statement.name.text} needs a value")
     if statement.does == WORD:
         return b"".join(_packed(it, argument, statement.here, 4) for argument in statement.arguments)
     if statement.does == STRING and not all(map(is_string, statement.arguments)):
-        raise Wrong(statement.arguments[0].column, "string wants a text in quotation marks; byte takes numbers")
+        raise Wrong(statement.arguments[0].column, "string needs a text in quotation marks; byte takes numbers")
     parts = (content(one) if is_string(one) else _packed(it, one, statement.here, 1) for one in statement.arguments)
     return b"".join(parts) + b"\0" * (statement.does == STRING)
 

@@ -14,7 +14,7 @@ from typing import IO, BinaryIO, TypeVar, cast
 from galluspa.limits import Limit
 
 AT_ONCE = 1 << 20
-# No wait is longer: a signal that comes just before a wait begins does not end it, and is heeded after it.
+# No wait is longer: a signal that comes just before a wait begins does not end it, and is handled afterwards.
 WAIT_SECONDS = 0.2
 T = TypeVar("T")
 U = TypeVar("U")

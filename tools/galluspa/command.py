@@ -6,7 +6,6 @@ import errno
 import importlib
 import io
 import os
-import re
 import signal
 import sys
 from collections.abc import Callable, Iterator, Sequence
@@ -18,20 +17,14 @@ from galluspa import children
 from galluspa.escapes import printable
 from galluspa.limits import TimeIsUp
 
-# The folder of a package's own files ends so. There the tools have other names than in the repository.
-INSTALLED = ("share", "galluspa", "tools", "galluspa")
-IS_INSTALLED = Path(__file__).resolve().parent.parts[-len(INSTALLED) :] == INSTALLED
-PREFIX = "galluspa-"
-# The script that is the command `galluspa` itself.
-MAIN = "main"
 SECONDS = 600
 # A byte more than the longest recording has, and so than any file that is of use.
 MOST = 118_310_057
 SIGNALS = (signal.SIGINT, signal.SIGTERM)
 OK, WRONG, REFUSED, FAILED = range(4)
 STATUSES = {
-    OK: "all is well", WRONG: "something that was examined is not", REFUSED: "the input is bad",
-    FAILED: "a write fails, memory runs out, or the time is over",
+    OK: "success", WRONG: "check failed", REFUSED: "bad input or bad arguments",
+    FAILED: "a write fails, memory runs out, or the time limit is over",
 }
 
 
@@ -44,40 +37,50 @@ class Failed(Refused):
 
 
 class Parser(argparse.ArgumentParser):
-    """The words of a tool: its help ends with an example, and wrong words are refused in one line. `statuses` says of
-    its exit statuses what is not said of each tool."""
+    """The command line of a tool or a script. Its help ends with an example, and it refuses bad arguments in one line.
+    """
 
     def __init__(self, description: str, example: str, statuses: dict[int, str] | None = None) -> None:
+        """`statuses` says of the exit statuses what is not said of each tool."""
         super().__init__(
-            prog=installed_name(Path(sys.argv[0]).name) if IS_INSTALLED else None,
             description=description,
             epilog=f"example:\n  {example}",
             formatter_class=argparse.RawDescriptionHelpFormatter,
         )
+        self.example = example
         self.statuses = STATUSES | (statuses or {})
+        # Whether options may stand between the files.
+        self.is_intermixed = False
+
+    def read(self, arguments: Sequence[str]) -> argparse.Namespace:
+        """Returns what arguments ask for."""
+        return self.parse_intermixed_args(arguments) if self.is_intermixed else self.parse_args(arguments)
 
     def error(self, message: str) -> NoReturn:
-        raise Refused(f"{message} (see --help)")
-
-    def format_help(self) -> str:
-        return in_package(super().format_help())
+        raise Refused(f"{message} (see {self.prog} --help)")
 
     def add_program_option(self) -> None:
         """Adds the option that names the program to ask."""
         self.add_argument(
             "--program", metavar="PATH",
-            help="the program to call (default: the one that this repository built, or that was installed with these "
-                 "tools)",
+            help="the program oberon_replay to call (default: that of this clone or this installation)",
         )
 
     def add_library_option(self) -> None:
         """Adds the option that names the shared library to call."""
         self.add_argument(
             "--library", metavar="PATH",
-            help="the shared library to call, libgalluspa.so; the default is the environment variable "
-                 "GALLUSPA_LIBRARY, or the first that is found in lib/ beside the folder of the tools, in "
-                 "crates/galluspa/out/ or out/lib/ of this repository, where it was installed with these tools, and "
-                 "where the system looks for libraries",
+            help="the shared library to call (default: $GALLUSPA_LIBRARY, or the first libgalluspa.so in lib/, "
+                 "crates/galluspa/out/ and out/lib/ of this clone, in this installation, and where the system looks "
+                 "for libraries)",
+        )
+
+    def add_symbols_option(self) -> None:
+        """Adds the option that names the file that gives names to addresses."""
+        self.add_argument(
+            "--symbols", metavar="FILE", type=Path,
+            help="show the names that this symbol file gives to addresses (default: NAME.sym beside the file, if it is "
+                 "there)",
         )
 
     def add_limit_option(self, what: str) -> None:
@@ -86,19 +89,17 @@ class Parser(argparse.ArgumentParser):
                           help=f"{what} (default {SECONDS})")
 
 
-def installed_name(script: str) -> str:
-    """The name by which a package installs a tool."""
-    return PREFIX.rstrip("-") if script == MAIN else PREFIX + script
+class _Running:
+    """Whether a tool runs, and the name with which it begins its lines on standard error: that of its script, unless it
+    takes another. What imports the modules for itself prints nothing."""
+
+    is_tool = False
+    name = ""
 
 
-def as_installed(text: str) -> str:
-    """A text with the installed names of the tools that it names."""
-    return re.sub(r"\btools/([a-z][a-z-]*)", lambda found: installed_name(found[1]), text)
-
-
-def in_package(text: str) -> str:
-    """A text with the names that tools have where these are: those of the repository, or of a package."""
-    return as_installed(text) if IS_INSTALLED else text
+def name_as(name: str) -> None:
+    """Has the tool begin its lines with a name, such as `galluspa find`."""
+    _Running.name = name
 
 
 def whole_number(least: int, most: int) -> Callable[[str], int]:
@@ -140,19 +141,18 @@ def _why(error: OSError | ValueError) -> str:
 
 
 def progress(message: str, is_last: bool = False) -> None:
-    """Renews the line of progress on standard error, if there is a terminal to see it; no text takes it away."""
-    if sys.stderr.isatty():
+    """Renews a tool's line of progress on standard error, if there is a terminal to see it; no text takes it away."""
+    if _Running.is_tool and sys.stderr.isatty():
         print(f"\033[K{printable(message)}", end="\n" if is_last else "\r", file=sys.stderr, flush=True)
 
 
 def complain(message: str) -> None:
     """Prints a line on standard error, after the name of the tool."""
     progress("")
-    name = Path(sys.argv[0]).name
+    name = _Running.name or printable(Path(sys.argv[0]).name)
     # If standard error can't be written either, nobody can be told: the exit status still says that it failed.
     with contextlib.suppress(OSError):
-        print(f"{installed_name(name) if IS_INSTALLED else printable(name)}: {printable(message)}", file=sys.stderr,
-              flush=True)
+        print(f"{name}: {printable(message)}", file=sys.stderr, flush=True)
 
 
 def write_file(path: str | Path, content: bytes) -> None:
@@ -203,7 +203,7 @@ def _failing(path: str | Path) -> Iterator[None]:
 def write_bytes(content: bytes) -> None:
     """Prints bytes that are not text: into a file or a pipe, and on no terminal, which they might control."""
     if sys.stdout.isatty():
-        raise Refused("what is printed is not text: send it into a file, with > FILE")
+        raise Refused("the output is not text: write it into a file, with > FILE")
     sys.stdout.buffer.write(content)
 
 
@@ -212,12 +212,15 @@ def with_libraries(name: str) -> ModuleType:
     try:
         return importlib.import_module(name)
     except ModuleNotFoundError as error:
-        raise Refused(f"{sys.executable} has no {error.name}: apt-get install python3-pil python3-jinja2") from error
+        is_apart = sys.prefix != sys.base_prefix
+        advice = "pip install Pillow Jinja2" if is_apart else "apt-get install python3-pil python3-jinja2"
+        raise Refused(f"{sys.executable} has no {error.name}: {advice}") from error
 
 
 def run(main: Callable[[Sequence[str]], int]) -> NoReturn:
     """Runs a tool over the words behind its name, and ends with its status: after one line with 2, if something is
     refused, and with 3, if something fails; with 130 or 143, if a signal ends it."""
+    _Running.is_tool = True
     for number in SIGNALS:
         signal.signal(number, _end)
     try:

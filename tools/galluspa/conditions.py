@@ -1,6 +1,6 @@
 """The conditions of a search: what is sought in a run, as it is written on a command line and as the library takes it.
 
-tools/find and tools/trace read the same words: those of CONDITIONS.
+`galluspa find` and `galluspa trace` read the same words: those of CONDITIONS.
 """
 
 import re
@@ -9,9 +9,10 @@ from dataclasses import dataclass
 
 from galluspa import states
 from galluspa.assembly import BUILT_IN
-from galluspa.command import Refused, in_package, number
+from galluspa.command import Refused, number
 from galluspa.recording import DISPLAY_START, FLAGS, KINDS, PAGE_BYTES, PLACES
 from galluspa.sessions import MOUSE
+from galluspa.symbols import NONE, Symbols, address_of, shown
 from galluspa.tracing import LEDS_AT, Step
 
 # The kinds of conditions, as include/galluspa.h numbers them.
@@ -32,29 +33,31 @@ BITS = {
 # What a condition may begin with, whatever the case of its letters, and what it is called.
 STARTS = {it.lower(): it for it in (*BITS, "PC", "store", "write", "load", "change", "sent", "input", "stop")}
 REGISTER_NUMBERS = {name: at for at, name in enumerate((*states.REGISTERS, "H", "flags"))}
-WANTED = ("want PC=N; store, load or change with a PLACE; NAME=VALUE for R0 to R15, H, flags, LEDs, switches, mouse or "
-          "serial; sent, input or stop")
-WANTED_NUMBER = "want a number, decimal or hexadecimal with 0x in front"
-WANTED_PLACE = ("want a PLACE: an address or FIRST-LAST, a device such as KEY, page N, or dot X,Y; a number is "
+WANTED = ("expected PC=N; store, load or change with a PLACE; NAME=VALUE for R0 to R15, H, flags, LEDs, switches, "
+          "mouse or serial; sent, input or stop")
+WANTED_NUMBER = "expected a number, decimal or hexadecimal with 0x in front"
+WANTED_PLACE = ("expected a PLACE: an address or FIRST-LAST, a device such as KEY, page N, or dot X,Y; a number is "
                 "decimal, or hexadecimal with 0x in front")
 # What an address may be named by: the names that the assembler knows.
 NAMED = {name: value & ADDRESSES - 1 for name, value in BUILT_IN.items()}
 # A hexadecimal number as it is written elsewhere, and a name.
 HEXADECIMAL = re.compile(r"\$([0-9A-Fa-f]+)|(?=.*[0-9])([0-9A-Fa-f]+)[hH]?")
-LABEL = re.compile(r"[A-Za-z_]\w*")
+LABEL = re.compile(r"[A-Za-z_][\w.]*(?:\+\w+)?")
+NAME = re.compile(r"[^\d\W]\S*")
 # What the help of a tool says of them.
 CONDITIONS = """\
-A CONDITION holds at an instruction; of several, one has to hold:
+A CONDITION holds at an instruction; if there are several, one of them has to hold:
   PC=N, PC=N-M              the instruction is at this word, or at one of these
-  store PLACE               it stores to the place, whatever the value
-  change PLACE [mask M]     it changes a bit there; with a mask, one that M has in its word
-  load PLACE                it loads from the place
+  store PLACE               the instruction stores to the place, whatever the value
+  change PLACE [mask M]     the instruction changes a bit there; with a mask, one that M has in its word
+  load PLACE                the instruction loads from the place
   NAME=VALUE                R0 to R15, H, flags (as NZ), LEDs, switches, mouse or serial becomes the value
-  sent [BYTE]               it sends a byte, or this byte
-  input [KIND]              the machine takes an input before it: timer, switches, mouse, key or serial
-  stop                      it stops the machine
+  sent [BYTE]               the instruction sends a byte, or this byte
+  input [KIND]              the machine takes an input just before: timer, switches, mouse, key or serial
+  stop                      the instruction stops the machine
   PLACE                     ADDRESS, which names its word; FIRST-LAST, bytes; page N; or dot X,Y of the screen
   ADDRESS                   a number of bytes, or a device: TIMER, SWITCHES, LEDS, SERIAL, STATUS, MOUSE, KEY, -64 to -4
+  NAME                      of a symbol file, in place of an ADDRESS or a PC: PC=Texts.Write, store Texts.buf+8
 Numbers are decimal, or hexadecimal with 0x in front. Several words may be in quotation marks, as in "input key"."""
 
 
@@ -103,9 +106,13 @@ class _Words:
     """The words of a command line that are not read yet; several may be in one, as quotation marks make it. NAME=VALUE
     are two of them."""
 
-    def __init__(self, words: Sequence[str]) -> None:
+    def __init__(self, words: Sequence[str], symbols: Symbols) -> None:
+        self.symbols = symbols
         alone = [word for given in words for word in re.sub(r"\s*=\s*", "=", given).split() or [""]]
-        self._left = [part for word in alone for part in (word.split("=", 1) if word.strip("=") else [word])]
+        parted = [word.split("=", 1) if word.strip("=") else [word] for word in alone]
+        self._left = [part for parts in parted for part in parts]
+        # Of each of these, whether it is a NAME that was written with a sign = after it.
+        self._are_names = [at < len(parts) - 1 for parts in parted for at in range(len(parts))]
         self.taken: list[str] = []
 
     def __bool__(self) -> bool:
@@ -117,6 +124,11 @@ class _Words:
         return self._left[0] if self._left else ""
 
     @property
+    def is_name(self) -> bool:
+        """Whether the word that comes next was written as the NAME of NAME=VALUE."""
+        return bool(self._are_names) and self._are_names[0]
+
+    @property
     def is_assignment(self) -> bool:
         """Whether a NAME comes next, with a number as its VALUE."""
         value = self._left[1] if len(self._left) > 1 else ""
@@ -125,6 +137,7 @@ class _Words:
     def take(self) -> str:
         """Reads the word that comes next."""
         self.taken.append(self._left.pop(0) if self._left else "")
+        del self._are_names[:1]
         return self.taken[-1]
 
 
@@ -138,9 +151,10 @@ def writing(part: str | int, value: object) -> Condition | None:
     return Condition(f"{part} is written", WRITTEN[part]) if part in WRITTEN else None
 
 
-def conditions_of(words: Sequence[str]) -> list[Condition]:
-    """The conditions that the words of a command line say; refused if they say none, or too many."""
-    left, conditions = _Words(words), list[Condition]()
+def conditions_of(words: Sequence[str], symbols: Symbols = NONE) -> list[Condition]:
+    """The conditions that the words of a command line say, which may use names; refused if they say none, or too
+    many."""
+    left, conditions = _Words(words, symbols), list[Condition]()
     while left or not conditions:
         left.taken = []
         conditions.append(_condition(left))
@@ -162,10 +176,13 @@ def _condition(words: _Words) -> Condition:
 def _read(words: _Words) -> tuple[tuple[Raw, ...], Callable[[Step], bool] | None]:
     """What the next condition is to the library; a ValueError says what is wrong with it."""
     if number(words.next.partition("-")[0]) is not None:
-        return (Raw(COUNTER, *_range(words.take(), "a PC", PC_WORDS, WANTED)),), None
-    name = STARTS.get(words.take().lower())
+        return (Raw(COUNTER, *_range(words, "a PC", PC_WORDS, WANTED)),), None
+    name = STARTS.get(words.next.lower())
+    if name is None and address_of(words.symbols, words.next) is not None:
+        return (Raw(COUNTER, *_range(words, "a PC", PC_WORDS, WANTED)),), None
+    words.take()
     if name == "PC":
-        return (Raw(COUNTER, *_range(words.take(), "a PC", PC_WORDS)),), None
+        return (Raw(COUNTER, *_range(words, "a PC", PC_WORDS)),), None
     if name in BITS:
         return _becomes(name, _value(name, words.take()))
     if name in ("store", "write", "load"):
@@ -208,14 +225,19 @@ def _value(name: str, text: str) -> int:
     return value
 
 
-def _range(text: str, what: str, end: int, wanted: str = WANTED_NUMBER) -> tuple[int, int]:
+def _range(words: _Words, what: str, end: int, wanted: str = WANTED_NUMBER) -> tuple[int, int]:
+    """The numbers that N or N-M, which is the next word, says."""
+    return _numbers(words.take(), words.symbols, what, end, wanted)
+
+
+def _numbers(text: str, symbols: Symbols, what: str, end: int, wanted: str) -> tuple[int, int]:
     """The numbers that N or N-M says, from one up to another that is not one of them. They are below an end. What is
-    wanted is said if it says none. An address may be a name."""
-    names = NAMED if end == ADDRESSES else {}
-    first, dash, last = text.partition("-")
-    one, other = (names.get(it.upper(), number(it)) for it in (first, last if dash else first))
+    wanted is said if it says none. An address may be a name, and so may a PC, which counts words."""
+    first, last = _ends(text, symbols)
+    one, other = (_number(it, symbols, end) for it in (first, last))
     if one is None or other is None:
-        raise ValueError((end in (PC_WORDS, ADDRESSES) and _hint(text)) or wanted)
+        unknown = first if one is None else last
+        raise ValueError((end in (PC_WORDS, ADDRESSES) and _hint(text, unknown, symbols)) or wanted)
     if max(one, other) >= end:
         raise ValueError(f"{what} is below {end:,} ({end:X} hexadecimal)")
     if other < one:
@@ -223,14 +245,34 @@ def _range(text: str, what: str, end: int, wanted: str = WANTED_NUMBER) -> tuple
     return one, other + 1
 
 
-def _hint(text: str) -> str:
+def _ends(text: str, symbols: Symbols) -> tuple[str, str]:
+    """The two texts of N-M, or N twice; a name may have a dash in it."""
+    first, dash, last = text.partition("-")
+    return (first, last) if dash and not symbols.places(text) else (text, text)
+
+
+def _number(text: str, symbols: Symbols, end: int) -> int | None:
+    """The number that a text is, below an end of which the kind of the number is known; or that its name stands for."""
+    named = NAMED.get(text.upper()) if end == ADDRESSES else None
+    value = number(text) if named is None else named
+    if value is not None or end not in (ADDRESSES, PC_WORDS):
+        return value
+    address = address_of(symbols, text)
+    if address is not None and end == PC_WORDS and address % 4:
+        raise ValueError(f"{shown(text)} is at byte {address:X} (hexadecimal), and instructions are at multiples of 4")
+    return address // 4 if address is not None and end == PC_WORDS else address
+
+
+def _hint(text: str, unknown: str, symbols: Symbols) -> str:
     """What to write in place of a number as it is written elsewhere, or of a name; nothing of other texts."""
     if found := HEXADECIMAL.fullmatch(text):
         return f"write 0x{(found[1] or found[2]).lstrip('0') or '0'}: numbers are decimal, or have 0x in front"
+    if symbols and NAME.fullmatch(unknown):
+        meant = symbols.meant(unknown)
+        return f"no symbol is called {shown(unknown)}" + (f": did you mean {meant}?" if meant else "")
     if LABEL.fullmatch(text):
-        tool = in_package("tools/assemble")
-        return (f"{text} is not a number, and names of a program are not known here: {tool} FILE --words has the "
-                "number of each word, a quarter of its address")
+        return (f"{text} is not a number, and there is no symbol file: --symbols FILE gives names to addresses, and "
+                "galluspa assemble FILE --symbols NAME.sym makes one of a source")
     return ""
 
 
@@ -238,7 +280,7 @@ def _place(words: _Words, has_devices: bool) -> _Place:
     """The place that the next words name."""
     name = words.take()
     if name == "page":
-        first, end = _range(words.take(), "a page", PLACES)
+        first, end = _range(words, "a page", PLACES)
         return _Place(PAGE_BYTES * first, PAGE_BYTES * end)
     if name == "dot":
         return _dot(words.take())
@@ -247,8 +289,8 @@ def _place(words: _Words, has_devices: bool) -> _Place:
     below = number(name[1:]) if name.startswith("-") else None
     if below and below <= ADDRESSES - DEVICES_AT:
         name = str(ADDRESSES - below)
-    first, end = _range(name, "an address", ADDRESSES, WANTED_PLACE)
-    if "-" not in name:
+    first, end = _numbers(name, words.symbols, "an address", ADDRESSES, WANTED_PLACE)
+    if "-" not in name or words.symbols.places(name):
         first, end = first & ~3, (first & ~3) + 4
     if not (end <= MEMORY_BYTES or has_devices and first >= DEVICES_AT):
         devices = ", or is that of a device, from FFFFC0 on" if has_devices else ""
@@ -260,7 +302,7 @@ def _dot(text: str) -> _Place:
     """The word of a dot of the screen, and its bit."""
     column, row = (number(part) for part in (text.split(",") if text.count(",") == 1 else ("", "")))
     if column is None or row is None or column >= COLUMNS or row >= ROWS:
-        raise ValueError(f"want dot X,Y, with X below {COLUMNS} and Y below {ROWS}, from the left and from below")
+        raise ValueError(f"expected dot X,Y, with X below {COLUMNS} and Y below {ROWS}, from the left and from below")
     first = DISPLAY_START + ROW_BYTES * row + 4 * (column // 32)
     return _Place(first, first + 4, 1 << column % 32)
 
@@ -273,18 +315,19 @@ def _change(words: _Words) -> Raw:
     words.take()
     mask = number(words.take())
     if mask is None or not 0 < mask <= WORD:
-        raise ValueError("want a mask from 1 to FFFFFFFF (hexadecimal)")
+        raise ValueError("expected a mask from 1 to FFFFFFFF (hexadecimal)")
     return Raw(CHANGE, place.first, place.end, mask)
 
 
 def _takes(words: _Words) -> tuple[Raw, ...]:
-    """That an input is taken: any, or one of the kind that the next word says."""
-    if words.next in KIND_NUMBERS:
+    """That an input is taken: any, or one of the kind that the next word says. The name of a kind may also begin the
+    next condition, as in switches=3."""
+    if words.next in KIND_NUMBERS and not words.is_name:
         return (Raw(TAKES, value=KIND_NUMBERS[words.take()]),)
     is_next = not words or words.next.lower() in STARTS or number(words.next.partition("-")[0]) is not None
     if not is_next:
         words.take()
-        raise ValueError(f"want input alone, or with one of {', '.join(KIND_NUMBERS)}")
+        raise ValueError(f"expected input alone, or with one of {', '.join(KIND_NUMBERS)}")
     return tuple(Raw(TAKES, value=it) for it in KINDS)
 
 
@@ -295,7 +338,7 @@ def _sends(words: _Words) -> Raw:
     if value is None and len(character) == 1 and not words.is_assignment:
         register = f", or {words.next}=VALUE for the register" if words.next.lower() in STARTS else ""
         words.take()
-        raise ValueError(f"want a byte as its number, which is {ord(character)}{register}")
+        raise ValueError(f"expected a byte as its number, which is {ord(character)}{register}")
     if value is None:
         return Raw(SENDS)
     if words.take() and value > 0xFF:

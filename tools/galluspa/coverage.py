@@ -5,7 +5,7 @@ before and after it, decide for which cells an instruction counts.
 """
 
 from collections import Counter
-from collections.abc import Iterator
+from collections.abc import Iterator, Set
 from dataclasses import dataclass, field
 
 from galluspa.instructions import ALWAYS, CONDITIONS, NEVER, OPERATIONS
@@ -13,6 +13,8 @@ from galluspa.recording import KINDS, Checkpoint
 from galluspa.steps import Step
 
 Cell = tuple[str, str, str]
+# A row of a table.
+Row = tuple[str, str]
 
 
 @dataclass(frozen=True)
@@ -96,10 +98,20 @@ class Coverage:
         return [cell for cell in table.cells() if not self.times[cell]]
 
 
-def unexercised(seen: Coverage) -> Iterator[tuple[str, list[str]]]:
-    """The operations, the loads and stores, and the branches that were seen in no form, with the names of their
+def row_of(word: int) -> Row | None:
+    """The row of an instruction word among operations, memory and branches; none of a branch to the next word."""
+    if not word >> 31:
+        return "operations", OPERATIONS[word >> 16 & 15]
+    if word >> 30 == 2:
+        return "memory", MOVES[word >> 28 & 3]
+    condition = word >> 24 & 15
+    leads_on = _bit(word, 29) and not _signed(word, 22) and condition not in (ALWAYS, NEVER)
+    return None if leads_on else ("branches", BRANCHES[condition])
+
+
+def unexercised(rows: Set[Row]) -> Iterator[tuple[str, list[str]]]:
+    """The operations, the loads and stores, and the branches that are in none of these rows, with the names of their
     tables."""
-    rows = {(table, row) for (table, row, _), times in seen.times.items() if times}
     for table in TABLES:
         missing = [row for row in table.rows if (table.name, row) not in rows]
         if missing and table.name in INSTRUCTIONS:

@@ -62,20 +62,20 @@ class Emulator:
         except TimeIsUp as over:
             raise Refused(f"{command}: {over}") from over
         except children.TooLong as error:
-            raise Refused(f"{command}: it prints more than {LONGEST:,} bytes") from error
+            raise Refused(f"{command}: prints more than {LONGEST:,} bytes") from error
         if ended.status:
-            raise Refused(f"{command}: it ended with status {ended.status}")
+            raise Refused(f"{command}: ended with status {ended.status}")
         try:
             shown = json.loads(ended.output)
         except (ValueError, RecursionError) as error:
-            raise Refused(f"{command}: what it prints is not JSON") from error
+            raise Refused(f"{command}: the output is not JSON") from error
         return _shown(command, shown)
 
 
 def _shown(command: str, shown: object) -> Shown:
     """What an object shows; refused if a member is none, or has another type."""
     if not isinstance(shown, dict) or not shown:
-        raise Refused(f"{command}: what it prints is not an object with the parts of a state")
+        raise Refused(f"{command}: the output is not an object with the parts of a state")
     readers: dict[str, Callable[[object], object]] = {
         **dict.fromkeys(states.WORDS, _number), "R": _numbers(16, 16), "keys": _numbers(0, 16), "out": _bytes,
         "memory": _file, "memory_sha256": _digest,

@@ -69,21 +69,25 @@ class Run:
         return end
 
     def loop(self, most: int) -> int | None:
-        """The first count, up to one, from which on the machine comes back to the same state again and again."""
-        before = machine = self.at(min(self.settled, most))
+        """The first count, after all inputs and up to one, from which on the machine comes back to the same state again
+        and again."""
+        if self.settled > most:
+            return None
+        settled = machine = self.at(self.settled)
         steps = GROWTH
         while True:
             is_last = machine.count >= most
             length = self.loop_length(machine, LONGEST_LOOP if is_last else min(steps // GROWTH, LONGEST_LOOP))
             if length:
-                return self._loop_start(before, machine.count, length)
+                return self._loop_start(settled, machine.count, length)
             if is_last:
                 return None
-            before, machine = machine, self.at(min(machine.count + steps, most), machine)
+            machine = self.at(min(machine.count + steps, most), machine)
             steps *= GROWTH
 
     def _loop_start(self, before: Machine, end: int, length: int) -> int:
-        """The first count in a loop that a machine is in at the end, and perhaps from some count on before it."""
+        """The first count, from that of a machine on, in a loop of this length that the machine is in at the end. A
+        shorter search may have missed the loop at any of the counts between, so none of them is taken to be outside."""
         while end > before.count:
             middle = self.at((before.count + end) // 2, before)
             if self.loop_length(middle, length):

@@ -12,9 +12,11 @@ from galluspa.conditions import REGISTER_NUMBERS, writing
 from galluspa.finding import Search
 from galluspa.library import Machine, Sent
 from galluspa.limits import TimeIsUp
+from galluspa.naming import Callers, named_row, placed_lines
 from galluspa.program import Program
 from galluspa.recording import DISPLAY_END, DISPLAY_START, PAGE_BYTES, Checkpoint, Recording, of_display
-from galluspa.tracing import Run, Step, WordChange, differing, lines, with_progress
+from galluspa.symbols import NONE, Symbols
+from galluspa.tracing import Run, Step, WordChange, differing, with_progress
 
 Part = str | int
 Value = int | list[int] | Sent
@@ -285,7 +287,7 @@ def writers_summary(it: FalseClaim) -> str:
     if not it.around.setting:
         return f"{none} Since checkpoint {it.number - 1} none {'changed' if is_changed else 'wrote'} it."
     if it.focus in NOT_SOUGHT:
-        return f"{none} This one before them, found by bisection, set it to what it is there:"
+        return f"{none} The one before them, found by bisection, set it:"
     return f"{none} The last one before them that {'changed' if is_changed else 'wrote'} it:"
 
 
@@ -305,10 +307,24 @@ def counts_summary(it: FalseClaim) -> str:
     return f"{summary}." + (f" There was {it.around.unread}." if it.around.unread else "")
 
 
-def instructions_of(it: FalseClaim) -> Iterator[str]:
+def writers_of(it: FalseClaim) -> list[Step]:
+    """The instructions that wrote the part."""
+    return it.around.writers or ([it.around.setting] if it.around.setting else [])
+
+
+def instructions_of(it: FalseClaim, symbols: Symbols = NONE) -> Iterator[str]:
     """The lines of the instructions that wrote the part."""
-    for step in it.around.writers or ([it.around.setting] if it.around.setting else []):
-        yield from lines(step)
+    for step in writers_of(it):
+        yield from placed_lines(step, symbols)
+
+
+def callers_of(run: Run, it: FalseClaim, symbols: Symbols) -> str:
+    """The line that says where the last of them is, and who probably called that; nothing if none wrote the part."""
+    if not writers_of(it):
+        return ""
+    last = writers_of(it)[-1].before
+    words = memoryview(run.machine(last.count).memory()).cast("I")
+    return f"probably: {' < '.join(Callers(words, symbols).of(last))}"
 
 
 def table(rows: Iterable[Sequence[str]]) -> Iterator[str]:
@@ -318,11 +334,12 @@ def table(rows: Iterable[Sequence[str]]) -> Iterator[str]:
     return (f"{row[0]:{name}}  {row[1]:{claimed}}  {row[2]}".rstrip() for row in kept)
 
 
-def plain(it: FalseClaim, most: int = WORDS_SHOWN) -> Iterator[str]:
-    """The lines of a text that explains a false claim, with so many words of memory at most."""
+def plain(it: FalseClaim, most: int = WORDS_SHOWN, symbols: Symbols = NONE, callers: str = "") -> Iterator[str]:
+    """The lines of a text that explains a false claim, with so many words of memory at most; and what a symbol file
+    adds to them."""
     differences = [*it.parts, *it.memory(most)]
     if differences:
-        rows = ((one.name, one.claimed, one.defined) for one in differences)
+        rows = (named_row((one.name, one.claimed, one.defined), symbols) for one in differences)
         yield from table([("", "claimed", "the machine"), *rows])
     if len(it.words) > most:
         yield f".. and {len(it.words) - most:,} more words of memory"
@@ -332,4 +349,5 @@ def plain(it: FalseClaim, most: int = WORDS_SHOWN) -> Iterator[str]:
     if it.screens:
         yield from ("", f"The screen: {it.screens.summary()}.", SIGNS)
         yield from table([("", "claimed", "the machine"), *(("", *row) for row in it.screens.rows())])
-    yield from ("", writers_summary(it), *instructions_of(it), "", counts_summary(it))
+    instructions = [*instructions_of(it, symbols), *([callers] if callers else [])]
+    yield from ("", writers_summary(it), *instructions, "", counts_summary(it))

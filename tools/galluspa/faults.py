@@ -194,22 +194,22 @@ def _page(text: bytes, at: int) -> Fault:
 
 def _short(text: bytes, at: int) -> Fault:
     if at < HEADER_BYTES:
-        return Fault("the text ends in the header", at, b"", f"a text has at least {HEADER_BYTES} bytes")
+        return Fault("the file ends in the header", at, b"", f"a recording has at least {HEADER_BYTES} bytes")
     pages, events, number = struct.unpack_from("<3I", text, 8)
     tables = HEADER_BYTES + PAGE_BYTES * pages + EVENT_BYTES * events
     if _number(text, 4) == 1 and at < tables + WHOLE_BYTES * number or at < tables:
         least = tables + (WHOLE_BYTES * number if _number(text, 4) == 1 else 0)
         what = "its pages, events and checkpoints" if _number(text, 4) == 1 else "its pages and events"
         rule = f"by its header, a text with {what} has at least {least:,} bytes"
-        return Fault(f"the text ends in {what}", at, b"", rule)
+        return Fault(f"the file ends in {what}", at, b"", rule)
     claims = list(_whole(text))
     if len(claims) < number:
         start = claims[-1].end if claims else tables
         needs = start + (CHANGES_AT if at < start + CHANGES_AT else _changed_bytes(text, start))
-        return Fault(f"the text ends in checkpoint {len(claims)}, which begins at byte {start}", at, b"",
-                     f"with that checkpoint the text has at least {needs:,} bytes")
-    rule = f"with all that its checkpoints say was sent the text has {_end(text):,} bytes"
-    return Fault("the text ends in the bytes sent", at, b"", rule)
+        return Fault(f"the file ends in checkpoint {len(claims)}, which begins at byte {start}", at, b"",
+                     f"with that checkpoint the recording has at least {needs:,} bytes")
+    rule = f"with all bytes that its checkpoints say were sent the recording has {_end(text):,} bytes"
+    return Fault("the file ends in the bytes sent", at, b"", rule)
 
 
 def _whole(text: bytes) -> Iterator[_Claim]:
@@ -229,4 +229,4 @@ def _end(text: bytes) -> int:
 def _trailing(text: bytes, at: int) -> Fault:
     more = len(text) - at
     return Fault(f"{more:,} {'byte' if more == 1 else 'bytes'} after the end", at, text[at : at + 32],
-                 f"by its header and checkpoints the text ends before byte {at}")
+                 f"by its header and checkpoints the recording ends before byte {at}")

@@ -1,7 +1,9 @@
 """The screens of a recording as an animated PNG: of what its checkpoints claim, or of the machine every so many counts;
 and one screen as a PNG.
 
-The program draws each screen that differs from the one before. A frame has the lines that changed alone.
+The program draws each screen that differs from the one before. A frame has the lines that changed alone. The film is
+written frame by frame, in some 20 MB of memory. Pillow also writes animated PNGs, but from a list of all frames, with
+a byte for each dot, and takes more than a gigabyte for 683 frames.
 """
 
 import struct
@@ -10,9 +12,9 @@ from collections.abc import Iterator, Sequence
 from dataclasses import dataclass
 from itertools import chain
 
+from galluspa.interface import Machine
 from galluspa.program import Program
 from galluspa.recording import DISPLAY_END, DISPLAY_START, PAGE_BYTES, PLACES, Recording, of_display
-from galluspa.tracing import Run
 
 WIDTH, HEIGHT = 1024, 768
 ROW, HEAD = WIDTH // 8, len(b"P4\n1024 768\n")
@@ -43,14 +45,14 @@ def shots_of_claims(read: Recording, program: Program) -> Iterator[Shot]:
         yield Shot(claim.count, pbm)
 
 
-def shots_of_run(run: Run, program: Program, last: int, every: int) -> Iterator[Shot]:
-    """The screens of a run at the count 0 and then every so many, and at the last count."""
-    machine, before, pbm = run.machine(0), b"", b""
-    for count in chain(range(0, last, every), [last]):
-        run.advance(machine, count)
+def shots_of_run(machine: Machine, program: Program, last: int, every: int) -> Iterator[Shot]:
+    """The screens of a machine at its count and then every so many, and at the last count."""
+    before, pbm = b"", b""
+    for count in chain(range(machine.count, last, every), [last]):
+        machine.advance(count)
         memory = machine.memory()[FIRST_PAGE:]
         if _display(memory) != _display(before):
-            before, pbm = memory, program.screen(of_display(machine.seen(), memory), 0).output
+            before, pbm = memory, program.screen(of_display(machine.state, memory), 0).output
         yield Shot(count, pbm)
 
 

@@ -70,7 +70,7 @@ class _Watch(Limit):
         return self._limit.left() if self._limit else float("inf")
 
 
-def _array(raws: Sequence[Raw]) -> ctypes.Array[RawCondition]:
+def array_of(raws: Sequence[Raw]) -> ctypes.Array[RawCondition]:
     """Conditions as the library takes them."""
     return (RawCondition * len(raws))(*(RawCondition(it.kind, it.first, it.end, it.value) for it in raws))
 
@@ -84,7 +84,7 @@ class Search:
         self._conditions = conditions
         self._owners = [condition for condition in conditions for _ in condition.raws]
         self._raws = [raw for condition in conditions for raw in condition.raws]
-        self._array = _array(self._raws)
+        self._array = array_of(self._raws)
         self._is_seen_outside = {it.kind for it in self._raws} <= {SENDS, SENDS_BYTE, STOPS, TAKES}
         starts = [run.counts[it] for it in run.true if first < run.counts[it] < to]
         self._segments = [_Segment(at, *ends) for at, ends in enumerate(pairwise([first, *starts, to]))]
@@ -278,7 +278,7 @@ class Search:
 
     def _holds(self, run: Run, condition: Condition, machine: Machine) -> bool:
         """Whether a condition holds at a machine's count."""
-        if not run.library.search(machine, run.inputs, machine.count + 1, _array(condition.raws), FIRST):
+        if not run.library.search(machine, run.inputs, machine.count + 1, array_of(condition.raws), FIRST):
             return False
         return condition.is_so is None or condition.is_so(next(run.steps(machine.copy(), machine.count + 1)))
 

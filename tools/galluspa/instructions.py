@@ -59,6 +59,22 @@ def address(word: int, registers: Sequence[int]) -> int | None:
     return (registers[word >> 20 & 15] + _signed(word, 20)) & 0xFFFFFF
 
 
+def branches_to(word: int, at: int) -> int | None:
+    """The number of the word that a branch by an offset leads to, if it lies at a place; None of any other word."""
+    is_by_offset = is_branch(word) and _bit(word, 29) and word >> 24 & 15 != NEVER
+    return (at + 1 + _signed(word, 22)) % (1 << 22) if is_by_offset else None
+
+
+def moved(word: int, before: int) -> int | None:
+    """The number that a move has as its operand, or that this word and the one before it put together: a move of the
+    upper half, and IOR of the same register. None of any other word."""
+    if word >> 16 & 0xF00F == 0x4000 or word >> 16 & 0xF00F == 0x5000:
+        return (word & 0xFFFF) - (0x10000 if _bit(word, 28) else 0)
+    a, b = word >> 24 & 15, word >> 20 & 15
+    is_upper_half = before >> 28 in (6, 7) and before >> 16 & 15 == 0 and before >> 24 & 15 == a == b
+    return (before & 0xFFFF) << 16 | word & 0xFFFF if is_upper_half and word >> 16 & 0xF00F == 0x4006 else None
+
+
 def _bit(word: int, place: int) -> bool:
     return bool(word >> place & 1)
 

@@ -1,37 +1,37 @@
 """Calls the library for C through ctypes: what a checkpoint claims, and the proved machine, advanced from count to
-count."""
+count, searched, counted and traced."""
 
 import ctypes
 import os
 import time
 from array import array
 from bisect import bisect_left
-from collections.abc import Callable, Sequence
+from collections.abc import Callable, Iterator, Sequence
 from dataclasses import dataclass
 from pathlib import Path
 
+from galluspa import places
 from galluspa.command import Failed, Refused
 from galluspa.limits import Limit
-from galluspa.program import TOP
 from galluspa.recording import PLACES, STATE_WORDS, WORDS_IN_PAGE, Checkpoint, Event
 
 NAME = "libgalluspa.so"
 VARIABLE = "GALLUSPA_LIBRARY"
-BUILT = [TOP / folder / NAME for folder in ("lib", "crates/galluspa/out", "out/lib")]
-INSTALLED = TOP.parent.parent / "lib"
 WORDS = PLACES * WORDS_IN_PAGE
-# A run goes in slices of about so many seconds, so that a signal and the limit of time are heeded between them. None
+# A run goes in slices of about so many seconds, so that a signal and the limit of time are handled between them. None
 # has more than so many steps: what follows a long wait would else have a slice of many seconds.
 SLICE_SECONDS = 0.1
 FIRST_STEPS, MOST_STEPS = 1 << 20, 1 << 24
 WHOLE_RUN = 1 << 40
 SENT_AT_ONCE = 1 << 20
+# A verdict line has fewer bytes.
+LINE_BYTES = 256
 # How many of the bytes that a run sends are kept: more than a recording may claim.
 SENT_KEPT = 1 << 22
 NO_ROOM, NO_MEMORY = 2, 3
 REFUSALS = {
     1: "a number is out of its range",
-    NO_ROOM: "more is sent than there is room for",
+    NO_ROOM: "no room for what the machine sends",
     NO_MEMORY: "no memory",
     4: "the bytes are not a recording",
     5: "the recording has no such checkpoint",
@@ -40,7 +40,7 @@ NOT_FOUND = 11
 # Which count a search is for.
 FIRST, LAST = 0, 1
 
-Words = ctypes.c_uint32 * WORDS
+Words, Counts = ctypes.c_uint32 * WORDS, ctypes.c_uint64 * WORDS
 
 
 class RawState(ctypes.Structure):
@@ -72,6 +72,41 @@ class RawHit(ctypes.Structure):
     """A count at which a condition holds, and its index, as include/galluspa.h lays them out."""
 
     _fields_ = [("count", ctypes.c_uint64), ("condition", ctypes.c_uint64)]
+
+
+class RawProcessor(ctypes.Structure):
+    """A machine's processor, as include/galluspa.h lays it out."""
+
+    _fields_ = [("r", ctypes.c_uint32 * 16), *((name, ctypes.c_uint32) for name in ("h", "pc", "flags", "stop"))]
+
+
+@dataclass(frozen=True)
+class Profile:
+    """How often a run did the instruction of each word of memory, and how often another word than the next one came
+    after it: the target of a branch, or after a stop the same again."""
+
+    visits: "array[int]"
+    departures: "array[int]"
+
+    def visited(self) -> Iterator[int]:
+        """The numbers of the words whose instruction was done, in rising order."""
+        content, none = self.visits.tobytes(), bytes(8 * WORDS_IN_PAGE)
+        for first in range(0, WORDS, WORDS_IN_PAGE):
+            if content[8 * first : 8 * (first + WORDS_IN_PAGE)] != none:
+                yield from (at for at in range(first, first + WORDS_IN_PAGE) if self.visits[at])
+
+    def __add__(self, more: "Profile") -> "Profile":
+        """The profile of a run and of the one that follows it."""
+        both = Profile(self.visits[:], self.departures[:])
+        for at in more.visited():
+            both.visits[at] += more.visits[at]
+            both.departures[at] += more.departures[at]
+        return both
+
+    @property
+    def instructions(self) -> int:
+        """How many instructions were done in memory; one that stopped the machine is among them."""
+        return sum(self.visits[at] for at in self.visited())
 
 
 @dataclass(frozen=True)
@@ -143,7 +178,7 @@ class Inputs:
 
 def _refusal(what: str, code: int) -> Refused:
     """Why something is not done, by what the library returns."""
-    return (Failed if code == NO_MEMORY else Refused)(f"{what}: {REFUSALS.get(code, f'it answers {code}')}")
+    return (Failed if code == NO_MEMORY else Refused)(f"{what}: {REFUSALS.get(code, f'the library returns {code}')}")
 
 
 def ignore(count: int) -> None:
@@ -165,22 +200,21 @@ class Library:
             if not Path(named).is_file():
                 raise Refused(f"no library at {named}")
             return Library._load(str(Path(named).resolve()), limit)
-        near = (*BUILT, INSTALLED / NAME, *INSTALLED.glob(f"*/{NAME}"))
-        path = next((str(path) for path in near if path.is_file()), NAME)
+        path = next(map(str, places.libraries()), NAME)
         try:
             return Library._load(path, limit)
         except Refused:
             if path != NAME:
                 raise
-            raise Refused(f"no {NAME} is found: build it with examples/c/install FOLDER, and name "
+            raise Refused(f"found no {NAME}: build it with examples/c/install FOLDER, and name "
                           f"FOLDER/lib/{NAME} with --library") from None
 
     @staticmethod
     def _load(path: str, limit: Limit | None) -> "Library":
         try:
             calls = ctypes.CDLL(path)
-            for call in (calls.galluspa_claim, calls.galluspa_advance, calls.galluspa_find):
-                call.restype = ctypes.c_uint8
+            for name in ("claim", "advance", "find", "profile", "steps"):
+                getattr(calls, f"galluspa_{name}").restype = ctypes.c_uint8
             calls.galluspa_record.restype = ctypes.c_size_t
         except (OSError, AttributeError) as error:
             raise Refused(f"{path}: no library of Galluspa: {error}") from error
@@ -194,8 +228,18 @@ class Library:
             ctypes.byref(machine.state), machine.words, ctypes.c_size_t(WORDS),
         )
         if code:
-            raise _refusal(f"checkpoint {at} is not read", code)
+            raise _refusal(f"cannot read checkpoint {at}", code)
         return machine
+
+    def check(self, text: bytes) -> tuple[str, int]:
+        """The verdict line of a recording, and the program's exit status for it. One call takes the whole check."""
+        line, status = ctypes.create_string_buffer(LINE_BYTES), ctypes.c_uint8()
+        self.calls.galluspa_check.restype = ctypes.c_size_t
+        length = self.calls.galluspa_check(
+            text, ctypes.c_size_t(len(text)), line, ctypes.c_size_t(LINE_BYTES), ctypes.byref(status))
+        if not length:
+            raise _refusal("cannot check the recording", NO_MEMORY)
+        return line.raw[:length].decode("ascii").rstrip("\n"), status.value
 
     def record(self, session: bytes) -> bytes:
         """The recording of a session, which has to be a lawful one."""
@@ -205,12 +249,12 @@ class Library:
             length = self.calls.galluspa_record(
                 session, ctypes.c_size_t(len(session)), out, ctypes.c_size_t(room), ctypes.byref(status))
             if not length:
-                raise _refusal("the machine is not recorded", NO_MEMORY)
+                raise _refusal("cannot record", NO_MEMORY)
             if length <= room:
                 break
             room = length
         if status.value:
-            raise Refused(f"the machine is not recorded: {out.raw[:length].decode('ascii', 'replace').strip()}")
+            raise Refused(f"cannot record: {out.raw[:length].decode('ascii', 'replace').strip()}")
         return out.raw[:length]
 
     def advance(self, machine: Machine, inputs: Inputs, to: int, heard: Callable[[int], None] = ignore) -> Sent:
@@ -245,8 +289,34 @@ class Library:
         if code == NOT_FOUND:
             return None
         if code:
-            raise _refusal(f"nothing is searched from {machine.count} to {to}", code)
+            raise _refusal(f"cannot search from {machine.count} to {to}", code)
         return hit.count, hit.condition
+
+    def profile(self, machine: Machine, inputs: Inputs, to: int) -> Profile:
+        """How often each instruction is done from a machine's count up to another; the machine stays as it is. One call
+        takes all of this, so give it a slice; a call takes some milliseconds, however short."""
+        counted = Profile(*(array("Q", [0]) * WORDS for _ in range(2)))
+        visits, departures = (Counts.from_buffer(it) for it in (counted.visits, counted.departures))
+        due = inputs.raw(machine.count, to)
+        code = self.calls.galluspa_profile(
+            ctypes.byref(machine.state), machine.words, ctypes.c_size_t(WORDS), due, ctypes.c_size_t(len(due)),
+            ctypes.c_uint64(to), visits, ctypes.c_size_t(WORDS), departures, ctypes.c_size_t(WORDS),
+        )
+        if code:
+            raise _refusal(f"cannot count from {machine.count} to {to}", code)
+        return counted
+
+    def steps(self, machine: Machine, inputs: Inputs, number: int) -> ctypes.Array[RawProcessor]:
+        """The processors at so many counts, from a machine's on; the machine stays as it is. One call takes all of
+        this, so give it a slice."""
+        processors, due = (RawProcessor * number)(), inputs.raw(machine.count, machine.count + number)
+        code = self.calls.galluspa_steps(
+            ctypes.byref(machine.state), machine.words, ctypes.c_size_t(WORDS), due, ctypes.c_size_t(len(due)),
+            processors, ctypes.c_size_t(number),
+        )
+        if code:
+            raise _refusal(f"cannot trace {number} counts from {machine.count} on", code)
+        return processors
 
     def _slice(self, machine: Machine, inputs: Inputs, to: int) -> Sent | None:
         """Runs a machine up to a count; None if it sends more than there is room for, and then it stays as it is."""
@@ -259,7 +329,7 @@ class Library:
         if code == NO_ROOM and to - machine.count > len(room):
             return None
         if code:
-            raise _refusal(f"the machine is not advanced from {machine.count} to {to}", code)
+            raise _refusal(f"cannot run the machine from {machine.count} to {to}", code)
         return Sent(ctypes.string_at(room, length.value), length.value)
 
 

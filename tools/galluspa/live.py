@@ -10,10 +10,10 @@ from dataclasses import dataclass
 
 from markupsafe import Markup
 
+from galluspa import places
 from galluspa.command import Refused
-from galluspa.program import TOP
 
-PAGE = TOP / "web/galluspa.html"
+PAGE = places.page()
 AT_ONCE = 1 << 20
 POLICY = (
     "default-src 'none'; script-src {scripts} 'wasm-unsafe-eval'; worker-src blob:; style-src 'unsafe-inline'; "
@@ -38,7 +38,7 @@ class Live:
         try:
             page = PAGE.read_text()
         except OSError as error:
-            raise Refused(f"{PAGE}: {error.strerror}; the report is made live by that page") from error
+            raise Refused(f"{PAGE}: {error.strerror}; a live report needs that page") from error
         machine = _part(page, r"<!-- begin machine -->\n(.*?)<!-- end machine -->")
         begin = f"beginReport({_quoted(name)});"
         scripts = " ".join(map(_hashed, (_part(page, r'<script id="g-script">(.*?)</script>'), begin)))
@@ -52,7 +52,7 @@ class Live:
 
 
 def _compressed(text: bytes) -> bytes:
-    """Bytes in the format of gzip, made piece by piece, so that a signal is heeded between them."""
+    """Bytes in the format of gzip, made piece by piece, so that a signal is handled between them."""
     out = io.BytesIO()
     with gzip.GzipFile(fileobj=out, mode="wb", mtime=0) as packed:
         for at in range(0, len(text), AT_ONCE):
@@ -64,7 +64,7 @@ def _part(page: str, pattern: str) -> str:
     """A part of the page, by a pattern."""
     found = re.search(pattern, page, re.S)
     if not found:
-        raise Refused(f"{PAGE}: it is not a page that web/build made")
+        raise Refused(f"{PAGE}: not a page that web/build made")
     return found[1]
 
 

@@ -1,102 +1,85 @@
-"""Makes manual pages (mdoc) and completion for bash from the tools' own help."""
+"""Makes the manual page (mdoc) and the completion for bash of `galluspa` from the command lines of its subcommands."""
 
 import argparse
 import re
 import textwrap
-from collections.abc import Iterator
-from dataclasses import dataclass
-from importlib.machinery import ModuleSpec, SourceFileLoader
-from importlib.util import module_from_spec, spec_from_loader
-from pathlib import Path
-from types import ModuleType
-from typing import cast
+from collections.abc import Iterable, Iterator, Mapping
 
-from galluspa.command import MAIN, Parser, as_installed, installed_name
+from galluspa.command import STATUSES, Parser
+from galluspa.commands import ABOUT, GROUPS, NAME, Command
 
 SIGNALS = {130: "it was interrupted", 143: "it was terminated"}
 
 
-@dataclass(frozen=True)
-class Tool:
-    """A tool: its name, the first paragraph of its comment, and its command line."""
-
-    name: str
-    does: str
-    parser: Parser
-
-    @property
-    def command(self) -> str:
-        """Its name where it is installed."""
-        return installed_name(self.name)
-
-    @property
-    def options(self) -> list[argparse.Action]:
-        """Its options, help among them."""
-        return [it for it in self.parser._actions if it.option_strings]
-
-    @property
-    def operands(self) -> list[argparse.Action]:
-        """Its other words."""
-        return [it for it in self.parser._actions if not it.option_strings]
-
-
-def tools_of(folder: Path) -> list[Tool]:
-    """The tools for users in a folder: files that can be run and have a function `parser`."""
-    paths = (path for path in sorted(folder.iterdir()) if path.is_file() and path.stat().st_mode & 0o111)
-    scripts = ((path.name, _script(path)) for path in paths)
-    return [Tool(name, _summary(script), script.parser()) for name, script in scripts if hasattr(script, "parser")]
-
-
-def _summary(script: ModuleType) -> str:
-    """The first paragraph of a script's own comment."""
-    return " ".join((script.__doc__ or "").split("\n\n")[0].split())
-
-
-def _script(path: Path) -> ModuleType:
-    """The module of a file that is not part of a package."""
-    loader = SourceFileLoader(f"tool_{path.name}", str(path))
-    module = module_from_spec(cast(ModuleSpec, spec_from_loader(loader.name, loader)))
-    loader.exec_module(module)
-    return module
-
-
-def page(tool: Tool, date: str) -> str:
-    """The manual page of a tool."""
-    about = tool.does.rstrip(".")
+def page(commands: Iterable[Command], date: str) -> str:
+    """Returns the manual page of these subcommands, a section each."""
+    there = list(commands)
     lines = [
-        f".Dd {date}", f".Dt {tool.command.upper()} 1", ".Os", ".Sh NAME", f".Nm {tool.command}",
-        f".Nd {_escaped(about[0].lower() + about[1:])}",
-        ".Sh SYNOPSIS", ".Nm", *(f".Op {_flags(it)}" for it in tool.options),
-        *(f".Ar {_metavar(it)}{' ..' * bool(it.nargs)}" for it in tool.operands),
-        ".Sh DESCRIPTION", *_description(tool.parser.description or ""), ".Bl -tag -width Ds",
+        f".Dd {date}", f".Dt {NAME.upper()} 1", ".Os", ".Sh NAME", f".Nm {NAME}",
+        ".Nd emulator, recorder and checker of Project Oberon's workstation",
+        ".Sh SYNOPSIS", ".Nm", ".Ar COMMAND ..", ".Nm", ".Ar FILE ..",
+        ".Sh DESCRIPTION", *_prose(ABOUT),
+        *_prose(f"`{NAME} FILE ..` prints the verdict lines of recordings, as `{NAME} check FILE ..` does."),
+        *_prose(f"`{NAME} COMMAND --help` prints the usage of a command, and `{NAME} --version` the version."),
     ]
-    for it in [*tool.operands, *tool.options]:
-        if it.help:
-            lines += [f".It {_flags(it) if it.option_strings else 'Ar ' + _metavar(it)}", *_prose(_sentence(it.help))]
-    example = as_installed((tool.parser.epilog or "").split("\n", 1)[1].strip())
-    statuses = ((f".It {number}", _sentence(it)) for number, it in {**tool.parser.statuses, **SIGNALS}.items())
+    for title, group in GROUPS.items():
+        if rows := [it for it in group if it in there]:
+            lines += [".Pp", f"{title}:", ".Pp", ".Bl -tag -width build-library -compact"]
+            lines += [line for it in rows for line in (f".It Cm {it.name}", *_prose(it.does))]
+            lines += [".El"]
+    lines += [".Sh COMMANDS", *(line for it in there for line in _section(it.full_name, it.parser()))]
     return "\n".join([
-        *lines, ".El", ".Sh EXIT STATUS", ".Bl -tag -width Ds",
-        *(line for item, about in statuses for line in (item, *_prose(about))), ".El",
-        ".Pp", *_prose("If an argument is refused, or something fails, a line on standard error says why."),
-        ".Sh EXAMPLES", f".Dl {_escaped(example)}", ".Sh SEE ALSO", ".Xr oberon_replay 1", "",
+        *lines, ".Sh ENVIRONMENT", *_listed([("Ev GALLUSPA_LIBRARY", "The shared library to call, libgalluspa.so.")]),
+        ".Sh EXIT STATUS", *_listed((str(number), _sentence(it)) for number, it in {**STATUSES, **SIGNALS}.items()),
+        ".Pp", *_prose("A line on standard error says why an argument is refused, or what fails."),
+        ".Sh SEE ALSO", ".Xr oberon_replay 1", "",
     ])
+
+
+def _section(name: str, parser: Parser) -> Iterator[str]:
+    """The section of a subcommand: its arguments, what it does, its exit statuses and an example."""
+    options = [it for it in parser._actions if it.option_strings and it.dest != "help"]
+    operands = [it for it in parser._actions if not it.option_strings]
+    yield f".Ss {name}"
+    yield f".Nm {name}"
+    yield from (f".Op {_flags(it)}" for it in options)
+    for it in operands:
+        yield f".{'Op ' * (it.nargs in ('*', '?'))}Ar {_metavar(it)}{' ..' * (it.nargs in ('*', '+'))}"
+    yield ".Pp"
+    yield from _description(parser.description or "")
+    rows = [it for it in [*operands, *options] if it.help]
+    if rows:
+        heads = (_flags(it) if it.option_strings else f"Ar {_metavar(it)}" for it in rows)
+        yield from _listed(zip(heads, (_sentence(it.help or "") for it in rows)))
+    if own := {number: it for number, it in parser.statuses.items() if it != STATUSES.get(number)}:
+        yield ".Pp"
+        yield "Exit status:"
+        yield from _listed((str(number), _sentence(it)) for number, it in own.items())
+    yield ".Pp"
+    yield "Example:"
+    yield f".Dl {_escaped(parser.example)}"
+
+
+def _listed(rows: Iterable[tuple[str, str]]) -> Iterator[str]:
+    """A list of terms, each with a text."""
+    yield ".Bl -tag -width Ds"
+    for term, text in rows:
+        yield f".It {term}"
+        yield from _prose(text)
+    yield ".El"
 
 
 def _description(text: str) -> Iterator[str]:
     """A description as prose; rows of it that are set in, with a name before two spaces, as a list."""
     rows = re.split(r"\n  (?=\S)", text)
-    yield from _prose(as_installed(" ".join(rows[0].split())))
+    yield from _prose(" ".join(rows[0].split()))
     if len(rows) > 1:
-        yield ".Bl -tag -width Ds"
-        for name, about in (re.split(r" {2,}|\n", row, maxsplit=1) for row in rows[1:]):
-            yield f".It {_escaped(name)}"
-            yield from _prose(_sentence(about))
-        yield ".El"
+        parts = (re.split(r" {2,}|\n", row, maxsplit=1) for row in rows[1:])
+        yield from _listed((_escaped(name), _sentence(about)) for name, about in parts)
 
 
 def _sentence(text: str) -> str:
-    text = as_installed(" ".join(text.split()))
+    text = " ".join(text.split())
     return text[0].upper() + text[1:] + ("" if text.endswith(".") else ".")
 
 
@@ -120,20 +103,24 @@ def _prose(text: str) -> Iterator[str]:
             yield "\\&" + line if line[0] in ".'" else line
 
 
-COMPLETION = """# Completes the words of oberon_replay, of galluspa and of the tools.
+COMPLETION = """# Completes the arguments of galluspa and of oberon_replay.
 _galluspa() {
-    local name=${COMP_WORDS[0]##*/} word=${COMP_WORDS[COMP_CWORD]}
-    if [[ $name == oberon_replay || $name == galluspa ]]; then
+    local name=${COMP_WORDS[0]##*/} word=${COMP_WORDS[COMP_CWORD]} words options
+    case $name in
+        oberon_replay) words='@PROGRAM@' ;;
+        galluspa-*) options=${name#galluspa-} ;;
+        *) words='@WORDS@' ;;
+    esac
+    if [[ -n $words ]]; then
         if ((COMP_CWORD == 1)); then
-            local words='@COMMANDS@'
-            [[ $name == galluspa ]] && words='@WORDS@'
             COMPREPLY=($(compgen -W "$words" -- "$word"))
             return
         fi
-        name=${COMP_WORDS[1]}
+        options=${COMP_WORDS[1]}
     fi
     [[ $word == -* ]] || return
-    case $name in
+    [[ $name == oberon_replay ]] && options="oberon_replay $options"
+    case $options in
 @CASES@
     esac
 }
@@ -141,17 +128,20 @@ complete -o default -F _galluspa @NAMES@
 """
 
 
-def completion(tools: list[Tool], commands: dict[str, list[str]]) -> str:
-    """The completion for bash: of the program's commands with their options, and of the tools' options."""
-    options = dict(commands)
-    for it in tools:
-        options[f"{it.command}|{it.name}"] = [option for action in it.options for option in action.option_strings]
-    given = {name: " ".join(words) for name, words in options.items() if words}
-    cases = [f"        {name}) COMPREPLY=($(compgen -W '{words}' -- \"$word\")) ;;" for name, words in given.items()]
-    names = " ".join(["oberon_replay", *(it.command for it in tools)])
-    words = [*commands, *(it.name for it in tools if it.name != MAIN), "live", "--version", "--help"]
-    replaced = {"@COMMANDS@": " ".join([*commands, "help", "--help"]), "@WORDS@": " ".join(words),
-                "@CASES@": "\n".join(cases), "@NAMES@": names}
+def completion(commands: Iterable[Command], of_program: Mapping[str, list[str]], also: Iterable[str] = ()) -> str:
+    """Returns the completion for bash: of the subcommands with their options, and of the program's commands with
+    theirs. `also` are other commands that complete as `galluspa` does, or as a subcommand after `galluspa-`."""
+    options = {f"'oberon_replay {name}'": words for name, words in of_program.items()}
+    there = list(commands)
+    for it in there:
+        options[it.name] = [option for action in it.parser()._actions for option in action.option_strings]
+    cases = (f"        {name}) COMPREPLY=($(compgen -W '{' '.join(words)}' -- \"$word\")) ;;"
+             for name, words in options.items() if words)
+    replaced = {
+        "@PROGRAM@": " ".join([*of_program, "help", "--help"]),
+        "@WORDS@": " ".join([*(it.name for it in there), "help", "--version", "--help"]),
+        "@CASES@": "\n".join(cases), "@NAMES@": " ".join(["oberon_replay", NAME, *also]),
+    }
     text = COMPLETION
     for mark, value in replaced.items():
         text = text.replace(mark, value)

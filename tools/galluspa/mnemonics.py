@@ -1,7 +1,7 @@
 """Encodes an instruction from its mnemonic and its operands, in the notation that instructions.py writes."""
 
 import re
-from collections.abc import Sequence
+from collections.abc import Callable, Sequence
 from dataclasses import dataclass
 
 from galluspa.assembler import MOV, BYTE, LINK, U, V, branch, branch_register, imm, load, reg, store
@@ -30,12 +30,21 @@ class Operand:
     value: Value | None = None
 
 
-def operand_of(tokens: Sequence[Token], column: int, names: Names, here: int) -> Operand:
+def register_of(name: str) -> int | None:
+    """The number of a register by its name; None of any other name."""
+    found = REGISTER.fullmatch(name)
+    return int(found[1]) if found else None
+
+
+def operand_of(
+    tokens: Sequence[Token], column: int, names: Names, here: int,
+    registers: Callable[[str], int | None] = register_of,
+) -> Operand:
     """The operand that tokens write; `column` is that of its end."""
     text = " ".join(token.text for token in tokens)
     if len(tokens) == 1 and tokens[0].kind is Kind.NAME:
-        if found := REGISTER.fullmatch(text):
-            return Operand(text, tokens[0].column, register=int(found[1]))
+        if (register := registers(text)) is not None:
+            return Operand(text, tokens[0].column, register=register)
         if text.upper() in SPECIALS:
             return Operand(text, tokens[0].column, special=text.upper())
     begin = tokens[0].column if tokens else column
@@ -100,7 +109,7 @@ def _halves(op: int, a: int, operand: Operand) -> str:
         return ""
     if op != MOV:
         return ": MOV' and then IOR bring it into a register"
-    is_name = operand.text.isidentifier() and number >= 0
+    is_name = operand.text.replace(".", "_").isidentifier() and number >= 0
     halves = (f"{operand.text} {sign} 10000H" for sign in "/%") if is_name else divmod(number & 0xFFFFFFFF, 0x10000)
     upper, lower = halves
     return f": write MOV' R{a}, {upper} and then IOR R{a}, R{a}, {lower}"

@@ -22,7 +22,7 @@ def oddities(session: Session, address: int) -> Iterator[str]:
     words, other = (struct.unpack(f"{order}{len(whole) // 4}I", whole) for order in "<>")
     as_bytes = ""
     if session.pc % 4 == 0 and first <= session.pc < end and is_code(words, session.pc // 4, first):
-        as_bytes = f"; if it is a byte address, want PC={session.pc // 4:,}"
+        as_bytes = f"; if it is a byte address, use PC={session.pc // 4:,}"
     if at >= MEMORY_BYTES:
         yield (f"PC is {session.pc:,}, beyond the memory of {MEMORY_BYTES // 4:,} words: the machine stops at "
                f"once{as_bytes}")
@@ -33,7 +33,7 @@ def oddities(session: Session, address: int) -> Iterator[str]:
         yield (f"PC is {session.pc:,} (it counts words), which is byte {at:X} (hexadecimal), and the word there is "
                f"0{as_bytes}")
     elif is_code(other, session.pc, first) and not is_code(words, session.pc, first, FEW):
-        yield ("the words from PC on look like instructions only if the highest byte of each comes first: want an "
+        yield ("the words from PC on look like instructions only if the highest byte of each comes first: use an "
                "image with the lowest byte first")
     elif as_bytes and not is_code(words, session.pc, first, FEW):
         yield f"PC is {session.pc:,} (it counts words), and what is there does not look like instructions{as_bytes}"

@@ -2,6 +2,7 @@
 
 import os
 import re
+from collections.abc import Iterator, Mapping
 
 # By the names of other assemblers, in the order of the page; names in one row are separated by spaces.
 ROWS = (
@@ -63,9 +64,11 @@ SETTING = re.compile(r"(?:MOV|LSL|ASR|ROR|AND|ADD|SUB|MUL)S")
 # What a register is called elsewhere, and what is written here.
 REGISTERS = {
     "LR": "R15 has the way back after BL",
-    "SP": "there is no stack; any register may be its pointer",
     "PC": "no register has it; $ is the address here, and branches set it",
 }
+# The capital letters of names, and the longest name for which one that is like it in all letters but one is looked up.
+LETTERS = "ABCDEFGHIJKLMNOPQRSTUVWXYZ0123456789_"
+LONGEST_ALIKE = 40
 # What begins a token elsewhere, and what is written here.
 SIGNS = {
     "#": "a number is written without it, and a comment begins with a semicolon",
@@ -92,3 +95,26 @@ def are_alike(name: str, other: str) -> bool:
     rest, other_rest = one[at:], two[at:]
     swapped = rest[1:2] + rest[:1] + rest[2:]
     return len(one) > 2 and (rest == other_rest[1:] or rest[1:] == other_rest[1:] or swapped == other_rest)
+
+
+def alike_of(name: str, known: Mapping[str, tuple[int, str]]) -> str:
+    """The first of known names that is like a name; nothing, if none is. Each is known by itself in capital letters,
+    with its place among them. How long this takes depends on the name, and not on how many there are."""
+    found = [known[it] for it in _alike(name.upper()) if it in known]
+    return min(found)[1] if found else ""
+
+
+def _alike(name: str) -> Iterator[str]:
+    """All that is like a name in capital letters, as are_alike says, in capital letters too."""
+    yield name
+    if len(name) > LONGEST_ALIKE:
+        return
+    for at in range(len(name) + 1):
+        before, after = name[:at], name[at:]
+        if len(name) > 3:
+            yield before + after[1:]
+        if len(name) > 2:
+            yield before + after[1:2] + after[:1] + after[2:]
+            for letter in LETTERS:
+                yield before + letter + after
+                yield before + letter + after[1:]

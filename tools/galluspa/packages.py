@@ -13,37 +13,47 @@ from pathlib import Path
 from typing import IO, cast
 
 from galluspa.command import Refused, read_file
-from galluspa.manual import Tool, completion, page, tools_of
-from galluspa.program import TOP, Program
+from galluspa.commands import NAME, commands
+from galluspa.manual import completion, page
+from galluspa.places import TOP
+from galluspa.program import Program
 
 LAUNCHER = """#!/bin/sh
-exec /usr/bin/python3 -B "$(dirname "$(readlink -f "$0")")/../share/galluspa/tools/{name}" "$@"
+exec /usr/bin/python3 -B "$(dirname "$(readlink -f "$0")")/../share/galluspa/galluspa" "$@"
 """
+# The earlier name of a subcommand, as a command of its own.
+EARLIER = """#!/bin/sh
+exec "$(dirname "$(readlink -f "$0")")/galluspa" {name} "$@"
+"""
+# The subcommands that were commands of their own.
+EARLIER_COMMANDS = (
+    "assemble", "bisect", "claim", "coverage", "diff", "explain", "film", "find", "join", "listing", "output",
+    "recording-of", "report", "session", "slice", "suite", "trace",
+)
 LIBRARIES = ("libgalluspa.a", "libgalluspa.so")
 BUILT = ("crates/galluspa/out", "out/lib")
 FOLDERS = ("tools", "examples", "bench", "docs", "include")
-TEXTS = ("README.md", "CHANGELOG.md", "LICENSE", "web/galluspa.html")
+TEXTS = ("README.md", "CHANGELOG.md", "LICENSE", "web/galluspa.html", "galluspa")
 # What the README of a package says, wherever the package is.
 ABOUT = """# Galluspa
 
 An emulator of the workstation of Project Oberon (2013), with a recorder of sessions and a proved checker of recordings.
 
     galluspa share/galluspa/examples/face.orsr      the verdict line of a recording
-    galluspa report FILE > page.html                a page of it; `galluspa --help` names the other tools
+    galluspa report FILE > page.html                a page of it; `galluspa --help` lists the other commands
     galluspa live                                   the live machine, in a browser
-    man galluspa                                    the manual pages: man galluspa-report and so on
+    man galluspa                                    the manual page, a section for each command
 
 | what | where, below {prefix} |
 |---|---|
-| the commands | `bin/` |
+| the commands `galluspa` and `oberon_replay` | `bin/` |
 | the documents, which README.md lists | `share/galluspa/README.md`, `share/galluspa/docs/` |
 | examples, and a suite of recordings for emulators | `share/galluspa/examples/` |
 | the live page | `share/galluspa/web/galluspa.html` |
 | the library for C, and its header | `lib/`, `include/galluspa.h` |
 
-If `bin/` is not in your path, as it is not after a tarball is unpacked, type `bin/galluspa`. Where the documents say
-`tools/report`, type `galluspa report`. They also describe how to prove and build the program from its sources, which
-are not in this package.
+If `bin/` is not in your path, as it is not after a tarball is unpacked, type `bin/galluspa`. The documents also
+describe how to prove and build the program from its sources, which are not in this package.
 """
 MENU = """[Desktop Entry]
 Type=Application
@@ -53,7 +63,8 @@ Exec=galluspa live
 Terminal=false
 Categories=System;Emulator;
 """
-ONLY_HERE = {"__pycache__", "out", "build-library", "package", "packages.py", "manual.py"}
+# What a clone has and nothing that is installed: what is built or compiled, and what makes packages.
+ONLY_HERE = {"__pycache__", "out", "build_library.py", "package.py", "packages.py", "manual.py", "wheel.py"}
 
 
 def library_folder(given: Path | None) -> Path:
@@ -88,27 +99,28 @@ class Contents:
 
     def files(self) -> Iterator[File]:
         """All files, below a prefix such as /usr; share/galluspa is laid out as the repository."""
-        tools = [it for it in tools_of(TOP / "tools") if it.name not in ONLY_HERE]
         yield File("bin/oberon_replay", read_file(self.program.path), True)
-        yield from (File(f"bin/{it.command}", LAUNCHER.format(name=it.name).encode(), True) for it in tools)
+        yield File(f"bin/{NAME}", LAUNCHER.encode(), True)
+        yield from (File(f"bin/{NAME}-{name}", EARLIER.format(name=name).encode(), True) for name in EARLIER_COMMANDS)
         yield from (File(f"lib/{_multiarch()}/{name}", read_file(self.library / name)) for name in LIBRARIES)
         yield File("include/galluspa.h", read_file(TOP / "include/galluspa.h"))
         yield File("share/galluspa/VERSION", f"{self.version}\n".encode())
         yield File("share/applications/galluspa.desktop", MENU.encode())
         yield File("share/doc/galluspa/README.md", ABOUT.format(prefix="the prefix, such as /usr").encode())
-        yield from self._words_of(tools)
+        yield from self._words()
         for folder in FOLDERS:
             yield from _tree(TOP / folder, f"share/galluspa/{folder}")
-        yield from (File(f"share/galluspa/{name}", read_file(TOP / name)) for name in TEXTS)
+        yield from (File(f"share/galluspa/{name}", read_file(TOP / name), _is_run(TOP / name)) for name in TEXTS)
         yield File("share/doc/galluspa/copyright", read_file(TOP / "LICENSE"))
 
-    def _words_of(self, tools: list[Tool]) -> Iterator[File]:
+    def _words(self) -> Iterator[File]:
         """The manual pages, and the completion of each command."""
-        pages = {it.command: page(it, self.date).encode() for it in tools}
-        pages["oberon_replay"] = read_file(TOP / "docs/oberon_replay.1")
+        there = commands(is_clone=False)
+        pages = {NAME: page(there, self.date).encode(), "oberon_replay": read_file(TOP / "docs/oberon_replay.1")}
         yield from (File(f"share/man/man1/{name}.1.gz", gzip.compress(text, mtime=0)) for name, text in pages.items())
-        completed = completion(tools, commands_of(self.program)).encode()
-        yield from (File(f"share/bash-completion/completions/{name}", completed) for name in pages)
+        earlier = [f"{NAME}-{name}" for name in EARLIER_COMMANDS]
+        completed = completion(there, commands_of(self.program), earlier).encode()
+        yield from (File(f"share/bash-completion/completions/{name}", completed) for name in (*pages, *earlier))
 
 
 def about() -> File:
@@ -117,11 +129,16 @@ def about() -> File:
 
 
 def _tree(folder: Path, to: str) -> Iterator[File]:
-    """The files of a folder, but for what was built or compiled, and for what makes packages."""
+    """The files of a folder, but for what only a clone has, and for the earlier names of the subcommands."""
     for path in sorted(folder.rglob("*")):
         parts = path.relative_to(folder).parts
-        if path.is_file() and not ONLY_HERE & set(parts):
-            yield File("/".join([to, *parts]), read_file(path), bool(path.stat().st_mode & 0o111))
+        if path.is_file() and not ONLY_HERE & set(parts) and (folder, _is_run(path)) != (TOP / "tools", True):
+            yield File("/".join([to, *parts]), read_file(path), _is_run(path))
+
+
+def _is_run(path: Path) -> bool:
+    """Whether a file can be run."""
+    return bool(path.stat().st_mode & 0o111)
 
 
 def _multiarch() -> str:

@@ -20,11 +20,13 @@ from galluspa.instructions import instruction
 from galluspa.library import Library
 from galluspa.limits import TimeIsUp
 from galluspa.live import Live
+from galluspa.naming import with_remark
 from galluspa.pages import templates
 from galluspa.pictures import Screens, screens, with_differences_in_red
 from galluspa.program import ACCEPTED, REFUSED, Answer, Program
 from galluspa.recording import PAGE_BYTES, PLACES, WORDS_IN_PAGE, Checkpoint, Recording
 from galluspa.states import Part
+from galluspa.symbols import NONE, Symbols
 from galluspa.tracing import Run
 
 INPUTS_IN_BLOCK = 500
@@ -81,17 +83,20 @@ class Report:
     answer: Answer
     recording: Recording | None
     library: str | None = None
+    symbols: Symbols = NONE
 
     @staticmethod
-    def of(program: Program, name: str, text: bytes, library: str | None = None) -> "Report":
+    def of(
+        program: Program, name: str, text: bytes, library: str | None = None, symbols: Symbols = NONE
+    ) -> "Report":
         """The report on a text, after the program has judged it, or had no time to; the library, if it is found,
-        says what is false."""
+        says what is false. Names are shown beside the addresses that they stand for."""
         try:
             answer = program.check(text, min(os.cpu_count() or 1, 64))
             read = None if answer.status == REFUSED else recording.read(text)
         except TimeIsUp as over:
             answer, read = Answer(str(over).encode(), FAILED), _lawful(program, text)
-        return Report(printable(name), text, program, answer, read, library)
+        return Report(printable(name), text, program, answer, read, library, symbols)
 
     @property
     def _read(self) -> Recording:
@@ -149,6 +154,7 @@ class Report:
             drawn=drawn,
             file=shlex.quote(self.name),
             explanation=explanation,
+            symbols=self.symbols,
             pictures=self._pictures(),
             shown=self._shown(drawn) if drawn else (),
             inputs=self._inputs() if self.recording else (),
@@ -161,7 +167,7 @@ class Report:
             yield from fault.explanation
             yield from (line.before + line.marked + line.after for line in fault.lines)
         if self.false:
-            yield from explanation.plain(self.false)
+            yield from explanation.plain(self.false, symbols=self.symbols)
             yield ""
         if self.over:
             yield self.over
@@ -218,7 +224,9 @@ class Report:
             return ""
         word = self._read.word(checkpoint, checkpoint.pc)
         decoded = instruction(word, checkpoint.pc)
-        return f"{checkpoint.pc}  {word:08X}  {decoded.mnemonic}   {decoded.meaning}"
+        shown = f"{checkpoint.pc}  {word:08X}  {decoded.mnemonic}   {decoded.meaning}"
+        at = 4 * checkpoint.pc
+        return with_remark(shown, [*filter(None, (self.symbols.text(at), self.symbols.source(at)))])
 
     def _marks(self, shown: Shown, part: Part) -> Markup:
         """The class of a part's cell."""

@@ -8,13 +8,9 @@ from functools import cached_property
 from pathlib import Path
 from typing import BinaryIO
 
-from galluspa import children
+from galluspa import children, places
 from galluspa.command import FAILED, MOST, Failed, Refused
 from galluspa.limits import Limit
-
-TOP = Path(__file__).resolve().parents[2]
-BUILT = TOP / "crates/oberon_replay/out/oberon_replay"
-INSTALLED = TOP.parent.parent / "bin/oberon_replay"
 
 ACCEPTED = 0
 FALSE = 1
@@ -66,12 +62,13 @@ class Program:
 
     @staticmethod
     def find(given: str | None, limit: Limit | None = None) -> "Program":
-        """The program that was given, or else the one that was built in this repository, or installed with these
-        tools."""
-        path = Path(given) if given else INSTALLED if INSTALLED.is_file() and not BUILT.is_file() else BUILT
+        """The program that was given, or else the one that was built in this clone, or installed with these tools."""
+        path = Path(given) if given else places.program()
+        if not path:
+            raise Refused("there is no program oberon_replay: build it (rt run in crates/oberon_replay), or name one "
+                          "with --program")
         if not path.is_file() or not os.access(path, os.X_OK):
-            advice = "" if given else "; build it (rt run in crates/oberon_replay), or name one with --program"
-            raise Refused(f"no program at {path}{advice}")
+            raise Refused(f"no program at {path}")
         return Program(path.resolve(), limit)
 
     def check(self, text: bytes, workers: int | None = None) -> Answer:
@@ -106,7 +103,7 @@ class Program:
         return Answer(ended.output, ended.status)
 
     def _ask(self, *words: str, given: bytes | BinaryIO) -> Answer:
-        """The same, refused if it is not an answer about the input."""
+        """Returns the same. Raises if the program failed or refused its arguments."""
         answer = self.answer(words, given)
         if answer.status not in (ACCEPTED, FALSE, REFUSED):
             said = answer.line if len(answer.output) < 100 else "a part of its answer"

@@ -112,7 +112,7 @@ def changes(before: Run, after: Run) -> list[Change]:
 
 
 def _told_change(old: Kept, new: Kept) -> str:
-    bytes_too = "" if old.sha256 == new.sha256 else " (its bytes are others, too)"
+    bytes_too = "" if old.sha256 == new.sha256 else " (the file changed too)"
     return f"{new.answered}, was {old.answered}{bytes_too}"
 
 

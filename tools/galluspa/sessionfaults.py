@@ -23,7 +23,9 @@ MEMBERS = ("format", "version", "start", "pages", "inputs", "checkpoints")
 # So many of each sign at most are in a session whose members are named once: an object for each page, an array for
 # each input, and some more. A text with more is not taken apart here, as that wants much memory.
 SIGNS = {"{": (PLACES + 2, "objects"), "[": (INPUTS + 4, "arrays"), '"': (2 * INPUTS + 10 * PLACES, "quotation marks")}
-TOKEN = re.compile(r'"(?:[^"\\]|\\.)*"|[][{}]', re.DOTALL)
+# A string, or one without its end up to that of the text; a sign that nests; or what is between these. Each sign of a
+# text is in one of them, so none is read twice.
+TOKEN = re.compile(r'"(?:[^"\\]|\\.)*(?:"|\\?\Z)|[][{}]|[^][{}"]+', re.DOTALL)
 SHOWN = 60
 RECORD_LINES = {
     "record refused 1 output": "a recording has at most 1,048,576 bytes sent, and the session sends more",

@@ -129,7 +129,7 @@ def set_register(session: Session, assignment: str) -> None:
         return
     value, most = number(written), {"PC": (1 << 22) - 1, "flags": 15}.get(name, 0xFFFFFFFF)
     if not is_set or name not in (*REGISTERS, "H", "PC", "flags", "rate", "phase"):
-        raise Refused(f"--set {assignment}: want R0 to R15, H, PC, flags, rate or phase, an equals sign and a value")
+        raise Refused(f"--set {assignment}: give R0 to R15, H, PC, flags, rate or phase, an equals sign and a value")
     if value is None or value > most:
         raise Refused(f"--set {assignment}: {written!r} is not a whole number from 0 to {most:,}")
     if name in REGISTERS:
@@ -163,7 +163,7 @@ def inputs_of(path: Path) -> list[Event]:
 
 def _input(where: str, cells: list[str], least: int) -> Event:
     if len(cells) != 3:
-        raise Refused(f"{where}: want three cells: count, kind, value")
+        raise Refused(f"{where}: write three cells: count, kind, value")
     count, kind, value = number(cells[0]), cells[1].lower(), number(cells[2])
     if count is None or not least <= count <= COUNTS:
         raise Refused(f"{where}: {cells[0]!r} is not a count from {least:,}, that of the input before, to {COUNTS:,}")

@@ -5,7 +5,6 @@ from dataclasses import dataclass, field
 
 from galluspa import endings
 from galluspa.assembly import Assembly, Problem, only
-from galluspa.mnemonics import REGISTER
 from galluspa.recording import FLAGS, Event
 from galluspa.sessions import CHECKPOINTS as MOST_CHECKPOINTS
 from galluspa.sessions import COUNTS, INPUTS, KIND_NUMBERS, MEMORY_BYTES, MOST, MOUSE, Session
@@ -85,7 +84,7 @@ def _check(it: Assembly, made: Settings) -> None:
             raise Wrong(column, f"phase {session.phase:,} is not below the rate {session.rate:,}, or 0 if that is 0")
     if made.every and not made.last and not made.until:
         with it.keeping(made.every.line):
-            raise Wrong(made.every.name.column, "every wants an end: every N, LAST, or a line with until")
+            raise Wrong(made.every.name.column, "every needs an end: every N, LAST, or a line with until")
     if len(session.inputs) > INPUTS:
         line, column = next((one.line, one.name.column) for one in it.statements if one.does == INPUT)
         with it.keeping(line):
@@ -111,14 +110,14 @@ def _set(it: Assembly, made: Settings, statement: Statement) -> None:
     """Sets a register to a word, or flags by their letters."""
     argument = only(statement)
     if len(argument.tokens) < 3 or not argument.tokens[1].is_mark("="):
-        raise Wrong(argument.column, "set wants a register or flags, an equals sign and a value")
+        raise Wrong(argument.column, "set needs a register or flags, an equals sign and a value")
     name, value = argument.tokens[0], Argument(argument.tokens[2:], argument.end)
     if name.text.lower() == "flags":
         made.session.flags = _flags(value)
         return
     number = _bounded(it, statement, value, -(1 << 31), WORD, "the value") & WORD
-    if found := REGISTER.fullmatch(name.text):
-        made.session.registers[int(found[1])] = number
+    if (register := it.register_of(name.text)) is not None:
+        made.session.registers[register] = number
     elif name.text.upper() == "H":
         made.session.h = number
     else:
@@ -143,7 +142,7 @@ def _phase(it: Assembly, made: Settings, statement: Statement) -> None:
 def _input(it: Assembly, made: Settings, statement: Statement) -> None:
     """Adds an input, or one for each byte of a string."""
     if len(statement.arguments) != 3:
-        raise Wrong(statement.name.column, "input wants a count, a kind and a value")
+        raise Wrong(statement.name.column, "input needs a count, a kind and a value")
     count, kind, value = statement.arguments
     least = made.session.inputs[-1].count if made.session.inputs else 0
     at = _bounded(it, statement, count, least, COUNTS, "the count")
@@ -162,32 +161,33 @@ def _input(it: Assembly, made: Settings, statement: Statement) -> None:
 
 def _checkpoints(it: Assembly, made: Settings, statement: Statement) -> None:
     if not statement.arguments:
-        raise Wrong(statement.name.column, "checkpoints wants counts")
+        raise Wrong(statement.name.column, "checkpoints needs counts")
     for argument in statement.arguments:
         made.counts.add(_bounded(it, statement, argument, 1, COUNTS, "the count"))
 
 
 def _every(it: Assembly, made: Settings, statement: Statement) -> None:
-    _once(made.every, statement)
+    _once(it, made.every, statement)
     if not 1 <= len(statement.arguments) <= 2:
-        raise Wrong(statement.name.column, "every wants a number of instructions, and perhaps the last count")
+        raise Wrong(statement.name.column, "every needs a number of instructions, and perhaps the last count")
     step, *last = [_bounded(it, statement, one, 1, COUNTS, "the count") for one in statement.arguments]
     made.every, made.step, made.last = statement, step, last[0] if last else 0
 
 
 def _until(it: Assembly, made: Settings, statement: Statement) -> None:
-    _once(made.until, statement)
+    _once(it, made.until, statement)
     made.until = statement
     if not 1 <= len(statement.arguments) <= 2 or statement.arguments[0].text.lower() not in endings.ENDS:
-        raise Wrong(statement.name.column, "until wants stops or loops, and perhaps the most instructions to try")
+        raise Wrong(statement.name.column, "until needs stops or loops, and perhaps the most instructions to try")
     made.end = statement.arguments[0].text.lower()
     for most in statement.arguments[1:]:
         made.most = _bounded(it, statement, most, 1, COUNTS, "the count")
 
 
-def _once(before: Statement | None, statement: Statement) -> None:
+def _once(it: Assembly, before: Statement | None, statement: Statement) -> None:
     if before:
-        raise Wrong(statement.name.column, f"{statement.name.text} is in line {before.line} already")
+        where = it.line_text(before.line, statement.line)
+        raise Wrong(statement.name.column, f"{statement.name.text} is in {where} already")
 
 
 SETTERS: dict[str, Callable[[Assembly, Settings, Statement], None]] = {

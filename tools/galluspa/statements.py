@@ -9,10 +9,11 @@ from galluspa.tokens import Kind, Token, Wrong, tokens_of
 
 CONSTANT, INSTRUCTION, ORIGIN, OFFSETS = "=", "instruction", "origin", "offsets"
 WORD, BYTE, STRING = "word", "byte", "string"
+INCLUDE = "include"
 START, SET, RATE, PHASE, INPUT, CHECKPOINTS, EVERY, UNTIL = SETTINGS = (
     "start", "set", "rate", "phase", "input", "checkpoints", "every", "until",
 )
-DIRECTIVES = frozenset((ORIGIN, OFFSETS, WORD, BYTE, STRING, *SETTINGS))
+DIRECTIVES = frozenset((ORIGIN, OFFSETS, WORD, BYTE, STRING, INCLUDE, *SETTINGS))
 # What a statement may be meant to begin with, in the order in which it is suggested.
 _FIRST_WORDS = (*sorted(MNEMONICS), *sorted(DIRECTIVES))
 
@@ -77,9 +78,11 @@ def content(argument: Argument) -> bytes:
 def statement_of(line: int, source: str) -> Statement:
     """The statement of a line."""
     tokens, labels = tokens_of(source), list[Token]()
-    while len(tokens) > 1 and tokens[0].kind is Kind.NAME and tokens[1].is_mark(":"):
-        labels.append(tokens[0])
-        tokens = tokens[2:]
+    at = 0
+    while at + 1 < len(tokens) and tokens[at].kind is Kind.NAME and tokens[at + 1].is_mark(":"):
+        labels.append(tokens[at])
+        at += 2
+    tokens = tokens[at:]
     if not tokens:
         return Statement(line, source, labels)
     name, rest, end = tokens[0], tokens[1:], tokens[-1].column + len(tokens[-1].text)

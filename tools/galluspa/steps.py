@@ -15,7 +15,6 @@ from galluspa.program import ACCEPTED, Program
 from galluspa.recording import Checkpoint, Event, Recording
 from galluspa.sessions import CHECKPOINTS
 
-STRETCHES = 64
 MEMORY_WORDS = recording.PLACES * recording.WORDS_IN_PAGE
 
 
@@ -37,16 +36,6 @@ def counts_of(read: Recording, most: int) -> list[int]:
     of_each = max(1, most // max(1, len(ends) - 1))
     counts = [count for first, last in zip(ends, ends[1:]) for count in range(first, min(last, first + of_each))]
     return counts if ends[-1] <= most else counts[:most]
-
-
-def spread(to: int, most: int) -> list[int]:
-    """The counts of the instructions of a run up to a count, or of stretches of it that are evenly spread, so many
-    counts in all at most."""
-    if to <= most:
-        return list(range(to))
-    length = most // STRETCHES
-    starts = [(to - length) * at // (STRETCHES - 1) for at in range(STRETCHES)]
-    return sorted({count for start in starts for count in range(start, start + length)})
 
 
 def steps_of(program: Program, name: str, read: Recording, counts: list[int]) -> Iterator[Step]:

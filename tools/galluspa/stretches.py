@@ -73,7 +73,7 @@ def joined(read: Recording, lines: Iterable[Found]) -> Found:
     looked_at = set[int]().union(*(range(it.first + 1, it.last + 1) for it in lines))
     for number in range(1, (last if least.false is None else least.false) + 1):
         if number not in looked_at:
-            raise Refused(f"no line is of the stretch from checkpoint {number - 1} to {number}")
+            raise Refused(f"no slice covers checkpoint {number - 1} to {number}")
     return Found(0, last, least.false, least.part)
 
 

@@ -9,7 +9,8 @@ from galluspa.others import SIGNS
 DIGITS = 20
 ESCAPES = {"n": 10, "r": 13, "t": 9, "0": 0, "\\": 92, '"': 34, "'": 39}
 PATTERN = re.compile(
-    r"""(?P<space>[ \t\r\f]+)|(?P<comment>;.*)|(?P<name>[A-Za-z_][A-Za-z0-9_]*'?)|(?P<number>[0-9][0-9A-Za-z_]*)"""
+    r"""(?P<space>[ \t\r\f]+)|(?P<comment>;.*)|(?P<name>[A-Za-z_][A-Za-z0-9_]*(?:\.[A-Za-z_][A-Za-z0-9_]*)*'?)"""
+    r"""|(?P<number>[0-9][0-9A-Za-z_]*)"""
     r"""|(?P<character>'(?:\\.[0-9A-Fa-f]{0,2}|[^'\\])')|(?P<string>"(?:[^"\\]|\\.)*")|(?P<mark>[:,=+\-*/%()$])""",
 )
 # A hexadecimal number as other assemblers write it: no expression has $, the address here, and digits after it.

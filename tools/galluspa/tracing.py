@@ -128,7 +128,7 @@ class Run:
         """The run of the recording in a file, from those of its checkpoints that a check by all processors finds
         true."""
         text = read_file(path)
-        progress("the recording is checked")
+        progress("checking the recording")
         answer = program.check(text, WORKERS)
         progress("")
         if answer.status == REFUSED:

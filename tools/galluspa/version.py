@@ -2,17 +2,25 @@
 
 import subprocess
 import time
+from pathlib import Path
 
-from galluspa.program import TOP
-
-FILE = TOP / "VERSION"
+from galluspa.places import OF_WHEEL, TOP, first_of
 
 
 def version() -> str:
     """The version of these tools and of the program that was installed with them."""
-    if FILE.is_file():
-        return FILE.read_text().strip()
-    return f"{of_commit(last_commit())}, as it is in the repository"
+    return number() + ("" if _file() else ", as it is in the repository")
+
+
+def number() -> str:
+    """The same, as a number."""
+    file = _file()
+    return file.read_text().strip() if file else of_commit(last_commit())
+
+
+def _file() -> Path | None:
+    """The file that says the version, of what was made with one."""
+    return first_of(OF_WHEEL / "VERSION", TOP / "VERSION")
 
 
 def of_commit(when: int) -> str:

@@ -1,0 +1,158 @@
+"""The command `galluspa` and its subcommands: a module of this package for each, which is imported when it is used.
+
+The module of a subcommand has `parser()`, which returns its command line, and `main(asked)`, which carries out what a
+command line asks for and returns the exit status.
+"""
+
+import difflib
+from argparse import SUPPRESS, Action, ArgumentParser, Namespace
+from collections.abc import Sequence
+from dataclasses import dataclass
+from importlib import import_module
+from pathlib import Path
+from types import ModuleType
+from typing import Any
+
+from galluspa.command import OK, REFUSED, WRONG, Parser, Refused, name_as
+from galluspa.places import IS_CLONE
+
+NAME = "galluspa"
+ABOUT = "Emulates the workstation of Project Oberon (2013), records sessions of it, and checks recordings."
+# The subcommand that is meant if the first word names a file.
+CHECK = "check"
+
+
+@dataclass(frozen=True)
+class Command:
+    """A subcommand: its name, what it does in one line, and whether only a clone has it."""
+
+    name: str
+    does: str
+    is_of_clone: bool = False
+
+    @property
+    def full_name(self) -> str:
+        """Its name as it is typed."""
+        return f"{NAME} {self.name}"
+
+    def module(self) -> ModuleType:
+        """Imports its module."""
+        return import_module(f"{__name__}.{self.name.replace('-', '_')}")
+
+    def parser(self) -> Parser:
+        """Returns its command line."""
+        parser: Parser = self.module().parser()
+        parser.prog = self.full_name
+        return parser
+
+
+GROUPS = {
+    "Check, record and run": (
+        Command(CHECK, "print the verdict lines of recordings; `galluspa FILE ..` does the same"),
+        Command("record", "make the recording of a session"),
+        Command("screen", "draw the screen that a checkpoint claims"),
+        Command("migrate", "write a recording in the current version of the format"),
+        Command("live", "open the live machine in a browser"),
+    ),
+    "Write programs and sessions": (
+        Command("assemble", "assemble a source into a session, a memory image or a list of its words"),
+        Command("session", "make a session from a memory image, registers and inputs, or from a recording"),
+        Command("listing", "list the instructions of a session or a recording"),
+    ),
+    "Look into a recording": (
+        Command("report", "make one page of a recording, to attach to a bug report"),
+        Command("recording-of", "take the recording out of a report that `report --live` made"),
+        Command("explain", "say why a recording is false, or why a recording or a session is refused"),
+        Command("find", "find when something happens in a run: the first time, the last or each"),
+        Command("trace", "print the instructions of a run, and what each changes"),
+        Command("diff", "print the first input, checkpoint and part in which two recordings differ"),
+        Command("output", "print the bytes that a recording claims were sent"),
+        Command("film", "make an animated PNG of the screen, or a picture of one checkpoint"),
+    ),
+    "Keep suites and compare emulators": (
+        Command("suite", "check each recording under a folder, in parallel, and print TAP"),
+        Command("coverage", "report what suites exercise of the machine, and what they do not"),
+        Command("bisect", "find the instruction after which another emulator and the machine differ"),
+        Command("slice", "cut the stretch between two checkpoints out of a recording"),
+        Command("join", "make the verdict line of a recording from the lines of its slices"),
+        Command("claim", "change one claim of a recording"),
+    ),
+    "Build from a clone": (
+        Command("package", "make a Debian package and a tarball of program, library and tools", is_of_clone=True),
+        Command("build-library", "prove the library for C and build it", is_of_clone=True),
+    ),
+}
+
+
+def commands(is_clone: bool = IS_CLONE) -> list[Command]:
+    """Returns the subcommands that there are, here or in a clone."""
+    return [it for group in GROUPS.values() for it in group if is_clone or not it.is_of_clone]
+
+
+class _Unread(Parser):
+    """Stands in for the command line of a subcommand, which is made when it has to read arguments."""
+
+    def __init__(self, prog: str) -> None:
+        super().__init__("", "")
+        self.prog = prog
+
+    def parse_known_args(self, args: Any = None, namespace: Any = None) -> Any:
+        name_as(self.prog)
+        return next(it for it in commands() if it.full_name == self.prog).parser().read(args), []
+
+
+class _Version(Action):
+    """Prints the version, which takes time to find out, and ends."""
+
+    def __call__(self, parser: ArgumentParser, *_: object) -> None:
+        from galluspa.version import version
+
+        print(f"{NAME} {version()}")
+        parser.exit()
+
+
+def parser() -> Parser:
+    """Returns the command line of `galluspa`, with those of all subcommands."""
+    options = Parser(
+        f"{ABOUT}\n\n{_listing()}\n\n`{NAME} help COMMAND` prints the usage of a command.",
+        f"{NAME} examples/face.orsr",
+        {OK: "the recording is accepted, or what was asked for is printed", WRONG: "a recording is false",
+         REFUSED: "a file or an argument is refused"},
+    )
+    options.prog = NAME
+    options.usage = f"{NAME} COMMAND ..\n       {NAME} FILE .."
+    options.add_argument("--version", action=_Version, nargs=0, help="print the version and exit")
+    subcommands = options.add_subparsers(
+        dest="subcommand", metavar="COMMAND", prog=NAME, help=str(SUPPRESS), parser_class=_Unread)
+    for it in commands():
+        subcommands.add_parser(it.name)
+    return options
+
+
+def _listing() -> str:
+    """The subcommands, group by group, a line for each."""
+    there = commands()
+    groups = ((title, [it for it in group if it in there]) for title, group in GROUPS.items())
+    return "\n\n".join(
+        "\n".join([f"{title}:", *(f"  {it.name:15}{it.does}" for it in group)]) for title, group in groups if group)
+
+
+def main(arguments: Sequence[str]) -> int:
+    """Carries out the subcommand that the arguments name, and returns the exit status."""
+    asked: Namespace = parser().parse_args(_with_command(list(arguments)))
+    names = {it.name: it for it in commands()}
+    return names[asked.subcommand].module().main(asked)
+
+
+def _with_command(words: list[str]) -> list[str]:
+    """The arguments, with the subcommand that is meant."""
+    if words[:1] == ["help"]:
+        words = [*words[1:2], "--help"]
+    first, names = words[0] if words else "--help", [it.name for it in commands()]
+    if first in names or first.startswith("-"):
+        return words or [first]
+    if Path(first).exists():
+        return [CHECK, *words]
+    near = difflib.get_close_matches(first, names, 1)
+    advice = f"; did you mean {near[0]}?" if near else ""
+    raise Refused(f"{first}: neither a file nor a command{advice} (see {NAME} --help)")

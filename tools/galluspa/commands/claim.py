@@ -1,0 +1,55 @@
+"""Changes one claim of a recording, for lessons and to test checkers."""
+
+from argparse import Namespace
+from dataclasses import replace
+from pathlib import Path
+
+from galluspa import recording
+from galluspa.command import Parser, Refused, number, read_file, whole_number, write_bytes
+from galluspa.program import Program
+from galluspa.recording import Checkpoint
+from galluspa.states import REGISTERS, WORDS
+
+
+def parser() -> Parser:
+    """The command line of this tool."""
+    options = Parser("Prints a recording with one claim changed: a part of a checkpoint claims another value.",
+                   "galluspa claim examples/face.orsr --at 1 --set R5=9 > false.orsr")
+    options.add_argument("recording", metavar="RECORDING", type=Path)
+    options.add_argument("--at", metavar="K", type=whole_number(0, 4096), required=True,
+                         help="the number of the checkpoint")
+    options.add_argument("--set", metavar="NAME=VALUE", required=True,
+                       help="R0 to R15, H, PC, flags, stop, timer, rate, phase, switches, LEDs, mouse or serial, and "
+                            "what it claims")
+    options.add_program_option()
+    return options
+
+
+def claiming(checkpoint: Checkpoint, name: str, value: int) -> Checkpoint:
+    """A checkpoint that claims a value for one part."""
+    if name in WORDS:
+        return replace(checkpoint, **{WORDS[name]: value})
+    registers = list(checkpoint.registers)
+    registers[REGISTERS.index(name)] = value
+    return replace(checkpoint, registers=tuple(registers))
+
+
+def main(asked: Namespace) -> int:
+    """Prints the recording that was asked for."""
+    program = Program.find(asked.program)
+    read = recording.lawful(program, str(asked.recording), read_file(asked.recording))
+    name, _, written = asked.set.partition("=")
+    value = number(written)
+    if name not in (*REGISTERS, *WORDS) or value is None or value >= 1 << 32:
+        names = ", ".join((*REGISTERS, *WORDS))
+        raise Refused(f"--set {asked.set}: give one of {names}, an equals sign and a number below 2^32")
+    if read.version == 1 and name in ("rate", "phase"):
+        raise Refused(f"{asked.recording}: a recording of version 1 claims no {name} "
+                      "(galluspa migrate makes version 2)")
+    if asked.at >= len(read.checkpoints):
+        raise Refused(f"{asked.recording}: no checkpoint {asked.at}")
+    read.checkpoints[asked.at] = claiming(read.checkpoints[asked.at], name, value)
+    text = recording.write(read)
+    recording.lawful(program, f"--set {asked.set}", text)
+    write_bytes(text)
+    return 0

@@ -1,0 +1,84 @@
+"""Explains why a recording is not accepted, or why a session is refused.
+
+For a false recording it prints each part in which the first false checkpoint and the machine differ, the last
+instructions that wrote the part that differs first, and when that part had the claimed value. For a refused file it
+prints the field or the member, what it has and the rule that it breaks. The exit status is that of the verdict line.
+"""
+
+from argparse import Namespace
+from collections.abc import Iterator
+from pathlib import Path
+from textwrap import dedent
+
+from galluspa import recording
+from galluspa.command import OK, REFUSED, WRONG, Parser, read_file, whole_number
+from galluspa.explanation import WORDS_SHOWN, callers_of, explain_false, plain
+from galluspa.faults import explain_fault
+from galluspa.library import WORDS, Library
+from galluspa.limits import Limit, TimeIsUp
+from galluspa.program import Answer, Program
+from galluspa.sessionfaults import explain_session, is_session
+from galluspa.symbols import Symbols, symbols_for
+from galluspa.tracing import Run
+
+STEPS = 1000
+
+
+def parser() -> Parser:
+    """The command line of this tool."""
+    options = Parser(
+        dedent("""\
+            Explains why a recording is not accepted, or why a session is refused. For a false recording: each
+            part in which its first false checkpoint and the machine differ, the last instructions that wrote
+            the first of them, and when it had the claimed value. For a refused file: the field or the member,
+            and the rule that it breaks."""),
+        "galluspa explain false.orsr",
+        {OK: "the recording is accepted, or the session is recorded", WRONG: "the recording is false",
+         REFUSED: "the recording, the session or an argument is refused"},
+    )
+    options.add_argument("recording", metavar="FILE", type=Path, help="a recording, or a session")
+    options.add_argument("--steps", metavar="N", type=whole_number(1, 1 << 40), default=STEPS,
+                       help=f"examine N instructions before the false checkpoint one by one, and a tenth of that after "
+                            f"it (default {STEPS:,}; some ten thousand take a second)")
+    options.add_argument("--words", metavar="N", type=whole_number(0, WORDS), default=WORDS_SHOWN,
+                       help=f"print at most N words of memory (default {WORDS_SHOWN})")
+    options.add_symbols_option()
+    options.add_limit_option("end after so many seconds, with what was found by then")
+    options.add_program_option()
+    options.add_library_option()
+    return options
+
+
+def explanation(
+    text: bytes, answer: Answer, program: Program, asked: Namespace, symbols: Symbols
+) -> Iterator[str]:
+    """The lines that explain what the program answers to a recording's text."""
+    library = Library.find(asked.library, program.limit) if answer.false_claim else None
+    yield answer.line
+    if answer.fault:
+        yield ""
+        yield from explain_fault(text, *answer.fault).plain()
+    if library and answer.false_claim:
+        read = recording.read(text)
+        looked_at = Run.of_answer(library, text, read, answer)
+        yield ""
+        it = explain_false(looked_at, program, read, answer.false_claim, asked.steps)
+        try:
+            callers = callers_of(looked_at, it, symbols) if symbols else ""
+        except TimeIsUp:
+            callers = ""
+        yield from plain(it, asked.words, symbols, callers)
+
+
+def main(asked: Namespace) -> int:
+    """Prints the explanation that was asked for; the status is that of the verdict line."""
+    text, program = read_file(asked.recording), Program.find(asked.program, Limit(asked.limit))
+    if is_session(asked.recording.name, text):
+        answer = program.record(text)
+        print("\n".join(explain_session(text, answer)))
+        return answer.status
+    symbols = symbols_for(asked.symbols, asked.recording)
+    answer = program.check(text)
+    for line in explanation(text, answer, program, asked, symbols):
+        print(line)
+    return answer.status

@@ -1,0 +1,109 @@
+"""Finds when something happens in the run of a recording: the instruction that stores to an address, or sends a byte.
+
+It prints the first instruction at which a condition holds, the last one, or all of them, each with its count and what
+it changes, as `galluspa trace` shows it. The search shows the machine, whatever the recording claims.
+"""
+
+import json
+from argparse import Namespace
+from collections.abc import Iterator
+from pathlib import Path
+from textwrap import dedent
+
+from galluspa.command import FAILED, OK, WRONG, Parser, Refused, complain, whole_number
+from galluspa.conditions import CONDITIONS, conditions_of
+from galluspa.finding import Hit, Search
+from galluspa.library import Library
+from galluspa.limits import Limit, TimeIsUp
+from galluspa.naming import named_object, placed_lines
+from galluspa.program import Program
+from galluspa.sessions import COUNTS
+from galluspa.symbols import Symbols, symbols_for
+from galluspa.tracing import MOST_WORKERS, WORKERS, Run
+
+MOST = 1000
+
+
+def parser() -> Parser:
+    """The command line of this tool."""
+    options = Parser(
+        dedent("""\
+            Finds when something happens in the run of a recording. It prints the first instruction at which a
+            condition holds, the last one, or all of them, as `galluspa trace` does: the count, the PC, the word,
+            its mnemonic, and what it changes. The search shows the machine, whatever the recording claims, up
+            to the last checkpoint.
+        """) + CONDITIONS,
+        "galluspa find examples/face.orsr --last store dot 100,200",
+        {WRONG: "the condition holds at no count"},
+    )
+    options.add_argument("recording", metavar="RECORDING", type=Path)
+    options.add_argument("condition", metavar="CONDITION", nargs="+", help="a condition, as above")
+    options.add_argument("--from", metavar="N", dest="first", type=whole_number(0, COUNTS), default=0,
+                       help="the count to begin at (default 0)")
+    options.add_argument("--to", metavar="N", type=whole_number(0, COUNTS),
+                       help="the count to end before (default: that of the last checkpoint)")
+    which = options.add_mutually_exclusive_group()
+    which.add_argument("--last", action="store_true", help="find the last instruction")
+    which.add_argument("--all", action="store_true", help="find all instructions, in the order of their counts")
+    options.add_argument("--most", metavar="N", type=whole_number(1, COUNTS),
+                       help=f"with --all, print at most N (default {MOST:,})")
+    options.add_symbols_option()
+    options.add_argument("--json", action="store_true", help="print one JSON object per line")
+    options.add_argument("-j", "--jobs", metavar="N", type=whole_number(1, MOST_WORKERS), default=WORKERS,
+                       help="search N segments at the same time (default: as many as there are processors)")
+    options.add_limit_option("end after so many seconds, and say how far that was")
+    options.add_program_option()
+    options.add_library_option()
+    return options
+
+
+def search_of(asked: Namespace, symbols: Symbols) -> Search:
+    """The search that was asked for."""
+    conditions = conditions_of(asked.condition, symbols)
+    if asked.most is not None and not asked.all:
+        raise Refused("use --most with --all")
+    limit = Limit(asked.limit)
+    it = Run.checked(Library.find(asked.library, limit), Program.find(asked.program, limit), asked.recording)
+    last = it.counts[-1]
+    to = last if asked.to is None else asked.to
+    if to > last:
+        raise Refused(f"--to {to} is after the last checkpoint, which is at {last}")
+    if asked.first > last:
+        raise Refused(f"--from {asked.first} is after the last checkpoint, which is at {last}")
+    if asked.first == last:
+        raise Refused(f"--from {asked.first} is at the last checkpoint: give an earlier count")
+    if asked.first >= to:
+        raise Refused(f"--to {to} must come after --from {asked.first}")
+    return Search(it, conditions, asked.first, to, asked.jobs)
+
+
+def hits_of(search: Search, asked: Namespace) -> Iterator[Hit]:
+    """The hits to print. One more than there are to be is reported, and not printed."""
+    if asked.last:
+        yield from filter(None, [search.last()])
+        return
+    most = (asked.most or MOST) if asked.all else 1
+    for number, hit in enumerate(search.all(most + asked.all)):
+        if number == most:
+            complain(f"printed the first {most:,}: use --most N for more, or --from {hit.count} to go on")
+            return
+        yield hit
+
+
+def main(asked: Namespace) -> int:
+    """Prints the hits that were asked for; the status is 1 if there are none."""
+    symbols = symbols_for(asked.symbols, asked.recording)
+    search, status = search_of(asked, symbols), WRONG
+    try:
+        for hit in hits_of(search, asked):
+            status = OK
+            shown: dict[str, object] = {**named_object(hit.step, symbols), "condition": hit.condition.text}
+            print(json.dumps(shown) if asked.json else "\n".join(placed_lines(hit.step, symbols)))
+    except TimeIsUp as over:
+        first, end = (search.left_before(), search.end) if asked.last else (search.first_count, search.reached())
+        none = f"no {search.text} in {first}..{end}" if first < end else "searched nothing yet"
+        complain(f"{over}: {f'searched {first}..{end}' if status == OK else none}")
+        return FAILED
+    if status == WRONG:
+        complain(f"no {search.text} in {search.first_count}..{search.end}{search.why_not_later()}")
+    return status

@@ -1,0 +1,55 @@
+"""Makes one self-contained page of a recording, to attach to a bug report or to print.
+
+The page has the verdict line, each checkpoint with what changed since the one before, the screens and the inputs. For
+a refused file it has the field that breaks a rule and the bytes around it; for a false recording also what the machine
+has instead, if the library for C is found. With --live the page also contains the proved checker and machine. The exit
+status is that of the verdict line; the page is made whatever it is.
+"""
+
+import sys
+from argparse import Namespace
+from pathlib import Path
+
+from galluspa.command import (
+    FAILED, OK, REFUSED, STATUSES, WRONG, Parser, Refused, complain, escape_unwritable, read_file, with_libraries,
+)
+from galluspa.limits import Limit
+from galluspa.program import Program
+from galluspa.symbols import symbols_for
+
+
+def parser() -> Parser:
+    """The command line of this tool."""
+    options = Parser("Prints one self-contained page (HTML) of a recording: its verdict line, checkpoints, screens "
+                     "and inputs.",
+                   "galluspa report examples/face.orsr > face.html",
+                   {OK: "the recording is accepted", WRONG: "the recording is false",
+                    REFUSED: "the recording or an argument is refused",
+                    FAILED: f"{STATUSES[FAILED]}; if the time is over, what was found by then is printed"})
+    options.add_argument("recording", metavar="RECORDING", type=Path)
+    options.add_argument("--text", action="store_true",
+                         help="print the verdict line and what changes at each checkpoint, as plain text")
+    options.add_argument("--live", action="store_true",
+                         help="make a page that can check the recording again, and run on from any checkpoint")
+    options.add_symbols_option()
+    options.add_limit_option("end after so many seconds, with what was found by then")
+    options.add_program_option()
+    options.add_library_option()
+    return options
+
+
+def main(asked: Namespace) -> int:
+    """Prints the report that was asked for; the status is that of the verdict line."""
+    if asked.text and asked.live:
+        raise Refused("use --text or --live: a text cannot check a recording again")
+    program, text = Program.find(asked.program, Limit(asked.limit)), read_file(asked.recording)
+    symbols = symbols_for(asked.symbols, asked.recording)
+    report = with_libraries("galluspa.page").Report.of(program, asked.recording.name, text, asked.library, symbols)
+    if asked.text:
+        sys.stdout.writelines(f"{line}\n" for line in report.plain())
+    else:
+        escape_unwritable(sys.stdout, "utf-8")
+        sys.stdout.writelines(report.html(asked.live))
+    if report.answer.status == FAILED:
+        complain(report.answer.line)
+    return report.answer.status

@@ -1,0 +1,135 @@
+"""Makes a session from a memory image, registers and inputs; or extracts the session of a recording."""
+
+import sys
+from argparse import Namespace
+from collections.abc import Sequence
+from pathlib import Path
+from textwrap import dedent
+
+from galluspa import endings, recording, sessions
+from galluspa.command import Parser, Refused, complain, number, read_file, whole_number
+from galluspa.oddities import oddities
+from galluspa.program import Program
+from galluspa.sessions import CHECKPOINTS, COUNTS, MEMORY_BYTES, Session
+from galluspa.symbols import Symbols, address_of, symbols_for
+
+
+def parser() -> Parser:
+    """The command line of this tool."""
+    options = Parser(
+        dedent("""\
+            Prints a session (JSON) for `galluspa record`, from a memory image, registers and inputs, or
+            from a recording. Numbers are decimal, or hexadecimal with a leading 0x."""),
+        "galluspa session --memory memory.bin --set PC=64 --set R14=0x80000 --inputs inputs.csv --every 1000 --until "
+        "20000",
+    )
+    options.add_argument("--memory", metavar="IMAGE", type=Path, help="a raw image of the initial memory, 1 MB or less")
+    options.add_argument("--at", metavar="ADDRESS", type=whole_number(0, MEMORY_BYTES), default=0,
+                       help="the byte address where the image begins (default 0)")
+    options.add_argument("--set", metavar="NAME=VALUE", action="append", default=[],
+                       help="a number of the initial state: R0 to R15, H, PC (in words, or a name of a symbol file), "
+                            "flags (as NZ, or a number), rate, phase")
+    options.add_argument("--inputs", metavar="CSV", type=Path, help="the inputs: count, kind, value per line")
+    options.add_argument("--checkpoints", metavar="N,N,..", help="the counts of the checkpoints")
+    options.add_argument("--every", metavar="N", type=whole_number(1, COUNTS),
+                         help="make a checkpoint every N instructions, up to --until or the end of the run")
+    options.add_argument("--until", metavar="N", type=whole_number(1, COUNTS),
+                         help="make the last checkpoint at N or before")
+    ends = options.add_mutually_exclusive_group()
+    ends.add_argument("--until-stops", action="store_const", dest="end", const=endings.STOPS,
+                      help="make the last checkpoint at the first count at which the machine is stopped")
+    ends.add_argument("--until-loops", action="store_const", dest="end", const=endings.LOOPS,
+                      help="make the last checkpoint where the machine, after all inputs, enters a loop that it "
+                           f"never leaves, of at most {endings.LONGEST_LOOP:,} instructions")
+    options.add_argument("--most", metavar="N", type=whole_number(1, COUNTS), default=endings.MOST,
+                         help=f"look for the stop or the loop up to count N (default {endings.MOST:,})")
+    options.add_argument("--of", metavar="RECORDING", type=Path,
+                         help="take initial state, inputs and counts from a recording")
+    options.add_symbols_option()
+    options.add_program_option()
+    options.add_library_option()
+    options.add_limit_option("look for the end of the run for so many seconds")
+    return options
+
+
+def check_counts(listed: str | None, every: int | None, until: int | None, end: str | None) -> None:
+    """Refuses arguments that do not say which checkpoints are wanted."""
+    if end and (listed is not None or until is not None):
+        raise Refused(f"--until-{end} finds the last checkpoint: leave out --checkpoints and --until")
+    if not end and ((listed is None) == (every is None) or (every is None) != (until is None)):
+        raise Refused("name the checkpoints: --checkpoints N,N,.., or --every N with --until N, or --until-stops or "
+                      "--until-loops")
+
+
+def counts_of(listed: str | None, every: int | None, until: int | None, end: int | None) -> list[int]:
+    """The counts of checkpoints: as listed, or every so many, or up to the end of the run."""
+    counts: Sequence[int]
+    if listed is not None:
+        counts = _listed(listed)
+    elif end is not None:
+        counts = sorted({*range(every or end, end, every or end), end})
+    else:
+        counts = range(every or 1, (until or 0) + 1, every or 1)
+    if not 1 <= len(counts) <= CHECKPOINTS:
+        raise Refused(f"{len(counts):,} checkpoints; a session has 1 to {CHECKPOINTS:,}")
+    return list(counts)
+
+
+def _listed(listed: str) -> list[int]:
+    counts: list[int] = []
+    for written in listed.split(","):
+        count, least = number(written), counts[-1] + 1 if counts else 1
+        if count is None or not least <= count <= COUNTS:
+            raise Refused(f"--checkpoints: {written!r} is not a count from {least:,} to {COUNTS:,}")
+        counts.append(count)
+    return counts
+
+
+def with_number(assignment: str, symbols: Symbols) -> str:
+    """An assignment, with the number of a word in place of its name as the value of PC."""
+    name, _, value = assignment.partition("=")
+    if name.strip().upper() != "PC" or number(value) is not None:
+        return assignment
+    try:
+        at = address_of(symbols, value.strip())
+    except ValueError as why:
+        raise Refused(f"--set PC: {why}") from why
+    if at is not None and at % 4:
+        raise Refused(f"--set PC: {value.strip()} is at byte {at:X} (hexadecimal), which is not a multiple of 4")
+    return assignment if at is None else f"PC={at // 4}"
+
+
+def end_of(asked: Namespace, session: Session) -> int:
+    """The count at which the run of a session ends as it is asked."""
+    end = endings.end_of(asked, session, asked.end, asked.most)
+    if asked.every and end // asked.every >= CHECKPOINTS:
+        raise Refused(f"--every {asked.every:,}: {end:,} instructions have more than {CHECKPOINTS:,} checkpoints")
+    return end
+
+
+def main(asked: Namespace) -> int:
+    """Prints the session that was asked for."""
+    if asked.of:
+        if asked.memory or asked.set or asked.inputs or asked.checkpoints or asked.every or asked.until or asked.at or \
+                asked.end:
+            raise Refused("--of takes everything from the recording: leave out the other options")
+        text = read_file(asked.of)
+        read = recording.lawful(Program.find(asked.program), str(asked.of), text)
+        sys.stdout.write(sessions.of_recording(str(asked.of), read).text())
+        return 0
+    if not asked.memory:
+        raise Refused("give --memory IMAGE or --of RECORDING (see galluspa session --help)")
+    session = Session(memory=sessions.image_at(str(asked.memory), read_file(asked.memory, MEMORY_BYTES + 1), asked.at))
+    symbols = symbols_for(asked.symbols, asked.memory)
+    for assignment in asked.set:
+        sessions.set_register(session, with_number(assignment, symbols))
+    sessions.check_phase(session)
+    place = symbols.text(4 * session.pc)
+    for odd in oddities(session, asked.at):
+        complain(f"warning: {odd}" + (f"; PC is at {place}" if place else ""))
+    session.inputs = sessions.inputs_of(asked.inputs) if asked.inputs else []
+    check_counts(asked.checkpoints, asked.every, asked.until, asked.end)
+    end = end_of(asked, session) if asked.end else None
+    session.checkpoints = counts_of(asked.checkpoints, asked.every, asked.until, end)
+    sys.stdout.write(session.text())
+    return 0

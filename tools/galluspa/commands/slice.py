@@ -1,0 +1,40 @@
+"""Cuts the stretch between two checkpoints out of a recording, as a recording of its own, to share a long one among
+machines."""
+
+from argparse import Namespace
+from pathlib import Path
+from textwrap import dedent
+
+from galluspa import recording
+from galluspa.command import Parser, Refused, read_file, whole_number, write_bytes
+from galluspa.program import Program
+from galluspa.stretches import stretch
+
+
+def parser() -> Parser:
+    """The command line of this tool."""
+    options = Parser(
+        dedent("""\
+            Prints the stretch between two checkpoints of a recording as a recording of its own: what checkpoint
+            I claims is its initial state, counts begin at 0 again, and inputs move with them. `galluspa join`
+            makes the line of the whole from theirs."""),
+        "galluspa slice examples/face.orsr --from 2 --to 4 > 2-4.orsr",
+    )
+    options.add_argument("recording", metavar="RECORDING", type=Path)
+    options.add_argument("--from", metavar="I", dest="first", type=whole_number(0, 4095), required=True,
+                       help="the number of the checkpoint where the slice begins")
+    options.add_argument("--to", metavar="J", dest="last", type=whole_number(1, 4096), required=True,
+                       help="the number of the last checkpoint of the slice")
+    options.add_program_option()
+    return options
+
+
+def main(asked: Namespace) -> int:
+    """Prints the stretch that was asked for."""
+    read = recording.lawful(Program.find(asked.program), str(asked.recording), read_file(asked.recording))
+    if asked.first >= asked.last:
+        raise Refused(f"--to {asked.last} must come after --from {asked.first}")
+    if asked.last >= len(read.checkpoints):
+        raise Refused(f"{asked.recording}: no checkpoint {asked.last}")
+    write_bytes(recording.write(stretch(read, asked.first, asked.last)))
+    return 0

@@ -1,0 +1,132 @@
+"""Prints the instructions that the machine does in the run of a recording, one per line.
+
+A line has the count, the PC, the word, its mnemonic and what changes. The trace shows the machine, whatever the
+recording claims. It begins at the last checkpoint at or before the given count that the check finds true. So the last
+instructions of a long recording cost the check and one segment.
+"""
+
+import json
+from argparse import Namespace
+from pathlib import Path
+from textwrap import dedent
+
+from galluspa import recording
+from galluspa.command import FAILED, OK, WRONG, Failed, Parser, Refused, complain, read_file, whole_number
+from galluspa.conditions import CONDITIONS, conditions_of
+from galluspa.finding import Search
+from galluspa.interface import Machine
+from galluspa.library import Library
+from galluspa.limits import Limit, TimeIsUp
+from galluspa.naming import Trace
+from galluspa.program import Program
+from galluspa.recording import STOPS
+from galluspa.sessions import COUNTS
+from galluspa.symbols import Symbols, symbols_for
+from galluspa.tracing import WORKERS, Run
+
+STEPS = 20
+
+
+def parser() -> Parser:
+    """The command line of this tool."""
+    options = Parser(
+        dedent("""\
+            Prints the instructions that the machine does from a count on, one per line: the count, the PC, the
+            word, its mnemonic, and what it changes. Inputs come before the instruction of their count. The
+            trace shows the machine, whatever the recording claims, and begins at the last true checkpoint at
+            or before the count. A symbol file adds names and source lines.
+        """) + CONDITIONS,
+        "galluspa trace examples/face.orsr --from 19999990 --to 20000000",
+        {WRONG: "the condition of --until holds at no count"},
+    )
+    options.add_argument("recording", metavar="RECORDING", type=Path)
+    options.add_argument("--from", metavar="N", dest="first", type=whole_number(0, COUNTS), default=0,
+                       help="the count to begin at (default 0)")
+    options.add_argument("--to", metavar="N", type=whole_number(0, COUNTS),
+                       help="the count to end at (default with --until: that of the last checkpoint)")
+    options.add_argument("--steps", metavar="M", type=whole_number(1, COUNTS),
+                       help=f"print M instructions from there (default without --to: {STEPS}); with --until, the last "
+                            "M")
+    options.add_argument("--until", metavar="CONDITION", nargs="+",
+                       help="search for the first instruction at which a condition holds, as above; `galluspa find` "
+                            "finds the last one, too")
+    options.add_argument("--at", metavar="K", type=whole_number(0, 4096),
+                       help="begin at what checkpoint K claims, and do not check whether that is true")
+    options.add_argument("--calls", action="store_true",
+                       help="where another procedure begins or goes on, print who probably called it: a guess from R15 "
+                            "and the words at R14, since the machine has no frames")
+    options.add_symbols_option()
+    options.add_argument("--json", action="store_true", help="print one JSON object per line")
+    options.add_limit_option("end after so many seconds, and say how far that was")
+    options.add_program_option()
+    options.add_library_option()
+    return options
+
+
+def run_of(asked: Namespace, limit: Limit) -> Run:
+    """The run of the recording that was named: from what is found true, or from one checkpoint whatever it claims."""
+    library, program = Library.find(asked.library, limit), Program.find(asked.program, limit)
+    if asked.at is None:
+        return Run.checked(library, program, asked.recording)
+    text = read_file(asked.recording)
+    read = recording.lawful(program, str(asked.recording), text)
+    if asked.at >= len(read.checkpoints):
+        raise Refused(f"{asked.recording}: no checkpoint {asked.at}")
+    return Run(library, text, read, range(asked.at, asked.at + 1))
+
+
+def end_of(asked: Namespace, run: Run) -> int:
+    """The count to end at."""
+    last = run.counts[-1]
+    if asked.first > last:
+        raise Refused(f"--from {asked.first} is after the last checkpoint, which is at {last}")
+    if asked.until:
+        to = last if asked.to is None else asked.to
+    elif asked.to is not None and asked.steps is not None:
+        raise Refused("use --steps or --to, and both only with --until")
+    else:
+        to = min(asked.first + (asked.steps or STEPS), COUNTS) if asked.to is None else asked.to
+    if to < asked.first:
+        raise Refused(f"--to {to} is before --from {asked.first}")
+    return to
+
+
+def show(machine: Machine, to: int, asked: Namespace, symbols: Symbols) -> None:
+    """Prints the instructions of a machine up to a count, each as it is done, and whether it has stopped after them."""
+    trace = Trace(symbols, memoryview(machine.memory()).cast("I") if asked.calls else None)
+    for step in machine.steps(to):
+        print(json.dumps(trace.object(step)) if asked.json else "\n".join(trace.lines(step)))
+    if machine.has_stopped and not asked.json:
+        print(f"{machine.count:>10}  stopped ({STOPS[machine.state.stop]}): it does nothing more")
+
+
+def search(asked: Namespace, run: Run, it: Search, symbols: Symbols) -> int:
+    """Prints the instruction at which a condition holds, with those before it; the status says whether there is
+    one."""
+    try:
+        hit = it.first()
+        if not hit:
+            complain(f"no {it.text} in {it.first_count}..{it.end}{it.why_not_later()}")
+            return WRONG
+        machine = Machine(run, max(it.first_count, hit.count + 1 - (asked.steps or STEPS)))
+    except TimeIsUp as over:
+        complain(f"{over}: no {it.text} in {it.first_count}..{it.reached()}")
+        return FAILED
+    show(machine, hit.count + 1, asked, symbols)
+    return OK
+
+
+def main(asked: Namespace) -> int:
+    """Prints the instructions that were asked for; the status is 1 if the condition of --until holds at none."""
+    symbols = symbols_for(asked.symbols, asked.recording)
+    conditions = conditions_of(asked.until, symbols) if asked.until else []
+    run = run_of(asked, Limit(asked.limit))
+    to = end_of(asked, run)
+    if conditions:
+        return search(asked, run, Search(run, conditions, asked.first, to, WORKERS), symbols)
+    machine = Machine(run, asked.first)
+    try:
+        show(machine, to, asked, symbols)
+    except TimeIsUp as over:
+        raise Failed(f"{over}: the trace ends at {machine.count}") from over
+    return OK
