@@ -1,21 +1,28 @@
+// @ts-check
 /* What arrives for the live machine and waits for its count: changes of the mouse and of the switches, each with the time at which
  * it was made, and typed keys and serial bytes, each until the machine has room for it. */
-"use strict";
+import { MOUSE, PER_SECOND } from "./states.js";
 
 // Two changes of the mouse's keys are at least 1 ms of the machine apart, so that a program sees both; moves with a key down as
 // well. Moves without one are 8 ms apart. Those between two such moves are left out.
 const BUTTONS = 7 << 24, APART = PER_SECOND / 1000, IDLE_APART = 8 * APART;
 
-class Arrivals {
+/** @typedef {{ kind: number, value: number, ms: number }} Arrival */
+
+export class Arrivals {
+  /** @type {Arrival[]} */
+  changes = [];
+  delay = 0;
+  mouse = { word: 0, count: -Infinity, pressed: -Infinity };
+
+  /** @param {Partial<Waiting>} waiting */
   constructor({ keys = [], serial = [] } = {}) {
-    this.changes = [];
-    this.keys = [...keys];
-    this.serial = [...serial];
-    this.delay = 0;
-    this.forgetMouse(0);
+    this.keys = Array.from(keys);
+    this.serial = Array.from(serial);
   }
 
-  /** Says that the machine has this mouse word, with no change of it shortly before. */
+  /** Says that the machine has this mouse word, with no change of it shortly before.
+   * @param {number} word */
   forgetMouse(word) {
     this.mouse = { word, count: -Infinity, pressed: -Infinity };
   }
@@ -25,7 +32,8 @@ class Arrivals {
     return this.keys.length + this.serial.length;
   }
 
-  /** Returns the least count that a change may have. */
+  /** Returns the least count that a change may have.
+   * @param {{ kind: number, value: number }} change */
   earliest({ kind, value }) {
     if (kind !== MOUSE) return 0;
     const { word, count, pressed } = this.mouse;
@@ -33,18 +41,26 @@ class Arrivals {
     return count + (value & BUTTONS ? APART : IDLE_APART);
   }
 
-  /** Whether a move is left out, since another one comes before the next that the machine gets. */
+  /** Whether a move is left out, since another one comes before the next that the machine gets.
+   * @param {Arrival[]} changes
+   * @param {(change: Arrival) => number} stampOf */
   isPassed([first, second], stampOf) {
+    /** @param {Arrival} change */
     const isMove = ({ kind, value }) => kind === MOUSE && !((value ^ this.mouse.word) & BUTTONS);
     return Boolean(second) && isMove(first) && isMove(second) && stampOf(second) <= this.earliest(first);
   }
 
   /** Calls `give` with each change whose count is before an end, and with that count, in the order in which they were made.
    * `countAt` returns a machine's count at a time. A change arrives after the machine has passed that count, `now`. So all of
-   * them are delayed alike, by as much as one of them is late, until none waits: the time between two of them stays. */
+   * them are delayed alike, by as much as one of them is late, until none waits: the time between two of them stays.
+   * @param {(ms: number) => number} countAt
+   * @param {number} now
+   * @param {number} end
+   * @param {(change: Arrival, count: number) => void} give */
   stamp(countAt, now, end, give) {
     const { changes } = this;
     if (changes.length) this.delay = Math.max(this.delay, now - countAt(changes[0].ms));
+    /** @param {Arrival} change */
     const stampOf = ({ ms }) => Math.floor(countAt(ms) + this.delay);
     while (changes.length) {
       if (this.isPassed(changes, stampOf)) {
@@ -53,14 +69,16 @@ class Arrivals {
       }
       const count = Math.max(now, stampOf(changes[0]), this.earliest(changes[0]));
       if (count >= end) return;
-      const change = changes.shift();
+      const [change] = changes.splice(0, 1);
       if (change.kind === MOUSE) this.follow(change.value, count);
       give(change, count);
     }
     this.delay = 0;
   }
 
-  /** Says that the machine gets a mouse word at a count. */
+  /** Says that the machine gets a mouse word at a count.
+   * @param {number} word
+   * @param {number} count */
   follow(word, count) {
     const isPressed = ((word ^ this.mouse.word) & BUTTONS) !== 0;
     this.mouse = { word, count, pressed: isPressed ? count : this.mouse.pressed };

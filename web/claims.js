@@ -1,62 +1,98 @@
+// @ts-check
 /* The registers of the machine, the checkpoints of a recording, and where the two differ. */
-"use strict";
+import { app } from "./app.js";
+import { showAround, showListing } from "./code.js";
+import { attempt, button, el, grouped, made, paragraph, write } from "./elements.js";
+import { isAhead, lookAt, nowCount, runTo, shownCount, shownState } from "./look.js";
+import { ALL_BITS, showMemory } from "./memory.js";
+import { DOTS_WIDE, LINES, paint } from "./screen.js";
+import { AT, equal, field, hex, PAGE_BYTES, partsOf, rangesText, REGISTERS, STATE_BYTES, wordsOf } from "./states.js";
+import { isTab } from "./tabs.js";
+import { notePassed } from "./timeline.js";
+import { headlineOf } from "./verdicts.js";
+import { askWho } from "./who.js";
 
-const REGISTERS_ASKED = [...REGISTERS, "H", "flags"], DEVICES_ASKED = ["switches", "LEDs", "mouse", "serial", "keys"];
+export const REGISTERS_ASKED = [...REGISTERS, "H", "flags"], DEVICES_ASKED = ["switches", "LEDs", "mouse", "serial", "keys"];
+/** A part of the machine beside what is claimed of it.
+ * @typedef {{ name: string, own: string, claimed: string | undefined, about: About | null }} BothParts */
+
 // The cells of the registers by their names, made once: a drag of the cursor changes texts, and makes nothing. The state that was shown
 // before, while the machine did not run, to mark what changed. While it runs, they are shown so often.
-const registerCells = new Map(), RUNNING_MS = 100;
-let registersBefore = null, runningDue = 0;
+/** @type {Map<string, { value: HTMLElement, holder: HTMLElement }>} */
+const registerCells = new Map();
+const RUNNING_MS = 100;
+/** @type {Bytes | null} */
+let registersBefore = null;
+let runningDue = 0;
 
-function makeRegisters() {
+/** Forgets what was shown: the next state is not compared with it. */
+export function forgetRegisters() {
+  registersBefore = null;
+}
+
+export function makeRegisters() {
   for (const [name] of partsOf(new Uint8Array(STATE_BYTES))) {
     const [cell, value] = cellOf(name, "");
     if (aboutPart(name)) value.append(button("", () => askPart(name)));
-    const holder = value.firstElementChild ?? value;
+    const holder = /** @type {HTMLElement} */ (value.firstElementChild ?? value);
     if (holder !== value) holder.title = `Who wrote ${name}`;
     registerCells.set(name, { value, holder });
     el("state").append(cell);
   }
 }
 
+/**
+ * @param {string} name
+ * @param {string} text
+ * @returns {[HTMLElement, HTMLElement]}
+ */
 function cellOf(name, text) {
   const cell = document.createElement("div"), value = made("dd", text);
   cell.append(made("dt", name), value);
   return [cell, value];
 }
 
-/** What is asked about a part of a state: a register or a part of a device; or null if nothing can be. */
+/** What is asked about a part of a state: a register or a part of a device; or null if nothing can be.
+ * @param {string} name
+ * @returns {About | null} */
 function aboutPart(name) {
   const register = REGISTERS_ASKED.indexOf(name);
   return register >= 0 ? { register } : DEVICES_ASKED.includes(name) ? { device: name } : null;
 }
 
-function askPart(name) {
-  return askWho(aboutPart(name), `Who wrote ${name}`);
+/** @param {string} name */
+export function askPart(name) {
+  return askWho(aboutPart(name) ?? {}, `Who wrote ${name}`);
 }
 
 /** Shows the parts of a state, with what has changed since the one shown before marked, and beside them what a checkpoint here claims
- * falsely. */
-function showRegisters(state) {
+ * falsely.
+ * @param {Bytes} state */
+export function showRegisters(state) {
   showParts(state, registersBefore);
   registersBefore = state;
   attempt(showFalse);
 }
 
-/** Writes the parts of a state to their cells, and marks those that are others than before, if anything was. */
+/** Writes the parts of a state to their cells, and marks those that are others than before, if anything was.
+ * @param {Bytes} state
+ * @param {Bytes | null} old */
 function showParts(state, old) {
   const before = old && new Map(partsOf(old));
   for (const [name, text] of partsOf(state)) {
-    const { value, holder } = registerCells.get(name);
+    const { value, holder } = /** @type {{ value: HTMLElement, holder: HTMLElement }} */ (registerCells.get(name));
     if (holder.textContent !== text) {
       holder.textContent = text;
       if (holder !== value) holder.setAttribute("aria-label", `${name} ${text}: who wrote it`);
     }
-    value.classList.toggle("changed", Boolean(before) && before.get(name) !== text);
+    value.classList.toggle("changed", Boolean(before && before.get(name) !== text));
   }
 }
 
-/** Shows the registers or the listing of a machine that runs, whichever is seen, as often as can be read. */
-function showRunning(state, words) {
+/** Shows the registers or the listing of a machine that runs, whichever is seen, as often as can be read.
+ * @param {Bytes} state
+ * @param {[number, number][]} words */
+export function showRunning(state, words) {
   const now = performance.now();
   if (now < runningDue) return;
   runningDue = now + RUNNING_MS;
@@ -64,7 +100,11 @@ function showRunning(state, words) {
   if (isTab("code")) showListing(field(state, AT.PC), words);
 }
 
-function showPaused(state, listing) {
+/**
+ * @param {Bytes} state
+ * @param {[number, number][]} listing
+ */
+export function showPaused(state, listing) {
   if (registersBefore && equal(registersBefore, state)) return;
   showRegisters(state);
   showListing(field(state, AT.PC), listing);
@@ -72,46 +112,58 @@ function showPaused(state, listing) {
   attempt(showMemory);
 }
 
+/**
+ * @param {Bytes} state
+ * @param {Bytes | null} before
+ * @param {string | null} wrong
+ */
 function cells(state, before, wrong) {
   const old = before && Object.fromEntries(partsOf(before));
   return partsOf(state).map(([name, text]) => {
     const [cell, value] = cellOf(name, text);
-    value.classList.toggle("changed", Boolean(old) && old[name] !== text);
+    value.classList.toggle("changed", Boolean(old && old[name] !== text));
     value.classList.toggle("wrong", name === wrong);
     return cell;
   });
 }
 
-function showPassed({ number, count, part }) {
+/** @param {Passed} passed */
+export function showPassed({ number, count, part }) {
   const item = made("li", part ? `at ${grouped(count)}: false, first in ${part}` : `at ${grouped(count)}: true`, part ? "wrong" : "");
   item.value = number;
-  item.dataset.count = count;
+  item.dataset.count = `${count}`;
   el("passed").append(item);
   el("passed").scrollTop = el("passed").scrollHeight;
-  lanes.passed.set(count, part ? "false" : "true");
+  notePassed(count, !part);
 }
 
 // The checkpoints of a recording
 
-async function showClaim(number) {
+/** @param {number} number */
+export async function showClaim(number) {
   const { file } = app;
   if (!file) return;
   number = Math.max(0, Math.min(file.claims.length - 1, Math.floor(number) || 0));
   const shown = await app.live.ask("claimed", { number, of: app.work.generation });
   if (!shown || file !== app.file) return;
-  el("claim-number").value = number;
+  el("claim-number").value = `${number}`;
   const wrong = falseClaim();
   el("claim").replaceChildren(...claimParts(shown, wrong?.number === number ? wrong.part : null));
   showOf(file);
   el("run-on").disabled = false;
 }
 
-/** Says which recording the checkpoints are of, and its verdict. */
-function showOf({ name, version, inputs, checkpoints, verdict }) {
+/** Says which recording the checkpoints are of, and its verdict.
+ * @param {OpenFile} file */
+export function showOf({ name, version, inputs, checkpoints, verdict }) {
   const line = verdict ? `: ${verdict.line}` : "";
   write("claims-of", `of ${grouped(checkpoints)} in ${name}, ${grouped(inputs)} inputs, version ${version}${line}`);
 }
 
+/**
+ * @param {Claimed} claimed
+ * @param {string | null} wrong
+ */
 function claimParts({ number, count, steps, state, before, dots, sent, sentLength, pages }, wrong) {
   const canvas = made("canvas", ""), list = made("dl", "");
   [canvas.width, canvas.height] = [DOTS_WIDE, LINES];
@@ -119,7 +171,8 @@ function claimParts({ number, count, steps, state, before, dots, sent, sentLengt
   canvas.setAttribute("aria-label", `The screen at checkpoint ${number}`);
   paint(canvas, dots);
   list.append(...cells(state, before, wrong));
-  const when = number ? `at ${grouped(count)}, after ${grouped(steps)} more steps; changes are marked` : "the initial state, taken as given";
+  const when = number ? `at ${grouped(count)}, after ${grouped(steps ?? 0)} more steps; changes are marked` : "the initial state, taken as given";
+  /** @type {HTMLElement[]} */
   const parts = [paragraph(when, "hint")];
   if (wrong) parts.push(paragraph(`False: the first part that differs from the machine's is ${wrong}.`, "wrong"));
   parts.push(canvas, list);
@@ -135,22 +188,23 @@ function claimParts({ number, count, steps, state, before, dots, sent, sentLengt
 // A false checkpoint
 
 /** Returns the false checkpoint that the verdict line of the file names: its number, its count and its part; or null. */
-const falseClaim = () => app.file?.verdict?.wrong ?? null;
+export const falseClaim = () => app.file?.verdict?.wrong ?? null;
 
 /** Shows a headline for a false checkpoint, and the way to what the machine has there; at its count, both parts side by side. */
-async function showFalse() {
+export async function showFalse() {
   const wrong = falseClaim(), place = el("false-claim");
   for (const [name, { value }] of registerCells) value.classList.toggle("wrong", name === wrong?.part && shownCount() === wrong.count && !isAhead());
   place.hidden = !wrong;
   if (!wrong) return;
-  const { count } = wrong, headline = made("b", headlineOf({ wrong }));
+  const { count } = wrong, headline = made("b", headlineOf({ wrong, accepted: null }));
   if (shownCount() !== count || isAhead() || app.latest?.on)
     return place.replaceChildren(headline, " ", button("What the machine has", () => toMachineAt(count)));
   const both = await bothParts(wrong);
   if (shownCount() === count) place.replaceChildren(headline, ...(both ? bothLines(both) : []));
 }
 
-/** Returns what the machine has at a false checkpoint, and what is claimed; or null if it is no part of a state, nor of memory. */
+/** Returns what the machine has at a false checkpoint, and what is claimed; or null if it is no part of a state, nor of memory.
+ * @param {Wrong} wrong */
 async function bothParts(wrong) {
   const page = /^page (\d+)$/.exec(wrong.part);
   if (page) return bytesThatDiffer(wrong, Number(page[1]));
@@ -158,22 +212,32 @@ async function bothParts(wrong) {
   return shown && shownCount() === wrong.count ? partsThatDiffer(shown.state, wrong.part) : null;
 }
 
+/** @param {BothParts} both */
 function bothLines({ name, own, claimed, about }) {
   const line = paragraph(`${name}: the machine has ${own}, the recording claims ${claimed}.`, "both");
   return about ? [line, button("Which instruction made it so", () => askWho(about, `Who wrote ${name}`))] : [line];
 }
 
-/** Looks at what the machine has at a count, to which a replay runs first: before, there is only what the file claims. */
+/** Looks at what the machine has at a count, to which a replay runs first: before, there is only what the file claims.
+ * @param {number} count */
 function toMachineAt(count) {
   return nowCount() < count ? runTo(count) : lookAt(count);
 }
 
+/**
+ * @param {Bytes} claimedState
+ * @param {string} part
+ * @returns {BothParts | null}
+ */
 function partsThatDiffer(claimedState, part) {
   const [own, claimed] = [shownState(), claimedState].map((state) => new Map(partsOf(state)).get(part));
   return own === undefined ? null : { name: part, own, claimed, about: aboutPart(part) };
 }
 
-/** Returns the first word of a page that differs from what the false checkpoint claims. */
+/** Returns the first word of a page that differs from what the false checkpoint claims.
+ * @param {Wrong} wrong
+ * @param {number} page
+ * @returns {Promise<BothParts | null>} */
 async function bytesThatDiffer({ number, count }, page) {
   const from = PAGE_BYTES * page, claimed = await app.live.ask("claimedPage", { number, page, of: app.work.generation });
   const own = await app.past.memory(count, from, PAGE_BYTES);

@@ -1,13 +1,23 @@
+// @ts-check
 /* The workers that search, each one piece of a run at a time. The page starts them at the first search; pieces and hits go through a
  * port between each and the worker that looks into the past. */
-"use strict";
+import { Refused } from "./library.js";
+import { Ended } from "./tasks.js";
 
-class Crew {
-  constructor() {
-    Object.assign(this, { size: 0, idle: [], waiting: [], tasks: new Map() });
-  }
+/** @typedef {{ hit: Hit | null, ms: number }} Searched */
+/** @typedef {{ piece: Piece, resolve: (found: Searched) => void, reject: (error: Error) => void }} CrewTask */
 
-  /** Takes one more worker, by its port. */
+export class Crew {
+  size = 0;
+  /** @type {MessagePort[]} */
+  idle = [];
+  /** @type {CrewTask[]} */
+  waiting = [];
+  /** @type {Map<MessagePort, CrewTask>} */
+  tasks = new Map();
+
+  /** Takes one more worker, by its port.
+   * @param {MessagePort} port */
   join(port) {
     this.size++;
     port.onmessage = ({ data }) => this.heard(port, data);
@@ -16,7 +26,9 @@ class Crew {
   }
 
   /** Has a piece searched: a state, words and inputs, a count up to which, conditions, and whether the last hit is wanted. Returns the hit
-   * or null, and how long it took. */
+   * or null, and how long it took.
+   * @param {Piece} piece
+   * @returns {Promise<Searched>} */
   search(piece) {
     const found = new Promise((resolve, reject) => this.waiting.push({ piece, resolve, reject }));
     // Nobody hears of a piece whose search is over.
@@ -32,14 +44,18 @@ class Crew {
 
   begin() {
     while (this.idle.length && this.waiting.length) {
-      const port = this.idle.pop(), task = this.waiting.shift(), { state, words, inputs } = task.piece;
+      const [port] = this.idle.splice(-1), [task] = this.waiting.splice(0, 1), { state, words, inputs } = task.piece;
       this.tasks.set(port, task);
       port.postMessage(task.piece, [state.buffer, words.buffer, inputs.buffer]);
     }
   }
 
+  /**
+   * @param {MessagePort} port
+   * @param {{ found?: Searched } & Failure} answer
+   */
   heard(port, { found, refused, broken }) {
-    const { resolve, reject } = this.tasks.get(port);
+    const { resolve, reject } = /** @type {CrewTask} */ (this.tasks.get(port));
     this.idle.push(port);
     if (found) resolve(found);
     else reject(new Refused(refused ?? broken));
@@ -47,8 +63,11 @@ class Crew {
   }
 }
 
-/** Searches a piece on an emulator. */
-function searchedOn(emulator, { state, words, inputs, to, conditions, isLast }) {
+/** Searches a piece on an emulator.
+ * @param {import("./emulator.js").Emulator} emulator
+ * @param {Required<Piece>} piece
+ * @returns {Searched} */
+export function searchedOn(emulator, { state, words, inputs, to, conditions, isLast }) {
   const begun = performance.now();
   emulator.put(emulator.address, { state, words });
   return { hit: emulator.library.find(emulator.address, inputs, to, conditions, isLast), ms: performance.now() - begun };

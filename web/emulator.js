@@ -1,13 +1,14 @@
+// @ts-check
 /* A machine that the library advances: its state and its 262,144 words in the module's memory. The live machine (machine.js) is one, and
  * those that look into the past (past.js) are others. */
-"use strict";
+import { INPUT_BYTES } from "./layout.js";
+import { ADVANCE_REFUSALS, DONE, NO_ROOM, Refused } from "./library.js";
+import { AT, countOf, DISPLAY_AT, DISPLAY_BYTES, field, MEMORY_BYTES, STATE_BYTES, WORDS } from "./states.js";
 
-// The clock of the workstation: 25 MHz, one instruction per cycle.
-const PER_SECOND = 25000000;
 const INPUTS_AT_ONCE = 4096, SENT_ROOM = 1 << 20;
-const DISPLAY_AT = 4 * 237504, DISPLAY_BYTES = 98304;
 
-class Emulator {
+export class Emulator {
+  /** @param {Library} library */
   constructor(library) {
     this.library = library;
     // The words are next to the state.
@@ -33,23 +34,32 @@ class Emulator {
     return countOf(this.state);
   }
 
+  /** @param {keyof typeof AT} name */
   part(name) {
     return field(this.state, AT[name]);
   }
 
-  /** Returns the state and the words at an address. */
+  /** Returns the state and the words at an address.
+   * @param {number} address
+   * @returns {Memory} */
   at(address) {
     return { state: this.library.bytes(address, STATE_BYTES), words: this.library.bytes(address + STATE_BYTES, MEMORY_BYTES) };
   }
 
-  /** Puts a state and its words at an address. */
+  /** Puts a state and its words at an address.
+   * @param {number} address
+   * @param {Memory} memory */
   put(address, { state, words }) {
     this.library.bytes(address, STATE_BYTES).set(state);
     this.library.bytes(address + STATE_BYTES, MEMORY_BYTES).set(words);
   }
 
   /** Runs up to a count, or to an earlier one if the machine sends more than there is room for. Of the inputs those before a number
-   * are taken already. Returns the bytes that the machine sent. */
+   * are taken already. Returns the bytes that the machine sent.
+   * @param {Inputs} inputs
+   * @param {number} taken
+   * @param {number} to
+   * @returns {Bytes} */
   run(inputs, taken, to) {
     const code = this.call(inputs.bytes.subarray(INPUT_BYTES * taken, INPUT_BYTES * inputs.from(to, taken)), to);
     if (code === NO_ROOM && to - this.count > 1) return this.run(inputs, taken, this.count + Math.floor((to - this.count) / 2));
@@ -57,6 +67,10 @@ class Emulator {
     return this.library.bytes(this.sentAddress, Number(this.library.view.getBigUint64(this.sentCount, true))).slice();
   }
 
+  /**
+   * @param {Bytes} inputs
+   * @param {number} to
+   */
   call(inputs, to) {
     const many = inputs.length / INPUT_BYTES, list = many > INPUTS_AT_ONCE ? this.library.hold(inputs) : this.list;
     this.library.bytes(list, inputs.length).set(inputs);
@@ -66,30 +80,45 @@ class Emulator {
     return code;
   }
 
-  /** Returns the words around PC, each with its address. */
+  /** Returns the words around PC, each with its address.
+   * @param {number} before
+   * @param {number} after
+   * @returns {[number, number][]} */
   listing(before, after) {
     const pc = this.part("PC"), from = Math.max(0, pc - before), to = Math.min(WORDS, pc + after);
     return Array.from({ length: Math.max(0, to - from) }, (_, at) => [from + at, this.word(from + at)]);
   }
 
-  /** Returns a word of memory, by its number. */
+  /** Returns a word of memory, by its number.
+   * @param {number} number */
   word(number) {
     return this.library.view.getUint32(this.address + STATE_BYTES + 4 * number, true);
   }
 }
 
-function copied({ state, words }) {
+/**
+ * @param {Memory} memory
+ * @returns {Memory}
+ */
+export function copied({ state, words }) {
   return { state: state.slice(), words: words.slice() };
 }
 
 /** How many steps a call does in some ms, by what the calls before it took. */
-class Pace {
+export class Pace {
+  /**
+   * @param {number} ms
+   * @param {number} steps
+   */
   constructor(ms, steps) {
-    Object.assign(this, { ms, steps });
+    this.ms = ms;
+    this.steps = steps;
   }
 
   /** Says how many steps a call did, and how long it took. A call that was shorter than it could be says nothing, unless it took too
-   * long. */
+   * long.
+   * @param {number} steps
+   * @param {number} ms */
   took(steps, ms) {
     if (steps < this.steps && ms <= this.ms) return;
     const wanted = steps * this.ms / Math.max(ms, 0.1);

@@ -1,23 +1,40 @@
+// @ts-check
 /* What the live machine posts to the worker that looks into its past: the initial state, keyframes and inputs. The memory is compared
  * with what was posted last, and only pages that changed are posted. */
-"use strict";
+import { INPUT_BYTES } from "./layout.js";
+import { differingPages, MEMORY_BYTES, PAGE_BYTES } from "./states.js";
 
 // A keyframe comes after so many steps, once they took so long; or after many more, which a machine that waits does in a moment. No machine
 // that works does so many steps in a millisecond.
-const KEYFRAME_STEPS = 2500000, KEYFRAME_MS = 12, MOST_KEYFRAME_STEPS = 10 * KEYFRAME_STEPS, WAITING_STEPS = 200000;
+export const KEYFRAME_STEPS = 2500000, KEYFRAME_MS = 12, MOST_KEYFRAME_STEPS = 10 * KEYFRAME_STEPS, WAITING_STEPS = 200000;
 // A fast run spends at most this part of its time on keyframes.
 const KEYFRAME_SHARE = 0.02;
 // How long the other side may take to hear of a cut.
 const CUT_MS = 1000;
 
-class Feed {
-  /** Posts to a port. The other side says there that it has heard of a cut, or wants to know how far the machine is. */
+export class Feed {
+  generation = 0;
+  // How many inputs were posted, the count of the last keyframe, the last count that was followed, and how long the turns since took.
+  posted = 0;
+  last = 0;
+  seen = 0;
+  took = 0;
+  due = 0;
+  memory = new Uint8Array(MEMORY_BYTES);
+  /** @type {(value?: unknown) => void} */
+  cutHeard = () => {};
+
+  /** Posts to a port. The other side says there that it has heard of a cut, or wants to know how far the machine is.
+   * @param {import("./machine.js").Machine} machine
+   * @param {MessagePort} port */
   constructor(machine, port) {
-    Object.assign(this, { machine, port, generation: 0, posted: 0, last: 0, seen: 0, took: 0, due: 0, memory: new Uint8Array(MEMORY_BYTES), cutHeard: () => {} });
+    this.machine = machine;
+    this.port = port;
     port.onmessage = ({ data }) => (data.isCut ? this.cutHeard() : this.post({ isAnswer: true }));
   }
 
-  /** Begins with a machine of a new number. */
+  /** Begins with a machine of a new number.
+   * @param {number} generation */
   begin(generation) {
     const { machine } = this, first = machine.firstOf(machine.recorder.bytes), { bytes } = machine.recording ?? machine.recorder;
     Object.assign(this, { generation, posted: 0, last: 0, took: 0, due: 0 });
@@ -26,7 +43,8 @@ class Feed {
     if (machine.count) this.keyframe(false);
   }
 
-  /** Posts how far the machine is, the inputs that are new since then, and something else. */
+  /** Posts how far the machine is, the inputs that are new since then, and something else.
+   * @param {Partial<import("./past.js").Fed>} more */
   post(more = {}) {
     const { machine, posted, generation } = this, { count, end, isReplay } = machine;
     const inputs = { from: posted, bytes: machine.inputs.bytes.slice(INPUT_BYTES * posted) };
@@ -34,7 +52,9 @@ class Feed {
     this.port.postMessage({ generation, count, end: isReplay ? Math.max(count, end) : count, inputs, ...more });
   }
 
-  /** Posts a keyframe after a turn that took some ms, if one is due. */
+  /** Posts a keyframe after a turn that took some ms, if one is due.
+   * @param {boolean} isFast
+   * @param {number} ms */
   follow(isFast, ms) {
     const { count } = this.machine, steps = count - this.last;
     if (count - this.seen < WAITING_STEPS * ms) this.took += ms;
@@ -43,7 +63,8 @@ class Feed {
     if (steps >= KEYFRAME_STEPS && isLong && !(isFast && performance.now() < this.due)) this.keyframe(false);
   }
 
-  /** Posts the state, with the pages that changed since the last time. */
+  /** Posts the state, with the pages that changed since the last time.
+   * @param {boolean} isCheckpoint */
   keyframe(isCheckpoint) {
     const begun = performance.now(), { words, state, sentTotal, count } = this.machine, numbers = differingPages(words, this.memory);
     const bytes = new Uint8Array(PAGE_BYTES * numbers.length);

@@ -1,6 +1,7 @@
+// @ts-check
 /* Writes instructions in the notation of "The RISC Architecture" by N. Wirth, as tools/galluspa/instructions.py does; tests/page compares
  * the two. */
-"use strict";
+import { hex } from "./states.js";
 
 const OPERATIONS = "MOV LSL ASR ROR AND ANN IOR XOR ADD SUB MUL DIV FAD FSB FML FDV".split(" ");
 const SIGNS = " ← → rot & & or xor + - * div".split(" ");
@@ -8,15 +9,30 @@ const CONDITIONS = ["MI", "EQ", "CS", "VS", "LS", "LT", "LE", "", "PL", "NE", "C
 const TESTS = ["N", "Z", "C", "V", "C or Z", "N xor V", "(N xor V) or Z"];
 const ALWAYS = 7, NEVER = 15;
 
+/**
+ * @param {number} word
+ * @param {number} place
+ */
 const bit = (word, place) => (word >>> place & 1) === 1;
+/**
+ * @param {number} word
+ * @param {number} bits
+ */
 const signed = (word, bits) => word << (32 - bits) >> (32 - bits);
 
-/** Returns the mnemonic of the instruction in a word, and what it does. `at` is its address in words. */
-function instruction(word, at) {
+/** Returns the mnemonic of the instruction in a word, and what it does. `at` is its address in words.
+ * @param {number} word
+ * @param {number} at
+ * @returns {[string, string]} */
+export function instruction(word, at) {
   if (!bit(word, 31)) return registerInstruction(word);
   return bit(word, 30) ? branchInstruction(word, at) : memoryInstruction(word);
 }
 
+/**
+ * @param {number} word
+ * @returns {[string, string]}
+ */
 function registerInstruction(word) {
   const a = word >>> 24 & 15, b = word >>> 20 & 15, op = word >>> 16 & 15, u = bit(word, 29);
   const operand = bit(word, 30) ? `${(word & 0xffff) - (bit(word, 28) ? 0x10000 : 0)}` : `R${word & 15}`;
@@ -29,6 +45,13 @@ function registerInstruction(word) {
   return [written, `R${a} := R${b} ${SIGNS[op]} ${op === 5 ? "~" : ""}${operand}${carry}${unsigned}`];
 }
 
+/**
+ * @param {string} name
+ * @param {number} a
+ * @param {string} operand
+ * @param {number} word
+ * @returns {[string, string]}
+ */
 function moveInstruction(name, a, operand, word) {
   if (!bit(word, 29)) return [`${name} R${a}, ${operand}`, `R${a} := ${operand}`];
   if (bit(word, 30)) return [`${name} R${a}, ${word & 0xffff}`, `R${a} := ${hex(word & 0xffff, 4)}0000H`];
@@ -36,6 +59,10 @@ function moveInstruction(name, a, operand, word) {
   return [`${name} R${a}, ${special}`, `R${a} := ${special}`];
 }
 
+/**
+ * @param {number} word
+ * @returns {[string, string]}
+ */
 function memoryInstruction(word) {
   const a = word >>> 24 & 15, b = word >>> 20 & 15, offset = signed(word, 20), isByte = bit(word, 28);
   const name = (bit(word, 29) ? "ST" : "LD") + (isByte ? "B" : "R");
@@ -44,6 +71,11 @@ function memoryInstruction(word) {
   return [`${name} R${a}, R${b}, ${offset}`, moved + (isByte ? ", a byte" : "")];
 }
 
+/**
+ * @param {number} word
+ * @param {number} at
+ * @returns {[string, string]}
+ */
 function branchInstruction(word, at) {
   const condition = word >>> 24 & 15, link = bit(word, 28), isNear = bit(word, 29);
   const mnemonic = `B${link ? "L" : ""}${CONDITIONS[condition]} ${isNear ? signed(word, 22) : `R${word & 15}`}`;
@@ -52,6 +84,7 @@ function branchInstruction(word, at) {
   return [mnemonic, `${link ? `R15 := ${4 * (at + 1)}, ` : ""}to ${target}${whereText(condition)}`];
 }
 
+/** @param {number} condition */
 function whereText(condition) {
   if (condition === ALWAYS) return "";
   const test = TESTS[condition & 7];

@@ -1,130 +1,198 @@
-/* What the browser keeps: each recording in progress that has inputs of the user, in an item of its own. Other pages may share the
- * browser's storage with this one, so what is read is judged first. A lock says which page an item is open in. */
-"use strict";
+// @ts-check
+/* What the browser keeps: each recording in progress that has inputs of the user, in an item of its own, and beside it what came since
+ * that was written. Other pages may share the browser's storage with this one, so what is read is judged first. A lock says which page an
+ * item is open in. */
+import { app } from "./app.js";
+import { branches, familyOf, NO_BRANCHES } from "./branches.js";
+import { attempt, button, el, many, messageOf, notice, paragraph, write } from "./elements.js";
+import { INPUT_BYTES } from "./layout.js";
+import { runTo } from "./look.js";
+import { mayLeave, showOpened } from "./opening.js";
+import { Refusal } from "./requests.js";
+import { countOf, joined, MEMORY_BYTES, STATE_BYTES } from "./states.js";
+import { database, deleteStorage, storage, withKept, writtenAtOnce } from "./storage.js";
+import { offerToContinue } from "./welcome.js";
+import { Journal, locked, Work } from "./works.js";
 
-const MOST_NAME = 80, MOST_STEPS = 2 ** 40, STORAGE_MS = 10000;
-// A machine that waits, with the same inputs as were kept, is kept so often while it runs: each time is a megabyte and more.
+const MOST_NAME = 80, MOST_STEPS = 2 ** 40;
+// What came for a machine is kept so soon. All of it is a megabyte and more, so that is written at the first time, and then by time.
+export const SOON_MS = 500, KEEP_MS = 5000;
+// A machine that waits, with the same inputs as were kept, is kept so often while it runs.
 const WAITING_MS = 60000;
-
-/** The recording in progress, as far as it is kept. It is replaced whole when another machine is opened. `generation` is the
- * worker's number of the machine, `id` that of the item, `kept` says what was kept last, with its inputs and when, and `by` who wrote it. */
-class Work {
-  constructor(name, generation = 0) {
-    Object.assign(this, { name, generation, id: null, kept: "", inputs: "", at: -Infinity, by: null, sent: "", isUnkept: false });
-    Object.assign(this, { release: null, isLocked: false });
-  }
-
-  /** Takes the item of an id, if no other page has it. Returns whether this page has it now. */
-  async take(id) {
-    const lock = await locked(id);
-    if (!lock) return false;
-    Object.assign(this, { id, ...lock });
-    return true;
-  }
-
-  /** Takes an item that no page has yet. */
-  async takeNew() {
-    for (let id = Date.now(); !(await this.take(id)); id++);
-    this.by = null;
-  }
-}
 
 /** What this page writes to its items, to see whether another page wrote one since. */
 const writer = `${Date.now()}-${Math.random()}`;
 
-/** Takes the lock of an item: returns how to release it, or null if another page has it. A browser without locks has none that
- * another could have: there each write looks whether another page wrote the item since. */
-function locked(id) {
-  const free = { release: () => {}, isLocked: false };
-  if (!navigator.locks) return Promise.resolve(free);
-  return new Promise((resolve) => {
-    const held = (lock) => (lock ? new Promise((release) => resolve({ release, isLocked: true })) : resolve(null));
-    navigator.locks.request(`galluspa-${id}`, { ifAvailable: true }, held).catch(() => resolve(free));
-  });
-}
-
-/** Opens the database. It is refused after some seconds: another page may keep the browser from opening it. */
-function database() {
-  return new Promise((resolve, reject) => {
-    const asked = indexedDB.open("galluspa", 1);
-    asked.onupgradeneeded = () => asked.result.createObjectStore("sessions", { keyPath: "id" });
-    const late = setTimeout(() => {
-      reject(new Refusal("the browser's storage does not answer"));
-      asked.onsuccess = () => asked.result.close();
-    }, STORAGE_MS);
-    const inTime = (settle) => () => (clearTimeout(late), settle());
-    asked.onsuccess = inTime(() => resolve(asked.result));
-    asked.onerror = inTime(() => reject(asked.error));
-  });
-}
-
-/** Does something with what is kept. Returns the result of the request that `task` returns. */
-async function withKept(mode, task) {
-  const opened = await database();
-  try {
-    opened.onversionchange = () => opened.close();
-    const transaction = opened.transaction("sessions", mode), asked = task(transaction.objectStore("sessions"));
-    return await new Promise((resolve, reject) => {
-      transaction.oncomplete = () => resolve(asked.result);
-      transaction.onabort = () => reject(transaction.error);
-    });
-  } finally {
-    opened.close();
-  }
-}
+// The id of what came since an item was written.
+/** @param {number} id */
+const sinceId = (id) => `since ${id}`;
 
 // Keeping
 
-let keeping = Promise.resolve();
+// `turn` is over when all is kept that was to be kept so far, and `soon` is the timer of what is kept soon.
+const keeping = { turn: /** @type {Promise<unknown>} */ (Promise.resolve()), soon: 0 };
 
-/** Does what keeps something after all that is kept before. */
-function inTurn(task) {
-  return (keeping = keeping.then(task, task));
+/** Does what keeps something after all that is kept before.
+ * @template T
+ * @param {() => Promise<T>} task
+ * @returns {Promise<T>} */
+export function inTurn(task) {
+  const done = keeping.turn.then(task, task);
+  keeping.turn = done;
+  return done;
 }
 
-/** Keeps the recording in progress, if it has inputs of the user and has gone on since. By time it is kept less often while it waits. */
-function keep(isByTime = false) {
+/** Keeps the recording in progress, if it is to be kept and has gone on since. By time it is kept less often while it waits. If it cannot be
+ * kept, the page says so once, and again if somebody did something.
+ * @param {boolean} isByTime
+ * @param {boolean} isSaidAgain */
+export function keep(isByTime = false, isSaidAgain = !isByTime) {
   const { work } = app;
-  return inTurn(() => attempt(async () => {
-    const { latest } = app, inputs = latest && `${latest.inputs} ${latest.typed}`, now = latest && `${countOf(latest.state)} ${inputs}`;
-    const isWaiting = isByTime && latest?.isQuiet && work.inputs === inputs && performance.now() - work.at < WAITING_MS;
-    if (app.work !== work || !latest?.hasOwn || work.kept === now || isWaiting) return;
-    const kept = await app.live.ask("kept");
-    if (kept?.generation !== work.generation) return;
-    await store(work, kept);
-    Object.assign(work, { kept: now, inputs, at: performance.now() });
-  }));
+  return inTurn(() => attempt(() => keepNow(work, isByTime, isSaidAgain)));
 }
 
-/** Keeps what a machine was that is no longer there, and gives its item free. */
-function leave(work, kept) {
+/**
+ * @param {Work} work
+ * @param {boolean} isByTime
+ * @param {boolean} isSaidAgain
+ */
+async function keepNow(work, isByTime, isSaidAgain) {
+  const { latest } = app, inputs = latest && `${latest.inputs} ${latest.typed}`, now = latest && `${countOf(latest.state)} ${inputs}`;
+  const isWaiting = isByTime && latest?.isQuiet && work.inputs === inputs && performance.now() - work.at < WAITING_MS;
+  if (app.work !== work || !latest?.hasOwn || work.kept === now || isWaiting) return;
+  const { news } = work, journal = new Journal(), before = work.journals;
+  work.journals = [...before, journal];
+  const kept = await app.live.ask("kept"), { labels } = work;
+  if (kept?.fork === work.fork) journal.begin(withoutState(kept));
+  const isStored = kept?.fork === work.fork && (await store(work, kept, labels, isSaidAgain));
+  work.journals = isStored ? [journal] : before;
+  if (!isStored) return;
+  Object.assign(work, { kept: now, inputs, at: performance.now(), safe: news });
+  if (work.isNewer) keepSoon();
+}
+
+/** @param {Whole & { fork: number }} kept */
+function withoutState({ live, ...begun }) {
+  return begun;
+}
+
+/** Begins the journal of a work, unless what is played back is not over.
+ * @param {Work} work */
+export async function followWork(work) {
+  if (work.journals.length || app.latest?.isReplay) return;
+  const journal = new Journal();
+  work.journals = [journal];
+  const base = await app.live.ask("begun");
+  if (base?.fork === work.fork) journal.begin(base);
+  else work.journals = [];
+  // The connection is open by the time that it is needed; whoever needs it hears why it is not.
+  database().catch(() => {});
+}
+
+/** Hears what a frame of the live machine brings for what is kept.
+ * @param {Frame} frame */
+export function noteNews({ fork, fresh, state, hasOwn }) {
+  const { work } = app;
+  if (fork !== work.fork) return;
+  if (!work.journals.length) attempt(() => followWork(work));
+  for (const journal of work.journals) journal.hear(fresh, countOf(state));
+  if (hasOwn && (fresh.inputs.length || fresh.marks.length)) noteNew(work);
+}
+
+/** Notes what is typed or sent, until the machine takes it. Returns how to forget it, if the machine does not.
+ * @param {Partial<Waiting>} codes */
+export function noteTyped(codes) {
+  const { work } = app, { journals } = work;
+  for (const { typed } of journals) typed.push(codes);
+  noteNew(work);
+  return () => {
+    for (const { typed } of journals) if (typed.includes(codes)) typed.splice(typed.indexOf(codes), 1);
+    work.safe = Math.min(work.news, work.safe + 1);
+  };
+}
+
+/** Notes that something came that is not kept, which is done soon.
+ * @param {Work} work */
+function noteNew(work) {
+  work.news++;
+  keepSoon();
+}
+
+function keepSoon() {
+  keeping.soon ||= setTimeout(() => {
+    keeping.soon = 0;
+    keepNews();
+  }, SOON_MS);
+}
+
+/** Whether something came for the machine that is to be kept, and is not. */
+export function isUnsafe() {
+  const { work, latest } = app, [journal] = work.journals;
+  return work.isNewer && Boolean(latest?.hasOwn || journal?.typed.length);
+}
+
+/** Keeps what came: all of the machine if that was not written lately, else only what came since. What could not be kept is tried again by
+ * time. */
+function keepNews() {
+  const { work } = app;
+  if (!isUnsafe() || work.isUnkept) return;
+  if (!work.isStored || performance.now() - work.at >= KEEP_MS || !storage.connection) keep(false, false);
+  else inTurn(() => attempt(async () => app.work === work && keepAtOnce()));
+}
+
+/** Keeps what came at once, also if the page is gone in a moment: what came since the machine was written, or, if it never was, the machine
+ * without its state. */
+export async function keepAtOnce() {
+  const { work } = app, { news, journals: [journal] } = work;
+  if (!isUnsafe() || !journal?.base || !storage.connection) return;
+  if (!work.isStored) Object.assign(work, { id: work.id ?? Date.now(), by: writer });
+  const id = Number(work.id);
+  await writtenAtOnce(work.isStored ? (store) => store.put({ id: sinceId(id), of: id, by: work.by, ...journal.since })
+    : (store) => putWhole(store, { id, by: work.by, ...work.labels, sent: "", ...journal.whole }));
+  work.safe = Math.max(work.safe, news);
+}
+
+/** Keeps what a machine was that is no longer there, and gives its item free.
+ * @param {Work} work
+ * @param {Whole | null} kept */
+export function leave(work, kept) {
+  const { labels } = work;
   return inTurn(async () => {
-    if (kept) await store(work, kept);
-    work.release?.();
+    if (kept) await store(work, kept, labels);
+    work.giveUp();
     showKept();
   });
 }
 
-/** Writes what was kept to the item of the work, or says that it cannot. */
-async function store(work, { generation, ...kept }) {
+/** Writes what was kept to the item of the work, or says that it cannot. Returns whether it is written.
+ * @param {Work} work
+ * @param {Whole & { fork?: number }} kept
+ * @param {Labels} labels
+ * @param {boolean} isSaidAgain */
+export async function store(work, { fork, ...kept }, labels, isSaidAgain = false) {
   try {
     if (work.id === null) await work.takeNew();
-    await put(work, { name: work.name, sent: work.sent, ...kept });
-    Object.assign(work, { by: writer, isUnkept: false });
+    await put(work, { ...labels, ...kept });
+    Object.assign(work, { by: writer, isUnkept: false, isStored: true });
   } catch (error) {
-    if (!work.isUnkept) notice(`This browser cannot keep the recording of ${work.name}, so save it to a file: ${error.message}`);
+    if (isSaidAgain || !work.isUnkept) notice(`This browser cannot keep the recording of ${work.name}, so save it to a file: ${messageOf(error)}`);
     work.isUnkept = true;
   }
+  return !work.isUnkept;
 }
 
-/** Puts an item. If another page may have it open, and wrote it since, this is a copy. */
+/** Puts an item. If another page may have it open, and wrote it since, this is a copy.
+ * @param {Work} work
+ * @param {Labels & Whole} item
+ * @returns {Promise<null>} */
 async function put(work, item) {
-  const written = { ...item, by: writer };
-  if (work.isLocked) return withKept("readwrite", (store) => store.put({ ...written, id: work.id }));
+  const written = { ...item, id: Number(work.id), by: writer };
+  if (work.isLocked) return withKept("readwrite", (store) => putWhole(store, written));
+  /** @param {Kept | undefined} found */
   const isOther = (found) => found && (found.by ?? null) !== work.by;
   const found = await withKept("readwrite", (store) => {
-    const asked = store.get(work.id);
-    asked.onsuccess = () => isOther(asked.result) || store.put({ ...written, id: work.id });
+    const asked = store.get(written.id);
+    asked.onsuccess = () => isOther(asked.result) || putWhole(store, written);
     return asked;
   });
   if (!isOther(found)) return null;
@@ -133,58 +201,141 @@ async function put(work, item) {
   return put(work, item);
 }
 
-// Reading
-
-const isBytes = (value, length = value?.length) => value instanceof Uint8Array && value.length === length;
-const isMachine = (value) => isBytes(value?.state, STATE_BYTES) && isBytes(value.words, MEMORY_BYTES);
-const isCount = (value) => Number.isInteger(value) && value >= 0 && value <= MOST_STEPS;
-const areBytes = (value) => Array.isArray(value) && value.every((byte) => Number.isInteger(byte) && byte >= 0 && byte < 256);
-
-/** Whether what was read has the shape of what this page keeps, or of what a page of an earlier build kept. The worker judges what
- * it says. */
-function isItem(kept) {
-  const isWritten = Number.isInteger(kept.id) && Math.abs(kept.id) < 8e15 && typeof kept.name === "string" && isCount(kept.count);
-  if (!isWritten || !isBytes(kept.inputs) || kept.inputs.length % INPUT_BYTES || typeof kept.sent !== "string") return false;
-  if (kept.waiting && !(areBytes(kept.waiting.keys) && areBytes(kept.waiting.serial))) return false;
-  if (kept.first) return isMachine(kept.first) && Array.isArray(kept.marks) && kept.marks.every(isCount);
-  return isMachine(kept.live) && isBytes(kept.recording) && isBytes(kept.sentSince);
+/** Puts all of a machine. What came since it was written before is in it.
+ * @param {IDBObjectStore} store
+ * @param {Partial<Kept> & { id: number }} item */
+function putWhole(store, item) {
+  store.delete(sinceId(item.id));
+  return store.put(item);
 }
 
-/** Returns what the page shows of an item. */
-function summary(kept) {
+// Reading
+
+/**
+ * @param {any} value
+ * @param {number} length
+ */
+const isBytes = (value, length = value?.length) => value instanceof Uint8Array && value.length === length;
+/** @param {any} value */
+const isMachine = (value) => isBytes(value?.state, STATE_BYTES) && isBytes(value.words, MEMORY_BYTES);
+/** @param {any} value */
+const isCount = (value) => Number.isInteger(value) && value >= 0 && value <= MOST_STEPS;
+/** @param {any} value */
+const areCounts = (value) => Array.isArray(value) && value.every(isCount);
+/** @param {any} value */
+const areBytes = (value) => isBytes(value) || (Array.isArray(value) && value.every((byte) => Number.isInteger(byte) && byte >= 0 && byte < 256));
+/** @param {any} value */
+const areInputs = (value) => isBytes(value) && value.length % INPUT_BYTES === 0;
+/** @param {any} value */
+const isWaiting = (value) => !value || (areBytes(value.keys) && areBytes(value.serial));
+/** @param {any} value */
+const isFamily = ({ family, number, parent }) => family === undefined || ([family, number].every(Number.isInteger) && isCount(parent));
+
+/** Whether what was read has the shape of what this page keeps, or of what a page of an earlier build kept. The worker judges what
+ * it says.
+ * @param {any} kept
+ * @returns {kept is Kept} */
+function isItem(kept) {
+  const isWritten = Number.isInteger(kept.id) && Math.abs(kept.id) < 8e15 && typeof kept.name === "string" && isCount(kept.count);
+  if (!isWritten || !areInputs(kept.inputs) || typeof kept.sent !== "string" || !isWaiting(kept.waiting) || !isFamily(kept)) return false;
+  if (kept.first) return isMachine(kept.first) && areCounts(kept.marks);
+  const isPlayed = isMachine(kept.live) || (!kept.live && isCount(kept.until) && areCounts(kept.marks));
+  return isPlayed && isBytes(kept.recording) && isBytes(kept.sentSince);
+}
+
+/** Whether what was read has the shape of what came since an item was written.
+ * @param {any} value
+ * @returns {value is KeptSince} */
+function isSince(value) {
+  const isOf = Number.isInteger(value?.of) && value.id === sinceId(value.of) && isCount(value.from) && isCount(value.until);
+  return isOf && areInputs(value.inputs) && areCounts(value.marks) && isWaiting(value.waiting);
+}
+
+/** Returns an item with what came since it was written, if that is of it.
+ * @param {Kept} kept
+ * @param {KeptSince} [since]
+ * @returns {Kept} */
+function merged(kept, since) {
+  const begin = INPUT_BYTES * (since?.from ?? 0), known = kept.inputs.length, before = kept.until ?? kept.count;
+  const isOfIt = since && (since.by ?? null) === (kept.by ?? null) && begin <= known && begin + since.inputs.length >= known && since.until >= before;
+  if (!isOfIt) return kept;
+  const { inputs, marks, until, waiting } = since;
+  return { ...kept, inputs: joined([kept.inputs.subarray(0, begin), inputs]), marks: [...(kept.marks ?? []), ...marks], until, waiting };
+}
+
+/** Returns an item and what came since it was written, as far as they are there. `task` may do something more with the store.
+ * @param {IDBTransactionMode} mode
+ * @param {number} id
+ * @param {(store: IDBObjectStore) => void} task
+ * @returns {Promise<unknown[]>} */
+async function itemsOf(mode, id, task = () => {}) {
+  /** @type {IDBRequest[]} */
+  let asked = [];
+  await withKept(mode, (store) => {
+    asked = [store.get(id), store.get(sinceId(id))];
+    task(store);
+    return asked[1];
+  });
+  return asked.map(({ result }) => result);
+}
+
+/** Reads an item, with what came since it was written.
+ * @param {number} id
+ * @returns {Promise<Kept>} */
+async function readItem(id) {
+  const [kept, since] = await itemsOf("readonly", id);
+  if (!kept || !isItem(kept)) throw new Refusal("What was kept is no longer there.");
+  return isSince(since) ? merged(kept, since) : kept;
+}
+
+/** Returns what the page shows of an item.
+ * @param {any} kept
+ * @param {KeptSince} [since]
+ * @returns {Summary} */
+function summary(kept, since) {
   const id = kept?.id, isReadable = Boolean(kept) && isItem(kept);
   const unreadable = `What is kept as ${String(id).slice(0, MOST_NAME)} cannot be read: this page did not write it.`;
   if (!isReadable) return { id, isReadable, text: unreadable };
-  const [name, inputs] = [kept.name.slice(0, MOST_NAME), kept.inputs.length / INPUT_BYTES];
-  const text = `${name}, of ${new Date(id).toLocaleString()}: ${many(kept.count, "instruction")}, ${many(inputs, "input")}`;
-  return { id, isReadable, text };
+  const { family, number, parent, count, until = count, inputs: { length } } = merged(kept, since), branch = family === undefined ? "" : `, branch ${number}`;
+  const name = kept.name.slice(0, MOST_NAME), what = `${many(until, "instruction")}, ${many(length / INPUT_BYTES, "input")}`;
+  return { id, isReadable, name, family, number, parent, end: until, text: `${name}${branch}, of ${new Date(id).toLocaleString()}: ${what}` };
 }
 
-/** Returns the summaries of all items, read one by one: they may be large. */
-async function summaries() {
+/** Returns the summaries of all items, read one by one: they may be large. What came since an item was written is read before it. */
+export async function summaries() {
+  /** @type {Summary[]} */
   const found = [];
+  /** @type {Map<number, KeptSince>} */
+  const since = new Map();
   await withKept("readonly", (store) => {
     const asked = store.openCursor(null, "prev");
     asked.onsuccess = () => {
       if (!asked.result) return;
-      found.push(summary(asked.result.value));
+      const { value } = asked.result;
+      if (isSince(value)) since.set(value.of, value);
+      else found.push(summary(value, since.get(value.id))), since.delete(value.id);
       asked.result.continue();
     };
     return asked;
   });
-  return found;
+  return [...found, ...[...since.values()].map((value) => summary(value))];
 }
 
 // The list
 
+/** @typedef {{ id: number, items: (Kept | KeptSince)[], text: string }} Forgotten */
+
+/** @type {Map<number, Forgotten>} */
 const forgotten = new Map();
 let listing = 0;
 
 /** Shows what is kept and not open here, and what was forgotten since the page was opened. Of two at a time the later one counts. */
-async function showKept() {
-  const turn = ++listing, read = await summaries().catch((error) => error);
+export async function showKept() {
+  const turn = ++listing;
+  /** @type {Summary[] | Error} */
+  const read = await summaries().catch((error) => error);
   if (turn !== listing) return;
-  const own = read instanceof Error ? [] : read.filter(({ id }) => id !== app.work.id);
+  const here = [app.work, ...branches.list].map(({ id }) => id), own = read instanceof Error ? [] : read.filter(({ id }) => !here.includes(id));
   const items = read instanceof Error ? [unreadable(read)] : own.map(keptItem);
   offerToContinue(own.filter(({ isReadable }) => isReadable));
   write("kept-number", `Recordings kept in this browser: ${items.length || "none"}`);
@@ -192,54 +343,75 @@ async function showKept() {
   el("kept-list").replaceChildren(...[...[...forgotten.values()].map(forgottenItem), ...items].flat());
 }
 
+/** @param {Summary} item */
 function keptItem({ id, isReadable, text }) {
   const resumed = isReadable ? [button("Resume", () => resume(id))] : [];
   return [paragraph(text), ...resumed, button("Forget", () => unkeep(id, text))];
 }
 
-function forgottenItem({ item, text }) {
-  return [paragraph(`Forgotten: ${text}`), button("Undo", () => unforget(item))];
+/** @param {Forgotten} item */
+function forgottenItem({ id, text }) {
+  return [paragraph(`Forgotten: ${text}`), button("Undo", () => unforget(id))];
 }
 
+/** @param {Error} error */
 function unreadable(error) {
   const forgetAll = async () => {
     if (!confirm("Delete all that this browser keeps of this page? That cannot be undone.")) return;
-    indexedDB.deleteDatabase("galluspa").onsuccess = showKept;
+    await deleteStorage();
+    await showKept();
   };
   return [paragraph(`What this browser keeps cannot be read: ${error.message}`), button("Forget all of it", forgetAll)];
 }
 
-/** Resumes what is kept. If another page has it open, this is a copy. */
-async function resume(id) {
+/** Resumes what is kept, with its branches.
+ * @param {number} id */
+export async function resume(id) {
   if (!(await mayLeave())) return;
-  const work = new Work(""), isFree = await work.take(id);
+  await resumed(new Work(""), id, async ({ family }) => (family === undefined ? NO_BRANCHES : familyOf(family, id)));
+}
+
+/** Has the machine go on with an item. If another page has it open, this is a copy. `branchesOf` returns the branches beside it.
+ * @param {Work} work
+ * @param {number} id
+ * @param {(kept: Labels) => Branches | Promise<Branches>} branchesOf */
+export async function resumed(work, id, branchesOf) {
+  const isFree = work.isLocked || (await work.take(id));
   try {
-    const kept = await withKept("readonly", (store) => store.get(id));
-    if (!kept || !isItem(kept)) throw new Refusal("What was kept is no longer there.");
-    const answer = await app.live.ask("resume", { kept });
-    const { generation } = answer, name = kept.name.slice(0, MOST_NAME);
-    Object.assign(work, { name, generation, sent: kept.first ? "" : kept.sent, by: kept.by ?? null });
-    showOpened(answer, work);
+    const kept = /** @type {Kept} */ (work.left ? { ...work.labels, ...work.left } : await readItem(id));
+    const others = await branchesOf(kept), answer = await app.live.ask("resume", { kept });
+    const { family, number = 1, parent = 0, until = kept.count, by = work.by } = kept, { generation, fork } = answer;
+    Object.assign(work, { name: kept.name.slice(0, MOST_NAME), generation, fork, family, number, parent, by, journals: [], left: null });
+    Object.assign(work, { sent: kept.live ? kept.sent : "", isStored: isFree && until === kept.count && Boolean(kept.live), kept: "" });
+    if (!isFree) Object.assign(work, { id: null, by: null });
+    showOpened(answer, work, others);
     if (kept.first) notice("An earlier page kept this session without its recording: Run plays it back and records it.");
+    else if (app.latest?.isReplay) await runTo(until);
   } catch (error) {
-    work.release?.();
+    work.giveUp();
     throw error;
   }
   if (!isFree) notice("This recording is open in another page: what you do here is kept as a copy.");
 }
 
+/**
+ * @param {number} id
+ * @param {string} text
+ */
 async function unkeep(id, text) {
   const lock = await locked(id);
   if (!lock) throw new Refusal("This recording is open in another page, so it cannot be forgotten here.");
-  const item = await withKept("readonly", (store) => store.get(id));
-  await withKept("readwrite", (store) => store.delete(id));
+  const found = await itemsOf("readwrite", id, (store) => [id, sinceId(id)].map((key) => store.delete(key)));
+  const items = /** @type {(Kept | KeptSince)[]} */ (found.filter(Boolean));
   lock.release();
-  forgotten.set(id, { item, text });
+  if (items.length) forgotten.set(id, { id, items, text });
   await showKept();
 }
 
-async function unforget(item) {
-  await withKept("readwrite", (store) => store.put(item));
-  forgotten.delete(item.id);
+/** @param {number} id */
+async function unforget(id) {
+  const [item, ...more] = forgotten.get(id)?.items ?? [];
+  await withKept("readwrite", (store) => (more.map((since) => store.put(since)), store.put(item)));
+  forgotten.delete(id);
   await showKept();
 }

@@ -1,31 +1,57 @@
+// @ts-check
 /* What is looked at: the machine now, or a moment of its past. A moment is a count with the state before the inputs of that count.
  * Looking never changes the recording. */
-"use strict";
+import { app } from "./app.js";
+import { branchOff, mayBranch } from "./branches.js";
+import { closeCard } from "./card.js";
+import { showPaused, showRegisters } from "./claims.js";
+import { showAround, showListing } from "./code.js";
+import { showDevices } from "./devices.js";
+import { attempt, el, grouped, many, notice, set, write } from "./elements.js";
+import { dropSent, showLamps } from "./frames.js";
+import { showMemory } from "./memory.js";
+import { everySeconds } from "./running.js";
+import { drawSoon } from "./screen.js";
+import { showSearched } from "./search.js";
+import { AT, countOf, field, PER_SECOND, STATE_BYTES, STOPS } from "./states.js";
+import { forgetAfter, keepInSight, lanes, showCursor } from "./timeline.js";
+import { showAsked, showWho } from "./who.js";
 
 // `at` is the count that is looked at, in the past, or ahead of a replay; or null for now. `moment` is what was answered for it last.
+/** @type {{ at: number | null, moment: Moment | null }} */
 const NOW = { at: null, moment: null };
-let look = NOW;
+export let look = NOW;
 
-const isPast = () => look.at !== null;
+/** Has the machine looked at as it is now. */
+export function lookAtNow() {
+  look = NOW;
+}
+
+export const isPast = () => look.at !== null;
 /** Whether a count is looked at to which the replay has not come yet: what is shown is what the file claims, or what comes of it. */
-const isAhead = () => look.at > nowCount();
-const nowCount = () => (app.latest ? countOf(app.latest.state) : 0);
-const shownCount = () => look.at ?? nowCount();
+export const isAhead = () => look.at !== null && look.at > nowCount();
+export const nowCount = () => (app.latest ? countOf(app.latest.state) : 0);
+export const shownCount = () => look.at ?? nowCount();
 /** The state that is shown: that of the moment, or the machine's own. */
-const shownState = () => look.moment?.state ?? app.latest?.state;
+export const shownState = () => look.moment?.state ?? app.latest?.state ?? new Uint8Array(STATE_BYTES);
 
 /** Why keys, the mouse and the controls of devices have no effect while the past is looked at, or null. */
-const deafInPast = () => (isPast() ? "PAST: nothing goes to the machine until you take over, or go back to now" : null);
+export const inputRefusalInPast = () => (isPast() ? "PAST: nothing goes to the machine until you take over, or go back to now" : null);
 
-const secondsOf = (counts) => `${(counts / PER_SECOND).toFixed(3)} s`;
-/** How far a count is from now: in seconds, or in instructions where it is near. */
-function apart(at) {
+/** @param {number} counts */
+export const secondsOf = (counts) => `${(counts / PER_SECOND).toFixed(3)} s`;
+/** How far a count is from now: in seconds, or in instructions where it is near.
+ * @param {number} at */
+export function apart(at) {
   const counts = Math.abs(nowCount() - at);
   return counts < PER_SECOND / 20 ? many(counts, "instruction") : `${(counts / PER_SECOND).toFixed(1)} s`;
 }
 
-/** Looks at a count. A machine that runs is paused first. A cursor that has not settled has more looks to come. */
-async function lookAt(count, isSettled = true) {
+/** Looks at a count. A machine that runs is paused first. A cursor that has not settled has more looks to come.
+ * @param {number} count
+ * @param {boolean} isSettled
+ * @returns {Promise<void>} */
+export async function lookAt(count, isSettled = true) {
   if (!app.latest) return;
   if (app.latest.on) await app.live.ask("setRun", { on: false });
   const at = Math.max(0, Math.min(Math.floor(count), lanes.end));
@@ -37,15 +63,16 @@ async function lookAt(count, isSettled = true) {
   if (moment && look.at === at) showMoment(moment);
 }
 
-/** Runs a replay up to a count, as fast as it goes. */
-async function runTo(goal) {
+/** Runs a replay up to a count, as fast as it goes.
+ * @param {number} goal */
+export async function runTo(goal) {
   look = NOW;
   await app.live.ask("setRun", { on: true, fast: true, goal, seconds: everySeconds() });
 }
 
 /** Runs the machine again from count 0 to the count that is looked at, without the states that the page keeps on the way, and says whether
  * it is what is shown. */
-async function runAgain() {
+export async function runAgain() {
   const { at } = look;
   if (at === null || isAhead()) return;
   write("run-again-said", "running again ..");
@@ -53,13 +80,15 @@ async function runAgain() {
   if (answer && look.at === at) write("run-again-said", saidOfAgain(answer));
 }
 
+/** @param {Requests["recheck"][1]} answer */
 function saidOfAgain({ stopped, part }) {
   if (stopped) return "It was stopped.";
   return part ? `Not the same: ${part} differs from what is shown. Reload the page, and please report it.` : "The same.";
 }
 
-/** Shows the machine as it is now. */
-async function backToNow(isSettled = true) {
+/** Shows the machine as it is now.
+ * @param {boolean} isSettled */
+export async function backToNow(isSettled = true) {
   look = NOW;
   write("run-again-said", "");
   showLook(isSettled);
@@ -71,14 +100,16 @@ async function backToNow(isSettled = true) {
   showPaused(app.latest.state, app.latest.listing);
 }
 
-/** Shows what the page says of what is looked at. */
-function showLook(isSettled) {
+/** Shows what the page says of what is looked at.
+ * @param {boolean} isSettled */
+export function showLook(isSettled) {
   if (app.latest) showMode(app.latest);
   keepInSight(shownCount());
   showCursor(isSettled);
 }
 
-/** Shows a moment; one that is not exact is a near one that is shown first. There is no listing while the cursor is dragged. */
+/** Shows a moment; one that is not exact is a near one that is shown first. There is no listing while the cursor is dragged.
+ * @param {Moment} moment */
 function showMoment(moment) {
   look = { ...look, moment };
   el("nearly").hidden = moment.exact;
@@ -86,7 +117,7 @@ function showMoment(moment) {
   showLamps(field(moment.state, AT.LEDs));
   showRegisters(moment.state);
   write("when", moment.exact ? `Registers, before instruction ${grouped(moment.at)}` : "Registers, nearly");
-  showMode(app.latest);
+  if (app.latest) showMode(app.latest);
   if (!moment.listing) return;
   showListing(field(moment.state, AT.PC), moment.listing.map(({ pc, word }) => [pc, word]));
   showDevices(moment.state);
@@ -94,8 +125,9 @@ function showMoment(moment) {
   attempt(showMemory);
 }
 
-/** Hears what the past says between its answers. */
-function heardPast(news) {
+/** Hears what the past says between its answers.
+ * @param {PastNews} news */
+export function heardPast(news) {
   if (news.peeked && news.peeked.at === look.at) showMoment(news.peeked);
   else if (news.searched) showSearched(news.searched), showAsked(news.searched);
   else if (news.who) showWho(news.who);
@@ -103,23 +135,24 @@ function heardPast(news) {
 }
 
 /** Has the machine go on from the moment that is looked at. What it did after it is kept as a branch. */
-async function takeOverHere() {
+export async function takeOverHere() {
   const { at } = look;
   if (at === null || isAhead()) return;
   notice();
   const [moment, now] = await Promise.all([at, nowCount()].map((count) => app.past.moment(count)));
-  if (!moment || !now || !(await keepBranch(at))) return;
+  if (!moment || !now || !mayBranch()) return;
   look = NOW;
   closeCard();
-  await app.live.ask("takeOver", moment);
+  branchOff(at, await app.live.ask("takeOver", moment));
   forgetAfter(at);
   dropSent(now.sent - moment.sent);
   await backToNow();
   el("screen").focus({ preventScroll: true });
 }
 
-/** Says in one word what the machine's state is, and what that means. */
-function showMode(frame) {
+/** Says in one word what the machine's state is, and what that means.
+ * @param {Frame} frame */
+export function showMode(frame) {
   const { on, isReplay, isTrue } = frame, [word, text] = isPast() ? pastMode() : modeOf(frame);
   write("run", isAhead() ? "Run to here" : on ? "Pause" : "Run");
   set("take-over", { hidden: !isReplay || isPast() });
@@ -134,11 +167,13 @@ function showMode(frame) {
 }
 
 function pastMode() {
-  if (!isAhead()) return ["PAST", `${apart(look.at)} before now. Keys do nothing.`];
+  const far = apart(shownCount());
+  if (!isAhead()) return ["PAST", `${far} before now. Keys do nothing.`];
   const claimed = app.file?.verdict?.status === 0 ? "as the file claims, which was checked" : "claimed, not checked";
-  return ["REPLAY", `${apart(look.at)} ahead of the replay, ${look.moment?.isClaimed ? claimed : "not run yet"}. Keys do nothing.`];
+  return ["REPLAY", `${far} ahead of the replay, ${look.moment?.isClaimed ? claimed : "not run yet"}. Keys do nothing.`];
 }
 
+/** @param {Frame} frame */
 function modeOf({ state, on, isReplay, ahead, full, isAtLastCount }) {
   const stop = field(state, AT.stop), left = ahead ? many(ahead, "input") : "Checkpoints";
   const then = full?.isEnd ? "What comes after is not recorded." : "The machine takes no more.";

@@ -1,23 +1,51 @@
+// @ts-check
 /* The live machine: an emulator, the recording in progress, and the recording that is played back, if there is one. Each input is
  * stamped with the count of the instruction before which it comes. */
-"use strict";
+import { Arrivals } from "./arrivals.js";
+import { copied, Emulator } from "./emulator.js";
+import { CHECKPOINT_LIMIT, INPUT_LIMIT, Inputs, isInput, readRecording } from "./formats.js";
+import { INPUT_BYTES } from "./layout.js";
+import { MOST_COUNT, Refused } from "./library.js";
+import { Recorder } from "./recorder.js";
+import {
+  countOf, differingPages, DISPLAY_AT, DISPLAY_BYTES, equalWords, firstDifference, joined, KEY, last, MEMORY_BYTES, MOUSE,
+  PER_SECOND, sentText, SERIAL, STATE_BYTES, wordsOf,
+} from "./states.js";
+import { firstTable, stretch } from "./stretches.js";
 
 const QUEUE = 16, RECEIVED = 256;
 
-class Machine extends Emulator {
+export class Machine extends Emulator {
+  arrivals = new Arrivals();
+  inputs = new Inputs();
+  // How many inputs are played back, are of a file, and are taken; a count up to which what was kept is played back; bytes sent so far.
+  given = 0;
+  filed = 0;
+  next = 0;
+  until = 0;
+  sentTotal = 0;
+  isBranch = false;
+  // The counts of the checkpoints that are planned, and that of the first false claim.
+  /** @type {number[]} */
+  planned = [];
+  falseAt = Infinity;
+  // The recording that is played back, the address of its bytes, and what was sent since its last claim.
+  /** @type {Recording | null} */
+  recording = null;
+  recordingAt = 0;
+  /** @type {Bytes[]} */
+  sentSince = [];
+
+  /** @param {Library} library */
   constructor(library) {
     super(library);
     // As large as a state with its words, for claims to compare with.
     this.other = library.take(STATE_BYTES + MEMORY_BYTES);
-    this.recordingAt = 0;
     this.recorder = new Recorder(library);
-    this.arrivals = new Arrivals();
-    this.inputs = new Inputs();
-    this.given = this.next = this.sentTotal = 0;
-    this.falseAt = Infinity;
   }
 
-  /** Begins a session. `checkpoints` are the counts of its checkpoints, at which the claims of a recording are compared. */
+  /** Begins a session. `checkpoints` are the counts of its checkpoints, at which the claims of a recording are compared.
+   * @param {Session} session */
   begin({ state, words, inputs, checkpoints }) {
     this.put(this.other, { state, words });
     this.recorder.begin(this.other);
@@ -25,17 +53,21 @@ class Machine extends Emulator {
     this.start({ state, words, inputs, given: inputs.length, next: 0, planned: checkpoints });
   }
 
-  /** Starts at a state, after the bytes that the recording in progress says were sent. Of the inputs the first so many are of a file,
-   * and the first so many are taken already. */
-  start({ state, words, inputs, given, next, planned, waiting }) {
+  /** Starts at a state, after the bytes that the recording in progress says were sent. Of the inputs the first `given` are played back, the
+   * first `filed` are of a file, and the first `next` are taken already. `until` is a count up to which what was kept is played back. A
+   * machine that is one of several branches is kept even without inputs of the user.
+   * @param {Memory & { inputs: Inputs, given: number, filed?: number, next: number, planned: number[], until?: number, waiting?: Waiting, isBranch?: boolean }} given */
+  start({ state, words, inputs, given, filed = given, next, planned, until = 0, waiting, isBranch = false }) {
     this.put(this.address, { state, words });
-    Object.assign(this, { inputs, given, next, planned, falseAt: Infinity, sentSince: [], arrivals: new Arrivals(waiting) });
+    Object.assign(this, { inputs, given, filed, next, planned, until, isBranch, falseAt: Infinity, sentSince: [], arrivals: new Arrivals(waiting) });
     this.sentTotal = this.recorder.sentTotal;
     this.arrivals.forgetMouse(this.part("mouse"));
   }
 
   /** Begins with what a checkpoint of a recording claims. The recording in progress begins with the inputs and the claims up to
-   * there. If that is refused, the machine stays as it was. */
+   * there. If that is refused, the machine stays as it was.
+   * @param {Recording} recording
+   * @param {number} checkpoint */
   beginRecording(recording, checkpoint) {
     const recordingAt = this.library.hold(recording.bytes);
     try {
@@ -52,31 +84,53 @@ class Machine extends Emulator {
     }
   }
 
-  /** Returns the state and the words that a checkpoint of a recording claims, whose bytes are at an address. */
+  /** Returns the state and the words that a checkpoint of a recording claims, whose bytes are at an address.
+   * @param {number} address
+   * @param {{ bytes: Bytes }} recording
+   * @param {number} checkpoint */
   claimedAt(address, { bytes }, checkpoint) {
     if (!this.library.claim(address, bytes.length, checkpoint, this.other, this.other + STATE_BYTES))
       throw new Refused(`no checkpoint ${checkpoint}`);
     return copied(this.at(this.other));
   }
 
-  /** Resumes a kept recording, at the state that the machine had; or a kept session, whose inputs are played back from its initial
-   * state. It is refused if the parts of what was kept do not fit together, and the machine stays as it was. */
-  resume({ recording, sentSince, live, inputs: bytes, first, marks, count, waiting }) {
+  /** Resumes a kept recording, at the state that the machine had, or at its last checkpoint if that was not kept. What came later is
+   * played back, up to `until`. Of a kept session all is played back, from its initial state. It is refused if the parts of what was kept
+   * do not fit together, and the machine stays as it was.
+   * @param {Kept | (Labels & Whole & { first?: undefined, marks?: undefined, until?: undefined })} kept */
+  resume({ recording, sentSince, live, inputs: bytes, first, marks = [], count, until = count, waiting, family }) {
     const inputs = lawfulInputs(bytes);
     if (first) {
       this.tryState(first, 0);
       const checkpoints = [...new Set([...marks, count])].filter(Boolean).sort((one, other) => one - other);
       return this.begin({ ...first, inputs, checkpoints });
     }
-    const recorded = lawful(recording), last = recorded.claims.at(-1).count;
-    this.tryState(live, count);
-    if (last > count || !isBeginning(recorded.inputs, inputs)) throw new Refused("what was kept does not fit together");
-    this.recorder.resume(recording, sentSince);
+    const recorded = this.lawful(recording), end = last(recorded.claims).count, from = live ? count : end;
+    if (live) this.tryState(live, count);
+    if (end > count || until < count || !isBeginning(recorded.inputs, inputs)) throw new Refused("what was kept does not fit together");
+    const begun = live ?? this.claimOf(recording, recorded.claims.length - 1);
+    this.recorder.resume(recording, live ? sentSince : new Uint8Array());
     this.forgetRecording();
-    this.start({ ...live, inputs, given: 0, next: inputs.from(count), planned: [], waiting });
+    const planned = [...new Set(marks)].filter((mark) => mark > from && mark <= until).sort((one, other) => one - other);
+    const given = until > from ? inputs.from(until) : 0, isBranch = family !== undefined;
+    this.start({ ...begun, inputs, given, filed: 0, next: inputs.from(from), planned, until, waiting, isBranch });
   }
 
-  /** Refuses a state that is none, or that has another count. */
+  /** Reads the recording of a file. It is refused if the proved library finds it invalid.
+   * @param {Bytes} bytes */
+  lawful(bytes) {
+    const address = this.library.hold(bytes);
+    try {
+      this.library.claim(address, bytes.length, 0, this.other, this.other + STATE_BYTES);
+      return readRecording(bytes);
+    } finally {
+      this.library.leave(address);
+    }
+  }
+
+  /** Refuses a state that is none, or that has another count.
+   * @param {Memory} kept
+   * @param {number} count */
   tryState(kept, count) {
     if (countOf(kept.state) !== count) throw new Refused("what was kept does not fit together");
     this.put(this.other, kept);
@@ -84,14 +138,22 @@ class Machine extends Emulator {
     this.library.begin(this.other);
   }
 
-  /** Returns the initial state of a recording, with its words. */
-  firstOf(bytes) {
+  /** Returns the state that a checkpoint of a recording claims, with its words.
+   * @param {Bytes} bytes
+   * @param {number} checkpoint */
+  claimOf(bytes, checkpoint) {
     const address = this.library.hold(bytes);
     try {
-      return this.claimedAt(address, { bytes }, 0);
+      return this.claimedAt(address, { bytes }, checkpoint);
     } finally {
       this.library.leave(address);
     }
+  }
+
+  /** Returns the initial state of a recording, with its words.
+   * @param {Bytes} bytes */
+  firstOf(bytes) {
+    return this.claimOf(bytes, 0);
   }
 
   forgetRecording() {
@@ -100,40 +162,50 @@ class Machine extends Emulator {
     this.recording = null;
   }
 
-  /** The count at which the inputs and the checkpoints of the file are over. */
+  /** The count at which what is played back is over: the inputs and the checkpoints of the file, or of what was kept. */
   get end() {
     const last = this.given ? this.inputs.count(this.given - 1) + 1 : 0;
-    return Math.max(last, this.planned.at(-1) ?? 0);
+    return Math.max(last, this.planned.at(-1) ?? 0, this.until);
   }
 
-  /** Whether inputs or checkpoints of the file are still to come. */
+  /** Whether inputs or checkpoints that are played back are still to come. */
   get isReplay() {
-    return this.next < this.given || this.planned.at(-1) > this.count;
+    return this.next < this.given || (this.planned.at(-1) ?? 0) > this.count || this.until > this.count;
   }
 
   /** How many inputs are the user's own. */
   get own() {
-    return this.isReplay ? 0 : this.inputs.length - this.given;
+    return this.isReplay ? 0 : this.inputs.length - this.filed;
+  }
+
+  /** Whether the browser is to keep the machine: it has inputs of the user, or is one of several branches. */
+  get isToKeep() {
+    return !this.isReplay && (this.own + this.arrivals.typed > 0 || this.isBranch);
   }
 
   /** Ends the replay: from here on the inputs are the user's, and the later inputs and claims of the file are dropped. */
   takeOver() {
     this.inputs = new Inputs(this.takenInputs);
     this.given = this.next;
+    this.filed = Math.min(this.filed, this.next);
+    this.isBranch ||= this.isKept;
+    this.until = 0;
     this.planned = this.planned.filter((count) => count <= this.count);
     this.arrivals.forgetMouse(this.part("mouse"));
   }
 
   /** Goes on from a moment of the past: its state, its words, and how many bytes were sent before it. Later inputs and claims are
    * dropped. The recording in progress is cut back to its last checkpoint that is not after the moment; what came since then is still
-   * to be recorded. A recording that ended before the moment stays as it is. */
+   * to be recorded. A recording that ended before the moment stays as it is. The machine is a branch from then on.
+   * @param {number} at
+   * @param {Memory & { sent: number }} moment */
   goBack(at, { state, words, sent }) {
     if (countOf(state) !== at || at > this.count) throw new Refused(`the machine has not come to ${at} yet`);
     const inputs = new Inputs(this.inputs.bytes.subarray(0, INPUT_BYTES * this.inputs.from(at)));
     const planned = this.planned.filter((count) => count <= at), given = Math.min(this.given, inputs.length);
-    if (!(this.recorder.full?.count <= at)) this.recorder.cut(at, sent);
-    const { falseAt } = this;
-    this.start({ state, words, inputs, given, next: inputs.length, planned });
+    if (!this.recorder.full || this.recorder.full.count > at) this.recorder.cut(at, sent);
+    const { falseAt } = this, filed = Math.min(this.filed, inputs.length);
+    this.start({ state, words, inputs, given, filed, next: inputs.length, planned, isBranch: true });
     Object.assign(this, { sentTotal: sent, falseAt: falseAt <= at ? falseAt : Infinity });
   }
 
@@ -148,27 +220,34 @@ class Machine extends Emulator {
   }
 
   /** Why the machine takes no inputs of the user, or null. */
-  get deaf() {
+  get inputRefusal() {
     if (this.isReplay) return "REPLAY: the inputs are the file's until you take over";
     if (this.part("stop")) return "STOPPED: a stopped machine takes no inputs";
     if (this.isAtLastCount) return "FULL: no count comes after this one";
     return this.inputs.length >= INPUT_LIMIT ? "FULL: the machine takes no more inputs" : null;
   }
 
-  /** Adds an input before an instruction that is not before the next one, nor before the last input. */
+  /** Adds an input before an instruction that is not before the next one, nor before the last input.
+   * @param {number} kind
+   * @param {number} value
+   * @param {number} count */
   input(kind, value, count = this.count) {
-    if (this.deaf) return;
+    if (this.inputRefusal) return;
     const last = this.inputs.length ? this.inputs.count(this.inputs.length - 1) : 0;
     this.inputs.push(Math.max(count, last, this.count), kind, value);
   }
 
-  /** Changes the mouse or the switches of a machine that is paused. */
+  /** Changes the mouse or the switches of a machine that is paused.
+   * @param {number} kind
+   * @param {number} value */
   change(kind, value) {
     if (kind === MOUSE) this.arrivals.follow(value, this.count);
     this.input(kind, value);
   }
 
-  /** Adds the changes that arrived with their counts, as far as these are before an end. */
+  /** Adds the changes that arrived with their counts, as far as these are before an end.
+   * @param {(ms: number) => number} countAt
+   * @param {number} end */
   stamp(countAt, end = Infinity) {
     this.arrivals.stamp(countAt, this.count, end, ({ kind, value }, count) => this.input(kind, value, count));
   }
@@ -177,20 +256,22 @@ class Machine extends Emulator {
    * Returns whether more waits. */
   feed() {
     const { keys, serial, typed } = this.arrivals;
-    if (!typed || this.deaf) return false;
-    for (let free = QUEUE - this.part("keys") - this.due(KEY); free > 0 && keys.length; free--) this.input(KEY, keys.shift());
-    if (serial.length && !(this.part("serial") & RECEIVED) && !this.due(SERIAL)) this.input(SERIAL, serial.shift());
+    if (!typed || this.inputRefusal) return false;
+    for (let free = QUEUE - this.part("keys") - this.due(KEY); free > 0 && keys.length; free--) this.input(KEY, keys.splice(0, 1)[0]);
+    if (serial.length && !(this.part("serial") & RECEIVED) && !this.due(SERIAL)) this.input(SERIAL, serial.splice(0, 1)[0]);
     return this.arrivals.typed > 0;
   }
 
-  /** Returns how many inputs of a kind come before the next instruction, of those that the user made. */
+  /** Returns how many inputs of a kind come before the next instruction, of those that the user made.
+   * @param {number} kind */
   due(kind) {
     let number = 0;
-    for (let at = this.next; at < this.inputs.length; at++) number += this.inputs.kind(at) === kind;
+    for (let at = this.next; at < this.inputs.length; at++) number += this.inputs.kind(at) === kind ? 1 : 0;
     return number;
   }
 
-  /** Runs up to a count or less, and returns the bytes that the machine sent. */
+  /** Runs up to a count or less, and returns the bytes that the machine sent.
+   * @param {number} to */
   advance(to) {
     const sent = this.run(this.inputs, this.next, to);
     this.next = this.inputs.from(this.count, this.next);
@@ -201,7 +282,8 @@ class Machine extends Emulator {
   }
 
   /** Returns the next count at which to stop: that of a checkpoint that is planned, the end of a replay, or a checkpoint that is
-   * due by time. */
+   * due by time.
+   * @param {number} seconds */
   nextStop(seconds) {
     if (this.isReplay) return this.planned.find((count) => count > this.count) ?? this.end;
     const step = seconds * PER_SECOND;
@@ -240,8 +322,8 @@ class Machine extends Emulator {
   /** Why the recording is full, at which count, and whether it ends there, or null. */
   get full() {
     if (this.recorder.full) return this.recorder.full;
-    const isMarked = this.hasAllInputs && this.marks.at(-1) > this.inputs.count(INPUT_LIMIT - 1);
-    return isMarked ? { why: "the recording has reached its limit of inputs", isEnd: false, count: this.marks.at(-1) } : null;
+    const isMarked = this.hasAllInputs && (this.marks.at(-1) ?? 0) > this.inputs.count(INPUT_LIMIT - 1);
+    return isMarked ? { why: "the recording has reached its limit of inputs", isEnd: false, count: last(this.marks) } : null;
   }
 
   get marks() {
@@ -258,7 +340,8 @@ class Machine extends Emulator {
     return this.marks.length >= CHECKPOINT_LIMIT - 1;
   }
 
-  /** Extends the recording by a checkpoint at this count, if there is room for one. Returns whether there is a new checkpoint. */
+  /** Extends the recording by a checkpoint at this count, if there is room for one. Returns whether there is a new checkpoint.
+   * @param {number} most */
   mark(most = CHECKPOINT_LIMIT) {
     return this.marks.length < most && this.recorder.extend(this.address, this.count, this.takenInputs);
   }
@@ -277,11 +360,13 @@ class Machine extends Emulator {
     return { number, count: this.count, part };
   }
 
-  /** Returns what a checkpoint of the recording claims, and what has changed since the checkpoint before. */
+  /** Returns what a checkpoint of the recording claims, and what has changed since the checkpoint before.
+   * @param {number} number
+   * @returns {Claimed} */
   claimed(number) {
-    const { bytes, claims } = this.recording, claim = claims[number];
-    if (!claim) throw new Refused(`no checkpoint ${number}`);
-    const now = this.claimedAt(this.recordingAt, this.recording, number);
+    const { recording } = this, claim = recording?.claims[number];
+    if (!recording || !claim) throw new Refused(`no checkpoint ${number}`);
+    const { bytes, claims } = recording, now = this.claimedAt(this.recordingAt, recording, number);
     const { count, sent } = claim, dots = now.words.slice(DISPLAY_AT, DISPLAY_AT + DISPLAY_BYTES);
     const shown = { number, count, state: now.state, dots, sent: sentText(sent), sentLength: sent.length, pages: [], before: null };
     if (!number) return shown;
@@ -305,17 +390,30 @@ class Machine extends Emulator {
     return { ...this.firstOf(bytes), inputs, checkpoints: this.marks };
   }
 
-  /** Returns what the browser keeps, so that the recording in progress survives a reload; or null if there are no inputs of the
-   * user. */
+  /** Whether what is still played back is kept already. */
+  get isKept() {
+    return this.until > this.count;
+  }
+
+  /** Returns what the browser keeps, so that the recording in progress survives a reload; or null if it keeps nothing of it. */
   kept() {
-    const { keys, serial } = this.arrivals;
-    if (!this.own && !this.arrivals.typed) return null;
-    const inputs = this.inputs.bytes.slice();
-    return { ...this.recorder.kept, live: copied(this.at(this.address)), count: this.count, inputs, waiting: { keys, serial } };
+    return this.isToKeep ? this.whole() : null;
+  }
+
+  /** Returns all of the machine, as the browser keeps it. Inputs of a file that are still to come are left out. */
+  whole() {
+    return { ...this.begun(), live: copied(this.at(this.address)) };
+  }
+
+  /** Returns all of the machine but its state, which follows from the rest. */
+  begun() {
+    const { keys, serial } = this.arrivals, inputs = (this.isReplay ? this.takenInputs : this.inputs.bytes).slice();
+    return { ...this.recorder.kept, count: this.count, inputs, waiting: { keys: Uint8Array.from(keys), serial: Uint8Array.from(serial) } };
   }
 }
 
-/** Returns inputs whose bytes were kept. They are refused if one is out of its range, or before the one before it. */
+/** Returns inputs whose bytes were kept. They are refused if one is out of its range, or before the one before it.
+ * @param {Bytes} bytes */
 function lawfulInputs(bytes) {
   const inputs = new Inputs(bytes);
   for (let at = 0; at < inputs.length; at++) {
@@ -327,7 +425,9 @@ function lawfulInputs(bytes) {
   return inputs;
 }
 
-/** Whether inputs are the first of others. */
+/** Whether inputs are the first of others.
+ * @param {Inputs} some
+ * @param {Inputs} others */
 function isBeginning(some, others) {
   return some.length <= others.length && equalWords(wordsOf(some.bytes), wordsOf(others.bytes));
 }

@@ -1,15 +1,32 @@
+// @ts-check
 /* The bytes of memory, of which some are selected, to watch them or to ask who wrote them. */
-"use strict";
+import { app } from "./app.js";
+import { MOST_BREAKS, sendBreaks } from "./code.js";
+import { CHANGE } from "./conditions.js";
+import { button, el, made, notice, on, set, write } from "./elements.js";
+import { shownCount } from "./look.js";
+import { hex, MEMORY_BYTES } from "./states.js";
+import { isTab } from "./tabs.js";
+import { isNarrow } from "./timeline.js";
+import { askWho } from "./who.js";
 
-const MEMORY_ROWS = 16, MOST_WATCHED = 4096, ALL_BITS = 0xffffffff;
+export const MEMORY_ROWS = 16, MOST_WATCHED = 4096, ALL_BITS = 0xffffffff;
+/** @typedef {{ first: number, end: number }} Watch */
+/** @typedef {Watch & { anchor: number, to: number }} Selected */
+
 // What is shown: the first address, its bytes, and those selected, from one address to another, of which `anchor` stays.
-let bytesShown = { from: 0, bytes: new Uint8Array() }, selected = null, watches = [];
+let bytesShown = { from: 0, bytes: new Uint8Array() };
+/** @type {Selected | null} */
+let selected = null;
+/** @type {Watch[]} */
+let watches = [];
 
 const rowBytes = () => (isNarrow() ? 8 : 16);
-const address = (value) => hex(value, 5);
+/** @param {number} value */
+export const address = (value) => hex(value, 5);
 
 /** Shows the memory at the cursor, if its tab is. */
-async function showMemory() {
+export async function showMemory() {
   if (!app.latest || app.latest.on || !isTab("memory")) return;
   const at = shownCount(), length = MEMORY_ROWS * rowBytes(), from = Math.max(0, Math.min(bytesShown.from, MEMORY_BYTES - length));
   const found = await app.past.memory(at, from, length);
@@ -21,11 +38,15 @@ async function showMemory() {
   showSelected();
 }
 
+/**
+ * @param {number} first
+ * @param {Bytes} before
+ */
 function memoryRow(first, before) {
   const { from, bytes } = bytesShown, line = made("div", `${address(from + first)} `), end = first + rowBytes();
   for (let at = first; at < end; at++) {
     const byte = made("span", hex(bytes[at], 2));
-    byte.dataset.at = from + at;
+    byte.dataset.at = `${from + at}`;
     byte.classList.toggle("changed", bytes[at] !== before[at]);
     line.append(byte, at % 4 === 3 ? " " : "");
   }
@@ -33,9 +54,11 @@ function memoryRow(first, before) {
   return line;
 }
 
+/** @param {Bytes} bytes */
 const printable = (bytes) => Array.from(bytes, (byte) => (byte >= 0x20 && byte < 0x7f ? String.fromCharCode(byte) : ".")).join("");
 
-/** Shows the memory from an address on, which is rounded down to a row. */
+/** Shows the memory from an address on, which is rounded down to a row.
+ * @param {number} at */
 function showMemoryAt(at) {
   bytesShown = { from: Math.max(0, at - (at % rowBytes())), bytes: new Uint8Array() };
   return showMemory();
@@ -51,7 +74,9 @@ function memoryByField() {
 
 // Selecting
 
-/** Selects the bytes from one address to another. */
+/** Selects the bytes from one address to another.
+ * @param {number} anchor
+ * @param {number} to */
 function select(anchor, to) {
   selected = { anchor, to, first: Math.min(anchor, to), end: Math.min(Math.max(anchor, to) + 1, Math.min(anchor, to) + MOST_WATCHED) };
   showSelected();
@@ -59,26 +84,33 @@ function select(anchor, to) {
 
 function showSelected() {
   const { first = 0, end = 0 } = selected ?? {};
-  for (const byte of el("memory").querySelectorAll("span")) byte.classList.toggle("selected", byte.dataset.at >= first && byte.dataset.at < end);
-  for (const name of ["wrote", "watch"]) el(name).disabled = !selected;
-  if (selected) write("selected", selectedText());
+  for (const byte of el("memory").querySelectorAll("span")) byte.classList.toggle("selected", Number(byte.dataset.at) >= first && Number(byte.dataset.at) < end);
+  for (const name of ["wrote", "watch"]) set(name, { disabled: !selected });
+  if (selected) write("selected", selectedText(selected));
 }
 
-function selectedText() {
-  const { first, end } = selected, { from, bytes } = bytesShown, word = first - (first % 4) - from;
+/** @param {Selected} selected */
+function selectedText({ first, end }) {
+  const { from, bytes } = bytesShown, word = first - (first % 4) - from;
   const value = word >= 0 && word + 4 <= bytes.length ? new DataView(bytes.buffer, bytes.byteOffset).getUint32(word, true) : null;
   const at = end - first === 1 ? address(first) : `${address(first)} to ${address(end - 1)}`;
   return `${at}${value === null ? "" : `; the word at ${address(from + word)} is ${hex(value, 8)}, ${value | 0}`}`;
 }
 
-/** Selects the byte under the mouse; with Shift, or while its key is down, all up to it. */
+/** Returns the address of the byte that an element shows, if it does.
+ * @param {EventTarget | null} element */
+const atOf = (element) => (element instanceof HTMLElement ? element.dataset.at : undefined);
+
+/** Selects the byte under the mouse; with Shift, or while its key is down, all up to it.
+ * @param {PointerEvent} event */
 function memoryPointed(event) {
-  const at = event.target.dataset?.at ?? document.elementFromPoint(event.clientX, event.clientY)?.dataset?.at;
+  const at = atOf(event.target) ?? atOf(document.elementFromPoint(event.clientX, event.clientY));
   if (at === undefined || (event.type === "pointermove" && !event.buttons)) return;
   const isMore = event.type === "pointermove" || event.shiftKey;
   select(isMore && selected ? selected.anchor : Number(at), Number(at));
 }
 
+/** @param {KeyboardEvent} event */
 function memoryKey(event) {
   const step = { ArrowLeft: -1, ArrowRight: 1, ArrowUp: -rowBytes(), ArrowDown: rowBytes() }[event.key];
   if (!step) return;
@@ -91,20 +123,22 @@ function memoryKey(event) {
 
 // Watching
 
-function watchSelected() {
+export function watchSelected() {
   if (!selected) return notice("Select bytes of memory first: they are watched.");
   const { first, end } = selected, others = watches.filter((one) => one.first !== first || one.end !== end);
   if (others.length >= MOST_BREAKS) return notice(`There are ${MOST_BREAKS} watches at most.`);
   setWatches(others.length < watches.length ? others : [...watches, { first, end }]);
 }
 
-/** Has these bytes watched, and shows which they are. */
-function setWatches(wanted) {
+/** Has these bytes watched, and shows which they are.
+ * @param {Watch[]} wanted */
+export function setWatches(wanted) {
   watches = wanted;
-  tellBreaks();
+  sendBreaks();
   el("watches").replaceChildren(...(watches.length ? ["Watched: ", ...watches.map(watchButton)] : []));
 }
 
+/** @param {Watch} watch */
 function watchButton({ first, end }) {
   const made = button(`${address(first)}${end - first > 1 ? ` to ${address(end - 1)}` : ""} ×`, async () => {
     select(first, end - 1);
@@ -114,19 +148,20 @@ function watchButton({ first, end }) {
   return made;
 }
 
-function conditionsOfWatches() {
+export function conditionsOfWatches() {
   return watches.map(({ first, end }) => ({ kind: CHANGE, from: first, end, value: ALL_BITS }));
 }
 
 /** Asks who wrote what is selected: its bits of the word in which it begins. */
 function whoWroteSelected() {
+  if (!selected) return;
   const { first, end } = selected, word = first - (first % 4);
   const bytes = [0, 1, 2, 3].filter((at) => word + at >= first && word + at < end);
   const mask = bytes.reduce((sum, at) => sum + 0xff * 2 ** (8 * at), 0);
   return askWho({ address: word, mask }, `Who wrote ${bytes.length === 4 ? "the word" : "the bytes"} at ${address(first)}`);
 }
 
-function listenToMemory() {
+export function listenToMemory() {
   on("memory-at", "change", memoryByField);
   on("memory-before", "click", () => showMemoryAt(Math.max(0, bytesShown.from - MEMORY_ROWS * rowBytes())));
   on("memory-after", "click", () => showMemoryAt(bytesShown.from + MEMORY_ROWS * rowBytes()));

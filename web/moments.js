@@ -1,24 +1,48 @@
+// @ts-check
 /* The page's way into the past of the live machine: it asks a worker that runs the past again (past.js), to which the live worker reports
  * through a channel between the two. Answers about a machine that is no longer open are null. */
-"use strict";
+import { Helper, Refusal } from "./requests.js";
 
 // The crew has at most so many workers. The page's own thread and the worker of the past need a processor each.
 const MOST_CREW = 3, OTHER_THREADS = 2;
 
-class Past {
+/** @typedef {{ at: number, quick: boolean, resolve: (moment: Moment | null) => void, reject: (error: Error) => void }} Look */
+
+export class Past {
+  // It is there once the live machine is connected.
+  /** @type {Helper} */
+  helper = Object.create(null);
+  generation = 0;
+  // The look that waits, whether one is under way, and whether that takes long.
+  /** @type {Look | null} */
+  wanted = null;
+  isLooking = false;
+  isSlow = false;
+  goOn = () => {};
+  /** @type {Searcher[]} */
+  crew = [];
+  requests = 0;
+
   /** `news` hears what comes before an answer, `{peeked}`, `{searched}` and `{who}`, and that the worker is broken. The worker starts
-   * when the live machine's is connected. */
+   * when the live machine's is connected.
+   * @param {WebAssembly.Module} module
+   * @param {(news: PastNews) => void} news */
   constructor(module, news) {
-    Object.assign(this, { module, news, helper: null, generation: 0, wanted: null, isLooking: false, isSlow: false, crew: [], requests: 0 });
+    this.module = module;
+    this.news = news;
   }
 
-  /** Has the worker of the live machine report its past from now on. */
+  /** Has the worker of the live machine report its past from now on.
+   * @param {Helper} live */
   connect(live) {
     this.helper = new Helper(this.module, (news) => this.heard(news));
     this.join(live, "connect", "listen");
   }
 
-  /** Gives the two ends of a channel to another worker and to that of the past, each with what it is asked. */
+  /** Gives the two ends of a channel to another worker and to that of the past, each with what it is asked.
+   * @param {Helper} other
+   * @param {string} ask
+   * @param {string} own */
   join(other, ask, own) {
     const { port1, port2 } = new MessageChannel();
     other.worker.postMessage({ ask, port: port1 }, [port1]);
@@ -30,16 +54,22 @@ class Past {
     const size = Math.max(1, Math.min(MOST_CREW, (navigator.hardwareConcurrency || 1) - OTHER_THREADS));
     const failed = this.crew.find(({ broken }) => broken);
     if (failed) throw new Refusal(failed.broken);
-    for (; this.crew.length < size; this.join(this.crew.at(-1), "serve", "recruit")) this.crew.push(new Searcher(this));
+    while (this.crew.length < size) {
+      const searcher = new Searcher(this);
+      this.crew.push(searcher);
+      this.join(searcher, "serve", "recruit");
+    }
   }
 
-  /** Says that another machine is open, by its number. What is asked of the one before is void. */
+  /** Says that another machine is open, by its number. What is asked of the one before is void.
+   * @param {number} generation */
   begin(generation) {
     this.generation = generation;
     this.wanted?.resolve(null);
     this.wanted = null;
   }
 
+  /** @param {PastNews} news */
   heard(news) {
     const { generation } = Object.values(news)[0] ?? {};
     if (generation !== undefined && generation !== this.generation) return;
@@ -48,14 +78,21 @@ class Past {
     this.news(news);
   }
 
-  /** Asks something about the machine that is open. Returns null if another one is open by the time of the answer. */
+  /** Asks something about the machine that is open. Returns null if another one is open by the time of the answer.
+   * @template {RequestName} Name
+   * @param {Name} ask
+   * @param {Requests[Name][0]} given
+   * @returns {Promise<Requests[Name][1] | null>} */
   async ask(ask, given = {}) {
     const { generation } = this, answer = await this.helper.ask(ask, { generation, ...given });
     return generation === this.generation ? answer : null;
   }
 
   /** Looks at a count. One look is under way at a time, unless it takes long; of those that wait the newest one is done next, and the
-   * others are null. A quick look is that of a cursor that moves, and has no listing. */
+   * others are null. A quick look is that of a cursor that moves, and has no listing.
+   * @param {number} at
+   * @param {{ quick?: boolean }} how
+   * @returns {Promise<Moment | null>} */
   peek(at, { quick = false } = {}) {
     this.wanted?.resolve(null);
     const answer = new Promise((resolve, reject) => (this.wanted = { at, quick, resolve, reject }));
@@ -69,23 +106,30 @@ class Past {
     for (let look; (look = this.wanted); ) {
       const { at, quick, resolve, reject } = look;
       Object.assign(this, { wanted: null, isSlow: false });
-      const isSlow = new Promise((goOn) => (this.goOn = goOn));
+      const isSlow = new Promise((goOn) => (this.goOn = () => goOn(undefined)));
       await Promise.race([this.ask("peek", { at, quick }).then(resolve, reject), isSlow]);
     }
     this.isLooking = false;
   }
 
-  /** Returns bytes of the memory at a count. */
+  /** Returns bytes of the memory at a count.
+   * @param {number} at
+   * @param {number} from
+   * @param {number} length */
   memory(at, from, length) {
     return this.ask("memory", { at, from, length });
   }
 
-  /** Returns what the live machine needs to go on from a count: the request `takeOver` takes it. */
+  /** Returns what the live machine needs to go on from a count: the request `takeOver` takes it.
+   * @param {number} at */
   moment(at) {
     return this.ask("moment", { at });
   }
 
-  /** Returns the instructions before and after a count. */
+  /** Returns the instructions before and after a count.
+   * @param {number} at
+   * @param {number} before
+   * @param {number} after */
   around(at, before, after) {
     return this.ask("around", { at, before, after });
   }
@@ -95,24 +139,30 @@ class Past {
     return ++this.requests;
   }
 
-  /** Asks for something that the crew searches. */
+  /** Asks for something that the crew searches.
+   * @template {RequestName} Name
+   * @param {Name} ask
+   * @param {Requests[Name][0]} given */
   async searching(ask, given) {
     this.recruit();
     return this.ask(ask, given);
   }
 
   /** Finds the first count from one on and before another at which a condition holds, or the last one. What the past says of it between
-   * has the number of the request. */
+   * has the number of the request.
+   * @param {Requests["find"][0]} wanted */
   find({ from = 0, to, last = false, conditions, request }) {
     return this.searching("find", { from, to, last, conditions, request });
   }
 
-  /** Finds the instruction that wrote what is there at a count. */
+  /** Finds the instruction that wrote what is there at a count.
+   * @param {Requests["who"][0]} asked */
   who({ before, ...what }) {
     return this.searching("who", { before, ...what });
   }
 
-  /** Runs the machine again from count 0 to a count, and returns the first part in which it is not what is shown there, or null. */
+  /** Runs the machine again from count 0 to a count, and returns the first part in which it is not what is shown there, or null.
+   * @param {number} at */
   recheck(at) {
     return this.ask("recheck", { at });
   }
@@ -130,11 +180,13 @@ class Past {
 
 /** A worker of the crew. If it fails, the search that it has a part in is ended, and the page hears why. */
 class Searcher extends Helper {
+  /** @param {Past} past */
   constructor(past) {
     super(past.module, past.news);
     this.past = past;
   }
 
+  /** @param {ErrorEvent | MessageEvent} event */
   fail(event) {
     super.fail(event);
     this.past.news({ broken: this.broken });

@@ -1,7 +1,16 @@
+// @ts-check
 /* The past of the live machine: its state at any count, run again from a keyframe. A worker of its own looks, so that the live machine
  * is never held up; the live one's feed (feed.js) posts it what it needs. Looks come one after the other, and before each piece of a
  * search (searches.js). */
-"use strict";
+import { copied } from "./emulator.js";
+import { KEYFRAME_MS, KEYFRAME_STEPS } from "./feed.js";
+import { Inputs } from "./formats.js";
+import { Keyframes } from "./keyframes.js";
+import { Refused } from "./library.js";
+import { Claims, Replayer } from "./replayer.js";
+import { Searches } from "./searches.js";
+import { MEMORY_BYTES, PAGES, wordsOf } from "./states.js";
+import { Ended, isWhole, nextTask, unlessEnded } from "./tasks.js";
 
 // If a look takes longer, what is there comes first.
 const SLOW_MS = 30;
@@ -9,41 +18,64 @@ const SLOW_MS = 30;
 const NEAR = [262144, 16384, 1024, 64, 4];
 const LISTED_BEFORE = 16, LISTED_AFTER = 32, MOST_AROUND = 512;
 
-/** Says that nobody waits for an answer any more: something newer came, or another machine. */
-class Ended extends Error {}
+/** What is done with the machine at a count; `turn` lets others go first.
+ * @template T
+ * @typedef {(turn: () => Promise<void>) => Promise<T>} Looked */
 
-const tasks = { channel: new MessageChannel(), waiting: [] };
-tasks.channel.port1.onmessage = () => tasks.waiting.shift()();
+/** What the live machine posts: how far it is, its inputs from a number on, and what else came.
+ * @typedef {{ count: number, state: Bytes, sent: number, isCheckpoint: boolean, numbers: number[], bytes: Bytes }} LiveKeyframe
+ * @typedef {{ generation: number, count: number, end: number, inputs: { from: number, bytes: Bytes }, begin?: Memory & { bytes: Bytes },
+ *   keyframe?: LiveKeyframe, isCut?: boolean, isAnswer?: boolean }} Fed */
 
-/** Lets the worker take its messages. */
-function nextTask() {
-  return new Promise((resolve) => {
-    tasks.waiting.push(resolve);
-    tasks.channel.port2.postMessage(null);
-  });
-}
+export class History {
+  /** @type {MessagePort} */
+  port = new MessageChannel().port1;
+  keyframes = new Keyframes();
+  inputs = new Inputs();
+  /** @type {Claims | null} */
+  claims = null;
+  liveTable = new Uint32Array(PAGES);
+  // The number of the machine; a number of the past as it is known, since a machine that goes back has another one; how far the live
+  // machine is known to be, how far its inputs are known, and where it began if that is not at the beginning.
+  generation = 0;
+  epoch = 0;
+  count = 0;
+  end = 0;
+  begun = 0;
+  /** @type {((value?: unknown) => void)[]} */
+  wakes = [];
+  asked = 0;
+  answered = 0;
+  /** @type {Promise<unknown>} */
+  looks = Promise.resolve();
+  looking = 0;
+  peeks = 0;
+  // The count that was looked at last.
+  /** @type {number | null} */
+  cursor = null;
+  isSettled = true;
 
-class History {
-  /** `report` posts news to the page. */
+  /** `report` posts news to the page.
+   * @param {Library} library
+   * @param {(news: PastNews) => void} report */
   constructor(library, report) {
-    Object.assign(this, { library, report, port: null, keyframes: new Keyframes(), inputs: new Inputs(), claims: null, liveTable: null });
-    Object.assign(this, { looker: new Replayer(library), searcher: new Replayer(library) });
-    // The number of the machine; a number of the past as it is known, since a machine that goes back has another one; how far the live
-    // machine is known to be, how far its inputs are known, and where it began if that is not at the beginning.
-    Object.assign(this, { generation: 0, epoch: 0, count: 0, end: 0, begun: 0 });
-    Object.assign(this, { wakes: [], asked: 0, answered: 0 });
-    Object.assign(this, { looks: Promise.resolve(), looking: 0, peeks: 0, cursor: null, isSettled: true });
+    this.library = library;
+    this.report = report;
+    this.looker = new Replayer(library);
+    this.searcher = new Replayer(library);
     this.searches = new Searches(this);
   }
 
   // What the live machine says
 
-  /** Hears the live machine through a port. */
+  /** Hears the live machine through a port.
+   * @param {MessagePort} port */
   listen(port) {
     this.port = port;
     port.onmessage = ({ data }) => this.hear(data);
   }
 
+  /** @param {Fed} fed */
   hear({ generation, count, end, inputs, begin, keyframe, isCut, isAnswer }) {
     if (begin) this.begin(generation, count, begin);
     if (isCut) this.cut(count);
@@ -54,7 +86,10 @@ class History {
     if (isCut) this.port.postMessage({ isCut });
   }
 
-  /** Begins with another machine, which began at a count: its initial state, and the recording of what came before, or of its file. */
+  /** Begins with another machine, which began at a count: its initial state, and the recording of what came before, or of its file.
+   * @param {number} generation
+   * @param {number} begun
+   * @param {Memory & { bytes: Bytes }} first */
   begin(generation, begun, { state, words, bytes }) {
     this.makeVoid();
     this.claims?.leave();
@@ -64,12 +99,13 @@ class History {
     Object.assign(this, { inputs: new Inputs(), cursor: null, isSettled: true, begun });
   }
 
-  /** Drops what came after a count: the machine goes on from there otherwise. */
+  /** Drops what came after a count: the machine goes on from there otherwise.
+   * @param {number} count */
   cut(count) {
     this.makeVoid();
     this.keyframes.forgetAfter(count);
     this.begun = Math.min(this.begun, count);
-    if (this.cursor > count) Object.assign(this, { cursor: null, isSettled: true });
+    if (this.cursor !== null && this.cursor > count) Object.assign(this, { cursor: null, isSettled: true });
   }
 
   /** Ends what is under way, at its next turn. What still waits for this machine goes on. */
@@ -79,13 +115,16 @@ class History {
     this.searcher.forget();
   }
 
+  /** @param {LiveKeyframe} keyframe */
   addLive({ count, state, sent, isCheckpoint, numbers, bytes }) {
     this.keyframes.change(this.liveTable, numbers, wordsOf(bytes));
     this.keyframes.add({ count, state, sent, isCheckpoint, isClaimed: false, table: this.keyframes.copied(this.liveTable) });
     this.keyframes.thin(this.cursor ?? count);
   }
 
-  /** Returns once the machine of a number is the one that is known, and known up to a count, as far as it has come. */
+  /** Returns once the machine of a number is the one that is known, and known up to a count, as far as it has come.
+   * @param {number | undefined} generation
+   * @param {number} count */
   async known(generation, count) {
     if (!generation) throw new Refused("no machine is open");
     while (this.generation < generation) await this.heard();
@@ -109,29 +148,39 @@ class History {
 
   // Running again
 
-  /** Whether the state at a count may come from a claim: only where the live machine has not run. */
+  /** Whether the state at a count may come from a claim: only where the live machine has not run.
+   * @param {number} count */
   mayBeClaimed(count) {
     return count > this.count || count < this.begun;
   }
 
-  /** Returns the last keyframe at or below a count from which a replayer may start. */
+  /** Returns the last keyframe at or below a count from which a replayer may start.
+   * @param {number} count
+   * @param {boolean} mayBeClaimed */
   nearest(count, mayBeClaimed = false) {
     let at = this.keyframes.position(count);
     while (!mayBeClaimed && this.keyframes.items[at].isClaimed) at--;
     return this.keyframes.items[at];
   }
 
-  /** Starts a replayer as near below a count as there is something to start from. */
+  /** Starts a replayer as near below a count as there is something to start from.
+   * @param {Replayer} replayer
+   * @param {number} count
+   * @param {boolean} mayBeClaimed */
   start(replayer, count, mayBeClaimed) {
-    const keyframe = this.nearest(count, mayBeClaimed), claim = mayBeClaimed ? this.claims.before(count) : 0;
+    const { claims } = this, keyframe = this.nearest(count, mayBeClaimed), claim = claims && mayBeClaimed ? claims.before(count) : 0;
     const isUsable = replayer.isSet && replayer.count <= count && (mayBeClaimed || !replayer.isClaimed);
     const own = isUsable ? replayer.count : -1;
-    if (this.claims.counts[claim] > Math.max(own, keyframe.count)) replayer.loadClaim(this.claims, claim);
+    if (claims && claims.counts[claim] > Math.max(own, keyframe.count)) replayer.loadClaim(claims, claim);
     else if (own < keyframe.count) replayer.load(this.keyframes, keyframe);
   }
 
   /** Brings a replayer to a count. Between two calls `turn` lets others go first; before each one `heard` hears of it. In a gap between
-   * keyframes that takes long it leaves some. */
+   * keyframes that takes long it leaves some.
+   * @param {Replayer} replayer
+   * @param {number} count
+   * @param {() => Promise<void>} turn
+   * @param {{ mayBeClaimed?: boolean, heard?: (replayer: Replayer) => void }} how */
   async reach(replayer, count, turn, { mayBeClaimed = false, heard = () => {} } = {}) {
     this.start(replayer, count, mayBeClaimed);
     while (replayer.count < count) {
@@ -144,7 +193,8 @@ class History {
     }
   }
 
-  /** Makes a keyframe of where a replayer is. */
+  /** Makes a keyframe of where a replayer is.
+   * @param {Replayer} replayer */
   keep(replayer) {
     const { count, sent, isClaimed } = replayer, { count: there, table } = this.nearest(count, true);
     if (there === count) return;
@@ -156,13 +206,23 @@ class History {
   // Looks
 
   /** Does a task with the machine at a count, after the looks before it. Returns null if another machine is open meanwhile, or if
-   * `isOver`. */
+   * `isOver`.
+   * @template T
+   * @param {{ generation?: number, at: number }} given
+   * @param {Looked<T>} task
+   * @param {() => boolean} isOver
+   * @returns {Promise<T | null>} */
   look({ generation, at }, task, isOver = () => false) {
     if (!isWhole(at)) throw new Refused(`${at} is not a count`);
     return this.inTurn(() => this.lookNow({ generation, at }, task, isOver)).catch(unlessEnded(null));
   }
 
-  /** Does the task. It begins again if the machine went back meanwhile. */
+  /** Does the task. It begins again if the machine went back meanwhile.
+   * @template T
+   * @param {{ generation?: number, at: number }} given
+   * @param {Looked<T>} task
+   * @param {() => boolean} isOver
+   * @returns {Promise<T>} */
   async lookNow({ generation, at }, task, isOver) {
     await this.known(generation, at);
     if (isOver()) throw new Ended();
@@ -180,7 +240,10 @@ class History {
     }
   }
 
-  /** Does a task after the looks before it. After the last one, keyframes are made near the cursor. */
+  /** Does a task after the looks before it. After the last one, keyframes are made near the cursor.
+   * @template T
+   * @param {() => Promise<T>} task
+   * @returns {Promise<T>} */
   inTurn(task) {
     this.looking++;
     const done = this.looks.then(task);
@@ -192,14 +255,16 @@ class History {
   }
 
   /** Looks at a count. If that takes long, the news have a nearby state first. `quick` looks are those of a cursor that moves. A newer
-   * look ends this one. */
+   * look ends this one.
+   * @param {Requests["peek"][0]} given
+   * @returns {Promise<Moment | null>} */
   peek({ generation, at, quick = false }) {
     const number = ++this.peeks, begun = performance.now(), { looker } = this;
     let isReported = false;
     const heard = () => {
       if (isReported || performance.now() - begun + looker.msTo(at) <= SLOW_MS) return;
       isReported = true;
-      this.report({ peeked: { generation, at, exact: false, ...pictureOf(looker) } });
+      this.report({ peeked: { generation: Number(generation), at, exact: false, ...pictureOf(looker) } });
     };
     return this.look({ generation, at }, async (turn) => {
       await this.reach(looker, at, turn, { mayBeClaimed: this.mayBeClaimed(at), heard });
@@ -211,13 +276,13 @@ class History {
 
   /** Makes keyframes near before the cursor where there are none, unless another look waits. */
   async settle() {
-    const { cursor, epoch } = this, mayBeClaimed = this.mayBeClaimed(cursor);
+    const { cursor: at, epoch } = this, cursor = at ?? 0, mayBeClaimed = this.mayBeClaimed(cursor);
     const turn = async () => {
       await nextTask();
       if (this.looking > 1 || this.epoch !== epoch) throw new Ended();
     };
-    for (const [at, distance] of NEAR.entries()) {
-      const from = cursor - distance, to = cursor - (NEAR[at + 1] ?? 0);
+    for (const [number, distance] of NEAR.entries()) {
+      const from = cursor - distance, to = cursor - (NEAR[number + 1] ?? 0);
       if (from <= 0 || this.nearest(to, mayBeClaimed).count >= from) continue;
       await this.reach(this.looker, from, turn, { mayBeClaimed });
       this.keep(this.looker);
@@ -226,18 +291,24 @@ class History {
     this.isSettled = true;
   }
 
-  /** Returns bytes of the memory at a count. */
+  /** Returns bytes of the memory at a count.
+   * @param {Requests["memory"][0]} given */
   memory({ generation, at, from, length }) {
     if (!(isWhole(from) && isWhole(length) && from + length <= MEMORY_BYTES)) throw new Refused("these bytes are beyond the memory");
     return this.reached({ generation, at }, (looker) => ({ at, bytes: looker.words.slice(from, from + length) }));
   }
 
-  /** Returns all that the live machine needs to go on from a count: state, words, and how many bytes were sent. */
+  /** Returns all that the live machine needs to go on from a count: state, words, and how many bytes were sent.
+   * @param {Requests["moment"][0]} given */
   moment({ generation, at }) {
     return this.reached({ generation, at }, (looker) => ({ at, ...copied(looker.at(looker.address)), sent: looker.sent }));
   }
 
-  /** Does something with the machine at a count. */
+  /** Does something with the machine at a count.
+   * @template T
+   * @param {{ generation?: number, at: number }} given
+   * @param {(looker: Replayer) => T} task
+   * @returns {Promise<T | null>} */
   reached({ generation, at }, task) {
     return this.look({ generation, at }, async (turn) => {
       await this.reach(this.looker, at, turn, { mayBeClaimed: this.mayBeClaimed(at) });
@@ -245,7 +316,8 @@ class History {
     });
   }
 
-  /** Returns the instructions before and after a count, as far as the machine does any, with what each changed. */
+  /** Returns the instructions before and after a count, as far as the machine does any, with what each changed.
+   * @param {Requests["around"][0]} given */
   around({ generation, at, before, after }) {
     if (!(isWhole(before) && isWhole(after) && before + after <= MOST_AROUND)) throw new Refused(`more than ${MOST_AROUND} instructions`);
     return this.look({ generation, at }, async (turn) => {
@@ -260,18 +332,8 @@ class History {
   }
 }
 
-/** Whether a value is a whole number, as counts and addresses are. */
-const isWhole = (value) => Number.isSafeInteger(value) && value >= 0;
-
-/** Returns a handler of errors that answers with something where nobody waits any more. */
-function unlessEnded(answer) {
-  return (error) => {
-    if (!(error instanceof Ended)) throw error;
-    return answer;
-  };
-}
-
-/** Returns what is shown of a machine at a moment. */
+/** Returns what is shown of a machine at a moment.
+ * @param {Replayer} replayer */
 function pictureOf(replayer) {
   const { state, dots, sent, isClaimed, count } = replayer;
   return { count, state: state.slice(), dots: dots.slice(), sent, isClaimed };

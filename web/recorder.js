@@ -1,22 +1,44 @@
+// @ts-check
 /* The recording in progress. The library begins it with the machine's initial state, and extends it at each checkpoint by the
  * machine's state, and by the inputs and the bytes sent since the checkpoint before. So nothing is run a second time. */
-"use strict";
+import { CHECKPOINT_LIMIT, readRecording } from "./formats.js";
+import { HEADER, INPUT_BYTES } from "./layout.js";
+import { Refused } from "./library.js";
+import { joined, PAGES } from "./states.js";
+import { firstTable, stretch } from "./stretches.js";
 
 // The recording ends with a checkpoint before one of its limits is reached: while this many bytes can still be sent, and while the
 // pool has room for all the pages that a checkpoint may change.
 const MOST_SENT = 1 << 20, SENT_RESERVE = 1 << 16, MOST_POOL = 65536;
 
-class Recorder {
+export class Recorder {
+  bytes = new Uint8Array();
+  // The counts of its checkpoints, how many inputs it has, and how many bytes were sent up to its last checkpoint.
+  /** @type {number[]} */
+  marks = [];
+  taken = 0;
+  sentBefore = 0;
+  /** @type {Full | null} */
+  full = null;
+  // What was sent since its last checkpoint.
+  /** @type {Bytes[]} */
+  sent = [];
+  sentLength = 0;
+
+  /** @param {Library} library */
   constructor(library) {
     this.library = library;
   }
 
-  /** Begins with the state and the words at an address. The state's count is 0. */
+  /** Begins with the state and the words at an address. The state's count is 0.
+   * @param {number} address */
   begin(address) {
     this.resume(this.library.begin(address), new Uint8Array());
   }
 
-  /** Resumes a recording that was made so far, with the bytes sent since its last checkpoint. */
+  /** Resumes a recording that was made so far, with the bytes sent since its last checkpoint.
+   * @param {Bytes} bytes
+   * @param {Bytes} sent */
   resume(bytes, sent) {
     const { claims, inputs } = readRecording(bytes);
     this.bytes = bytes;
@@ -28,7 +50,9 @@ class Recorder {
     this.note(sent);
   }
 
-  /** Goes back to a count, before which so many bytes were sent: to the last checkpoint that is not after it, and what was sent since. */
+  /** Goes back to a count, before which so many bytes were sent: to the last checkpoint that is not after it, and what was sent since.
+   * @param {number} count
+   * @param {number} sent */
   cut(count, sent) {
     const recording = readRecording(this.bytes), { claims } = recording, last = claims.findLastIndex((claim) => claim.count <= count);
     const output = joined([...claims.map((claim) => claim.sent), ...this.sent]);
@@ -41,7 +65,8 @@ class Recorder {
     this.sentLength = 0;
   }
 
-  /** Adds bytes that the machine sent. Bytes beyond the limit of a recording are not kept: it is full then. */
+  /** Adds bytes that the machine sent. Bytes beyond the limit of a recording are not kept: it is full then.
+   * @param {Bytes} sent */
   note(sent) {
     if (!sent.length || this.sentLength > MOST_SENT) return;
     this.sent.push(sent);
@@ -61,18 +86,22 @@ class Recorder {
   /** The limit of a recording that is so near that no more may fit than a checkpoint at this count, or null. */
   get nearLimit() {
     if (this.room < SENT_RESERVE) return "sent bytes";
-    if (new DataView(this.bytes.buffer, this.bytes.byteOffset).getUint32(8, true) > MOST_POOL - PAGES) return "pages";
+    if (new DataView(this.bytes.buffer, this.bytes.byteOffset).getUint32(HEADER.pages, true) > MOST_POOL - PAGES) return "pages";
     return this.marks.length >= CHECKPOINT_LIMIT ? "checkpoints" : null;
   }
 
-  /** Ends the recording for a reason. It is full, at the count of its last checkpoint. */
+  /** Ends the recording for a reason. It is full, at the count of its last checkpoint.
+   * @param {string} why */
   end(why) {
     this.full = { why, isEnd: true, count: this.marks.at(-1) ?? 0 };
   }
 
   /** Extends the recording by a checkpoint at the count of the state at an address, if that is above the last one's. `inputs` are
    * all inputs that the machine has taken. A recording that cannot be extended is full, and stays as it is. Returns whether there
-   * is a new checkpoint. */
+   * is a new checkpoint.
+   * @param {number} address
+   * @param {number} count
+   * @param {Bytes} inputs */
   extend(address, count, inputs) {
     if (this.full || count <= (this.marks.at(-1) ?? 0)) return false;
     try {

@@ -1,15 +1,40 @@
+// @ts-check
 /* Requests to a worker (worker.js). Each has an answer of its own, or a refusal of its own. */
-"use strict";
+import { el } from "./elements.js";
+import { unpacked } from "./packed.js";
+
+// Where the workers have their script from, what kind of script it is, and how many requests were made.
+const scripts = { worker: "", type: /** @type {WorkerType} */ ("classic"), asked: 0 };
+
+/** Says where the workers have their script from.
+ * @param {string} worker
+ * @param {WorkerType} type */
+function setWorkerScript(worker, type = "classic") {
+  Object.assign(scripts, { worker, type });
+}
+
+/** Takes the script of the workers from the page that contains it. */
+export async function placeWorker() {
+  const { source } = el("worker").dataset;
+  if (source) return setWorkerScript(source, "module");
+  setWorkerScript(URL.createObjectURL(new Blob([await unpacked("worker")], { type: "text/javascript" })));
+}
 
 /** Bad input, or a request that cannot be met. Its message is one line for the user. */
-class Refusal extends Error {}
+export class Refusal extends Error {}
 
 /** A worker that answers requests. Messages that answer no request go to `news`. */
-class Helper {
+export class Helper {
+  /** @type {Map<number, { resolve: (answer: any) => void, reject: (error: Refusal) => void }>} */
+  waits = new Map();
+  broken = "";
+
+  /**
+   * @param {WebAssembly.Module} module
+   * @param {(news: any) => void} news
+   */
   constructor(module, news) {
-    this.waits = new Map();
-    this.broken = null;
-    this.worker = new Worker(Helper.place());
+    this.worker = new Worker(scripts.worker, { type: scripts.type });
     this.worker.onmessage = ({ data }) => (data.id === undefined ? news(data) : this.settle(data));
     this.worker.onerror = (event) => this.fail(event);
     this.worker.onmessageerror = (event) => this.fail(event);
@@ -18,20 +43,20 @@ class Helper {
     this.ready.catch(() => {});
   }
 
-  static place() {
-    const source = new Blob([el("worker").textContent], { type: "text/javascript" });
-    return (Helper.url ??= URL.createObjectURL(source));
-  }
-
-  /** Asks for something. A request that is refused, or that a broken worker cannot answer, is rejected with a refusal. */
+  /** Asks for something. A request that is refused, or that a broken worker cannot answer, is rejected with a refusal.
+   * @template {RequestName} Name
+   * @param {Name} ask
+   * @param {Requests[Name][0]} given
+   * @returns {Promise<Requests[Name][1]>} */
   ask(ask, given = {}) {
     if (this.broken) return Promise.reject(new Refusal(this.broken));
-    const id = (Helper.asked = (Helper.asked ?? 0) + 1);
+    const id = ++scripts.asked;
     const answer = new Promise((resolve, reject) => this.waits.set(id, { resolve, reject }));
     this.worker.postMessage({ id, ask, ...given });
     return answer;
   }
 
+  /** @param {{ id: number, answer?: any } & Failure} data */
   settle(data) {
     const wait = this.waits.get(data.id);
     this.waits.delete(data.id);
@@ -39,10 +64,11 @@ class Helper {
     else wait?.reject(new Refusal(data.refused ?? data.broken));
   }
 
-  /** Rejects what waits, and all that is asked later: the worker is broken. */
+  /** Rejects what waits, and all that is asked later: the worker is broken.
+   * @param {ErrorEvent | MessageEvent} event */
   fail(event) {
     event.preventDefault();
-    this.broken = `the worker failed: ${event.message ?? "a message could not be read"}`;
+    this.broken = `the worker failed: ${event instanceof ErrorEvent ? event.message : "a message could not be read"}`;
     for (const { reject } of this.waits.values()) reject(new Refusal(this.broken));
     this.waits.clear();
   }

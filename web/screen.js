@@ -1,17 +1,27 @@
+// @ts-check
 /* The screen: its dots, its size in the window, full screen, and its picture as a file. */
-"use strict";
+import { app } from "./app.js";
+import { download, el } from "./elements.js";
+import { shownCount } from "./look.js";
+import { isNarrow, noteChange } from "./timeline.js";
 
-const LINE_BYTES = 128, LINES = 768, DOTS_WIDE = 1024, DISPLAY_AT = 4 * 237504;
+export const LINE_BYTES = 128, LINES = 768, DOTS_WIDE = 1024;
 // In a wide window the screen leaves room for the tabs beside it, and is so high at least, in CSS pixels.
 const SIDE_ROOM = 420, LEAST_HEIGHT = 340, MARGIN = 24, WHOLE_SHARE = 0.7;
-const screens = { dots: null, isDue: false, isNews: false, images: new WeakMap() };
+/** A canvas, and the dots that it shows.
+ * @typedef {{ image: ImageData, dots: Bytes | null }} Painted
+ * @type {{ dots: Bytes, isDue: boolean, isNews: boolean, images: WeakMap<HTMLCanvasElement, Painted> }} */
+const screens = { dots: new Uint8Array(), isDue: false, isNews: false, images: new WeakMap() };
 
 /** Draws dots on a canvas, and repaints only the lines that changed. Line 0 is the lowest, and bit 0 of a byte is its leftmost
- * dot. Returns how many lines changed. */
-function paint(canvas, dots) {
-  const context = canvas.getContext("2d");
-  if (!screens.images.has(canvas)) screens.images.set(canvas, { image: context.createImageData(DOTS_WIDE, LINES), dots: null });
-  const shown = screens.images.get(canvas), pixels = new Uint32Array(shown.image.data.buffer);
+ * dot. Returns how many lines changed.
+ * @param {HTMLCanvasElement} canvas
+ * @param {Bytes} dots */
+export function paint(canvas, dots) {
+  const context = /** @type {CanvasRenderingContext2D} */ (canvas.getContext("2d"));
+  const shown = screens.images.get(canvas) ?? { image: context.createImageData(DOTS_WIDE, LINES), dots: null };
+  const pixels = new Uint32Array(shown.image.data.buffer);
+  screens.images.set(canvas, shown);
   let [top, bottom, changed] = [LINES, -1, 0];
   for (let y = 0; y < LINES; y++) {
     const from = LINE_BYTES * (LINES - 1 - y);
@@ -25,13 +35,20 @@ function paint(canvas, dots) {
   return changed;
 }
 
+/**
+ * @param {Bytes} some
+ * @param {Bytes} others
+ * @param {number} from
+ */
 function isSameLine(some, others, from) {
   for (let at = from; at < from + LINE_BYTES; at++) if (some[at] !== others[at]) return false;
   return true;
 }
 
-/** Draws dots on the screen with the browser's next frame. Only what the machine did is news for the timeline, and not what is looked at. */
-function drawSoon(dots, isNews = false) {
+/** Draws dots on the screen with the browser's next frame. Only what the machine did is news for the timeline, and not what is looked at.
+ * @param {Bytes} dots
+ * @param {boolean} isNews */
+export function drawSoon(dots, isNews = false) {
   Object.assign(screens, { dots, isNews });
   if (screens.isDue) return;
   screens.isDue = true;
@@ -45,7 +62,7 @@ function drawSoon(dots, isNews = false) {
 /** Returns the room for the screen: its width, and its height so that the timeline below it is in the window, too. */
 function roomForScreen() {
   if (document.fullscreenElement === el("stage")) return [innerWidth, innerHeight];
-  const isWide = matchMedia("(min-width: 60rem)").matches, all = el("desk").parentElement.clientWidth;
+  const isWide = matchMedia("(min-width: 60rem)").matches, all = el("desk").parentElement?.clientWidth ?? innerWidth;
   if (isNarrow()) return [all, Infinity];
   const above = el("stage").getBoundingClientRect().top + scrollY;
   const below = el("desk").offsetHeight - el("stage").offsetHeight + el("stay").offsetHeight;
@@ -53,26 +70,33 @@ function roomForScreen() {
 }
 
 /** Gives the screen the largest size that fits; or a whole factor of its dots, if that fills most of the room. */
-function fitScreen() {
+export function fitScreen() {
   const [wide, high] = roomForScreen(), most = Math.min(wide, high * 4 / 3);
   const whole = Math.floor(most * devicePixelRatio / DOTS_WIDE) * DOTS_WIDE / devicePixelRatio, isWhole = whole > WHOLE_SHARE * most;
-  document.getElementById("galluspa").style.setProperty("--screen", `${isWhole ? whole : most}px`);
+  document.getElementById("galluspa")?.style.setProperty("--screen", `${isWhole ? whole : most}px`);
   el("screen").style.imageRendering = isWhole ? "pixelated" : "auto";
 }
 
-async function showFull() {
+export async function showFull() {
   if (document.fullscreenElement) await document.exitFullscreen();
   else await el("stage").requestFullscreen();
 }
 
 /** Saves the screen that is shown as a PNG. */
-async function savePicture() {
-  const content = await new Promise((resolve) => el("screen").toBlob(resolve, "image/png"));
+export async function savePicture() {
+  /** @type {Blob} */
+  const content = await new Promise((resolve) => el("screen").toBlob((blob) => resolve(blob ?? new Blob()), "image/png"));
   download(`${app.work.name}-${shownCount()}.png`, content, "image/png");
 }
 
-/** Returns the dot under an event over the screen, which is in a box of the window: its x, and its y from the bottom. */
-function dotAt({ clientX, clientY }, { left, top, width, height }) {
+/** Returns the dot under an event over the screen, which is in a box of the window: its x, and its y from the bottom.
+ * @param {MouseEvent} event
+ * @param {DOMRect} box */
+export function dotAt({ clientX, clientY }, { left, top, width, height }) {
+  /**
+   * @param {number} value
+   * @param {number} most
+   */
   const inside = (value, most) => Math.max(0, Math.min(most, Math.floor(value)));
   return [inside(((clientX - left) * DOTS_WIDE) / width, DOTS_WIDE - 1), LINES - 1 - inside(((clientY - top) * LINES) / height, LINES - 1)];
 }

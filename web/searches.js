@@ -1,10 +1,17 @@
+// @ts-check
 /* Searches in the past of the live machine: when a condition holds, and which instruction wrote what is in memory or in a register. One
  * search is under way at a time. It is cut into pieces, which the crew searches (crew.js), several at a time. */
-"use strict";
+import { BECOMES, CHANGE, LOAD, SENDS, SENDS_BYTE, STOP, STORE, TAKES } from "./conditions.js";
+import { Crew } from "./crew.js";
+import { copied, Pace } from "./emulator.js";
+import { INPUT_BYTES } from "./layout.js";
+import { Refused } from "./library.js";
+import { CALL_MS } from "./replayer.js";
+import { AT, field, firstDifference, KEY, MEMORY_BYTES, MOUSE, SERIAL, SWITCHES } from "./states.js";
+import { Ended, isWhole, nextTask, unlessEnded } from "./tasks.js";
 
-// Kinds of conditions, as include/galluspa.h numbers them.
-const STORE = 2, CHANGE = 3, LOAD = 4, BECOMES = 5, SENDS = 6, SENDS_BYTE = 7, TAKES = 8, STOP = 9;
 // What sets the parts of a state that are of devices: inputs of a kind, or accesses to a device word, by its address.
+/** @type {{ [name: string]: { input?: number, kind?: number, word?: number } }} */
 const DEVICE_PARTS = {
   switches: { input: SWITCHES }, mouse: { input: MOUSE }, LEDs: { kind: STORE, word: 0xffffc4 },
   serial: { input: SERIAL, kind: LOAD, word: 0xffffc8 }, keys: { input: KEY, kind: LOAD, word: 0xffffdc },
@@ -14,13 +21,33 @@ const PROGRESS_MS = 100, MOST_CONDITIONS = 64, H_NUMBER = 16, FLAGS_NUMBER = 17;
 // not free for another search before its piece is searched.
 const PIECE_MS = 60, FIRST_PIECE = 20000, MOST_PIECE = 5000000;
 
+/** @typedef {import("./past.js").History} History */
+/** @typedef {import("./crew.js").Searched} Searched */
+/** @typedef {{ steps: number, isQuiet: true } | (Piece & { isQuiet?: false })} RangePiece */
+/** @typedef {{ from: number, end: number, value: number }} Bits */
+/** @typedef {{ count: number, sent: number, stop: number }} Outside */
+/** @typedef {{ name: keyof typeof AT, input?: number, kind?: number, word?: number }} DevicePart */
+
 /** A search that is under way, with the number that the page gave its request. */
 class Search {
+  turned = -Infinity;
+  isOver = false;
+  stop = () => {};
+  // Others call it, too.
+  turn = () => this.letOthersGoFirst();
+  /** @type {Promise<{ stopped: boolean }>} */
+  stopped = new Promise((resolve) => (this.stop = () => resolve({ stopped: true })));
+
+  /**
+   * @param {History} history
+   * @param {number | undefined} generation
+   * @param {number} [request]
+   */
   constructor(history, generation, request) {
-    Object.assign(this, { history, generation, request, epoch: history.epoch, turned: -Infinity, isOver: false });
-    // Others call it, too.
-    this.turn = () => this.letOthersGoFirst();
-    this.stopped = new Promise((resolve) => (this.stop = () => resolve({ stopped: true })));
+    this.history = history;
+    this.generation = generation;
+    this.request = request;
+    this.epoch = history.epoch;
   }
 
   end() {
@@ -28,7 +55,10 @@ class Search {
     this.stop();
   }
 
-  /** Returns what a task answers, or that the search was stopped. */
+  /** Returns what a task answers, or that the search was stopped.
+   * @template T
+   * @param {() => Promise<T>} task
+   * @returns {Promise<T | { stopped: boolean }>} */
   answered(task) {
     return Promise.race([task().catch(unlessEnded({ stopped: true })), this.stopped]);
   }
@@ -44,13 +74,17 @@ class Search {
     if (this.isOver || history.epoch !== this.epoch) throw new Ended();
   }
 
-  /** Posts news, unless the search is over. */
+  /** Posts news, unless the search is over.
+   * @param {string} kind
+   * @param {{}} news */
   report(kind, news) {
     const { history, generation, request } = this;
     if (!this.isOver) history.report({ [kind]: { generation, request, ...news } });
   }
 
-  /** Returns a function that posts how much is done, now and then. */
+  /** Returns a function that posts how much is done, now and then.
+   * @param {number} of
+   * @returns {(done: number) => void} */
   progress(of) {
     let due = performance.now() + PROGRESS_MS;
     return (done) => {
@@ -62,9 +96,14 @@ class Search {
   }
 }
 
-class Searches {
+export class Searches {
+  crew = new Crew();
+  /** @type {Search | null} */
+  search = null;
+
+  /** @param {History} history */
   constructor(history) {
-    Object.assign(this, { history, crew: new Crew(), search: null });
+    this.history = history;
   }
 
   /** Ends the search that is under way. Its answer is that it was stopped. */
@@ -74,7 +113,9 @@ class Searches {
     return true;
   }
 
-  /** Finds the first or the last count from one on and before another at which a condition holds. */
+  /** Finds the first or the last count from one on and before another at which a condition holds.
+   * @param {Requests["find"][0]} given
+   * @returns {Promise<Found>} */
   find({ generation, request, from = 0, to, last = false, conditions }) {
     if (!(isWhole(from) && isWhole(to))) throw new Refused("a search goes from a count up to a count");
     if (!conditions.length || conditions.length > MOST_CONDITIONS) throw new Refused(`want 1 to ${MOST_CONDITIONS} conditions`);
@@ -86,18 +127,35 @@ class Searches {
 
   /** Finds the instruction that wrote what a register or a device has at a count, or what is in memory: a byte, some bits of it, or some
    * bits of the word at an address. It is the last one that changed it. `stored` is a later one that stored the same again. Of a device it
-   * is the last one that wrote to it or took from it, or the last input. */
+   * is the last one that wrote to it or took from it, or the last input.
+   * @param {Requests["who"][0]} given
+   * @returns {Promise<Written>} */
   who({ generation, request, before, register, device, ...bits }) {
     if (!isWhole(before)) throw new Refused(`${before} is not a count`);
-    const wanted = device !== undefined ? deviceOf(device) : register !== undefined ? registerOf(register) : bitsOf(bits);
-    return this.begin({ generation, request, to: before }, async (search, end) => {
-      const find = device !== undefined ? this.whoSetDevice : register !== undefined ? this.whoSet : this.whoWrote;
-      return { ...(await find.call(this, wanted, end, search)), sure: true };
-    });
+    const find = this.finderOf({ register, device, ...bits });
+    return this.begin({ generation, request, to: before }, async (search, end) => ({ ...(await find(end, search)), sure: true }));
+  }
+
+  /** Returns how to find what wrote something. What is no register, device or byte is refused.
+   * @param {About} about
+   * @returns {(before: number, search: Search) => Promise<Written>} */
+  finderOf({ register, device, ...bits }) {
+    if (device !== undefined) {
+      const part = deviceOf(device);
+      return (before, search) => this.whoSetDevice(part, before, search);
+    }
+    if (register !== undefined) {
+      const number = registerOf(register);
+      return (before, search) => this.whoSet(number, before, search);
+    }
+    const wanted = bitsOf(bits);
+    return (before, search) => this.whoWrote(wanted, before, search);
   }
 
   /** Runs the machine again from count 0, past all other keyframes, and compares it with what is shown at a count. Returns the first part
-   * in which they differ, or null. */
+   * in which they differ, or null.
+   * @param {Requests["recheck"][0]} given
+   * @returns {Promise<Requests["recheck"][1]>} */
   recheck({ generation, at }) {
     if (!isWhole(at)) throw new Refused(`${at} is not a count`);
     return this.begin({ generation, to: at }, async (search, end) => {
@@ -110,12 +168,16 @@ class Searches {
         searcher.advance(inputs, end);
         await search.turn();
       }
-      const [one, other] = [shown, copied(searcher.at(searcher.address))].map((machine) => ({ ...machine, sent: [] }));
+      const [one, other] = [shown, copied(searcher.at(searcher.address))].map((machine) => ({ ...machine, sent: new Uint8Array() }));
       return { at: end, part: firstDifference(one, other) };
     });
   }
 
-  /** Begins a search that ends the one before. The task gets it, and the count up to which it may search. */
+  /** Begins a search that ends the one before. The task gets it, and the count up to which it may search.
+   * @template T
+   * @param {{ generation?: number, request?: number, to: number }} given
+   * @param {(search: Search, end: number) => Promise<T>} task
+   * @returns {Promise<T | { stopped: boolean }>} */
   begin({ generation, request, to }, task) {
     const { history } = this;
     this.stop();
@@ -128,29 +190,49 @@ class Searches {
     });
   }
 
+  /**
+   * @param {number} from
+   * @param {number} to
+   * @param {Condition[]} conditions
+   * @param {Search} search
+   */
   findFirst(from, to, conditions, search) {
     const pace = new Pace(PIECE_MS, FIRST_PIECE), pieces = this.forward(from, to, conditions, pace, search.turn);
     return this.searched(pieces, pace, { conditions, isLast: false }, search.progress(to - from));
   }
 
+  /**
+   * @param {number} from
+   * @param {number} to
+   * @param {Condition[]} conditions
+   * @param {Search} search
+   */
   findLast(from, to, conditions, search) {
     const pace = new Pace(PIECE_MS, FIRST_PIECE), pieces = this.backward(from, to, conditions, pace, search.turn);
     return this.searched(pieces, pace, { conditions, isLast: true }, search.progress(to - from));
   }
 
   /** Has pieces searched, as many at a time as the crew can. Returns the hit of the first piece that has one, once all before it are known
-   * to have none; or null. */
+   * to have none; or null.
+   * @param {AsyncGenerator<RangePiece, void>} pieces
+   * @param {Pace} pace
+   * @param {{ conditions: Condition[], isLast: boolean }} wanted
+   * @param {(done: number) => void} report
+   * @returns {Promise<Hit | null>} */
   async searched(pieces, pace, wanted, report) {
+    /** @type {{ steps: number, found: Searched | Promise<Searched> }[]} */
     const underWay = [];
-    let done = 0, hit = null;
+    /** @type {Hit | null} */
+    let hit = null;
+    let done = 0;
     const takeFirst = async () => {
-      const { steps, found } = underWay.shift(), { hit: own, ms } = await found;
+      const [{ steps, found }] = underWay.splice(0, 1), { hit: own, ms } = await found;
       pace.took(steps, ms);
       report((done += steps));
       hit = own;
     };
-    for await (const { steps, isQuiet, ...piece } of pieces) {
-      underWay.push({ steps, found: isQuiet ? { hit: null, ms: 0 } : this.crew.search({ ...piece, ...wanted }) });
+    for await (const piece of pieces) {
+      underWay.push({ steps: piece.steps, found: piece.isQuiet ? { hit: null, ms: 0 } : this.crew.search({ ...piece, ...wanted }) });
       if (underWay.length > this.crew.size) await takeFirst();
       if (hit) return hit;
     }
@@ -158,7 +240,13 @@ class Searches {
     return hit;
   }
 
-  /** The pieces of a range from its beginning on. A machine that has stopped does nothing more. */
+  /** The pieces of a range from its beginning on. A machine that has stopped does nothing more.
+   * @param {number} from
+   * @param {number} to
+   * @param {Condition[]} conditions
+   * @param {Pace} pace
+   * @param {() => Promise<void>} turn
+   * @returns {AsyncGenerator<RangePiece, void>} */
   async *forward(from, to, conditions, pace, turn) {
     const { history } = this, { searcher } = history, isSeen = areSeen(conditions);
     for (let at = from, end; at < to; at = end) {
@@ -172,7 +260,13 @@ class Searches {
     }
   }
 
-  /** The pieces of a range from its end on. They begin at keyframes where there are some. */
+  /** The pieces of a range from its end on. They begin at keyframes where there are some.
+   * @param {number} from
+   * @param {number} to
+   * @param {Condition[]} conditions
+   * @param {Pace} pace
+   * @param {() => Promise<void>} turn
+   * @returns {AsyncGenerator<RangePiece, void>} */
   async *backward(from, to, conditions, pace, turn) {
     const { history } = this, { searcher } = history, isSeen = areSeen(conditions);
     if (isSeen) await history.reach(searcher, to, turn);
@@ -187,14 +281,18 @@ class Searches {
     }
   }
 
-  /** Returns the piece from where the searcher is up to a count. */
+  /** Returns the piece from where the searcher is up to a count.
+   * @param {number} to
+   * @returns {Piece} */
   pieceTo(to) {
     const { searcher, inputs } = this.history, { count } = searcher;
     const given = inputs.bytes.slice(INPUT_BYTES * inputs.from(count), INPUT_BYTES * inputs.from(to));
     return { ...copied(searcher.at(searcher.address)), inputs: given, to, steps: to - count };
   }
 
-  /** Returns the instruction at a count, with the state before it. */
+  /** Returns the instruction at a count, with the state before it.
+   * @param {number} at
+   * @param {Search} search */
   async instructionAt(at, search) {
     const { history } = this, { searcher } = history;
     await history.reach(searcher, at, search.turn);
@@ -202,6 +300,12 @@ class Searches {
     return { at, pc, word: searcher.word(pc), state: searcher.state.slice() };
   }
 
+  /**
+   * @param {number} register
+   * @param {number} before
+   * @param {Search} search
+   * @returns {Promise<Written>}
+   */
   async whoSet(register, before, search) {
     const { history } = this, { searcher } = history;
     await history.reach(searcher, before, search.turn);
@@ -210,10 +314,15 @@ class Searches {
     return hit ? this.instructionAt(hit.at, search) : { initial: true };
   }
 
-  /** Finds what set a part of a device: an input, or a later access to its word. */
+  /** Finds what set a part of a device: an input, or a later access to its word.
+   * @param {DevicePart} part
+   * @param {number} before
+   * @param {Search} search
+   * @returns {Promise<Written>} */
   async whoSetDevice({ name, input, kind, word }, before, search) {
-    const given = input && (await this.lastInput(input, before, search)), conditions = [{ kind, from: word, end: word + 4 }];
-    if (!word) return given ?? { initial: true };
+    const given = input ? await this.lastInput(input, before, search) : null;
+    if (!word || !kind) return given ?? { initial: true };
+    const conditions = [{ kind, from: word, end: word + 4 }];
     const gap = input ? null : await this.gapOfPart(AT[name], before, search);
     const probable = gap && (await this.findLast(gap.from, gap.to, conditions, search));
     if (probable) search.report("who", { ...(await this.instructionAt(probable.at, search)), sure: false });
@@ -221,7 +330,10 @@ class Searches {
     return hit ? this.instructionAt(hit.at, search) : given ?? { initial: true };
   }
 
-  /** Returns the last input of a kind that the machine has taken before a count, or null. One that has stopped takes none. */
+  /** Returns the last input of a kind that the machine has taken before a count, or null. One that has stopped takes none.
+   * @param {number} kind
+   * @param {number} before
+   * @param {Search} search */
   async lastInput(kind, before, search) {
     const { history } = this, { searcher, inputs } = history;
     await history.reach(searcher, before, search.turn);
@@ -232,7 +344,11 @@ class Searches {
   }
 
   /** Keyframes in which the bits are others say where they changed: the answer from there is posted first. Between the later ones they may
-   * have changed and changed back. */
+   * have changed and changed back.
+   * @param {Bits} bits
+   * @param {number} before
+   * @param {Search} search
+   * @returns {Promise<Written>} */
   async whoWrote({ from, end, value }, before, search) {
     const change = { kind: CHANGE, from, end, value }, store = { kind: STORE, from, end };
     const gap = await this.gapOfChange({ from, value }, before, search);
@@ -246,7 +362,10 @@ class Searches {
     return { ...(found ? await this.instructionAt(found.at, search) : { initial: true }), stored: again };
   }
 
-  /** Returns the last gap between keyframes, or between one and a count, at whose ends bits of a word are different; or null. */
+  /** Returns the last gap between keyframes, or between one and a count, at whose ends bits of a word are different; or null.
+   * @param {Pick<Bits, "from" | "value">} bits
+   * @param {number} before
+   * @param {Search} search */
   async gapOfChange({ from, value }, before, search) {
     const { history } = this, { searcher, keyframes } = history, number = Math.floor(from / 4);
     await history.reach(searcher, before, search.turn);
@@ -254,7 +373,10 @@ class Searches {
     return this.gapWhere((keyframe) => (keyframes.word(keyframe, number) ^ word) & value, before);
   }
 
-  /** Returns the last gap at whose ends a field of the state is different, or null. */
+  /** Returns the last gap at whose ends a field of the state is different, or null.
+   * @param {number} offset
+   * @param {number} before
+   * @param {Search} search */
   async gapOfPart(offset, before, search) {
     const { history } = this, { searcher } = history;
     await history.reach(searcher, before, search.turn);
@@ -262,7 +384,9 @@ class Searches {
     return this.gapWhere(({ state }) => field(state, offset) !== value, before);
   }
 
-  /** Returns the gap after the last keyframe that is other than what is at a count; or null. */
+  /** Returns the gap after the last keyframe that is other than what is at a count; or null.
+   * @param {(keyframe: import("./keyframes.js").Keyframe) => unknown} isOther
+   * @param {number} before */
   gapWhere(isOther, before) {
     const { keyframes } = this.history;
     let to = before;
@@ -276,17 +400,23 @@ class Searches {
   }
 }
 
-/** Whether conditions are of what is seen from outside, so that a piece in which nothing comes about is only run, not searched. */
+/** Whether conditions are of what is seen from outside, so that a piece in which nothing comes about is only run, not searched.
+ * @param {Condition[]} conditions */
 function areSeen(conditions) {
   return conditions.every(({ kind }) => [SENDS, SENDS_BYTE, TAKES, STOP].includes(kind));
 }
 
-/** Returns what is seen of a machine from outside. */
+/** Returns what is seen of a machine from outside.
+ * @param {import("./replayer.js").Replayer} replayer */
 function outsideOf(replayer) {
   return { count: replayer.count, sent: replayer.sent, stop: replayer.part("stop") };
 }
 
-/** Whether a condition of what is seen from outside may hold between two moments of a run. */
+/** Whether a condition of what is seen from outside may hold between two moments of a run.
+ * @param {Condition[]} conditions
+ * @param {Inputs} inputs
+ * @param {Outside} before
+ * @param {Outside} after */
 function mayHold(conditions, inputs, before, after) {
   const kinds = new Set(), end = inputs.from(after.count);
   for (let at = inputs.from(before.count); at < end; at++) kinds.add(inputs.kind(at));
@@ -294,7 +424,9 @@ function mayHold(conditions, inputs, before, after) {
   return conditions.some(({ kind, value }) => (kind === STOP ? isStopped : kind === TAKES ? kinds.has(value) : isSent));
 }
 
-/** Returns the range of bytes that is wanted, and the mask of their bits in their word. */
+/** Returns the range of bytes that is wanted, and the mask of their bits in their word.
+ * @param {About} about
+ * @returns {Bits} */
 function bitsOf({ address, bit, mask }) {
   const isWord = mask !== undefined, isLawful = isWhole(address) && address < MEMORY_BYTES && (!isWord || address % 4 === 0);
   if (!isLawful || !(bit === undefined || (isWhole(bit) && bit < 8))) throw new Refused("want a byte of the memory, and a bit of it");
@@ -303,17 +435,24 @@ function bitsOf({ address, bit, mask }) {
   return { from: address, end: address + 1, value: ((bit === undefined ? 0xff : 1 << bit) << first) >>> 0 };
 }
 
+/** @param {number} register */
 function registerOf(register) {
   if (!(isWhole(register) && register <= FLAGS_NUMBER)) throw new Refused(`${register} is not a register: want 0 to ${FLAGS_NUMBER}`);
   return register;
 }
 
+/**
+ * @param {string} name
+ * @returns {DevicePart}
+ */
 function deviceOf(name) {
   if (!Object.hasOwn(DEVICE_PARTS, name)) throw new Refused(`${name} is not a part of a device that something sets`);
-  return { name, ...DEVICE_PARTS[name] };
+  return { name: /** @type {keyof typeof AT} */ (name), ...DEVICE_PARTS[name] };
 }
 
-/** Returns what a register has: 0 to 15 for R0 to R15, 16 for H, 17 for the flags. */
+/** Returns what a register has: 0 to 15 for R0 to R15, 16 for H, 17 for the flags.
+ * @param {Bytes} state
+ * @param {number} register */
 function registerIn(state, register) {
   if (register < H_NUMBER) return field(state, AT.R + 4 * register);
   return field(state, register === H_NUMBER ? AT.H : AT.flags);

@@ -1,33 +1,51 @@
+// @ts-check
 /* Snake: the page makes a checkpoint of each dot that is eaten, so that the score is claimed in the recording. After a game it shows
  * the score with a real check of that recording; and a claim of another score, which the same check finds false. */
-"use strict";
+import { app, send } from "./app.js";
+import { showCard } from "./card.js";
+import { SENDS_BYTE } from "./conditions.js";
+import { isRunning, sendCodes } from "./devices.js";
+import { attempt, button, el, grouped, made, many, paragraph } from "./elements.js";
+import { CHANGE_BYTES, CLAIM, HEADER, HEADER_BYTES, INPUT, INPUT_BYTES } from "./layout.js";
+import { backToNow, lookAt, nowCount, shownState } from "./look.js";
+import { openExample } from "./opening.js";
+import { Helper } from "./requests.js";
+import { setRun } from "./running.js";
+import { AT, field, hex, KEY, PAGE_BYTES, PER_SECOND } from "./states.js";
+import { STATUSES } from "./verdicts.js";
 
 const SNAKE = "snake", FIRST_LENGTH = 3, OVER = "over\n", BEFORE_CRASH = PER_SECOND, CHEATED = 100;
-// The bytes of a recording before its pages and of a checkpoint before its changes, and where the LEDs are in a checkpoint.
-const HEADER_BYTES = 24, CLAIM_BYTES = 144, LEDS_AT = 96;
-const ARROWS = { ArrowUp: "w", ArrowLeft: "a", ArrowDown: "s", ArrowRight: "d" };
+/** @type {{ [key: string]: string }} */
+export const ARROWS = { ArrowUp: "w", ArrowLeft: "a", ArrowDown: "s", ArrowRight: "d" };
 // How long the snake is, as the LEDs said last.
 let snakeLength = FIRST_LENGTH;
 
-const isSnake = () => app.work.name === SNAKE;
+export const isSnake = () => app.work.name === SNAKE;
 
-/** Returns the points of a snake, whose length the LEDs show. */
-function pointsOf(length) {
+/** Returns the points of a snake, whose length the LEDs show.
+ * @param {number} length */
+export function pointsOf(length) {
   return many(Math.max(0, length - FIRST_LENGTH), "point");
 }
 
 /** Begins the game of the example, without the keys of the game that somebody played. */
-function playSnake() {
+export function playSnake() {
   return openExample(SNAKE, { inputs: [], checkpoints: [] });
 }
 
-/** Follows a game: the LEDs show how long the snake is, and the program sends a text when it is over, in one frame or over several. */
-function followGame({ state, sent, on, isReplay }, wasReplay) {
+export function beginGame() {
+  snakeLength = FIRST_LENGTH;
+}
+
+/** Follows a game: the LEDs show how long the snake is, and the program sends a text when it is over, in one frame or over several.
+ * @param {Frame} frame
+ * @param {boolean} [wasReplay] */
+export function followGame({ state, sent, on, isReplay }, wasReplay) {
   if (!isSnake() || isReplay || wasReplay) return;
   if (sent && app.work.sent.endsWith(OVER)) return attempt(endGame);
   if (!on) return;
   const length = field(state, AT.LEDs);
-  if (length > snakeLength) send("mark");
+  if (length > snakeLength) send("mark", {});
   snakeLength = length;
 }
 
@@ -58,7 +76,9 @@ async function crashCount() {
   return found?.at ?? nowCount();
 }
 
-/** Has a recording checked by a clerk, and shows its verdict line in a place. */
+/** Has a recording checked by a clerk, and shows its verdict line in a place.
+ * @param {Bytes} bytes
+ * @param {HTMLElement} place */
 async function showLine(bytes, place) {
   const clerk = new Helper(app.module, () => {});
   try {
@@ -71,41 +91,53 @@ async function showLine(bytes, place) {
   }
 }
 
-/** Claims another score in the last checkpoint, and has that checked: the line names the LEDs, and the machine has what they were. */
+/** Claims another score in the last checkpoint, and has that checked: the line names the LEDs, and the machine has what they were.
+ * @param {Bytes} bytes */
 async function tryToCheat(bytes) {
-  const place = el("card").querySelector(".cheat"), line = paragraph("checking ..", "line note");
+  const place = /** @type {HTMLElement} */ (el("card").querySelector(".cheat")), line = paragraph("checking ..", "line note");
   const { forged, claimed, own, count } = forgedScore(bytes);
   place.replaceChildren(paragraph(`The same recording, which claims ${pointsOf(claimed)} at ${grouped(count)}:`), line);
   await showLine(forged, line);
   place.append(paragraph(`The machine has ${pointsOf(own)} there: the LEDs are ${hex(own, 2)}, and ${hex(claimed, 2)} is claimed.`));
 }
 
-/** Returns a recording whose checkpoint with the most points claims more. */
+/** Returns a recording whose checkpoint with the most points claims more.
+ * @param {Bytes} bytes */
 function forgedScore(bytes) {
-  const { view, claims } = layoutOf(bytes), ledsOf = (claim) => view.getUint32(claim + LEDS_AT, true), forged = bytes.slice();
+  const { view, claims } = layoutOf(bytes), forged = bytes.slice();
+  /** @param {number} claim */
+  const ledsOf = (claim) => view.getUint32(claim + CLAIM.LEDs, true);
   const best = claims.slice(1).reduce((one, other) => (ledsOf(other) >= ledsOf(one) ? other : one));
   const own = ledsOf(best), claimed = Math.min(255, own + CHEATED);
-  forged[best + LEDS_AT] = claimed;
+  forged[best + CLAIM.LEDs] = claimed;
   return { forged, claimed, own, count: Number(view.getBigUint64(best, true)) };
 }
 
-/** Returns how many keys are in a recording. */
+/** Returns how many keys are in a recording.
+ * @param {Bytes} bytes */
 function keysIn(bytes) {
   const { view, inputs } = layoutOf(bytes);
-  return inputs.filter((at) => view.getUint32(at + 8, true) === KEY).length;
+  return inputs.filter((at) => view.getUint32(at + INPUT.kind, true) === KEY).length;
 }
 
-/** Returns where the inputs and the checkpoints of a recording of version 2 begin. */
+/** Returns where the inputs and the checkpoints of a recording of version 2 begin.
+ * @param {Bytes} bytes */
 function layoutOf(bytes) {
-  const view = new DataView(bytes.buffer, bytes.byteOffset, bytes.length), number = (at) => view.getUint32(at, true);
-  const first = HEADER_BYTES + PAGE_BYTES * number(8), inputs = Array.from({ length: number(12) }, (_, at) => first + INPUT_BYTES * at), claims = [];
+  const view = new DataView(bytes.buffer, bytes.byteOffset, bytes.length);
+  /** @param {number} at */
+  const number = (at) => view.getUint32(at, true);
+  /** @type {number[]} */
+  const claims = [];
+  const first = HEADER_BYTES + PAGE_BYTES * number(HEADER.pages);
+  const inputs = Array.from({ length: number(HEADER.inputs) }, (_, at) => first + INPUT_BYTES * at);
   let at = first + INPUT_BYTES * inputs.length;
-  for (; claims.length < number(16); at += CLAIM_BYTES + 8 * number(at + CLAIM_BYTES - 4)) claims.push(at);
+  for (; claims.length < number(HEADER.checkpoints); at += CLAIM.list + CHANGE_BYTES * number(at + CLAIM.changes)) claims.push(at);
   return { view, inputs, claims };
 }
 
-/** Sends the key of a button below the screen, as on a phone. */
-function padPressed({ target }) {
-  const { key } = target.dataset;
+/** Sends the key of a button below the screen, as on a phone.
+ * @param {Event} event */
+export function padPressed({ target }) {
+  const key = target instanceof HTMLElement ? target.dataset.key : undefined;
   if (key && isRunning()) sendCodes([key.charCodeAt(0)]);
 }

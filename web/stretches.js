@@ -1,20 +1,42 @@
+// @ts-check
 /* Cuts a recording into stretches between two of its checkpoints, each a recording of its own, and joins their verdict lines. The page checks a
  * long recording in this way, so that it can show its progress. tools/galluspa/stretches.py cuts the same bytes, and docs/suites.md says why the
  * joined line is that of the whole. */
-"use strict";
+import { readRecording } from "./formats.js";
+import { CHANGE_BYTES, CLAIM, HEADER, HEADER_BYTES, INPUT_BYTES } from "./layout.js";
+import { Refused } from "./library.js";
+import { acceptedLine, falseLine, readLine } from "./lines.js";
+import { equal, joined, PAGE_BYTES, PAGES, STATE_BYTES } from "./states.js";
 
-const HEADER_BYTES = 24, CLAIM_BYTES = 144;
 const STRETCH_STEPS = 10000000, FIRST_STEPS = 1000000;
 
-/** Returns the page slots that a checkpoint changes in the table before it, each with its new page id. */
+/** @typedef {import("./machine.js").Machine} Machine */
+
+/**
+ * @param {number} slot
+ * @param {number} id
+ * @returns {[number, number]}
+ */
+const change = (slot, id) => [slot, id];
+
+/** Returns the page slots that a checkpoint changes in the table before it, each with its new page id.
+ * @param {Pick<Recording, "bytes" | "version">} recording
+ * @param {Pick<Claim, "at">} claim
+ * @param {Uint32Array} table
+ * @returns {[number, number][]} */
 function changesOf({ bytes, version }, { at }, table) {
-  const view = new DataView(bytes.buffer, bytes.byteOffset, bytes.length), number = (from) => view.getUint32(from, true);
-  if (version === 1) return Array.from(table, (_, slot) => [slot, number(at + 132 + 4 * slot)]).filter(([slot, id]) => id !== table[slot]);
-  return Array.from({ length: number(at + 140) }, (_, k) => [number(at + CLAIM_BYTES + 8 * k), number(at + CLAIM_BYTES + 4 + 8 * k)]);
+  const view = new DataView(bytes.buffer, bytes.byteOffset, bytes.length);
+  /** @param {number} from */
+  const number = (from) => view.getUint32(from, true);
+  if (version === 1) return Array.from(table, (_, slot) => change(slot, number(at + CLAIM.table + 4 * slot))).filter(([slot, id]) => id !== table[slot]);
+  /** @param {number} k */
+  const changeAt = (k) => at + CLAIM.list + CHANGE_BYTES * k;
+  return Array.from({ length: number(at + CLAIM.changes) }, (_, k) => change(number(changeAt(k)), number(changeAt(k) + 4)));
 }
 
-/** Returns the table of checkpoint 0: the page id of each slot. */
-function firstTable(recording) {
+/** Returns the table of checkpoint 0: the page id of each slot.
+ * @param {Recording} recording */
+export function firstTable(recording) {
   const table = new Uint32Array(PAGES);
   for (const [slot, id] of changesOf(recording, recording.claims[0], table)) table[slot] = id;
   return table;
@@ -22,42 +44,50 @@ function firstTable(recording) {
 
 /** Returns the recording between two checkpoints, in version 2. Its initial state is what the first one claims, its counts and inputs begin at 0
  * again, and its pool has the pages that it names, in the order in which it names them. `table` is the table of the first checkpoint, and becomes
- * that of the last. */
-function stretch(recording, table, first, last) {
+ * that of the last.
+ * @param {Recording} recording
+ * @param {Uint32Array} table
+ * @param {number} first
+ * @param {number} last */
+export function stretch(recording, table, first, last) {
   const claims = recording.claims.slice(first, last + 1), ids = new Map([[0, 0]]);
-  const named = ([slot, id]) => [slot, ids.get(id) ?? (ids.set(id, ids.size), ids.size - 1)];
+  /** @param {[number, number]} change */
+  const named = ([slot, id]) => change(slot, ids.get(id) ?? (ids.set(id, ids.size), ids.size - 1));
   const written = claims.map((claim, k) => {
-    const changes = k ? changesOf(recording, claim, table) : Array.from(table, (id, slot) => [slot, id]).filter(([, id]) => id);
+    const changes = k ? changesOf(recording, claim, table) : Array.from(table, (id, slot) => change(slot, id)).filter(([, id]) => id);
     for (const [slot, id] of changes) table[slot] = id;
     return claimBytes(recording, claim, claims[0].count, changes.map(named));
   });
   const pages = [...ids.keys()].slice(1).map((id) => recording.bytes.subarray(HEADER_BYTES + PAGE_BYTES * (id - 1)).subarray(0, PAGE_BYTES));
-  const inputs = recording.inputs.between(claims[0].count, claims.at(-1).count);
+  const inputs = recording.inputs.between(claims[0].count, claims[claims.length - 1].count);
   const header = new Uint8Array(HEADER_BYTES), view = new DataView(header.buffer);
   header.set(new TextEncoder().encode("ORSR"));
-  [2, pages.length, inputs.length / INPUT_BYTES, claims.length].forEach((number, k) => view.setUint32(4 + 4 * k, number, true));
+  const { version, pages: pagesAt, inputs: inputsAt, checkpoints } = HEADER;
+  for (const [field, number] of [[version, 2], [pagesAt, pages.length], [inputsAt, inputs.length / INPUT_BYTES], [checkpoints, claims.length]])
+    view.setUint32(field, number, true);
   return joined([header, ...pages, inputs, ...written, ...claims.slice(1).map((claim) => claim.sent)]);
 }
 
-/** Returns the bytes of a checkpoint in a stretch that begins at a count. */
+/** Returns the bytes of a checkpoint in a stretch that begins at a count.
+ * @param {Recording} recording
+ * @param {Claim} claim
+ * @param {number} begin
+ * @param {[number, number][]} changes */
 function claimBytes({ bytes, version }, { at, count }, begin, changes) {
-  const claim = new Uint8Array(CLAIM_BYTES + 8 * changes.length), view = new DataView(claim.buffer);
-  claim.set(bytes.subarray(at, at + (version === 1 ? 132 : 140)));
+  const claim = new Uint8Array(CLAIM.list + CHANGE_BYTES * changes.length), view = new DataView(claim.buffer);
+  claim.set(bytes.subarray(at, at + (version === 1 ? CLAIM.table : CLAIM.changes)));
   view.setBigUint64(0, BigInt(count - begin), true);
-  if (count === begin) view.setUint32(128, 0, true);
-  view.setUint32(140, changes.length, true);
-  changes.flat().forEach((number, k) => view.setUint32(CLAIM_BYTES + 4 * k, number, true));
+  if (count === begin) view.setUint32(CLAIM.sent, 0, true);
+  view.setUint32(CLAIM.changes, changes.length, true);
+  changes.flat().forEach((number, k) => view.setUint32(CLAIM.list + 4 * k, number, true));
   return claim;
 }
 
-function joined(parts) {
-  const whole = new Uint8Array(parts.reduce((length, part) => length + part.length, 0));
-  parts.reduce((at, part) => (whole.set(part, at), at + part.length), 0);
-  return whole;
-}
-
 /** Returns what the verdict line of a recording with these checkpoints says: null if all are true, else the first false one with its first false
- * part. */
+ * part.
+ * @param {string} line
+ * @param {{ count: number }[]} claims
+ * @returns {Wrong | null} */
 function foundBy(line, claims) {
   const { wrong } = readLine(line);
   if (wrong && claims[wrong.number]?.count === wrong.count) return wrong;
@@ -65,19 +95,30 @@ function foundBy(line, claims) {
   return null;
 }
 
-/** What the line of a recording accepts that has these checkpoints, the initial state among them. */
+/** What the line of a recording accepts that has these checkpoints, the initial state among them.
+ * @param {{ count: number }[]} claims */
 function allOf(claims) {
-  return { checkpoints: claims.length - 1, steps: claims.at(-1).count };
+  return { checkpoints: claims.length - 1, steps: claims[claims.length - 1].count };
 }
 
 /** Checks recordings stretch by stretch, on a machine that nothing else uses. */
-class Checker {
+export class Checker {
+  sent = 0;
+
+  /**
+   * @param {Machine} machine
+   * @param {number} size
+   */
   constructor(machine, size = STRETCH_STEPS) {
-    Object.assign(this, { machine, size, library: machine.library });
+    this.machine = machine;
+    this.size = size;
+    this.library = machine.library;
   }
 
   /** Returns the joined line of the stretches of a recording, its status, and their number. After each piece it calls `report` with the number of
-   * steps done, and with the number of the last checkpoint that was found true. */
+   * steps done, and with the number of the last checkpoint that was found true.
+   * @param {Recording} recording
+   * @param {(steps: number, judged: number) => void} report */
   line(recording, report) {
     const { claims } = recording, last = claims.length - 1, table = firstTable(recording);
     let first = 0, stretches = 0;
@@ -96,14 +137,20 @@ class Checker {
     return { line: acceptedLine(allOf(claims)), status: 0, stretches };
   }
 
-  /** Returns the last checkpoint of a stretch of about so many steps. */
+  /** Returns the last checkpoint of a stretch of about so many steps.
+   * @param {Claim[]} claims
+   * @param {number} first
+   * @param {number} size */
   end(claims, first, size) {
     let end = first + 1;
     while (end + 1 < claims.length && claims[end + 1].count - claims[first].count <= size) end++;
     return end;
   }
 
-  /** Returns what the line of a stretch says. A long stretch is run in frames, and its last frame is checked as a recording of its own. */
+  /** Returns what the line of a stretch says. A long stretch is run in frames, and its last frame is checked as a recording of its own.
+   * @param {Bytes} bytes
+   * @param {number} size
+   * @param {(steps: number) => void} report */
   found(bytes, size, report) {
     const recording = readRecording(bytes), { claims } = recording;
     const isRun = claims.length === 2 && claims[1].count > 2 * size && this.run(recording, size, report);
@@ -113,7 +160,10 @@ class Checker {
   }
 
   /** Runs a stretch of two checkpoints up to its last frame, or until the machine stops: a stopped machine changes no more, so its frame may be long.
-   * Returns whether it sent what is claimed, as far as it ran. */
+   * Returns whether it sent what is claimed, as far as it ran.
+   * @param {Recording} recording
+   * @param {number} size
+   * @param {(steps: number) => void} report */
   run(recording, size, report) {
     const { machine } = this, [, { count, sent }] = recording.claims;
     machine.beginRecording(recording, 0);
@@ -125,7 +175,8 @@ class Checker {
     return true;
   }
 
-  /** Returns the recording that begins with the machine's state and ends with what the stretch claims, and its number of steps. */
+  /** Returns the recording that begins with the machine's state and ends with what the stretch claims, and its number of steps.
+   * @param {Recording} recording */
   lastFrame(recording) {
     const { machine, library } = this, begin = machine.count, [, { count, sent }] = recording.claims, steps = count - begin;
     library.claim(machine.recordingAt, recording.bytes.length, 1, machine.other, machine.other + STATE_BYTES);

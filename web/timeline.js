@@ -1,61 +1,90 @@
+// @ts-check
 /* The timeline: lanes of what came, what was sent and what changed over the counts, with a cursor that is a slider. */
-"use strict";
+import { app } from "./app.js";
+import { drawBranches } from "./branches.js";
+import { falseClaim } from "./claims.js";
+import { forgetHits, hitMarks } from "./code.js";
+import { attempt, el, grouped, made, set, write } from "./elements.js";
+import { apart, isAhead, isPast, lookAt, nowCount, secondsOf, shownCount } from "./look.js";
+import { LINES } from "./screen.js";
+import { countOf, hex, PER_SECOND } from "./states.js";
 
-const PER_SECOND = 25000000;
 const LANES = ["claims", "keys", "mouse", "serial", "screen", "marks", "film"];
 const ROW = 17, AXIS = 17, MERGED = 28, LEAST_SPAN = 16, MOST_NOTED = 20000, SENT_SHOWN = 40, GLYPH_WIDTH = 6, FINGER_MOVE = 6, LISTED = 40;
-const FRESH_MS = 200, FOLLOW_MS = 2000, FILM_MS = 2000, TICK_WIDTH = 76, ZOOM = 1.6;
+export const FRESH_MS = 200, FOLLOW_MS = 2000, FILM_MS = 2000, TICK_WIDTH = 76, ZOOM = 1.6;
+
+/** Where a lane is drawn.
+ * @typedef {{ pen: CanvasRenderingContext2D, colour: (name: string) => string, width: number, y: number, high: number }} Place */
 
 // What the lanes show. `end` is the last count that is known of: that of now, or of the file.
 // `sent` and `painted` are noted while the machine runs, `passed` are the claims that a replay has judged, and `film` the counts of
 // the keyframes. It is replaced whole when another machine is opened.
-const NOTHING_FOUND = { keys: [], mouse: [], serial: [], listed: { keys: [], mouse: [], serial: [] }, marks: [], planned: [], end: 0 };
+/** @type {Lanes} */
+const NOTHING_FOUND = { keys: [], mouse: new Uint8Array(), serial: new Uint8Array(), listed: { keys: [], mouse: [], serial: [] }, marks: [], planned: [], end: 0 };
+/** @returns {{ end: number, found: Lanes, sent: [number, string][], painted: [number, number][], passed: Map<number, string>, film: number[] }} */
 const newLanes = () => ({ end: 0, found: NOTHING_FOUND, sent: [], painted: [], passed: new Map(), film: [] });
-let lanes = newLanes();
+export let lanes = newLanes();
 // The span that is shown, and how it is used: `isAsked` while the worker is asked for its lanes, `isStale` if they are wanted again,
 // `asked` says what they depend on as they were asked last, and `pointers` are those on the track, with where they are. A finger looks
 // at the count that it `pressed` only once it moves or is lifted, since another may come with it. `drawn` is when the lanes were drawn.
 const timeline = {
-  from: 0, to: PER_SECOND, isWhole: true, isDragged: false, pressed: null, pointers: new Map(), isAsked: false, isStale: false, asked: "", due: 0, filmDue: 0,
-  drawn: 0, columns: 1,
+  from: 0, to: PER_SECOND, isWhole: true, isDragged: false, isAsked: false, isStale: false, asked: "", due: 0, filmDue: 0, drawn: 0, columns: 1,
+  pressed: /** @type {number | null} */ (null), pointers: /** @type {Map<number, number>} */ (new Map()),
 };
 
 /** Begins the lanes of a machine that was opened. */
-function beginLanes() {
+export function beginLanes() {
   lanes = { ...newLanes(), end: nowCount() };
   Object.assign(timeline, { isWhole: true, isDragged: false });
   freshen(true);
 }
 
-/** Forgets what came after a count, from which the machine goes on otherwise. */
-function forgetAfter(at) {
+/** Forgets what came after a count, from which the machine goes on otherwise.
+ * @param {number} at */
+export function forgetAfter(at) {
+  /** @param {[number, ...any[]]} entry */
   const isBefore = ([count]) => count <= at;
   const passed = new Map([...lanes.passed].filter(isBefore));
-  hits = hits.filter(isBefore);
-  for (const item of [...el("passed").children]) if (item.dataset.count > at) item.remove();
+  forgetHits(at);
+  for (const item of el("passed").querySelectorAll("li")) if (Number(item.dataset.count) > at) item.remove();
   lanes = { ...lanes, end: at, sent: lanes.sent.filter(isBefore), painted: lanes.painted.filter(isBefore), passed };
   freshen(true);
 }
 
-/** Notes what a frame of the live machine brings for the lanes. */
-function noteFrame({ state, sent, on }) {
+/** Notes what a frame of the live machine brings for the lanes.
+ * @param {Frame} frame */
+export function noteFrame({ state, sent, on }) {
   const count = countOf(state);
   if (sent) note(lanes.sent, [count, sent.slice(0, SENT_SHOWN)]);
   if (count > lanes.end) lanes.end = count;
   freshen(!on);
 }
 
-/** Notes that the checkpoints up to a count were checked, and are true. */
-function noteChecked(last) {
+/** Notes what a replay found of the claim at a count.
+ * @param {number} count
+ * @param {boolean} isTrue */
+export function notePassed(count, isTrue) {
+  lanes.passed.set(count, isTrue ? "true" : "false");
+}
+
+/** Notes that the checkpoints up to a count were checked, and are true.
+ * @param {number} last */
+export function noteChecked(last) {
   for (const count of lanes.found.marks) if (count <= last) lanes.passed.set(count, "true");
   drawLanes();
 }
 
-/** Notes how many lines of the screen changed, up to now. */
-function noteChange(lines) {
+/** Notes how many lines of the screen changed, up to now.
+ * @param {number} lines */
+export function noteChange(lines) {
   if (lines && !isPast() && app.latest) note(lanes.painted, [nowCount(), lines]);
 }
 
+/**
+ * @template T
+ * @param {T[]} list
+ * @param {T} entry
+ */
 function note(list, entry) {
   list.push(entry);
   if (list.length > MOST_NOTED) list.splice(0, list.length, ...list.filter((_, at) => at % 2 === 0));
@@ -64,14 +93,16 @@ function note(list, entry) {
 // The span
 
 /** The span of all that is known, rounded up, so that it does not move with each frame. */
-function wholeSpan() {
+export function wholeSpan() {
   const length = Math.max(LEAST_SPAN, lanes.end, lanes.found.end);
   const unit = 10 ** Math.floor(Math.log10(length));
-  return { from: 0, to: unit * [1, 1.5, 2, 3, 4, 5, 7.5, 10].find((share) => share * unit >= length) };
+  return { from: 0, to: unit * ([1, 1.5, 2, 3, 4, 5, 7.5, 10].find((share) => share * unit >= length) ?? 10) };
 }
 
-/** Shows a span, inside all that is known. */
-function showSpan(from, to) {
+/** Shows a span, inside all that is known.
+ * @param {number} from
+ * @param {number} to */
+export function showSpan(from, to) {
   const whole = wholeSpan(), length = Math.max(LEAST_SPAN, Math.min(to - from, whole.to - whole.from));
   const begin = Math.max(whole.from, Math.min(from, whole.to - length));
   Object.assign(timeline, { from: begin, to: begin + length, isWhole: length === whole.to - whole.from });
@@ -79,14 +110,17 @@ function showSpan(from, to) {
   freshen(true);
 }
 
-/** Moves the span so that a count is in it, which is then in its middle. */
-function keepInSight(count) {
+/** Moves the span so that a count is in it, which is then in its middle.
+ * @param {number} count */
+export function keepInSight(count) {
   const { from, to } = timeline, half = (to - from) / 2;
   if (!timeline.isWhole && (count < from || count > to)) showSpan(count - half, count + half);
 }
 
-/** Zooms by a factor around a count. */
-function zoom(factor, around = shownCount()) {
+/** Zooms by a factor around a count.
+ * @param {number} factor
+ * @param {number} around */
+export function zoom(factor, around = shownCount()) {
   const { from, to } = timeline, share = (around - from) / (to - from), length = (to - from) / factor;
   const inside = Math.max(0, Math.min(1, share));
   showSpan(around - inside * length, around + (1 - inside) * length);
@@ -94,13 +128,16 @@ function zoom(factor, around = shownCount()) {
 
 // The width of the track is noted when it changes: to ask for it would have the browser lay the page out.
 const columns = () => timeline.columns;
-const columnOf = (count) => ((count - timeline.from) / (timeline.to - timeline.from)) * columns();
+/** @param {number} count */
+export const columnOf = (count) => ((count - timeline.from) / (timeline.to - timeline.from)) * columns();
+/** @param {number} x */
 const countAt = (x) => timeline.from + (x / columns()) * (timeline.to - timeline.from);
 
 // Asking for what the lanes show
 
-/** Has the lanes show what is so now: at once, or while the machine runs some times a second. If only time has passed, nobody is asked. */
-function freshen(isAtOnce) {
+/** Has the lanes show what is so now: at once, or while the machine runs some times a second. If only time has passed, nobody is asked.
+ * @param {boolean} isAtOnce */
+export function freshen(isAtOnce) {
   const now = performance.now();
   if (!isAtOnce && now < timeline.due) return;
   timeline.due = now + FRESH_MS;
@@ -111,7 +148,7 @@ function freshen(isAtOnce) {
 
 /** What the worker's answer about the lanes depends on. */
 function wantedLanes() {
-  const { inputs, marks, planned, isReplay } = app.latest;
+  const { inputs, marks, planned, isReplay } = app.latest ?? {};
   return [app.work.generation, timeline.from, timeline.to, columns(), inputs, marks, planned, isReplay].join();
 }
 
@@ -132,6 +169,7 @@ async function askLanes() {
   if (timeline.isStale) freshen(true);
 }
 
+/** @param {Lanes} found */
 function showLanes(found) {
   lanes = { ...lanes, found, end: Math.max(nowCount(), app.latest?.isReplay ? found.end : 0) };
   drawLanes();
@@ -154,34 +192,38 @@ async function askFilm() {
 
 // Drawing
 
-const isNarrow = () => matchMedia("(max-width: 36rem)").matches;
+export const isNarrow = () => matchMedia("(max-width: 36rem)").matches;
 
 /** Draws all lanes, one below the other; or merged to one in a narrow window. */
-function drawLanes() {
+export function drawLanes() {
   timeline.drawn = performance.now();
   const canvas = el("lanes"), width = columns(), height = AXIS + (isNarrow() ? MERGED : ROW * LANES.length);
   const [wide, high] = [width, height].map((points) => Math.round(points * devicePixelRatio));
   if (canvas.width !== wide || canvas.height !== high) Object.assign(canvas, { width: wide, height: high });
   canvas.style.height = `${height}px`;
-  const style = getComputedStyle(canvas), colour = (name) => style.getPropertyValue(`--${name}`).trim();
-  const pen = canvas.getContext("2d");
+  const style = getComputedStyle(canvas), pen = /** @type {CanvasRenderingContext2D} */ (canvas.getContext("2d"));
+  /** @param {string} name */
+  const colour = (name) => style.getPropertyValue(`--${name}`).trim();
   pen.setTransform(devicePixelRatio, 0, 0, devicePixelRatio, 0, 0);
   pen.clearRect(0, 0, width, height);
   pen.font = `12px ${colour("mono")}`;
   pen.textBaseline = "middle";
   const to = { pen, colour, width };
   drawAxis(to);
+  /** @type {{ [lane: string]: (place: Place) => void }} */
   const drawings = { claims: drawClaims, keys: drawKeys, mouse: drawMouse, serial: drawSerial, screen: drawScreen, marks: drawMarks, film: drawFilm };
   for (const lane of LANES) drawings[lane]({ ...to, ...placeOf(lane) });
   drawNow(to, height);
 }
 
-/** Returns where a lane is. Merged, the checkpoints and hits are above all others. */
+/** Returns where a lane is. Merged, the checkpoints and hits are above all others.
+ * @param {string} lane */
 function placeOf(lane) {
   if (!isNarrow()) return { y: AXIS + ROW * LANES.indexOf(lane), high: ROW };
   return ["claims", "marks"].includes(lane) ? { y: AXIS, high: MERGED / 2 } : { y: AXIS + MERGED / 2, high: MERGED / 2 };
 }
 
+/** @param {Omit<Place, "y" | "high">} place */
 function drawAxis({ pen, colour, width }) {
   const span = timeline.to - timeline.from, step = tickStep(span * TICK_WIDTH / width), inSeconds = step >= PER_SECOND / 1000;
   pen.fillStyle = colour("soft");
@@ -193,29 +235,42 @@ function drawAxis({ pen, colour, width }) {
 }
 
 /** Returns the step between two ticks: 1, 2 or 5 of a power of ten, of seconds where there is a thousandth of one between them, else
- * of counts. */
+ * of counts.
+ * @param {number} least */
 function tickStep(least) {
   const unit = least >= PER_SECOND / 1000 ? PER_SECOND : 1, power = 10 ** Math.floor(Math.log10(Math.max(1, least) / unit));
-  return Math.max(1, unit * power * [1, 2, 5, 10].find((share) => share * unit * power >= least));
+  return Math.max(1, unit * power * ([1, 2, 5, 10].find((share) => share * unit * power >= least) ?? 10));
 }
+
+/**
+ * @param {number} count
+ * @param {string} state
+ * @returns {[number, string]}
+ */
+const marked = (count, state) => [count, state];
 
 /** The checkpoints with what is known of each: those of the file, or those that the page made. */
-function claimMarks() {
+export function claimMarks() {
   const wrong = falseClaim(), ofFile = app.file?.claims ?? [], known = new Set(ofFile), { planned, marks } = lanes.found;
-  const claims = ofFile.map((count, number) => [count, stateOfClaim(number, count, wrong)]).slice(1);
+  const claims = ofFile.map((count, number) => marked(count, stateOfClaim(number, count, wrong))).slice(1);
   const own = [...new Set([...planned, ...marks])].filter((count) => !known.has(count));
-  return [...claims, ...own.map((count) => [count, lanes.passed.get(count) ?? "unchecked"])];
+  return [...claims, ...own.map((count) => marked(count, lanes.passed.get(count) ?? "unchecked"))];
 }
 
-/** What is known of a checkpoint of the file: true, false, not judged (it comes after a false one), or unchecked. */
+/** What is known of a checkpoint of the file: true, false, not judged (it comes after a false one), or unchecked.
+ * @param {number} number
+ * @param {number} count
+ * @param {Wrong | null} wrong */
 function stateOfClaim(number, count, wrong) {
   if (wrong) return number < wrong.number ? "true" : number === wrong.number ? "false" : "not judged";
-  if (app.file.verdict?.status === 0) return "true";
+  if (app.file?.verdict?.status === 0) return "true";
   return lanes.passed.get(count) ?? "unchecked";
 }
 
+/** @type {{ [state: string]: string }} */
 const GLYPHS = { true: "◆", false: "■", "not judged": "◇", unchecked: "○" };
 
+/** @param {Place} place */
 function drawClaims({ pen, colour, y, high }) {
   pen.textAlign = "center";
   for (const [count, state] of inSpan(claimMarks())) {
@@ -225,6 +280,7 @@ function drawClaims({ pen, colour, y, high }) {
   pen.textAlign = "start";
 }
 
+/** @param {Place} place */
 function drawKeys({ pen, colour, y, high }) {
   let free = -Infinity;
   pen.fillStyle = colour("ink");
@@ -236,11 +292,13 @@ function drawKeys({ pen, colour, y, high }) {
   }
 }
 
+/** @param {Place} place */
 function drawMouse({ pen, colour, y, high }) {
   pen.fillStyle = colour("link");
   lanes.found.mouse.forEach((level, column) => level && pen.fillRect(column, y + high - (level === 2 ? high - 4 : 5), 1, level === 2 ? high - 5 : 4));
 }
 
+/** @param {Place} place */
 function drawSerial({ pen, colour, y, high }) {
   pen.fillStyle = colour("ink");
   lanes.found.serial.forEach((level, column) => level && pen.fillRect(column, y + 2, 2, high / 2 - 3));
@@ -248,6 +306,7 @@ function drawSerial({ pen, colour, y, high }) {
   for (const [count] of inSpan(lanes.sent)) pen.fillRect(columnOf(count), y + high / 2 + 1, 2, high / 2 - 3);
 }
 
+/** @param {Place} place */
 function drawScreen({ pen, colour, y, high }) {
   const most = new Map();
   for (const [count, lines] of inSpan(lanes.painted)) {
@@ -263,6 +322,7 @@ function drawScreen({ pen, colour, y, high }) {
   pen.globalAlpha = 1;
 }
 
+/** @param {Place} place */
 function drawMarks({ pen, colour, y, high }) {
   pen.fillStyle = colour("wrong");
   pen.textAlign = "center";
@@ -270,14 +330,15 @@ function drawMarks({ pen, colour, y, high }) {
   pen.textAlign = "start";
 }
 
-/** The film: a line as far as the machine has run, with a tick at each keyframe, and a dashed line for what is still to come. */
+/** The film: a line as far as the machine has run, with a tick at each keyframe, and a dashed line for what is still to come.
+ * @param {Place} place */
 function drawFilm({ pen, colour, y, high }) {
   const middle = Math.round(y + high / 2), [begin, now, end] = [0, nowCount(), lanes.end].map(columnOf);
   if (high !== ROW) return;
-  drawBranches({ pen, colour, y, high });
+  drawBranches({ pen, colour, y, high, width: columns() });
   pen.fillStyle = pen.strokeStyle = colour("soft");
   pen.fillRect(begin, middle - 1, now - begin, 2);
-  for (const [count] of inSpan(lanes.film.map((count) => [count]))) pen.fillRect(columnOf(count), middle - 3, 1, 6);
+  for (const [count] of inSpan(lanes.film.map((count) => /** @type {[number]} */ ([count])))) pen.fillRect(columnOf(count), middle - 3, 1, 6);
   pen.setLineDash([5, 4]);
   pen.beginPath();
   pen.moveTo(now, middle);
@@ -286,7 +347,9 @@ function drawFilm({ pen, colour, y, high }) {
   pen.setLineDash([]);
 }
 
-/** Draws a line at now, unless the cursor is there. */
+/** Draws a line at now, unless the cursor is there.
+ * @param {Omit<Place, "y" | "high">} place
+ * @param {number} height */
 function drawNow({ pen, colour, width }, height) {
   const x = columnOf(nowCount());
   if (!isPast() || x < 0 || x > width) return;
@@ -294,15 +357,19 @@ function drawNow({ pen, colour, width }, height) {
   pen.fillRect(x - 0.5, AXIS - 3, 1, height);
 }
 
-/** Returns the entries of a list whose counts are in the span; the list is in the order of its counts. */
+/** Returns the entries of a list whose counts are in the span; the list is in the order of its counts.
+ * @template {[number, ...any[]]} T
+ * @param {T[]} list
+ * @returns {T[]} */
 function inSpan(list) {
   return list.filter(([count]) => count >= timeline.from && count <= timeline.to);
 }
 
 // The cursor
 
-/** Shows the cursor where it is. Its value in words changes once it has settled, so that a screen reader says that, and nothing on the way. */
-function showCursor(isSettled) {
+/** Shows the cursor where it is. Its value in words changes once it has settled, so that a screen reader says that, and nothing on the way.
+ * @param {boolean} isSettled */
+export function showCursor(isSettled) {
   const at = shownCount(), x = columnOf(at), cursor = el("cursor");
   cursor.style.transform = `translateX(${Math.max(0, Math.min(columns(), x))}px)`;
   cursor.classList.toggle("outside", x < 0 || x > columns());
@@ -312,12 +379,13 @@ function showCursor(isSettled) {
   for (const name of ["begin-at", "back-run", "back"]) set(name, { disabled: at === 0 });
   set("now", { disabled: !isPast() && !app.latest.isReplay });
   if (!isSettled) return;
-  cursor.setAttribute("aria-valuemax", lanes.end);
-  cursor.setAttribute("aria-valuenow", at);
+  cursor.setAttribute("aria-valuemax", `${lanes.end}`);
+  cursor.setAttribute("aria-valuenow", `${at}`);
   cursor.setAttribute("aria-valuetext", cursorWords(at));
   listLanes();
 }
 
+/** @param {number} at */
 function cursorWords(at) {
   const where = isPast() ? `${isAhead() ? "not run yet" : "the past"}, ${apart(at)} ${isAhead() ? "ahead of" : "before"} now` : "now";
   const claim = claimMarks().find(([count]) => count === at);
@@ -327,20 +395,31 @@ function cursorWords(at) {
 
 /** Writes each lane as a list, for those who do not see it. */
 function listLanes() {
-  const { listed } = lanes.found, last = (list) => inSpan(list).slice(-LISTED);
+  const { listed } = lanes.found;
+  /**
+   * @template {[number, ...any[]]} T
+   * @param {T[]} list
+   */
+  const latest = (list) => inSpan(list).slice(-LISTED);
+  /** @param {string} lane */
   const inputs = (lane) => listed[lane].map(([count, kind, value]) => `${kind} ${hex(value, 2)} at ${grouped(count)}`);
+  /** @type {{ [lane: string]: string[] }} */
   const lists = {
-    claims: last(claimMarks()).map(([count, state]) => `${state} at ${grouped(count)}`),
+    claims: latest(claimMarks()).map(([count, state]) => `${state} at ${grouped(count)}`),
     keys: inputs("keys"),
     mouse: inputs("mouse"),
-    serial: [...inputs("serial"), ...last(lanes.sent).map(([count, text]) => `sent ${text} by ${grouped(count)}`)],
-    screen: last(lanes.painted).map(([count, lines]) => `${lines} lines changed by ${grouped(count)}`),
-    marks: last(hitMarks()).map(([count, , what]) => `${what} at ${grouped(count)}`),
+    serial: [...inputs("serial"), ...latest(lanes.sent).map(([count, text]) => `sent ${text} by ${grouped(count)}`)],
+    screen: latest(lanes.painted).map(([count, lines]) => `${lines} lines changed by ${grouped(count)}`),
+    marks: latest(hitMarks()).map(([count, , what]) => `${what} at ${grouped(count)}`),
     film: [`kept up to ${grouped(nowCount())}`],
   };
   el("lists").replaceChildren(...LANES.map((lane) => laneList(lane, lists[lane])));
 }
 
+/**
+ * @param {string} lane
+ * @param {string[]} items
+ */
 function laneList(lane, items) {
   const list = made("ul", "");
   list.setAttribute("aria-label", `Lane ${lane}: ${items.length || "nothing"}`);
@@ -350,9 +429,11 @@ function laneList(lane, items) {
 
 // The mouse and fingers on the track
 
+/** @param {MouseEvent} event */
 const xOf = (event) => event.clientX - el("track").getBoundingClientRect().left;
 
-function trackPressed(event) {
+/** @param {PointerEvent} event */
+export function trackPressed(event) {
   if (!app.latest || event.button > 0) return;
   timeline.pointers.set(event.pointerId, event.clientX);
   el("track").setPointerCapture(event.pointerId);
@@ -362,40 +443,45 @@ function trackPressed(event) {
   if (isDragged && !isFinger) return lookAt(at, false);
 }
 
-/** Returns the count of the checkpoint or the hit whose glyph is under the pointer, if there is one. */
+/** Returns the count of the checkpoint or the hit whose glyph is under the pointer, if there is one.
+ * @param {PointerEvent} event */
 function glyphNear(event) {
   const lane = Math.floor((event.clientY - el("track").getBoundingClientRect().top - AXIS) / ROW), x = xOf(event);
   const marks = isNarrow() || lane === 0 ? claimMarks() : lane === 5 ? hitMarks() : [];
   return marks.map(([count]) => count).find((count) => Math.abs(columnOf(count) - x) < GLYPH_WIDTH);
 }
 
-function trackMoved(event) {
+/** @param {PointerEvent} event */
+export function trackMoved(event) {
   const { pointers } = timeline;
   if (!pointers.has(event.pointerId)) return;
   if (pointers.size === 2) return pinch(event);
-  if (Math.abs(event.clientX - pointers.get(event.pointerId)) < (timeline.pressed === null ? 1 : FINGER_MOVE)) return;
+  if (Math.abs(event.clientX - (pointers.get(event.pointerId) ?? 0)) < (timeline.pressed === null ? 1 : FINGER_MOVE)) return;
   timeline.pressed = null;
   pointers.set(event.pointerId, event.clientX);
   if (timeline.isDragged) return lookAt(countAt(xOf(event)), false);
 }
 
-/** Zooms by the distance of two fingers, around the one that stays. */
+/** Zooms by the distance of two fingers, around the one that stays.
+ * @param {PointerEvent} event */
 function pinch({ pointerId, clientX }) {
   const { pointers } = timeline, [[, other]] = [...pointers].filter(([id]) => id !== pointerId);
-  const [before, now] = [Math.abs(pointers.get(pointerId) - other), Math.abs(clientX - other)];
+  const [before, now] = [Math.abs((pointers.get(pointerId) ?? 0) - other), Math.abs(clientX - other)];
   pointers.set(pointerId, clientX);
   if (before > 4 && now > 4) zoom(now / before, countAt(other - el("track").getBoundingClientRect().left));
 }
 
-function trackReleased(event) {
+/** @param {PointerEvent} event */
+export function trackReleased(event) {
   if (!timeline.pointers.delete(event.pointerId) || !timeline.isDragged) return;
   const at = timeline.pressed ?? shownCount();
   Object.assign(timeline, { isDragged: false, pressed: null });
   return lookAt(at);
 }
 
-/** The wheel zooms around the pointer, and with Shift, or sideways, it moves along. */
-function wheeled(event) {
+/** The wheel zooms around the pointer, and with Shift, or sideways, it moves along.
+ * @param {WheelEvent} event */
+export function wheeled(event) {
   if (!app.latest) return;
   event.preventDefault();
   const across = event.shiftKey ? event.deltaY : event.deltaX, { from, to } = timeline;
@@ -406,11 +492,11 @@ function wheeled(event) {
 }
 
 /** Notes the width of the track. */
-function measureTrack() {
+export function measureTrack() {
   timeline.columns = Math.max(1, Math.floor(el("track").clientWidth));
 }
 
-function makeTimeline() {
+export function makeTimeline() {
   measureTrack();
   new ResizeObserver(() => (measureTrack(), drawLanes(), showCursor(false))).observe(el("track"));
   matchMedia("(prefers-color-scheme: dark)").addEventListener("change", drawLanes);

@@ -1,17 +1,31 @@
+// @ts-check
 /* The transport: the buttons and the keys that go to another count. The keys are those of the time machine's region: while the screen
  * has the focus, its keys go to the machine. */
-"use strict";
+import { app } from "./app.js";
+import { conditionsOfBreaks, toggleBreak } from "./code.js";
+import { attempt, el, notice, on } from "./elements.js";
+import {
+  backToNow, isAhead, isPast, lookAt, nowCount, runAgain, runTo, shownCount, shownState, takeOverHere,
+} from "./look.js";
+import { watchSelected } from "./memory.js";
+import { setRun } from "./running.js";
+import { finding, search, searchAgain, stopSearch } from "./search.js";
+import { AT, field, PER_SECOND } from "./states.js";
+import {
+  claimMarks, lanes, showSpan, trackMoved, trackPressed, trackReleased, wheeled, wholeSpan, zoom, ZOOM,
+} from "./timeline.js";
+import { asking } from "./who.js";
 
 /** Runs and pauses the machine; in the past, goes on to the next breakpoint or watch, or without any to the next input. */
 async function runOrPause() {
-  if (isAhead()) return runTo(look.at);
+  if (isAhead()) return runTo(shownCount());
   if (isPast()) return runInPast(false);
   await setRun(!app.latest?.on);
 }
 
 /** Does one instruction; in the past, looks at one count more. */
 async function stepOn() {
-  if (isPast()) return lookAt(look.at + 1);
+  if (isPast()) return lookAt(shownCount() + 1);
   await app.live.ask("step");
 }
 
@@ -20,23 +34,26 @@ function stepBack() {
 }
 
 /** Goes to the last hit of the breakpoints and watches before the cursor, or to the first one after it, for which the machine runs on from
- * now if there is none before; without any to an input. */
+ * now if there is none before; without any to an input.
+ * @param {boolean} isBack */
 async function runInPast(isBack) {
   if (!conditionsOfBreaks().length) return toInput(isBack);
-  const found = await search(conditionsOfBreaks(), isBack);
+  const found = await search(conditionsOfBreaks(), isBack, true);
   if (found !== null || isBack) return;
   await backToNow();
   await setRun(true);
 }
 
-/** Goes to the input before the cursor, or to the next one; to the beginning, or to now, if there is none. */
+/** Goes to the input before the cursor, or to the next one; to the beginning, or to now, if there is none.
+ * @param {boolean} isBack */
 async function toInput(isBack) {
   const at = await app.live.ask("inputNear", { at: shownCount(), isBefore: isBack });
   if (at !== null && at <= nowCount()) return lookAt(at);
   return isBack ? lookAt(0) : backToNow();
 }
 
-/** Goes to the checkpoint before the cursor, or to the next one. */
+/** Goes to the checkpoint before the cursor, or to the next one.
+ * @param {boolean} isBack */
 async function toClaim(isBack) {
   const at = shownCount(), counts = [0, ...claimMarks().map(([count]) => count).sort((one, other) => one - other)];
   const found = isBack ? counts.filter((count) => count < at).at(-1) : counts.find((count) => count > at);
@@ -58,6 +75,7 @@ async function toWritten() {
 }
 
 // What each key does. A capital is with Shift.
+/** @type {{ [key: string]: () => unknown }} */
 const KEYS = {
   ArrowLeft: stepBack, ArrowRight: stepOn, "Shift+ArrowLeft": () => runInPast(true), "Shift+ArrowRight": runOrPause,
   ",": () => toInput(true), ".": () => toInput(false), "[": () => toClaim(true), "]": () => toClaim(false),
@@ -66,9 +84,10 @@ const KEYS = {
   n: () => searchAgain(false), N: () => searchAgain(true), b: () => toggleBreak(field(shownState(), AT.PC)), w: watchSelected, Escape: endOrNow,
 };
 
-/** Does what a key of the region means, unless it is typed into a field. */
+/** Does what a key of the region means, unless it is typed into a field.
+ * @param {KeyboardEvent} event */
 function timeKey(event) {
-  const { key, shiftKey, ctrlKey, altKey, metaKey, target } = event, isField = target.matches("input, select, textarea");
+  const { key, shiftKey, ctrlKey, altKey, metaKey, target } = event, isField = target instanceof Element && target.matches("input, select, textarea");
   if (!app.latest || ctrlKey || altKey || metaKey || (isField && key !== "Escape")) return;
   const task = KEYS[shiftKey && key.startsWith("Arrow") ? `Shift+${key}` : key];
   if (!task) return;
@@ -81,14 +100,15 @@ function endOrNow() {
   return finding.isOn || asking?.isOn ? stopSearch() : backToNow();
 }
 
-/** Pauses or runs, from anywhere in the page. */
+/** Pauses or runs, from anywhere in the page.
+ * @param {KeyboardEvent} event */
 function anywhere(event) {
   if (event.key !== "Enter" || !event.ctrlKey || !event.shiftKey || !app.latest) return;
   event.preventDefault();
   attempt(runOrPause);
 }
 
-function listenToTime() {
+export function listenToTime() {
   on("run", "click", runOrPause);
   on("step", "click", stepOn);
   on("back", "click", stepBack);
@@ -101,7 +121,7 @@ function listenToTime() {
   on("goto", "change", toWritten);
   on("zoom-in", "click", () => zoom(ZOOM));
   on("zoom-out", "click", () => zoom(1 / ZOOM));
-  on("zoom-all", "click", () => showSpan(...Object.values(wholeSpan())));
+  on("zoom-all", "click", () => showSpan(wholeSpan().from, wholeSpan().to));
   on("time", "keydown", timeKey);
   on("track", "pointerdown", trackPressed);
   on("track", "pointermove", trackMoved);

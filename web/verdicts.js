@@ -1,26 +1,53 @@
+// @ts-check
 /* The verdict lines that the page shows, each in a place of its own: that of the file that is open, and that of the recording that
  * was saved. Each check has a worker of its own, the clerk. */
-"use strict";
+import { app } from "./app.js";
+import { el, grouped, many, notice } from "./elements.js";
+import { readLine } from "./lines.js";
+import { secondsOf } from "./look.js";
+import { Helper } from "./requests.js";
 
-const STATUSES = ["accepted", "false", "refused"];
+export const STATUSES = ["accepted", "false", "refused"];
 const OF_ONE_CALL = "This line is that of one call of the proved check, over the whole recording.";
+
+/** A check that is under way: when it began, and what was heard of it.
+ * @typedef {{ begun: number, done: number } & CheckNews} CheckWork */
 
 /** A place for a verdict: the name of what is judged, its line, how that was computed, and while a check goes on its progress. */
 class Verdict {
-  /** `place` begins the names of its elements, and `what` says what is judged. */
+  /** @type {Helper | null} */
+  clerk = null;
+  /** @type {CheckWork | null} */
+  work = null;
+  timer = 0;
+  // The line that is shown, its status, and what it says.
+  /** @type {string | null} */
+  line = null;
+  /** @type {number | null} */
+  status = null;
+  read = readLine("");
+
+  /** `place` begins the names of its elements, and `what` says what is judged.
+   * @param {string} place
+   * @param {string} what */
   constructor(place, what) {
-    Object.assign(this, { place, what, clerk: null, work: null, timer: 0, line: null, status: null, read: null });
+    this.place = place;
+    this.what = what;
   }
 
+  /** @param {string} name */
   part(name) {
     return el(this.place + name);
   }
 
-  /** Shows a line and how it was computed. */
+  /** Shows a line and how it was computed.
+   * @param {string | null} line
+   * @param {number | null} status
+   * @param {string} how */
   show(line, status = null, how = "") {
     Object.assign(this, { line, status, read: readLine(line ?? "") });
     this.part("line").textContent = line ?? "";
-    this.part("line").className = `line ${STATUSES[status] ?? "note"}`;
+    this.part("line").className = `line ${status === null ? "note" : STATUSES[status]}`;
     this.part("headline").textContent = headlineOf(this.read);
     this.part("how").textContent = how;
   }
@@ -34,7 +61,9 @@ class Verdict {
   }
 
   /** Has a clerk check a recording. For a long one the joined line of its stretches comes first. Returns the line of one call over
-   * the whole, with its status and what it says; or null if the check is ended before. */
+   * the whole, with its status and what it says; or null if the check is ended before.
+   * @param {string} name
+   * @param {Bytes} bytes */
   async check(name, bytes) {
     this.clear();
     this.part("judged").textContent = `${this.what} ${name}`;
@@ -50,6 +79,10 @@ class Verdict {
     }
   }
 
+  /**
+   * @param {Verdicted} verdicted
+   * @returns {Judged}
+   */
   judged({ line, status }) {
     const other = this.line;
     this.show(line, status, OF_ONE_CALL);
@@ -57,7 +90,9 @@ class Verdict {
     return { line, status, ...this.read };
   }
 
-  /** Takes a report of the clerk: the steps done; or the joined line of the stretches, and about how long the whole will take. */
+  /** Takes a report of the clerk: the steps done; or the joined line of the stretches, and about how long the whole will take.
+   * @param {CheckWork} work
+   * @param {CheckNews} news */
   heard(work, news) {
     if (!("steps" in news)) return notice(news.refused ?? news.broken);
     Object.assign(work, news);
@@ -67,13 +102,17 @@ class Verdict {
     this.show(line, status, `The proved check of ${grouped(stretches)} stretches gave this line, put together by this page's script.`);
   }
 
+  /**
+   * @param {CheckWork} work
+   * @param {number} ms
+   */
   progress({ done, steps, stretches, estimate }, ms) {
     this.part("progress").hidden = ms < 300;
-    const share = stretches ? Math.min(0.97, ms / estimate) : done / steps;
-    if (share >= 0) this.part("bar").value = share;
-    else this.part("bar").removeAttribute("value");
+    const share = stretches ? Math.min(0.97, ms / (estimate ?? 0)) : done / (steps ?? 0), bar = this.part("bar");
+    if (share >= 0) bar.setAttribute("value", `${share}`);
+    else bar.removeAttribute("value");
     const left = share ? `, about ${Math.max(1, Math.ceil((ms / share - ms) / 1000))} s left` : "";
-    const what = stretches ? `now the whole in one call, ${grouped(steps)} steps` : steps ? `${grouped(done)} of ${grouped(steps)} steps` : "";
+    const what = stretches ? `now the whole in one call, ${grouped(steps ?? 0)} steps` : steps ? `${grouped(done)} of ${grouped(steps)} steps` : "";
     this.part("left").textContent = what + left;
   }
 
@@ -87,24 +126,28 @@ class Verdict {
 
   /** Stops the check by hand, and says what is known so far. */
   stop() {
-    if (!this.clerk) return;
+    if (!this.clerk || !this.work) return;
     this.end();
     if (this.line) this.part("how").textContent += " The check of the whole was stopped.";
     else this.show("stopped: no verdict", null, knownSoFar(this.work));
   }
 }
 
-/** Says in words what a verdict line says. */
-function headlineOf({ accepted, wrong }) {
+/** Says in words what a verdict line says.
+ * @param {ReadLine} read */
+export function headlineOf({ accepted, wrong }) {
   if (wrong) return `False at checkpoint ${grouped(wrong.number)}: ${wrong.part}`;
   if (!accepted) return "";
   const { checkpoints, steps } = accepted;
   return `Accepted: ${many(checkpoints, "checkpoint")} in ${secondsOf(steps)} ${checkpoints === 1 ? "is" : "are"} true`;
 }
 
-/** Says what a check has found that was stopped before it had a line. */
+/** Says what a check has found that was stopped before it had a line.
+ * @param {CheckWork} work */
 function knownSoFar({ done, steps, judged, checkpoints }) {
   if (!steps) return "Nothing is known of it yet.";
-  const found = judged ? `Up to checkpoint ${grouped(judged)} of ${grouped(checkpoints)} all are true` : "No checkpoint was judged";
+  const found = judged ? `Up to checkpoint ${grouped(judged)} of ${grouped(checkpoints ?? 0)} all are true` : "No checkpoint was judged";
   return `${found}; ${grouped(done)} of ${grouped(steps)} steps were checked.`;
 }
+
+export const verdicts = { file: new Verdict("", "The file"), own: new Verdict("own-", "The recording that you saved,") };

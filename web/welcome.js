@@ -1,22 +1,30 @@
+// @ts-check
 /* The first screen of an empty page: three cards, and a replay behind them, unless the reader's system asks for less motion. */
-"use strict";
+import { app } from "./app.js";
+import { attempt, el, write } from "./elements.js";
+import { resume } from "./kept.js";
+import { examples } from "./opening.js";
+import { Helper } from "./requests.js";
+import { paint } from "./screen.js";
 
 const REPLAY_AGAIN_MS = 2500;
 // The worker that replays behind the cards, until a machine is opened.
+/** @type {Helper | null} */
 let behind = null;
 
 /** Shows the cards, and begins the replay behind them. */
-function welcome() {
+export function welcome() {
   if (matchMedia("(prefers-reduced-motion: reduce)").matches) return;
   behind = new Helper(app.module, showBehind);
   attempt(replayBehind);
 }
 
 async function replayBehind() {
-  await behind?.ask("openSession", { bytes: new TextEncoder().encode(JSON.stringify(EXAMPLES.face)) });
+  await behind?.ask("openSession", { bytes: new TextEncoder().encode(JSON.stringify(examples().face)) });
   await behind?.ask("setRun", { on: true, fast: false, seconds: 0 });
 }
 
+/** @param {LiveNews} news */
 function showBehind({ dots, on, isReplay, goal }) {
   if (!behind) return;
   if (dots) paint(el("screen"), dots);
@@ -24,14 +32,15 @@ function showBehind({ dots, on, isReplay, goal }) {
 }
 
 /** Ends what is behind the cards, and takes the cards away. */
-function endWelcome() {
+export function endWelcome() {
   behind?.end();
   behind = null;
   el("welcome").hidden = true;
 }
 
-/** Says on the card what there is to continue, and enables it. */
-function offerToContinue([newest]) {
+/** Says on the card what there is to continue, and enables it.
+ * @param {Summary[]} items */
+export function offerToContinue([newest]) {
   el("continue").disabled = !newest;
   el("continue").onclick = () => attempt(() => resume(newest.id));
   write("continue-what", newest ? newest.text : "Nothing is kept in this browser yet.");

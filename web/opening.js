@@ -1,0 +1,227 @@
+// @ts-check
+/* Opens recordings, sessions, memory images and examples in place of what is open, whose recording is kept. */
+import { app, nameFile, setFile, setImage, setWork } from "./app.js";
+import { branches, keepLeft, NO_BRANCHES, setBranches, showBranches } from "./branches.js";
+import { closeCard } from "./card.js";
+import { falseClaim, showClaim, showFalse, showOf } from "./claims.js";
+import { forgetBreaks } from "./code.js";
+import { attempt, el, grouped, notice, set, write } from "./elements.js";
+import { beginShowing } from "./frames.js";
+import { followWork, inTurn, keep, leave } from "./kept.js";
+import { Refusal } from "./requests.js";
+import { setRun } from "./running.js";
+import { beginGame, isSnake } from "./snake.js";
+import { MEMORY_BYTES } from "./states.js";
+import { drawLanes } from "./timeline.js";
+import { verdicts } from "./verdicts.js";
+import { Work } from "./works.js";
+
+const LONGEST_READ = 118310057, LONGEST_FILE = 67108865;
+
+// The sessions that the page contains, by their names.
+export const examples = () => JSON.parse(el("sessions").textContent ?? "{}");
+
+/** Opens the file that was chosen, if any. The choice is cleared at once: the browser reports no choice of the file that is chosen
+ * already, and a user may choose a file again while it is still being checked.
+ * @param {HTMLInputElement} chooser */
+export async function openChosen(chooser) {
+  const [file] = chooser.files ?? [];
+  chooser.value = "";
+  if (file) await openFile(file);
+}
+
+/** @param {File} file */
+export async function openFile(file) {
+  const most = /\.orsr$/i.test(file.name) ? LONGEST_READ : LONGEST_FILE;
+  await openBytes(file.name, new Uint8Array(await file.slice(0, most).arrayBuffer()));
+}
+
+/** Opens a file: a recording or a session by its name or its first bytes; anything else is a memory image. If it is refused, what
+ * is open stays.
+ * @param {string} name
+ * @param {Bytes} bytes */
+async function openBytes(name, bytes) {
+  clearRefusal();
+  try {
+    const first = String.fromCharCode(...bytes.subarray(0, 64)).trimStart();
+    if (/\.orsr$/i.test(name) || first.startsWith("ORSR")) await openRecording(name, bytes);
+    else if (/\.json$/i.test(name) || first.startsWith("{")) await openSession(name, bytes);
+    else offerImage(name, bytes);
+  } catch (error) {
+    if (!(error instanceof Refusal)) throw error;
+    showRefusal(name, error.message);
+  }
+}
+
+/** Says that a file is refused, and what is open still.
+ * @param {string} name
+ * @param {string} line */
+export function showRefusal(name, line) {
+  write("refused-name", `The file ${name} is refused:`);
+  write("refused", line);
+  write("refused-how", app.latest ? `${app.work.name} is still open.` : "");
+}
+
+function clearRefusal() {
+  notice();
+  for (const part of ["refused-name", "refused", "refused-how"]) write(part, "");
+}
+
+/** Opens something in place of what is open, after the browser has kept that; or leaves it open, if the user says so.
+ * @template {"openRecording" | "openSession" | "openImage"} Name
+ * @param {string} name
+ * @param {Name} ask
+ * @param {Requests[Name][0]} given */
+export async function replaced(name, ask, given) {
+  if (!(await mayLeave())) return null;
+  const answer = /** @type {Opened} */ (await app.live.ask(ask, given));
+  showOpened(answer, new Work(nameOf(name), answer));
+  return answer;
+}
+
+/** @param {string} name */
+const nameOf = (name) => name.replace(/\.[^.]*$/, "") || "live";
+
+/** Whether what is open may be left. If the browser cannot keep it, the user decides. */
+export async function mayLeave() {
+  await keep();
+  const question = `This browser cannot keep the recording of ${app.work.name}. Open another machine, and drop it?`;
+  return !isAnyUnkept() || confirm(question);
+}
+
+/** Whether the browser cannot keep what is open, or a branch of it. */
+export const isAnyUnkept = () => [app.work, ...branches.list].some(({ isUnkept }) => isUnkept);
+
+/** Opens a recording at its beginning, and checks it.
+ * @param {string} name
+ * @param {Bytes} bytes */
+async function openRecording(name, bytes) {
+  if (!(await replaced(name, "openRecording", { bytes, checkpoint: 0 }))) return;
+  nameFile(name, bytes);
+  await attempt(checkFile);
+}
+
+/**
+ * @param {string} name
+ * @param {Bytes} bytes
+ */
+async function openSession(name, bytes) {
+  await replaced(name, "openSession", { bytes });
+}
+
+/** Has the file that is open checked, and shows the checkpoint that its line is about. */
+async function checkFile() {
+  const { file } = app;
+  await showClaim(0);
+  if (!file || file !== app.file) return;
+  const answer = await verdicts.file.check(file.name, file.bytes);
+  if (answer) await showVerdict(file, answer);
+}
+
+/** Shows what the verdict of a file says about its checkpoints, if it is open.
+ * @param {OpenFile} file
+ * @param {Judged} answer */
+export async function showVerdict(file, answer) {
+  file.verdict = answer;
+  if (file !== app.file) return;
+  showOf(file);
+  attempt(showFalse);
+  drawLanes();
+  const { wrong, accepted } = answer;
+  if (wrong || accepted) await showClaim(wrong?.number ?? accepted?.checkpoints ?? 0);
+}
+
+/**
+ * @param {string} name
+ * @param {Bytes} bytes
+ */
+function offerImage(name, bytes) {
+  if (bytes.length > MEMORY_BYTES)
+    throw new Refusal(`${grouped(bytes.length)} bytes are not a recording, not a session and not an image of memory`);
+  setImage({ name, bytes });
+  el("image-name").textContent = `${name}, ${grouped(bytes.length)} bytes,`;
+  el("image").hidden = false;
+  el("image-address").focus();
+}
+
+/** @param {Event} event */
+export async function openImage(event) {
+  event.preventDefault();
+  clearRefusal();
+  if (!app.image) return;
+  const { name, bytes } = app.image;
+  await replaced(name, "openImage", { image: bytes, address: el("image-address").value, registers: el("image-registers").value });
+}
+
+export function cancelImage() {
+  setImage(null);
+  el("image").hidden = true;
+  el("file").focus();
+}
+
+/** Opens an example, of which some members may be changed, and runs it.
+ * @param {string} name
+ * @param {{}} changes */
+export async function openExample(name, changes = {}) {
+  clearRefusal();
+  const bytes = new TextEncoder().encode(JSON.stringify({ ...examples()[name], ...changes }));
+  if (await replaced(`${name}.json`, "openSession", { bytes })) await setRun(true);
+}
+
+/** Puts a work in place of the one before, which is kept; so is a branch that is beside it from then on. The others are given free.
+ * @param {Work} work
+ * @param {Whole | null} left
+ * @param {Branches} others */
+function replaceWork(work, left, others = NO_BRANCHES) {
+  const before = app.work, dropped = branches.list.filter((one) => one !== work && !others.list.includes(one));
+  setWork(work);
+  setBranches(others);
+  for (const branch of dropped) inTurn(async () => branch.giveUp());
+  if (others.list.includes(before)) keepLeft(Object.assign(before, { end: left?.count ?? before.end }), left);
+  else leave(before, left);
+  attempt(() => followWork(work));
+  return before;
+}
+
+/** Shows a machine that was opened in place of the one before, whose recording is kept.
+ * @param {Opened} opened
+ * @param {Work} work
+ * @param {Branches} [others] */
+export function showOpened({ claims, version, inputs, checkpoints, left }, work, others) {
+  const before = replaceWork(work, left, others);
+  setFile(claims ? { name: "", bytes: new Uint8Array(), claims, version, inputs, checkpoints, verdict: null } : null);
+  setImage(null);
+  if (work.name !== before.name) forgetBreaks();
+  beginShowing();
+  showBranches();
+  closeCard();
+  verdicts.file.clear();
+  verdicts.own.clear();
+  clearRefusal();
+  for (const name of ["claim", "passed"]) el(name).textContent = "";
+  el("out").textContent = work.sent;
+  el("image").hidden = true;
+  el("kept").open = false;
+  el("claims").hidden = !claims;
+  el("pad").hidden = !isSnake();
+  beginGame();
+  for (const name of ["run", "step", "save-session", "save-recording", "save-screen", "find-before", "find-next", "who-leds"]) set(name, { disabled: false });
+  if (claims) el("claim-number").max = `${checkpoints}`;
+  else el("screen").focus({ preventScroll: true });
+}
+
+/** Goes on from what a checkpoint of the file claims, with a recording that begins with the file's up to there.
+ * @param {number} number */
+export async function runOnFrom(number) {
+  const { file } = app, wrong = falseClaim()?.number ?? Infinity;
+  if (!file || !(await mayLeave())) return;
+  const answer = await app.live.ask("openRecording", { bytes: file.bytes, checkpoint: number });
+  replaceWork(new Work(nameOf(file.name), answer), answer.left);
+  showBranches();
+  verdicts.own.clear();
+  el("out").textContent = el("passed").textContent = "";
+  beginShowing();
+  notice(number >= wrong ? `Checkpoint ${wrong} is false, and a recording that you save from here contains it.` : "");
+  el("screen").scrollIntoView({ block: "nearest" });
+  el("screen").focus({ preventScroll: true });
+}

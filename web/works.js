@@ -1,0 +1,163 @@
+// @ts-check
+/* A work: the recording in progress of one run of the machine, as far as the page knows and the browser keeps it. A run that is taken over
+ * from its past, and what it was before, are two works, branches of one family. */
+import { INPUT, INPUT_BYTES } from "./layout.js";
+import { joined, KEY, SERIAL } from "./states.js";
+
+/** What came for a machine since its recording was taken at some count: inputs, checkpoints, and what was typed. Its run follows from that
+ * recording and from these, so they are all that has to be written to keep it. It collects what is typed from its making on, and the rest
+ * once it has begun. */
+export class Journal {
+  /** @type {Begun | null} */
+  base = null;
+  /** @type {Bytes[]} */
+  inputs = [];
+  /** @type {number[]} */
+  marks = [];
+  /** @type {Partial<Waiting>[]} */
+  typed = [];
+  count = 0;
+
+  /** Begins with what the live machine answered, which has all that was asked before the journal was made.
+   * @param {Begun & { fork?: number }} base */
+  begin({ fork, ...base }) {
+    Object.assign(this, { base, count: base.count });
+  }
+
+  /** Hears what a frame of the machine brought.
+   * @param {Frame["fresh"]} fresh
+   * @param {number} count */
+  hear({ inputs, marks }, count) {
+    if (!this.base) return;
+    if (inputs.length) this.inputs.push(inputs);
+    this.marks.push(...marks);
+    this.count = count;
+  }
+
+  /** Returns what was typed and sent, and was not taken by the machine yet. */
+  get waiting() {
+    const { base, typed } = this;
+    /**
+     * @param {"keys" | "serial"} name
+     * @param {number} kind
+     */
+    const notTaken = (name, kind) => {
+      const all = joined([Uint8Array.from(base?.waiting?.[name] ?? []), ...typed.map((codes) => Uint8Array.from(codes[name] ?? []))]);
+      return all.slice(this.taken(kind));
+    };
+    return { keys: notTaken("keys", KEY), serial: notTaken("serial", SERIAL) };
+  }
+
+  /** Returns how many inputs of a kind came.
+   * @param {number} kind */
+  taken(kind) {
+    let number = 0;
+    for (const inputs of this.inputs) for (let at = INPUT.kind; at < inputs.length; at += INPUT_BYTES) number += inputs[at] === kind ? 1 : 0;
+    return number;
+  }
+
+  /** Returns what the browser keeps of it. */
+  get since() {
+    const { count: until, marks } = this, base = /** @type {Begun} */ (this.base);
+    return { from: base.inputs.length / INPUT_BYTES, inputs: joined(this.inputs), marks: [...marks], until, waiting: this.waiting };
+  }
+
+  /** Returns the whole machine without its state: it is at its last checkpoint, and what came later is played back. */
+  get whole() {
+    const { from, inputs, ...since } = this.since, base = /** @type {Begun} */ (this.base);
+    return { ...base, ...since, inputs: joined([base.inputs, inputs]) };
+  }
+}
+
+/** `generation` is the worker's number of the machine, and `fork` that of its run; `id` is that of the item in the browser's storage, and
+ * `by` who wrote it. `kept` says what was kept last, with its inputs and when. `news` counts what came for the machine, and `safe` is how
+ * much of that is kept. `journals` has the journal since what is kept, and one more while that is being replaced. */
+export class Work {
+  /** @type {number | null} */
+  id = null;
+  /** @type {string | null} */
+  by = null;
+  /** @type {(() => void) | null} */
+  release = null;
+  isLocked = false;
+  kept = "";
+  inputs = "";
+  at = -Infinity;
+  isStored = false;
+  isUnkept = false;
+  news = 0;
+  safe = 0;
+  /** @type {Journal[]} */
+  journals = [];
+  // Of a branch: the id of its family, its number in it, where it parts from the others, where it ends, and what it was if it is not kept.
+  /** @type {number | undefined} */
+  family = undefined;
+  number = 1;
+  parent = 0;
+  end = 0;
+  /** @type {Whole | null} */
+  left = null;
+
+  /**
+   * @param {string} name
+   * @param {{ generation?: number, fork?: number, sent?: string }} of
+   */
+  constructor(name, { generation = 0, fork = 0, sent = "" } = {}) {
+    this.name = name;
+    this.generation = generation;
+    this.fork = fork;
+    this.sent = sent;
+  }
+
+  /** Whether something came that is not kept. */
+  get isNewer() {
+    return this.news > this.safe;
+  }
+
+  /** What a branch is called. */
+  get branch() {
+    return `branch ${this.number}`;
+  }
+
+  /** Returns what the browser keeps beside the machine. */
+  get labels() {
+    const { name, sent, family, number, parent } = this;
+    return family === undefined ? { name, sent } : { name, sent, family, number, parent };
+  }
+
+  /** Takes the item of an id, if no other page has it. Returns whether this page has it now.
+   * @param {number} id */
+  async take(id) {
+    const lock = await locked(id);
+    if (!lock) return false;
+    Object.assign(this, { id, ...lock });
+    return true;
+  }
+
+  /** Takes an item that no page has yet. */
+  async takeNew() {
+    this.giveUp();
+    for (let id = Date.now(); !(await this.take(id)); id++);
+    this.by = null;
+  }
+
+  /** Gives the item free: another page may go on with it. */
+  giveUp() {
+    this.release?.();
+    Object.assign(this, { release: null, isLocked: false });
+  }
+}
+
+/** Takes the lock of an item: returns how to release it, or null if another page has it. A browser without locks has none that
+ * another could have: there each write looks whether another page wrote the item since.
+ * @param {number} id
+ * @returns {Promise<{ release: () => void, isLocked: boolean } | null>} */
+export function locked(id) {
+  const free = { release: () => {}, isLocked: false };
+  if (!navigator.locks) return Promise.resolve(free);
+  return new Promise((resolve) => {
+    /** @param {Lock | null} lock */
+    const held = (lock) => (lock ? new Promise((release) => resolve({ release: () => release(null), isLocked: true })) : resolve(null));
+    navigator.locks.request(`galluspa-${id}`, { ifAvailable: true }, held).catch(() => resolve(free));
+  });
+}
