@@ -1,8 +1,9 @@
 /* Refuses memory requests: a library to preload into a program.
 
    It counts the program's calls of malloc, realloc and pthread_create, from 1. It refuses the call whose number is in the
-   environment variable REFUSE_AT and, if REFUSE_ON is set, each one after it too. At exit it writes the number of calls to
-   the file that REFUSE_COUNT names. */
+   environment variable REFUSE_AT and, if REFUSE_ON is set, each one after it too. At exit it writes the number of calls, and
+   how many of them were for threads, to the file that REFUSE_COUNT names. At each call of write it adds a line to the file
+   that REFUSE_WRITES names: the number of calls so far, and how many bytes are to be written. */
 #define _GNU_SOURCE
 #include <dlfcn.h>
 #include <errno.h>
@@ -17,7 +18,7 @@
 extern void *__libc_malloc(size_t size);
 extern void *__libc_realloc(void *old, size_t size);
 
-static atomic_ulong calls;
+static atomic_ulong calls, threads;
 static unsigned long refuse_at;
 static int refuse_on;
 
@@ -33,12 +34,24 @@ void _exit(int status) {
     const char *name = getenv("REFUSE_COUNT");
     int file = name ? open(name, O_WRONLY | O_CREAT | O_TRUNC, 0600) : -1;
     if (file >= 0) {
-        char text[32];
-        int length = snprintf(text, sizeof text, "%lu\n", atomic_load(&calls));
-        if (write(file, text, length) != length) status = 99;
+        char text[64];
+        int length = snprintf(text, sizeof text, "%lu %lu\n", atomic_load(&calls), atomic_load(&threads));
+        if (syscall(SYS_write, file, text, length) != length) status = 99;
     }
     syscall(SYS_exit_group, status);
     __builtin_unreachable();
+}
+
+ssize_t write(int file, const void *bytes, size_t count) {
+    const char *name = getenv("REFUSE_WRITES");
+    int log = name ? open(name, O_WRONLY | O_CREAT | O_APPEND, 0600) : -1;
+    if (log >= 0) {
+        char text[64];
+        int length = snprintf(text, sizeof text, "%lu %zu\n", atomic_load(&calls), count);
+        if (syscall(SYS_write, log, text, length) != length) abort();
+        close(log);
+    }
+    return syscall(SYS_write, file, bytes, count);
 }
 
 static int is_refused(void) {
@@ -64,6 +77,7 @@ void *realloc(void *old, size_t size) {
 
 int pthread_create(pthread_t *thread, const pthread_attr_t *attributes, void *(*start)(void *), void *argument) {
     static int (*next)(pthread_t *, const pthread_attr_t *, void *(*)(void *), void *);
+    atomic_fetch_add(&threads, 1);
     if (is_refused()) return EAGAIN;
     if (!next) *(void **)&next = dlsym(RTLD_NEXT, "pthread_create");
     return next(thread, attributes, start, argument);

@@ -1,6 +1,7 @@
 """The library for C, called by ctypes: each call is tested for what it leaves unchanged when it is refused."""
 
 import ctypes
+from array import array
 from collections.abc import Sequence
 from pathlib import Path
 from typing import Any
@@ -34,6 +35,10 @@ class Hit(ctypes.Structure):
     _fields_ = [("count", ctypes.c_uint64), ("condition", ctypes.c_uint64)]
 
 
+class Processor(ctypes.Structure):
+    _fields_ = [("r", ctypes.c_uint32 * 16), *((name, ctypes.c_uint32) for name in ("h", "pc", "flags", "stop"))]
+
+
 Inputs = Sequence[Input] | ctypes.Array[Input]
 
 
@@ -46,7 +51,7 @@ class Library:
         self.buffer = ctypes.create_string_buffer(0)
         for name in ("check", "record", "migrate"):
             getattr(self.c, f"galluspa_{name}").restype = ctypes.c_size_t
-        for name in ("claim", "advance", "find", "begin", "extend"):
+        for name in ("claim", "advance", "find", "profile", "steps", "begin", "extend"):
             getattr(self.c, f"galluspa_{name}").restype = ctypes.c_uint8
 
     def answer(self, name: str, given: bytes, room: int) -> tuple[int, bytes, int]:
@@ -95,6 +100,35 @@ class Library:
         if before != (bytes(state), bytes(words)) or (code and (hit.count, hit.condition) != (77, 78)):
             fail("a search changes something")
         return code, None if code else (hit.count, hit.condition)
+
+    def profile(
+        self, state: State, words: Words, inputs: Sequence[Input], to: int, lengths: tuple[int, int] = (WORDS, WORDS)
+    ) -> tuple[int, "array[int]", "array[int]"]:
+        """The result of counting, the visits and the departures, in arrays of these lengths. Nothing else is to be changed, and nothing
+        is to be written if it is refused."""
+        before, size = (bytes(state), bytes(words)), ctypes.c_size_t
+        given, counts = (Input * len(inputs))(*inputs), [(ctypes.c_uint64 * length)() for length in lengths]
+        for it in counts:
+            ctypes.memset(it, 0xAA, ctypes.sizeof(it))
+        code = self.c.galluspa_profile(
+            ctypes.byref(state), words, size(len(words)), given, size(len(inputs)), ctypes.c_uint64(to),
+            counts[0], size(lengths[0]), counts[1], size(lengths[1])
+        )
+        if before != (bytes(state), bytes(words)) or (code and any(bytes(it).strip(b"\xaa") for it in counts)):
+            fail("a profile changes something")
+        return code, array("Q", bytes(counts[0])), array("Q", bytes(counts[1]))
+
+    def steps(self, state: State, words: Words, inputs: Sequence[Input], number: int) -> tuple[int, list[Processor]]:
+        """The result of a trace, and the processors at so many counts. Nothing else is to be changed, and nothing is to be written if it
+        is out of range."""
+        before, size = (bytes(state), bytes(words)), ctypes.c_size_t
+        given, steps = (Input * len(inputs))(*inputs), (Processor * (number + 1))()
+        ctypes.memset(steps, 0xAA, ctypes.sizeof(steps))
+        code = self.c.galluspa_steps(ctypes.byref(state), words, size(len(words)), given, size(len(inputs)), steps, size(number))
+        kept = bytes(steps) if code == 1 else bytes(steps[number])
+        if before != (bytes(state), bytes(words)) or kept.strip(b"\xaa"):
+            fail("a trace changes something")
+        return code, list(steps[:number])
 
     def written(self, name: str, given: Sequence[object], room: int) -> tuple[int, bytes, int]:
         """The result of a call, what it wrote, and the count. Nothing but the count is to be changed where it is refused."""

@@ -9,12 +9,23 @@ from of_library.trial import CRATE, TOP, WARNINGS, expect, fail, run
 
 # How a type of an export's parameter is declared in C; a slice is a pointer and a length.
 SCALARS = {"u8": "uint8_t", "u32": "uint32_t", "u64": "uint64_t", "usize": "size_t", "RawState": "galluspa_state", "RawInput": "galluspa_input",
-           "RawCondition": "galluspa_condition", "RawHit": "galluspa_hit"}
-REFUSALS = [
-    "DONE", "OUT_OF_RANGE", "NO_ROOM", "OUT_OF_MEMORY", "NO_RECORDING", "NO_CHECKPOINT", "TOO_MANY_INPUTS", "TOO_MANY_CHECKPOINTS",
-    "TOO_MUCH_OUTPUT", "TOO_MANY_PAGES", "PENDING_INPUTS", "NOT_FOUND",
-]  # fmt: skip
+           "RawCondition": "galluspa_condition", "RawHit": "galluspa_hit", "RawProcessor": "galluspa_processor"}
 SIZES = {"u8": 1, "u32": 4, "u64": 8}
+# The limits of the header that are constants of other crates: what they are called there, and where.
+LIMITS = {
+    "WORDS": ("MEMORY_WORDS", "risc_pages/src/sizes.rt"),
+    "LONGEST": ("LONGEST_RECORDING", "oberon_format/src/layout.rt"),
+    "LONGEST_SESSION": ("LONGEST_SESSION", "recording_limits/src/limits.rt"),
+    "MAX_CONDITIONS": ("MAX_CONDITIONS", "risc_search/src/search.rt"),
+}
+# Where the fields of a state are, and the parameters of a search: programs that are compiled depend on their order, so that they stay
+# as they are even if crate and header change together.
+STATE_OFFSETS = {
+    "count": 0, "r": 8, "h": 72, "pc": 76, "flags": 80, "stop": 84, "timer": 88, "rate": 92, "phase": 96, "switches": 100, "leds": 104,
+    "mouse": 108, "serial": 112, "key_count": 116, "keys": 120,
+}  # fmt: skip
+PROCESSOR_OFFSETS = {"r": 0, "h": 64, "pc": 68, "flags": 72, "stop": 76}
+FIND_PARAMETERS = ["state", "words", "inputs", "to", "conditions", "wanted", "hit"]
 
 
 @dataclass(frozen=True)
@@ -52,7 +63,7 @@ def exports() -> Iterator[tuple[str, list[tuple[str, str]], str]]:
 
 def fields_of(name: str) -> list[tuple[str, str]]:
     """The fields of a struct of the crate, in order."""
-    text = "".join((CRATE / "src" / file).read_text() for file in ("raw.rt", "find.rt"))
+    text = "".join((CRATE / "src" / file).read_text() for file in ("raw.rt", "find.rt", "steps.rt"))
     body = group(rf"#\[repr\(C\)\]\n(?:#.*\n)*pub struct {name} {{\n(.*?)\n}}", text, re.S)
     return re.findall(r"^    pub (\w+): (.*),$", body, re.M)
 
@@ -70,15 +81,25 @@ def laid_out(fields: Sequence[tuple[str, str]]) -> tuple[list[Field], int]:
 
 
 def constants() -> Iterator[tuple[str, int]]:
-    """The constants of the header, by the crate's name and value."""
-    for file, names in (
-        (CRATE / "src/refusal.rt", REFUSALS),
-        (TOP / "crates/risc_pages/src/sizes.rt", ["MEMORY_WORDS"]),
-        (TOP / "crates/oberon_format/src/layout.rt", ["LONGEST_RECORDING"]),
-    ):
-        for name in names:
-            value = group(rf"^pub const {name}: \w+ = ([\d_]+);$", file.read_text())
-            yield "GALLUSPA_" + name.replace("LONGEST_RECORDING", "LONGEST").removeprefix("MEMORY_"), int(value.replace("_", ""))
+    """What the enumerators of the header have to be, by the crate: answers, limits, kinds of conditions, and which count is wanted."""
+    for name, value in re.findall(r"^pub const (\w+): \w+ = (\d+);$", (CRATE / "src/refusal.rt").read_text(), re.M):
+        yield f"GALLUSPA_{name}", int(value)
+    for name, (own, file) in LIMITS.items():
+        value = group(rf"^pub const {own}: \w+ = ([\d_]+);$", (TOP / "crates" / file).read_text())
+        yield f"GALLUSPA_{name}", int(value.replace("_", ""))
+    text = (CRATE / "src/find.rt").read_text()
+    yield from ((f"GALLUSPA_{name}", kind) for name, kind in kinds(text))
+    first, last = re.findall(r"if wanted == (\d+) {\s*find_first\(.*?} else {\s*find_last\(.*?wanted > (\d+)", text, re.S)[0]
+    yield from (("GALLUSPA_FIRST", int(first)), ("GALLUSPA_LAST", int(last)))
+
+
+def kinds(text: str) -> Iterator[tuple[str, int]]:
+    """The kinds of conditions, as the crate reads their numbers: a condition, or a function that makes one, in an arm of its own."""
+    body = group(r"^fn condition_of\(.*?^    match raw\.kind {\n(.*?)^    }", text, re.M | re.S)
+    for kind, arm in re.findall(r"^        (\d+)\b(.*?)(?=^        \w)", body, re.M | re.S):
+        made = re.search(r"Condition::(\w+)", arm) or re.search(r"=> (\w+)\(", arm) or fail(f"kind {kind} makes nothing")
+        name = group(rf"^fn {made[1]}\(.*?Condition::(\w+)", text, re.M | re.S) if made[1].islower() else made[1]
+        yield re.sub(r"(?<=[a-z])(?=[A-Z])", "_", name).upper(), int(kind)
 
 
 def header_test() -> str:
@@ -97,8 +118,15 @@ def header_test() -> str:
                 f'_Static_assert(offsetof({c_name}, {it.name}) == {it.at} && sizeof {of} == {it.size}, "{it.name}");')
             first = of if it.size == SIZES[it.unit] else of + "[0]"
             lines.append(f'_Static_assert(_Generic({first}, {SCALARS[it.unit]}: 1, default: 0), "type of {it.name}");')
+    for name, offsets in (("galluspa_state", STATE_OFFSETS), ("galluspa_processor", PROCESSOR_OFFSETS)):
+        lines += [f'_Static_assert(offsetof({name}, {it}) == {at}, "where {it} always was");' for it, at in offsets.items()]
     lines += [f'_Static_assert({name} == {value}, "{name}");' for name, value in constants()]
     return "\n".join(lines) + "\n"
+
+
+def declared_constants() -> dict[str, str]:
+    """The enumerators of the header, with their values as it writes them."""
+    return dict(re.findall(r"\b(GALLUSPA_\w+) = (\w+)", (TOP / "include/galluspa.h").read_text()))
 
 
 def c_names(header: str) -> Iterator[tuple[str, list[str]]]:
@@ -123,6 +151,9 @@ def compare_header(folder: Path) -> list[str]:
     expect("the header as C++", run("g++", "-fsyntax-only", "-Wall", "-Werror", "-x", "c++", str(TOP / "include/galluspa.h"))[1], 0)
     names = {name: [it for it, _ in parameters] for name, parameters, _ in exports()}
     expect("the names in the header", dict(c_names(header)), names)
+    expect("the parameters of a search", names["galluspa_find"], FIND_PARAMETERS)
+    expect("the fields of a state", [name for name, _ in fields_of("RawState")], list(STATE_OFFSETS))
+    expect("the enumerators of the header", sorted(declared_constants()), sorted(name for name, _ in constants()))
     # the comparison finds each of these
     wrong = [
         ("uint32_t rate; ", "uint32_t late; "),
@@ -132,10 +163,20 @@ def compare_header(folder: Path) -> list[str]:
         ("uint32_t at, galluspa_state", "uint64_t at, galluspa_state"),
         ("size_t galluspa_migrate(const ", "size_t galluspa_migrate("),
         ("WORDS = 262144", "WORDS = 262145"),
+        ("uint32_t wanted,\n                      galluspa_hit *hit", "galluspa_hit *hit,\n                      uint32_t wanted"),
+        ("uint64_t to, const galluspa_condition *conditions, size_t conditions_len", "const galluspa_condition *conditions, size_t conditions_len, uint64_t to"),
     ]
-    for old, new in wrong:
-        expect(f"{old!r} in the header", header.count(old), 1)
-        if not compiles(header.replace(old, new))[1]:
-            fail(f"the comparison of the header passes {new!r}")
-    print(f"header: {len(names)} functions, {len(list(constants()))} constants and four structs are the crate's; {len(wrong)} wrong headers found")
+    kinds_of = list(declared_constants())
+    kinds_of = kinds_of[kinds_of.index("GALLUSPA_COUNTER") : kinds_of.index("GALLUSPA_STOPS") + 1]
+    swaps = [("uint32_t h; ", "uint32_t pc; "), ("uint32_t leds; ", "uint32_t mouse; "), ("uint64_t count;     /* the count", "uint64_t condition; /* the index")]
+    swaps += [(f"{one} =", f"{other} =") for one, other in [*zip(kinds_of, kinds_of[1:]), ("GALLUSPA_FIRST", "GALLUSPA_LAST")]]
+    for old in (it for pair in (*((old,) for old, _ in wrong), *swaps) for it in pair):
+        if old not in header:
+            fail(f"{old!r} is not in the header")
+    headers = [header.replace(old, new) for old, new in wrong]
+    headers += [header.replace(one, "\0").replace(other, one).replace("\0", other) for one, other in swaps]
+    for text, change in zip(headers, [*wrong, *swaps], strict=True):
+        if not compiles(text)[1]:
+            fail(f"the comparison of the header passes {change}")
+    print(f"header: {len(names)} functions, {len(declared_constants())} enumerators and five structs are the crate's; {len(headers)} wrong headers found")
     return sorted(names)

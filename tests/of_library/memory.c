@@ -45,6 +45,8 @@ static size_t began_len;
 static galluspa_input keys[] = {{3, 4, 65}, {4, 4, 66}, {5, 4, 67}, {6, 4, 68}, {7, 4, 69}};
 static const galluspa_condition asked[] = {{GALLUSPA_STOPS, 0, 0, 0}, {GALLUSPA_TAKES, 0, 0, 4}};
 static galluspa_hit hit;
+static uint64_t visits[GALLUSPA_WORDS], departures[GALLUSPA_WORDS], own_visits[GALLUSPA_WORDS], own_departures[GALLUSPA_WORDS];
+static galluspa_processor steps[90], own_steps[90];
 
 static size_t read_all(const char *name, uint8_t *to, size_t room) {
     FILE *file = fopen(name, "rb");
@@ -58,7 +60,30 @@ static size_t read_all(const char *name, uint8_t *to, size_t room) {
  * slowly where there is no memory to keep what it decoded, and 2 in a call that runs no machine. */
 static int own_answer(int which, unsigned long made) {
     if (made < refused) return 0;
-    return which == 0 || which == 1 || which == 4 || which == 7 ? 3 : 2;
+    return which == 0 || which == 1 || which == 4 || which >= 7 ? 3 : 2;
+}
+
+/* Whether a count was written, or a processor was: all were set to bytes of AA before. */
+static int is_kept(const void *bytes, size_t size) {
+    for (size_t i = 0; i < size; i++)
+        if (((const uint8_t *)bytes)[i] != 0xAA) return 0;
+    return 1;
+}
+
+/* The answer of a profile or a trace as above. A profile that is refused writes nothing; a trace may have written its first processors. */
+static int counted_answer(int which, size_t result, unsigned long made) {
+    if (which == 8) {
+        if (result == 1) return memcmp(visits, own_visits, sizeof visits) || memcmp(departures, own_departures, sizeof visits) ? 2 : own_answer(which, made);
+        return result == 4 && is_kept(visits, sizeof visits) && is_kept(departures, sizeof departures) && made >= refused ? 1 : 2;
+    }
+    if (result == 1) return memcmp(steps, own_steps, sizeof steps) ? 2 : own_answer(which, made);
+    size_t written = 0;
+    while (written < 90 && !memcmp(&steps[written], &own_steps[written], sizeof steps[0])) written++;
+    return result == 4 && is_kept(steps + written, sizeof steps - written * sizeof steps[0]) && made >= refused ? 1 : 2;
+}
+
+static uint8_t profile(uint64_t *to_visits, uint64_t *to_departures) {
+    return galluspa_profile(&first, first_words, GALLUSPA_WORDS, keys, 5, 90, to_visits, GALLUSPA_WORDS, to_departures, GALLUSPA_WORDS);
 }
 
 /* Calls a function once with request `refused` refused: its own answer as above, 1 out of memory, 2 wrong. */
@@ -76,10 +101,14 @@ static int answers(int which, size_t text_len, size_t session_len, size_t own_le
     if (which == 3) result = galluspa_claim(text, text_len, 1, &state, words, GALLUSPA_WORDS) + 1;
     if (which == 4) result = galluspa_advance(&state, words, GALLUSPA_WORDS, keys, 5, 90, sent, sizeof sent, &count) + 1;
     if (which == 7) result = galluspa_find(&first, first_words, GALLUSPA_WORDS, keys, 5, 90, asked, 2, GALLUSPA_LAST, &hit) + 1;
+    if (which > 7) memset(visits, 0xAA, sizeof visits), memset(departures, 0xAA, sizeof departures), memset(steps, 0xAA, sizeof steps);
+    if (which == 8) result = profile(visits, departures) + 1;
+    if (which == 9) result = galluspa_steps(&first, first_words, GALLUSPA_WORDS, keys, 5, steps, 90) + 1;
     if (which == 5) result = galluspa_begin(&first, first_words, GALLUSPA_WORDS, out, sizeof out, &count) + 1;
     if (which == 6) result = galluspa_extend(began, began_len, keys, 5, &later, later_words, GALLUSPA_WORDS, sent, 3, out, sizeof out, &count) + 1;
     unsigned long made = calls;
     calls = 1UL << 40;
+    if (which > 7) return counted_answer(which, result, made);
     if (which == 7) {
         if (result == 1) return hit.count == 7 && hit.condition == 1 ? own_answer(which, made) : 2;
         return result == 4 && hit.count == 77 && made >= refused ? 1 : 2;
@@ -97,6 +126,25 @@ static int answers(int which, size_t text_len, size_t session_len, size_t own_le
     return result == 0 && status == 77 && out[0] == 0 && made >= refused ? 1 : 2;
 }
 
+/* Whether a profile or a trace with a number out of its range is not refused for that: a length, a count, or an input. */
+static int counted_in_range(const galluspa_input *none, const galluspa_input *fall) {
+    enum { N = GALLUSPA_WORDS };
+    galluspa_state late = first;
+    uint64_t *v = visits, *d = departures;
+    late.count = UINT64_MAX - 89;
+    memset(v, 0xAA, sizeof visits), memset(d, 0xAA, sizeof departures), memset(steps, 0xAA, sizeof steps);
+    return galluspa_profile(&first, first_words, N - 1, keys, 5, 90, v, N, d, N) != GALLUSPA_OUT_OF_RANGE
+        || galluspa_profile(&first, first_words, N, keys, 5, 90, v, N - 1, d, N) != GALLUSPA_OUT_OF_RANGE
+        || galluspa_profile(&first, first_words, N, keys, 5, 90, v, N, d, N - 1) != GALLUSPA_OUT_OF_RANGE
+        || galluspa_profile(&late, first_words, N, keys, 5, 90, v, N, d, N) != GALLUSPA_OUT_OF_RANGE
+        || galluspa_profile(&first, first_words, N, none, 1, 90, v, N, d, N) != GALLUSPA_OUT_OF_RANGE
+        || galluspa_profile(&first, first_words, N, fall, 2, 90, v, N, d, N) != GALLUSPA_OUT_OF_RANGE
+        || galluspa_steps(&first, first_words, N - 1, keys, 5, steps, 90) != GALLUSPA_OUT_OF_RANGE
+        || galluspa_steps(&late, first_words, N, keys, 5, steps, 90) != GALLUSPA_OUT_OF_RANGE
+        || galluspa_steps(&first, first_words, N, none, 1, steps, 90) != GALLUSPA_OUT_OF_RANGE
+        || galluspa_steps(&first, first_words, N, fall, 2, steps, 90) != GALLUSPA_OUT_OF_RANGE;
+}
+
 /* A fault that can be known without memory is answered so, though no request is granted. */
 static int faults(size_t text_len, size_t own_len) {
     size_t count = 77;
@@ -108,6 +156,8 @@ static int faults(size_t text_len, size_t own_len) {
         if (galluspa_extend(began, began_len, fall, 2, &later, later_words, GALLUSPA_WORDS, sent, 3, own, own_len, &count) != GALLUSPA_OUT_OF_RANGE) return 3;
         if (galluspa_advance(&state, words, GALLUSPA_WORDS, none, 1, 90, sent, 0, &count) != GALLUSPA_OUT_OF_RANGE) return 4;
         if (calls || count != 77) return 5;
+        if (counted_in_range(none, fall)) return 6;
+        if (calls || !is_kept(visits, sizeof visits) || !is_kept(departures, sizeof departures) || !is_kept(steps, sizeof steps)) return 7;
     }
     return 0;
 }
@@ -121,7 +171,7 @@ static size_t hostile(size_t room, uint64_t to, uint8_t wanted) {
     refused = held = most = 0;
     if (galluspa_advance(&sends, words, GALLUSPA_WORDS, keys, 0, to, own, room, &count) != wanted) return 0;
     if (wanted ? count != 77 : count != to / 2) return 0;
-    return held || most > 2300000 + 3 * (room + 65536) ? 0 : most;
+    return held || most > 2300000 + 3 * room ? 0 : most;
 }
 
 /* More bytes than a recording may send are refused before they are copied. Returns the most that was held, or 0. */
@@ -136,7 +186,7 @@ static size_t hostile_sent(size_t length) {
 }
 
 int main(int argc, char **argv) {
-    static const char *name[] = {"check", "record", "migrate", "claim", "advance", "begin", "extend", "find"};
+    static const char *name[] = {"check", "record", "migrate", "claim", "advance", "begin", "extend", "find", "profile", "steps"};
     if (argc < 3) return 9;
     size_t text_len = read_all(argv[1], text, sizeof text), session_len = read_all(argv[2], session, sizeof session);
     if (galluspa_claim(text, text_len, 0, &first, first_words, GALLUSPA_WORDS)) return 9;
@@ -145,7 +195,8 @@ int main(int argc, char **argv) {
     later.count = 90;
     memcpy(later_words, first_words, sizeof words);
     later_words[70000] = 1;
-    for (int which = 0; which < 8; which++) {
+    if (profile(own_visits, own_departures) || galluspa_steps(&first, first_words, GALLUSPA_WORDS, keys, 5, own_steps, 90)) return 9;
+    for (int which = 0; which < 10; which++) {
         uint8_t status = 77;
         size_t own_len = 0;
         if (which == 0) own_len = galluspa_check(text, text_len, own, sizeof own, &status);
@@ -169,6 +220,8 @@ int main(int argc, char **argv) {
     size_t none = hostile(0, 100000000, GALLUSPA_NO_ROOM), some = hostile(1000, 1ULL << 62, GALLUSPA_NO_ROOM);
     size_t all = hostile(sizeof own, sizeof own, GALLUSPA_DONE);
     size_t much = hostile_sent((size_t)1 << 32);
-    printf("; held %zu, %zu, %zu and %zu bytes\n", none, some, all, much);
-    return none && some && all && much ? 0 : 1;
+    refused = held = most = 0;
+    size_t counts = profile(visits, departures) || held || most > 8000000 + 16 * 5 ? 0 : most;
+    printf("; held %zu, %zu, %zu and %zu bytes, and %zu to count\n", none, some, all, much, counts);
+    return none && some && all && much && counts ? 0 : 1;
 }

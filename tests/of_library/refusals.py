@@ -53,7 +53,7 @@ def refuse_making(library: Library) -> None:
         expect(f"an extension with {what}", library.extend(given, inputs, state, memory, b"")[0], 4 if what == "no recording" else 1)
     refuse_too_much(library, text, later, words)
     refuse_pending(library, first, words)
-    print(f"begin, extend: {len(bad) + 17} refusals write nothing")
+    print(f"begin, extend: {len(bad) + 19} refusals write nothing")
 
 
 def refuse_too_much(library: Library, text: bytes, later: State, words: Words) -> None:
@@ -99,6 +99,7 @@ def refuse_pending(library: Library, first: State, words: Words) -> None:
         code, now, memory = library.claim(text, 0)
         expect("the run without the key", (code, library.advance(now, memory, [], 20)), (0, (0, b"")))
         expect(f"an extension of a recording with a key at {count}", library.extend(text, [], now, memory, b"")[0], 10)
+        expect("one that does not come next, either", library.extend(text, [], first, words, b"")[0], 10)
     key = Input(10, 4, 65)
     expect("the run with the key", library.advance(state, waiting, [key], 20), (0, b""))
     code, text, _ = library.extend(write(begun), [key], state, waiting, b"")

@@ -93,10 +93,12 @@ def find_steps(library: Library) -> None:
         bad: list[tuple[list[Sought], int]] = [
             ([(0, 0, 1, 0)], 0), ([(10, 0, 1, 0)], 0), ([(1, 5, 5, 0)], 0), ([(1, 0, (1 << 22) + 1, 0)], 0), ([(2, 0, (1 << 24) + 1, 0)], 0),
             ([(3, 0, (1 << 20) + 1, 0)], 0), ([(5, 18, 0, 0)], 0), ([(5, 17, 0, 16)], 0), ([(7, 0, 0, 256)], 0), ([(8, 0, 0, 0)], 0),
-            ([(8, 0, 0, 6)], 0), ([(6, 0, 0, 0), (0, 0, 0, 0)], 0), ([], 2),
+            ([(8, 0, 0, 6)], 0), ([(6, 0, 0, 0), (0, 0, 0, 0)], 0), ([], 2), ([(6, 0, 0, 0)] * 65, 0), ([(9, 0, 0, 0)] * 65, 1),
+            ([(3, 0, 4, 0)], 0),
         ]  # fmt: skip
         for conditions, which in bad:
             expect(f"a search for {conditions}, {which}", library.find(*start, events, 10, conditions, which)[0], 1)
+        expect("a search for 64 conditions", library.find(*start, events, 10, [(1, 0, 1 << 22, 0)] * 64, 1), (0, (9, 0)))
         expect("a search backwards", library.find(states[10], start[1], events, 9, [], 0)[0], 1)
         expect("a search of half the words", library.find(start[0], (ctypes.c_uint32 * (WORDS // 2))(), events, 9, [], 0)[0], 1)
     if min(found, none) < 50:

@@ -15,17 +15,20 @@ const workerScript = unpacked("worker").toString();
 let said = null;
 globalThis.onmessage = null;
 globalThis.postMessage = (news) => { if (news.id !== undefined) said = news; };
-(0, eval)(`${workerScript}\n;globalThis.tell = (data) => onmessage({ data });
+// The script of the workers, and that of the page, are one function each; it gets a few lines more.
+const withLines = (script, lines) => script.replace(/\}\)\(\);\s*$/, (end) => `${lines}\n${end}`);
+(0, eval)(withLines(workerScript, `globalThis.tell = (data) => onmessage({ data });
 globalThis.runToLast = () => turnTo(machine.planned.at(-1) ?? 0, Infinity);
 globalThis.cut = cutAll;
 globalThis.times = { pages: () => differingPages(new Uint8Array(MEMORY_BYTES), new Uint8Array(MEMORY_BYTES)), feed: () => machine.feed() };
-globalThis.joinStretches = (bytes, size) => unlessRefused(() => new Checker(machine, size).line(lawful(bytes), () => {}));
+globalThis.joinStretches = (bytes, size) => unlessRefused(() => new Checker(machine, size).line(machine.lawful(bytes), () => {}));
 function cutAll(bytes, ends) {
-  const recording = lawful(bytes), table = firstTable(recording);
+  const recording = machine.lawful(bytes), table = firstTable(recording);
   return ends.slice(1).map((end, at) => stretch(recording, table, ends[at], end));
-}`);
+}`));
 // The page's own script is only asked for its functions of one value.
-(0, eval)(`(() => { ${part("script")}\n; globalThis.ofPage = { instruction, codesOf }; })()`);
+globalThis.addEventListener = () => {};
+(0, eval)(withLines(part("script"), "globalThis.ofPage = { instruction, codesOf };"));
 
 const encoded = (_, value) => (value instanceof Uint8Array ? Buffer.from(value).toString("base64") : value);
 

@@ -27,6 +27,8 @@ NOTICE, SENT, MODE = shown("notice"), shown("out"), shown("mode")
 JUDGED = f"{LINE} && !verdicts.file.clerk && {LINE} !== 'stopped: no verdict'"
 OWN_JUDGED = f"{OWN_LINE} && !verdicts.own.clerk"
 DRAWN = "pixelsSet()"
+# What the browser says if a page that was used by script alone wants to ask before it is left.
+NO_GESTURE = "Blocked attempt to show a 'beforeunload' confirmation panel for a frame that never had a user gesture since its load."
 # How many dots of the screen are dark.
 COUNT_DOTS = """
 window.pixelsSet = () => {
@@ -182,7 +184,7 @@ class Desk:
 
     def expect_sound(self) -> None:
         """Expects that nothing went wrong on the console, and that nothing was asked of the network."""
-        expect("the errors of the page", self.page.errors, [])
+        expect("the errors of the page", [it for it in self.page.errors if not it.startswith(NO_GESTURE)], [])
         outside = [url for url in self.page.requests if not url.startswith(("file:", "blob:", "data:"))]
         expect("what the page asked of the network", outside, [])
 

@@ -8,7 +8,7 @@ from of_page.desk import PAGE, SENT, Desk, expect, fail
 from of_tools.samples import EXAMPLES, rejoining
 
 DRAW = (EXAMPLES / "draw.json").read_bytes()
-ITEMS = "withKept('readonly', (store) => store.getAll()).then((all) => all.map(({ name, count, sent }) => [name, count, sent]))"
+ITEMS = "withKept('readonly', (store) => store.getAll()).then((all) => all.filter(isItem).map(({ name, count, sent }) => [name, count, sent]))"
 IS_KEPT = "app.work.kept.startsWith(`${countOf(app.latest.state)} ${app.latest.inputs} `)"
 BUTTONS = "[...document.querySelectorAll('#g-kept button')]"
 
@@ -21,7 +21,7 @@ def items(page: browser.Page) -> list[list]:
 def forget_all(desk: Desk) -> None:
     """Opens a machine that has nothing to keep, and forgets all that is kept."""
     desk.start("draw.json", DRAW)
-    desk.page.answer("keeping.then(() => withKept('readwrite', (store) => store.clear())).then(showKept)")
+    desk.page.answer("keeping.turn.then(() => withKept('readwrite', (store) => store.clear())).then(showKept)")
 
 
 def type_and_pause(desk: Desk, key: str) -> int:
@@ -80,7 +80,7 @@ def keep_under_its_name(desk: Desk) -> None:
     page.wait(f"{SENT} === 'q'")
     page.press("r")
     desk.start("keys.json", (EXAMPLES / "keys.json").read_bytes())
-    page.answer("keeping")
+    page.answer("keeping.turn")
     found = items(page)
     expect("the names of what is kept", [name for name, *_ in found], ["draw"])
     page.wait("el('kept-list').firstChild")
@@ -150,7 +150,7 @@ def forget_and_undo(desk: Desk) -> None:
         tab.page.answer(f"{BUTTONS}[1].click()")
         tab.expect_notice("what another tab has open", "This recording is open in another page, so it cannot be forgotten here.")
     desk.start("keys.json", (EXAMPLES / "keys.json").read_bytes())
-    page.answer("keeping")
+    page.answer("keeping.turn")
     before = items(page)
     page.wait(f"{BUTTONS}.length === 2")
     page.answer(f"{BUTTONS}[1].click()")
@@ -166,7 +166,7 @@ def forget_and_undo(desk: Desk) -> None:
 def ask_before_dropping(desk: Desk) -> None:
     """Where the browser can't keep a recording, the page says so, and another machine is opened only when the user says so."""
     page = desk.page
-    page.answer("window.opens = IDBFactory.prototype.open; IDBFactory.prototype.open = () => { throw new Error('no room'); }; "
+    page.answer("window.puts = IDBObjectStore.prototype.put; IDBObjectStore.prototype.put = () => { throw new Error('no room'); }; "
                 "window.confirm = (said) => { window.asked = said; return window.says; }")
     desk.draw()
     page.press("d")
@@ -174,10 +174,41 @@ def ask_before_dropping(desk: Desk) -> None:
     desk.pause()
     desk.expect_notice("what cannot be kept", "This browser cannot keep the recording of draw, so save it to a file: no room")
     for says, name in (("false", "draw"), ("true", "face")):
-        page.answer(f"window.says = {says}; openBytes('face.json', new TextEncoder().encode(JSON.stringify(EXAMPLES.face)))")
+        page.answer(f"window.says = {says}; openBytes('face.json', new TextEncoder().encode(JSON.stringify(examples().face)))")
         expect("what is asked, and what is open", page.answer("[asked.endsWith('and drop it?'), app.work.name]"), [True, name])
-    page.answer("IDBFactory.prototype.open = opens")
+    page.answer("IDBObjectStore.prototype.put = puts")
     print("kept: what cannot be kept is said to be, and dropped only when the user says so")
+
+
+def return_unkept(desk: Desk) -> None:
+    """Branches that the browser can't keep stay in the page, which asks before it drops them."""
+    page = desk.page
+    page.answer("window.puts = IDBObjectStore.prototype.put; IDBObjectStore.prototype.put = () => { throw new Error('no room'); }; "
+                "window.confirm = (said) => { window.asked = said; return false; }")
+    desk.draw()
+    for key in "ab":
+        page.press(key)
+    page.wait(f"{SENT} === 'ab'")
+    desk.pause()
+    end = page.answer("nowCount()")
+    page.answer("lookAt(0)")
+    page.wait("look.at === 0 && look.moment?.exact")
+    desk.click("take-here")
+    page.wait("!isPast() && nowCount() === 0")
+    desk.go_on()
+    page.press("c")
+    page.wait(f"{SENT} === 'c'")
+    desk.pause()
+    own = page.answer("nowCount()")
+    for number, count, sent in ((1, end, "ab"), (2, own, "c")):
+        page.answer("document.querySelector('#g-branches button').click()")
+        page.wait(f"nowCount() === {count} && app.work.number === {number}")
+        expect(f"what branch {number} sent", page.answer(SENT), sent)
+    page.answer("openExample('face')")
+    expect("what is asked, and what is open", page.answer("[asked.endsWith('and drop it?'), app.work.branch]"), [True, "branch 2"])
+    page.answer("IDBObjectStore.prototype.put = puts; window.confirm = () => true")
+    forget_all(desk)
+    print("kept: branches that cannot be kept are returned to, and not dropped unasked")
 
 
 # Items that another page may have written: their shapes are wrong, or only what they say is.
@@ -249,4 +280,5 @@ def drive(desk: Desk) -> None:
     forget_and_undo(desk)
     survive_other_pages(desk)
     ask_before_dropping(desk)
+    return_unkept(desk)
     keep_seldom(desk)

@@ -230,7 +230,7 @@ def refuse_each(desk: Desk) -> None:
     page.wait("countOf(app.latest.state) === 1")
     if page.answer("app.latest.memory") > before + (1 << 20):
         fail(f"40 refused recordings grew the memory from {before:,} to {page.answer('app.latest.memory'):,} bytes")
-    page.answer("el('worker').textContent = 'throw new Error(`broken`)'; Helper.url = null")
+    page.answer("setWorkerScript(URL.createObjectURL(new Blob(['throw new Error(`broken`)'])))")
     desk.click("save-recording")
     desk.saved("face-live.orsr")
     desk.expect_notice("a clerk that is broken", "the worker failed: Uncaught Error: broken")

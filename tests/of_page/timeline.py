@@ -192,7 +192,7 @@ def ask_devices(desk: Desk) -> None:
     desk.click("tab-state")
     desk.go_on()
     page.answer("registerCells.get('R1').holder.click()")
-    desk.expect_notice("a question of a machine that runs", r"Pause the machine first: .*")
+    desk.expect_notice("a question of a machine that runs", r"Pause the machine to see what wrote this\.")
     desk.pause()
     print("who: the LEDs, the keys and the mouse by the instruction or the input that set them")
 
@@ -216,6 +216,12 @@ def search(desk: Desk) -> None:
     desk.click("find-next")
     page.wait(f"{shown('found')} === 'There is none after it, up to now.'")
     expect("where it stays", page.answer("look.at"), last)
+    look_at(desk, 0)
+    page.answer("el('search-kind').value = COUNTER; el('search-kind').dispatchEvent(new Event('change')); el('search-range').value = '0'")
+    desk.click("find-next")
+    page.wait(f"{shown('found')} === 'PC 0 at 0'")
+    desk.click("find-next")
+    page.wait(f"{shown('found')} === 'There is none after it, up to now.'")
     page.answer("el('search-kind').value = STORE; el('search-kind').dispatchEvent(new Event('change')); el('search-range').value = 'xyz'")
     desk.click("find-before")
     desk.expect_notice("no address", "xyz: an address is hexadecimal, or two as in E8000-E8003.")
@@ -395,7 +401,7 @@ def branch(desk: Desk) -> None:
     for text in (own, other):
         expect("the program's line", program("check", text)[0].split()[0], "accepted")
     page.answer("document.querySelector('#g-branches button').click()")
-    page.wait("branches.list[0]?.name === 'branch 3' && !isPast()")
+    page.wait("branches.list[0]?.branch === 'branch 1' && !isPast()")
     print(f"branches: taken over before a key, and returned to; both accepted, {page.answer(OWN_LINE) or 'each with its keys'}")
 
 
@@ -410,12 +416,12 @@ def ask_before_dropping(desk: Desk) -> None:
         page.answer("stepBack()")
         page.wait(f"isPast() && {EXACT}")
         desk.click("take-here")
-        page.wait(f"branches.made === {number} && nowCount() === 0" if number < 9 else "asked.length === 1")
+        page.wait(f"branches.made === {number + 1} && nowCount() === 0" if number < 9 else "asked.length === 1")
     expect("the question", page.answer("asked[0]").startswith('There are 8 branches. Drop "branch 1"'), True)
-    expect("the branches while it is asked", page.answer("[branches.made, look.at]"), [8, 0])
+    expect("the branches while it is asked", page.answer("[branches.made, look.at]"), [9, 0])
     desk.click("take-here")
-    page.wait("branches.made === 9")
-    expect("the branches", page.answer("branches.list.map(({ name }) => name)"), [f"branch {number}" for number in range(2, 10)])
+    page.wait("branches.made === 10")
+    expect("the branches", page.answer("branches.list.map(({ branch }) => branch)"), [f"branch {number}" for number in range(2, 10)])
     print("branches: eight at most; before the ninth, the user is asked")
 
 

@@ -48,10 +48,12 @@ globalThis.navigator ??= { hardwareConcurrency: 4 };
 // The worker's classes, for runs that the answers are compared with; and the page's own.
 globalThis.onmessage = null;
 globalThis.postMessage = () => {};
-(0, eval)(`${workerScript}\n;globalThis.kit = { Library, Replayer, Keyframes, readSession, readRecording, countOf, field, AT };`);
-(0, eval)(`(() => { ${part("script")}\n; globalThis.ofPage = { Past, Helper }; })()`);
+globalThis.addEventListener = () => {};
+const withLines = (script, lines) => script.replace(/\}\)\(\);\s*$/, (end) => `${lines}\n${end}`);
+(0, eval)(withLines(workerScript, "globalThis.kit = { Library, Replayer, Keyframes, readSession, readRecording, countOf, field, AT };"));
+(0, eval)(withLines(part("script"), "globalThis.ofPage = { Past, Helper, setWorkerScript };"));
 const { Library, Replayer, Keyframes, readSession, readRecording, countOf, field, AT } = kit;
-const { Past, Helper } = ofPage;
+const { Past, Helper, setWorkerScript } = ofPage;
 
 function fail(why) {
   console.error(why);
@@ -77,7 +79,7 @@ function chance(seed) {
 /** The page's two workers: that of the live machine, and that of its past. */
 class Desk {
   constructor(script = workerScript) {
-    Helper.place = () => script;
+    setWorkerScript(script);
     this.news = [];
     this.frames = [];
     this.live = new Helper(wasm, (news) => this.frames.push(news));

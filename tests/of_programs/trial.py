@@ -3,7 +3,7 @@
 With a checkpoint at every count the machine starts again at each instruction, so nothing that it decoded or deferred
 is left from the one before; and with checkpoints that are close together it skips no idle loop. With few checkpoints it
 runs on. All have to reach the same states, and the check and the C replayers, which are independent emulators and do one
-instruction after another, have to accept all of them.
+instruction after another, have to accept all of them. The library has to count and trace the instructions as a machine in C does.
 """
 
 import re
@@ -15,9 +15,11 @@ from tempfile import TemporaryDirectory
 
 from galluspa import states
 from galluspa.command import Refused
+from galluspa.library import Library
 from galluspa.program import ACCEPTED
 from galluspa.recording import PAGE_BYTES, Checkpoint, Recording, read, write
 from galluspa.sessions import Session
+from of_programs.counting import differences
 
 DENSE, FEW, ONE = "many checkpoints", "a few checkpoints", "one checkpoint at the end"
 MOST_CHECKPOINTS = 4096
@@ -61,10 +63,12 @@ class Finding:
 
 @dataclass(frozen=True)
 class Witnesses:
-    """The program that is tried, and the C replayers by their names."""
+    """The program and the library that are tried, the C replayers by their names, and the counter in C."""
 
     program: Path
+    library: Library
     replayers: Mapping[str, Path]
+    counter: Path
 
     def record(self, case: Case, checkpoints: Sequence[int]) -> bytes:
         """The recording of a program with checkpoints at these counts."""
@@ -90,6 +94,7 @@ def findings(witnesses: Witnesses, case: Case, texts: Mapping[str, bytes], folde
             *_states_apart(read(texts[DENSE]), {name: read(text) for name, text in texts.items() if name != DENSE}),
             *_checks(witnesses, case, files),
             *_replays(witnesses, case, files),
+            *_counts(witnesses, case, texts, files[ONE]),
         ]
     return sorted(found, key=lambda finding: finding.count)
 
@@ -113,6 +118,13 @@ def _replays(witnesses: Witnesses, case: Case, files: Mapping[str, Path]) -> Ite
         for at, name in enumerate(files):
             line = lines[at] if at < len(lines) else f"no line, and status {ran.returncode}"
             yield from _of_line(case, line, f"{replayer} on the recording with {name}")
+
+
+def _counts(witnesses: Witnesses, case: Case, texts: Mapping[str, bytes], path: Path) -> Iterator[Finding]:
+    """What is wrong with the counts of the recording with one checkpoint."""
+    states = read(texts[DENSE])
+    apart = differences(witnesses.library, witnesses.counter, texts[ONE], path, case.few[0], states)
+    yield from (Finding(count, part, shown_by) for count, part, shown_by in apart)
 
 
 def _of_line(case: Case, line: str, shown_by: str) -> Iterator[Finding]:

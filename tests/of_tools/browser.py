@@ -2,8 +2,10 @@
 pictures."""
 
 import base64
+import hashlib
 import json
 import os
+import re
 import shutil
 import subprocess
 import tempfile
@@ -15,12 +17,18 @@ from pathlib import Path
 from typing import IO
 
 FLAGS = ("--headless=new", "--no-sandbox", "--disable-gpu", "--hide-scrollbars", "--no-first-run", "--disable-extensions",
-         "--disable-background-networking", "--host-resolver-rules=MAP * ~NOTFOUND", "--force-device-scale-factor=1")
+         "--disable-background-networking", "--host-resolver-rules=MAP * ~NOTFOUND, EXCLUDE 127.0.0.1", "--force-device-scale-factor=1")
 
 WIDTHS = (420, 800, 1100, 1280, 1920)
 
 # The numbers of keys that do something in a page.
 NUMBERS = {"Tab": 9, "Enter": 13, " ": 32, "ArrowUp": 38, "ArrowDown": 40}
+
+# The script of the live page is one function, with no global names. The driver opens a copy of the page in which that function has one line
+# more, so that what is asked of the page is evaluated inside.
+SCRIPT = re.compile(r'(?<=<script id="g-script">).*?(?=</script>)', re.DOTALL)
+SCRIPT_END = re.compile(r"\}\)\(\);\s*$")
+INSIDE = "globalThis.inside = (text) => eval(text);\n"
 
 # Seconds that a wait takes at most. They are many, since a wait ends when what it waits for is there.
 PATIENCE = 120
@@ -88,25 +96,53 @@ class Pipe:
         return self._errors.read()[-2000:].decode(errors="replace")
 
 
+def policy_of(script: str) -> str:
+    """The hash by which a policy lets a script run."""
+    return f"sha256-{base64.b64encode(hashlib.sha256(script.encode()).digest()).decode()}"
+
+
+def opened_inside(text: str) -> str:
+    """A page whose script also evaluates what it is asked, or the page as it is if it is not the live page."""
+    found = SCRIPT.search(text)
+    if not found or not SCRIPT_END.search(found[0]):
+        return text
+    script = SCRIPT_END.sub(lambda end: INSIDE + end[0], found[0])
+    # Without the quotation marks, which a report escapes.
+    return text.replace(found[0], script).replace(policy_of(found[0])[1:-1], policy_of(script)[1:-1])
+
+
 class Page:
     """A page that is open, and what its console and its network told."""
 
     def __init__(self, pipe: Pipe, path: Path) -> None:
         self._pipe = pipe
+        text = path.read_text()
+        inside = opened_inside(text)
+        self._copy = tempfile.TemporaryDirectory(ignore_cleanup_errors=True)
+        self._is_inside = inside != text
+        if self._is_inside:
+            path = Path(self._copy.name) / path.name
+            path.write_text(inside)
         self._session = ""
         self._chooser = 0
         self.errors: list[str] = []
         self.requests: list[str] = []
+        # The kinds of the windows that the page or the browser opened to ask something; each is answered with yes.
+        self.dialogs: list[str] = []
+        self._is_gone = False
         self._target = self._ask("Target.createTarget", url="about:blank")["targetId"]
         self._session = self._ask("Target.attachToTarget", targetId=self._target, flatten=True)["sessionId"]
         for domain in ("Page", "Runtime", "Log", "Network", "Inspector"):
             self._ask(f"{domain}.enable")
-        self._ask("Page.navigate", url=path.resolve().as_uri())
+        self.url = path.resolve().as_uri()
+        self._ask("Page.navigate", url=self.url)
         while self._read().get("method") != "Page.loadEventFired":
             pass
 
     def answer(self, expression: str) -> object:
         """The value of an expression of JavaScript in the page; promises are waited for."""
+        if self._is_inside:
+            expression = f"(globalThis.inside ?? eval)({json.dumps(expression)})"
         told = self._ask("Runtime.evaluate", expression=expression, awaitPromise=True, returnByValue=True)
         if "exceptionDetails" in told:
             raise RuntimeError(told["exceptionDetails"])
@@ -226,14 +262,30 @@ class Page:
         while self._read().get("method") != "Page.loadEventFired":
             pass
 
+    def leave_for(self, url: str) -> None:
+        """Goes to another page."""
+        self._ask("Page.navigate", url=url)
+        while self._read().get("method") != "Page.loadEventFired":
+            pass
+
+    def go_back(self) -> None:
+        """Goes back to the page before."""
+        history = self._ask("Page.getNavigationHistory")
+        self._ask("Page.navigateToHistoryEntry", entryId=history["entries"][history["currentIndex"] - 1]["id"])
+        while self._read().get("method") != "Page.loadEventFired":
+            pass
+
     def heap(self) -> float:
         """The bytes of the page's own script that are in use, garbage left out."""
         self._ask("HeapProfiler.collectGarbage")
         return self._ask("Runtime.getHeapUsage")["usedSize"]
 
     def close(self) -> None:
-        """Closes the page."""
+        """Closes the page. What the browser asks first is answered."""
         self._ask("Page.close")
+        while not self._is_gone:
+            self._read()
+        self._copy.cleanup()
 
     def _ask(self, method: str, **parameters: object) -> dict:
         session = {"sessionId": self._session} if self._session else {}
@@ -256,6 +308,11 @@ class Page:
             self.errors.append(str(told["args"]))
         elif method == "Log.entryAdded":
             self.errors.append(told["entry"]["text"])
+        elif method == "Target.detachedFromTarget":
+            self._is_gone |= told["sessionId"] == self._session
+        elif method == "Page.javascriptDialogOpening":
+            self.dialogs.append(told["type"])
+            self._pipe.send({"method": "Page.handleJavaScriptDialog", "params": {"accept": True}, "sessionId": self._session})
         elif method == "Page.fileChooserOpened":
             self._chooser = told["backendNodeId"]
         elif method == "Inspector.targetCrashed":
@@ -273,6 +330,12 @@ class Browser:
     """A browser that runs."""
 
     pipe: Pipe
+    process: subprocess.Popen
+
+    def kill(self) -> None:
+        """Ends the browser at once, with no time to do anything more."""
+        self.process.kill()
+        self.process.wait()
 
     @contextmanager
     def page(self, path: Path) -> Iterator[Page]:
@@ -283,8 +346,8 @@ class Browser:
 
 
 @contextmanager
-def browser() -> Iterator[Browser]:
-    """A browser of its own."""
+def browser(profile: Path | None = None) -> Iterator[Browser]:
+    """A browser of its own, with a folder for what it keeps that is there before and stays, or with a new one."""
     to_browser, from_us = os.pipe()[::-1]
     to_us, from_browser = os.pipe()[::-1]
 
@@ -294,13 +357,13 @@ def browser() -> Iterator[Browser]:
         os.dup2(write, 4)
 
     with tempfile.TemporaryDirectory(ignore_cleanup_errors=True) as folder, tempfile.TemporaryFile() as errors:
-        command = [shutil.which("chromium"), *FLAGS, f"--user-data-dir={folder}", "--remote-debugging-pipe"]
+        command = [shutil.which("chromium"), *FLAGS, f"--user-data-dir={profile or folder}", "--remote-debugging-pipe"]
         running = subprocess.Popen(command, preexec_fn=place_pipes, close_fds=False, stdin=subprocess.DEVNULL,
                                    stdout=subprocess.DEVNULL, stderr=errors)
         os.close(from_us)
         os.close(to_us)
         try:
-            yield Browser(Pipe(to_browser, from_browser, errors))
+            yield Browser(Pipe(to_browser, from_browser, errors), running)
         finally:
             os.close(to_browser)
             os.close(from_browser)

@@ -7,9 +7,10 @@ import pty
 import re
 import struct
 import subprocess
+import sys
 import tempfile
 import unittest
-from collections.abc import Iterable, Mapping, Sequence
+from collections.abc import Callable, Iterable, Mapping, Sequence
 from dataclasses import dataclass
 from pathlib import Path
 from typing import Any
@@ -18,6 +19,7 @@ from galluspa.recording import Checkpoint, Event, Recording, page_of, table_of, 
 
 TOP = Path(__file__).resolve().parents[2]
 TOOLS = TOP / "tools"
+GALLUSPA = TOP / "galluspa"
 EXAMPLES = TOP / "examples"
 PROGRAM = TOP / "crates/oberon_replay/out/oberon_replay"
 # The recording of version 1 with R0 = 5 after 100 instructions: 9,504 bytes.
@@ -40,9 +42,14 @@ def run(command: Sequence[object], text: bytes = b"", **options: Any) -> Ran:
     return Ran(ran.stdout, ran.stderr.decode(), ran.returncode)
 
 
+def galluspa(*words: object) -> Ran:
+    """Runs the command of this clone."""
+    return run([GALLUSPA, *words], env={**os.environ, "PYTHONDONTWRITEBYTECODE": "1"})
+
+
 def tool(name: str, *words: object) -> Ran:
-    """Runs a tool as it lies."""
-    return run([TOOLS / name, *words], env={**os.environ, "PYTHONDONTWRITEBYTECODE": "1"})
+    """Runs a subcommand."""
+    return galluspa(name, *words)
 
 
 def on_terminal(name: str, *words: object) -> bytes:
@@ -51,7 +58,7 @@ def on_terminal(name: str, *words: object) -> bytes:
     told = b""
     try:
         with open(terminal, "wb") as errors:
-            subprocess.run([TOOLS / name, *map(str, words)], stdout=subprocess.DEVNULL, stderr=errors, check=False)
+            subprocess.run([GALLUSPA, name, *map(str, words)], stdout=subprocess.DEVNULL, stderr=errors, check=False)
         # A read fails once all is read, since nobody has the terminal any more.
         with contextlib.suppress(OSError):
             while part := os.read(reader, 1 << 16):
@@ -116,6 +123,22 @@ def in_register(at: int, value: int) -> tuple[int, ...]:
     return tuple(value if other == at else 0 for other in range(16))
 
 
+def calls_of(function: Callable[..., object], *arguments: object) -> int:
+    """How many functions, of Python and of C, a function calls: a measure of its work that does not depend on the machine."""
+    number = 0
+
+    def count(_frame: object, event: str, _argument: object) -> None:
+        nonlocal number
+        number += event in ("call", "c_call")
+
+    sys.setprofile(count)
+    try:
+        function(*arguments)
+    finally:
+        sys.setprofile(None)
+    return number
+
+
 class ToolTest(unittest.TestCase):
     """A test with a folder of its own, and a way to look at commands that are refused."""
 
@@ -145,4 +168,4 @@ class ToolTest(unittest.TestCase):
         self.assertEqual(ran.status, 0)
         lines = ran.output.decode().splitlines()
         self.assertEqual(lines[-2], "example:")
-        self.assertTrue(lines[-1].startswith(f"  tools/{name}"))
+        self.assertTrue(lines[-1].startswith(f"  galluspa {name}"))

@@ -1,4 +1,4 @@
-"""tools/assemble: the notation of the listing both ways, the language, its mistakes, its page, and the sources of the examples."""
+"""galluspa assemble: the notation of the listing both ways, the language, its mistakes, its page, and the sources of the examples."""
 
 import io
 import json
@@ -17,7 +17,7 @@ from galluspa.mnemonics import BRANCHES, MNEMONICS, source_of, word_of
 from galluspa.others import FALSE_FRIENDS, HERE
 from galluspa.settings import set_checkpoints, settings_of
 from galluspa.tokens import Wrong
-from of_tools.samples import EXAMPLES, PROGRAM, TOP, Ran, ToolTest, group, record, run, session, tool
+from of_tools.samples import EXAMPLES, GALLUSPA, PROGRAM, TOP, Ran, ToolTest, group, record, run, session, tool
 
 HELLO = """; Sends a text.
         MOV R1, SERIAL
@@ -98,7 +98,7 @@ class AssembleTest(ToolTest):
         """A source has exactly these mistakes, each told with its line and its column."""
         ran = self.assemble(source)
         path, number = self.folder / "it.asm", f"{len(told)} {'mistake' if len(told) == 1 else 'mistakes'}"
-        lines = [f"{path}:{one}" for one in told] + [f"assemble: {path}: {number}: nothing is written"]
+        lines = [f"{path}:{one}" for one in told] + [f"galluspa assemble: {path}: {number}: wrote nothing"]
         self.assertEqual((ran.errors.splitlines(), ran.output, ran.status), (lines, b"", 2))
 
     def test_helps(self) -> None:
@@ -116,8 +116,8 @@ class AssembleTest(ToolTest):
         self.assemble(HELLO, "--image", image)
         self.assertEqual(json.loads((EXAMPLES / "hello.json").read_bytes())["pages"][0]["hex"], image.read_bytes().hex())
         lines = self.assemble(HELLO, "--words").output.decode().splitlines()
-        self.assertEqual(lines[0], "     0  5100FFC8  MOV R1, SERIAL")
-        self.assertEqual(lines[7:10], ["     7  E7FFFFFF  done: B done", '     8  6C6C6548  text: byte "Hello, world\\n"',
+        self.assertEqual(lines[0], "     0  5100FFC8      2  MOV R1, SERIAL")
+        self.assertEqual(lines[7:10], ["     7  E7FFFFFF      9  done: B done", '     8  6C6C6548     10  text: byte "Hello, world\\n"',
                                        "     9  77202C6F"])
 
     def test_labels_constants_and_expressions(self) -> None:
@@ -180,7 +180,7 @@ class AssembleTest(ToolTest):
         ):
             self.assert_wrong(source, told)
         ran = self.assemble("ADD R0, R0, 1\nB -2\nuntil loops", "--limit", 1)
-        self.assertEqual((ran.errors, ran.output, ran.status), ("assemble: no answer in 1 s\n", b"", 3))
+        self.assertEqual((ran.errors, ran.output, ran.status), ("galluspa assemble: no answer in 1 s\n", b"", 3))
 
     def test_notes_what_is_lawful_and_may_surprise(self) -> None:
         last, key = "the last checkpoint is at 5, and ends the run", "input 5, key, 1\n"
@@ -252,7 +252,7 @@ class AssembleTest(ToolTest):
             ("orgin 5", "1:1: orgin is neither an instruction nor a directive: did you mean origin?"),
             ("end", "1:1: end is neither an instruction nor a directive; a label ends with a colon"),
             ("5 R1", "1:1: 5 begins no statement"),
-            ("word", "1:1: word wants a value"),
+            ("word", "1:1: word needs a value"),
             ("word 1,", "1:8: a number or a name is missing here"),
             ('byte "a;b",  ; x', "1:12: a number or a name is missing here"),
             ("word 1, , 2", "1:9: a number or a name is missing here"),
@@ -271,7 +271,7 @@ class AssembleTest(ToolTest):
             ("MOV R0, =text", "1:9: = is neither a number nor a name: write text without it, as an operand of MOV"),
             ("MOV R0, FFH", "1:9: FFH is not defined: a number that ends with H begins with a digit, 0FFH"),
             ("B LR", "1:3: LR is not defined: R15 has the way back after BL"),
-            ("MOV sp, 5", "1:5: sp is not defined: there is no stack; any register may be its pointer"),
+            ("word sp", "1:6: sp is a register, where a number is wanted"),
             ("MOV R0, PC", "1:9: PC is not defined: no register has it; $ is the address here, and branches set it"),
             ("wait: B Wait", "1:9: Wait is not defined: did you mean wait?"),
             ("wait: B wiat", "1:9: wiat is not defined: did you mean wait?"),
@@ -282,7 +282,7 @@ class AssembleTest(ToolTest):
             ("MOV R1, SERAIL", "1:9: SERAIL is not defined: did you mean SERIAL?"),
             ("word " + "(" * 51 + "1" + ")" * 51, "1:56: signs, parentheses and constants are nested deeper than 50"),
             ("byte 256", "1:6: 256 is not a byte from -128 to 255"),
-            ("string 5", "1:8: string wants a text in quotation marks; byte takes numbers"),
+            ("string 5", "1:8: string needs a text in quotation marks; byte takes numbers"),
             ('byte "abc', "1:6: a string without its end"),
             ("word 'ab'", "1:6: a character is one sign between apostrophes, such as 'A'"),
             ('MOV R0, "a"', "1:9: \"a\" is neither a number nor a name: write 'a'"),
@@ -313,26 +313,26 @@ class AssembleTest(ToolTest):
             ("x' = 5", "1:1: x' has an apostrophe, which no name has"),
             ("x = x + 1", "1:5: the value of x depends on itself"),
             ("origin 1048576", "1:8: the origin 1,048,576 is not a byte address from 0 to 1,048,575"),
-            ("origin", "1:1: origin wants one value"),
+            ("origin", "1:1: origin needs one value"),
             ("offsets 23", "1:9: offsets have 22 or 24 bits"),
             ("start 2", "1:7: the start 2H is not a multiple of 4"),
             ("start 4194304", "1:7: the byte address 4,194,304 is not from 0 to 1,048,575"),
             ("set R17 = 5", "1:5: R17 is none of R0 to R15, H and flags"),
-            ("set R1", "1:5: set wants a register or flags, an equals sign and a value"),
+            ("set R1", "1:5: set needs a register or flags, an equals sign and a value"),
             ("set R1 = 4294967296", "1:10: the value 4,294,967,296 is not from -2,147,483,648 to 4,294,967,295"),
             ("set flags = Q", "1:13: Q is not made of the letters NZCV"),
             ("phase 3", "1:1: phase 3 is not below the rate 0, or 0 if that is 0"),
-            ("input 5, key", "1:1: input wants a count, a kind and a value"),
+            ("input 5, key", "1:1: input needs a count, a kind and a value"),
             ("input 5, pen, 3", "1:10: pen is none of timer, switches, mouse, key, serial"),
             ("input 3, key, 300", "1:15: the value for key 300 is not from 0 to 255"),
             ("input 3, mouse, 800H", "1:17: 800H has bits outside the mask 073FF3FFH of the mouse"),
             ('input 3, timer, "a"', '1:17: "a" is neither a number nor a name: write \'a\''),
-            ("checkpoints", "1:1: checkpoints wants counts"),
+            ("checkpoints", "1:1: checkpoints needs counts"),
             ("checkpoints 0", "1:13: the count 0 is not from 1 to 1,099,511,627,776"),
-            ("every 5", "1:1: every wants an end: every N, LAST, or a line with until"),
+            ("every 5", "1:1: every needs an end: every N, LAST, or a line with until"),
             ("every 0, 5", "1:7: the count 0 is not from 1 to 1,099,511,627,776"),
             ("every 1, 5000", "1:1: a session has at most 4,096 checkpoints"),
-            ("until forever", "1:1: until wants stops or loops, and perhaps the most instructions to try"),
+            ("until forever", "1:1: until needs stops or loops, and perhaps the most instructions to try"),
         ):
             it = assembled(line)
             made = settings_of(it)
@@ -370,7 +370,7 @@ class AssembleTest(ToolTest):
         self.assertEqual(words_in("origin 0FFFFCH\nword 9")[-1], 9)
 
     def test_refuses_bad_input(self) -> None:
-        self.assert_refused(tool("assemble"), "want FILE")
+        self.assert_refused(tool("assemble"), "name a source")
         self.assert_refused(tool("assemble", self.folder / "none"), "No such file")
         self.assert_refused(tool("assemble", self.file("it.asm", b"\xff")), "not a text in UTF-8: byte 0")
         self.assert_refused(tool("assemble", self.file("it.asm", b";" * ((1 << 22) + 1))), "at most 4,194,304 bytes")
@@ -417,14 +417,13 @@ class PageTest(ToolTest):
     def test_its_program_is_recorded(self) -> None:
         made = self.recorded(self.program(1))
         self.assertTrue(made.endswith(b"Hello, world\n"))
-        self.assertEqual(run([TOP / "tools/session", "--of", self.file("it.orsr", made)]).status, 0)
+        self.assertEqual(run([GALLUSPA, "session", "--of", self.file("it.orsr", made)]).status, 0)
 
     def test_its_commands_lead_to_the_verdict(self) -> None:
-        for part in ("tools", "crates"):
-            (self.folder / part).symlink_to(TOP / part)
         self.file("hello.asm", self.program(1))
         script = (TOP / "docs/assembler.md").read_text().split("```sh\n")[1].split("```")[0]
-        ran = run(["bash", "-ec", script], cwd=self.folder, env={**os.environ, "PYTHONDONTWRITEBYTECODE": "1"})
+        path = f"{TOP}:{os.environ['PATH']}"
+        ran = run(["bash", "-ec", script], cwd=self.folder, env={**os.environ, "PATH": path, "PYTHONDONTWRITEBYTECODE": "1"})
         self.assertEqual((ran.errors, ran.status), ("", 0))
         said = group(r"the verdict line: ([^\n]*)", script)
         self.assertEqual(ran.output.decode().splitlines()[:2], [said, "Hello, world"])

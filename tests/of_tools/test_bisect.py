@@ -1,4 +1,4 @@
-"""tools/bisect, with the C machine of bench/ as the other emulator: with none and each of twelve mistakes."""
+"""galluspa bisect, with the C machine of bench/ as the other emulator: with none and each of twelve mistakes."""
 
 import json
 import shutil
@@ -174,7 +174,7 @@ echo "${{shown%, \\"memory\\"*}}, \\"memory_sha256\\": \\"$digest\\"}}"
         inputs = [(at, "mouse", at & 1) for at in range(1, 3002)]
         many = self.file("many.json", json.dumps(session([0x45000001, JUMP], [5000], inputs)))
         ran = tool("bisect", many, "--", self.wrong_at(0), "{count}")
-        self.assert_refused(ran, "they differ at count 0 already, in R5")
+        self.assert_refused(ran, "the emulator and the machine differ at count 0, in R5")
         ran = tool("bisect", many, "--", self.wrong_at(5001), "{count}")
         self.assertIn(b"; 751 of 3,001 counts after inputs are among them\n", ran.output)
         self.assertEqual(ran.status, 0)
@@ -191,35 +191,40 @@ echo "${{shown%, \\"memory\\"*}}, \\"memory_sha256\\": \\"$digest\\"}}"
             "the recordings of examples/suite exercise them all (docs/suites.md says how to run an emulator on them)",
         ])
 
-    def test_of_a_long_run_some_instructions_are_looked_at(self) -> None:
+    def test_of_a_long_run_all_instructions_are_looked_at(self) -> None:
         """The program of the mistakes, which does some of its instructions once, and then jumps to itself."""
-        ran = self.bisect(-1, "--to", 100_000)
-        lines = ran.output.decode().splitlines()
-        self.assertEqual((ran.status, lines[1]), (0, "none of the 100,000 instructions, of which 2,048 were looked at, is one of these:"))
+        ran = self.bisect(-1, "--to", 4_000_000)
+        self.assertEqual((ran.status, ran.output.decode().splitlines()[1:]), (0, [
+            "none of the 4,000,000 instructions is one of these:",
+            "operations: LSL, ASR, ROR, AND, IOR, XOR, FAD, FSB, FML, FDV",
+            "branches: BMI, BEQ, BCS, BVS, BLS, BLT, BLE, BPL, BCC, BVC, BHI, BGE, BGT, BNO",
+            "memory: STR",
+            "the recordings of examples/suite exercise them all (docs/suites.md says how to run an emulator on them)",
+        ]))
 
     def test_refuses_bad_input(self) -> None:
         session_file, say = self.built / "it.json", ("sh", "-c")
         self.assert_refused(tool("bisect"), "SESSION")
         self.assert_refused(tool("bisect", session_file), "COMMAND")
-        self.assert_refused(tool("bisect", session_file, "--", "true"), "no word of COMMAND has {count}")
+        self.assert_refused(tool("bisect", session_file, "--", "true"), "put {count} into an argument of COMMAND")
         self.assert_refused(tool("bisect", self.folder / "none", "--", "echo", "{count}"), "No such file")
         self.assert_refused(tool("bisect", self.file("bad.json", "{"), "--", "echo", "{count}"), "session refused 1 json")
         unordered = json.dumps(session([JUMP], [5, 5]))
         self.assert_refused(tool("bisect", self.file("bad.json", unordered), "--", "echo", "{count}"), "session refused 4 order")
         none = self.file("none.json", json.dumps(session([JUMP], [])))
-        self.assert_refused(tool("bisect", none, "--", "echo", "{count}"), "no checkpoint, so want --to")
+        self.assert_refused(tool("bisect", none, "--", "echo", "{count}"), "no checkpoint: give --to N")
         self.assert_refused(tool("bisect", session_file, "--", self.folder / "none", "{count}"), "No such file")
         for told, printed in (
-            ("it ended with status 3", "exit 3"), ("is not JSON", "echo {"), ("is not an object", "echo []"), ("is not an object", "echo 1"),
+            (": ended with status 3", "exit 3"), ("is not JSON", "echo {"), ("is not an object", "echo []"), ("is not an object", "echo 1"),
             ("'X' is none of", 'echo "{\\"X\\": 1}"'), ("H is not a whole number", 'echo "{\\"H\\": -1}"'),
             ("R is not a list of 16 numbers", 'echo "{\\"R\\": [1]}"'), ("out is not text", 'echo "{\\"out\\": \\"abc\\"}"'),
             ("memory is a file that is not read", 'echo "{\\"memory\\": \\"/none\\"}"'),
             ("memory_sha256 is not a SHA-256", 'echo "{\\"memory_sha256\\": \\"ab\\"}"'),
-            ("they differ at count 0 already, in H, PC", 'echo "{\\"PC\\": 1, \\"H\\": 3}"'),
+            ("the emulator and the machine differ at count 0, in H, PC", 'echo "{\\"PC\\": 1, \\"H\\": 3}"'),
         ):
             self.assert_refused(tool("bisect", session_file, "--", *say, f"{printed} # {{count}}"), told)
         self.assert_refused(tool("bisect", session_file, "--seconds", 1, "--", *say, "sleep 9 # {count}"), "no answer in 1 s")
-        self.assert_refused(tool("bisect", session_file, "--", "yes", "{count}"), "yes 0: it prints more than 16,777,216 bytes")
+        self.assert_refused(tool("bisect", session_file, "--", "yes", "{count}"), "yes 0: prints more than 16,777,216 bytes")
 
     def test_the_examples_have_the_same_states(self) -> None:
         recorded = self.file("keys.orsr", record((EXAMPLES / "keys.json").read_bytes()))

@@ -1,4 +1,4 @@
-"""tools/claim: false recordings made from true ones."""
+"""galluspa claim: false recordings made from true ones."""
 
 from of_tools.samples import JUMP, PROGRAM, STORED, ToolTest, record, rejoining, run, session, tool
 

@@ -1,4 +1,4 @@
-"""tools/coverage, and examples/suite: it exercises everything, and wrong emulators fail it."""
+"""galluspa coverage, and examples/suite: it exercises everything, and wrong emulators fail it."""
 
 import subprocess
 

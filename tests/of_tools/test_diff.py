@@ -1,4 +1,4 @@
-"""tools/diff: the first input, checkpoint and part in which two recordings differ."""
+"""galluspa diff: the first input, checkpoint and part in which two recordings differ."""
 
 import json
 from pathlib import Path

@@ -6,13 +6,13 @@ import re
 import shlex
 from collections.abc import Iterator
 from dataclasses import dataclass
-from pathlib import Path
 
 from PIL import Image
 
-from of_tools.samples import EXAMPLES, PROGRAM, TOP, ToolTest, run, tool
+from galluspa.commands import commands
+from of_tools.samples import EXAMPLES, PROGRAM, TOP, ToolTest, run
 
-GUIDES = ("recording-your-system", "suites", "debugging")
+GUIDES = ("recording-your-system", "suites", "debugging", "from-python")
 SHOWING = [*sorted((TOP / "docs/lessons").glob("*.md")), *(TOP / f"docs/{name}.md" for name in GUIDES)]
 CRATES = sorted(TOP.glob("crates/*/README.md"))
 LINKING = [
@@ -20,11 +20,13 @@ LINKING = [
     *sorted(TOP.glob("docs/lessons/*.md")), *CRATES,
 ]
 CONSOLE = re.compile(r"^( *)```console\n(.*?)^\1```$", re.DOTALL | re.MULTILINE)
-TABLE = re.compile(r"^<!-- (tools/listing .*) -->\n((?:\|.*\n)+)", re.MULTILINE)
+TABLE = re.compile(r"^<!-- (galluspa listing .*) -->\n((?:\|.*\n)+)", re.MULTILINE)
 QUOTED = re.compile(r"^```text\n(.*?)^```$", re.DOTALL | re.MULTILINE)
 SOURCE = re.compile(r"`((?:src|specs)/[\w./]+)`")
 LINK = re.compile(r"\]\(([^)#:]+)(?:#[^)]*)?\)")
 PARTS = ("tools", "examples", "crates", "docs", "bench", "include")
+# The commands of the documents are found as in an installation.
+ENVIRONMENT = {**os.environ, "PATH": f"{PROGRAM.parent}:{TOP}:{os.environ['PATH']}", "PYTHONDONTWRITEBYTECODE": "1"}
 
 
 @dataclass(frozen=True)
@@ -55,9 +57,8 @@ class DocumentsTest(ToolTest):
             folder.mkdir()
             for part in PARTS:
                 (folder / part).symlink_to(TOP / part)
-            path = {"PATH": f"{PROGRAM.parent}:{os.environ['PATH']}", "PYTHONDONTWRITEBYTECODE": "1"}
             for command in commands_of(document.read_text()):
-                ran = run(["bash", "-c", command.line], cwd=folder, env={**os.environ, **path})
+                ran = run(["bash", "-c", command.line], cwd=folder, env=ENVIRONMENT)
                 told = ran.output.decode() + ran.errors
                 told += "\n" * bool(told and not told.endswith("\n"))
                 self.assertTrue(command.prints(told), f"{document.name}: $ {command.line}\n{told}")
@@ -67,20 +68,19 @@ class DocumentsTest(ToolTest):
         folder.mkdir(parents=True)
         (folder / "stdin").symlink_to(TOP / "crates/oberon_replay/stdin")
         (self.folder / "examples").symlink_to(EXAMPLES)
-        path = {"PATH": f"{PROGRAM.parent}:{os.environ['PATH']}"}
-        commands = list(commands_of((TOP / "README.md").read_text()))
-        self.assertGreaterEqual(len(commands), 7)
-        for command in commands:
-            ran = run(["bash", "-c", command.line], cwd=folder, env={**os.environ, **path})
+        shown = list(commands_of((TOP / "README.md").read_text()))
+        self.assertGreaterEqual(len(shown), 7)
+        for command in shown:
+            ran = run(["bash", "-c", command.line], cwd=folder, env=ENVIRONMENT)
             self.assertTrue(command.prints(ran.output.decode()), f"$ {command.line}\n{ran.output.decode()}")
 
     def test_the_tools_run_as_the_readme_shows_them(self) -> None:
         for part in PARTS:
             (self.folder / part).symlink_to(TOP / part)
-        lines = [line for line in (TOP / "README.md").read_text().splitlines() if line.startswith(("tools/", "cc "))]
+        lines = [line for line in (TOP / "README.md").read_text().splitlines() if line.startswith(("galluspa ", "cc "))]
         self.assertGreaterEqual(len(lines), 9)
         for line in lines:
-            ran = run(["bash", "-c", line], cwd=self.folder, env={**os.environ, "PYTHONDONTWRITEBYTECODE": "1"})
+            ran = run(["bash", "-c", line], cwd=self.folder, env=ENVIRONMENT)
             self.assertEqual((ran.status, ran.errors), (0, ""), line)
 
     def test_a_report_is_checked_as_the_document_shows(self) -> None:
@@ -89,17 +89,15 @@ class DocumentsTest(ToolTest):
         (self.folder / "web").symlink_to(TOP / "web")
         section = (TOP / "docs/live.md").read_text().partition("## A report that checks itself")[2].partition("\n## ")[0]
         script = "".join(re.findall(r"^```sh\n(.*?)^```$", section, re.DOTALL | re.MULTILINE))
-        self.assertIn("tools/recording-of", script)
-        path = {"PATH": f"{PROGRAM.parent}:{os.environ['PATH']}", "PYTHONDONTWRITEBYTECODE": "1"}
-        ran = run(["bash", "-ec", script], cwd=self.folder, env={**os.environ, **path})
+        self.assertIn("galluspa recording-of", script)
+        ran = run(["bash", "-ec", script], cwd=self.folder, env=ENVIRONMENT)
         self.assertEqual((ran.output, ran.errors), (b"accepted 4 checkpoints 20000000 steps\n", ""))
 
     def test_tables_are_those_of_the_listing(self) -> None:
         tables = 0
         for document in SHOWING:
             for words, table in TABLE.findall(document.read_text()):
-                name, *rest = shlex.split(words)
-                ran = run([TOP / name, *rest], cwd=TOP)
+                ran = run(shlex.split(words), cwd=TOP, env=ENVIRONMENT)
                 self.assertEqual(table, ran.output.decode(), document.name)
                 tables += 1
         self.assertGreaterEqual(tables, 3)
@@ -129,10 +127,7 @@ class DocumentsTest(ToolTest):
         for word in ("check", "record", "screen", "migrate", "--workers", "--cut", "--at"):
             self.assertIn(word.lstrip("-"), page.read_text())
 
-    def test_each_tool_is_told_of(self) -> None:
+    def test_each_subcommand_is_told_of(self) -> None:
         told = (TOP / "tools/README.md").read_text()
-        for path in sorted((TOP / "tools").iterdir()):
-            if path.is_file() and os.access(path, os.X_OK):
-                self.assertIn(f"tools/{path.name}", told)
-                self.assertEqual(tool(path.name, "--help").status, 0)
-                self.assertEqual(Path(path).read_text().splitlines()[0], "#!/usr/bin/python3")
+        for it in commands():
+            self.assertIn(f"`galluspa {it.name}", told)

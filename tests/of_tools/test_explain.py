@@ -1,4 +1,4 @@
-"""tools/explain: what differs if a claim is false, and the fields of refused files; both in the report; and sessions."""
+"""galluspa explain: what differs if a claim is false, and the fields of refused files; both in the report; and sessions."""
 
 import base64
 import io
@@ -22,7 +22,7 @@ from galluspa.pictures import LIGHT_RED, RED
 from galluspa.program import Program
 from galluspa.sessionfaults import explain_session, explained
 from galluspa.tracing import Run
-from of_tools.samples import EXAMPLES, JUMP, PROGRAM, STORED, TOP, ToolTest, record, rejoining, run, session, status_of, tool
+from of_tools.samples import EXAMPLES, GALLUSPA, JUMP, PROGRAM, STORED, TOP, ToolTest, record, rejoining, run, session, status_of, tool
 
 CHANGE = re.compile(r"^\| ((?:byte \d+ is [0-9a-f]{2}(?:, )?)+)[^|]*\| `(refused [^`]+)` \|$", re.MULTILINE)
 SIDE = re.compile(rb'src="data:image/png;base64,([^"]+)" [^>]*data-side=')
@@ -148,14 +148,14 @@ class ExplainTest(ToolTest):
         ):
             lines = self.explained(self.claiming(made, 1, claimed), "--steps", 9)
             none = f"None of the 9 instructions before count 30000 wrote {part}."
-            last = f"The last one before them that {did} it:" if did else "This one before them, found by bisection, set it to what it is there:"
+            last = f"The last one before them that {did} it:" if did else "The one before them, found by bisection, set it:"
             self.assertIn(f"{none} Since checkpoint 0 none {did} it." if count is None else f"{none} {last}", lines)
             self.assertEqual([line.split()[0] for line in lines[6:-2] if "input" not in line], [str(count)] if count else [], part)
         lines = self.explained(self.claiming(made, 2, "R5=9"), "--steps", 9)
         self.assertIn("None of the 9 instructions before count 60000 wrote R5. Since checkpoint 1 none changed it.", lines)
 
     def test_the_report_does_without_a_library(self) -> None:
-        command = [TOP / "tools/report", self.file("false.orsr", rejoining(9))]
+        command = [GALLUSPA, "report", self.file("false.orsr", rejoining(9))]
         ran = run(command, env={**os.environ, "GALLUSPA_LIBRARY": str(self.folder / "none")})
         self.assertEqual((ran.errors, ran.status), ("", 1))
         self.assertNotIn(b"What is false about checkpoint", ran.output)
@@ -199,10 +199,10 @@ class ExplainTest(ToolTest):
         told = {
             "byte 0 is 00": "the first four bytes", "byte 4 is 09": "the version", "byte 16 is 00": "K + 1",
             "byte 20 is 01": "the last field of the header", "byte 1048 is 01": "the count of checkpoint 0",
-            "byte 5388 is 01": "the keys of checkpoint 1", "byte 5404 is 01": "the text ends in the bytes sent",
+            "byte 5388 is 01": "the keys of checkpoint 1", "byte 5404 is 01": "the file ends in the bytes sent",
             "byte 5408 is 02": "the page id of slot 0 of checkpoint 1", "byte 1196 is 00": "change 0 of checkpoint 0",
             "byte 1192 is 00, byte 1193 is 04": "change 0 of checkpoint 0, page id 1 at slot 1024",
-            "byte 1336 is 01": "phase of checkpoint 1", "byte 1340 is 01": "the text ends in checkpoint 1",
+            "byte 1336 is 01": "phase of checkpoint 1", "byte 1340 is 01": "the file ends in checkpoint 1",
             "byte 4 is 02": "of checkpoint 1",
         }
         document = (TOP / "docs/formats.md").read_text()
@@ -233,7 +233,7 @@ class ExplainTest(ToolTest):
             self.assertIn(field, self.explained(text)[2])
         self.assertIn("2 bytes after the end", self.explained(STORED + b"ab")[2])
         for length, field in ((3, "in the header"), (30, "in its pages and events"), (len(events) - 1, "in checkpoint 2")):
-            self.assertIn(f"the text ends {field}", self.explained(events[:length])[2])
+            self.assertIn(f"the file ends {field}", self.explained(events[:length])[2])
 
     def test_texts_cut_off_or_changed_anywhere_have_a_field(self) -> None:
         refused = 0

@@ -1,4 +1,4 @@
-"""tools/film: its frames are the screens that the program draws, as Pillow reads them; its bounds."""
+"""galluspa film: its frames are the screens that the program draws, as Pillow reads them; its bounds."""
 
 import io
 import random
@@ -8,7 +8,7 @@ from pathlib import Path
 from PIL import Image
 
 from galluspa.film import BYTES, HEAD, HEIGHT, ROW, Film
-from of_tools.samples import EXAMPLES, JUMP, PROGRAM, STORED, TOOLS, ToolTest, record, rejoining, run, session, tool
+from of_tools.samples import EXAMPLES, GALLUSPA, JUMP, PROGRAM, STORED, ToolTest, record, rejoining, run, session, tool
 
 FACE = EXAMPLES / "face.orsr"
 # Fills the display with words that it counts, and begins again.
@@ -82,12 +82,12 @@ class FilmTest(ToolTest):
     def test_its_bounds_are_told(self) -> None:
         noise = self.file("noise.orsr", record(session(NOISE, [1000000])))
         ran = tool("film", noise, "--every", 1000, "--frames", 5)
-        self.assertEqual((ran.errors, ran.status), ("film: the film ends at count 4,000 of 1,000,000, since it has 5 frames\n", 0))
+        self.assertEqual((ran.errors, ran.status), ("galluspa film: the film ends at count 4,000 of 1,000,000, since it has 5 frames\n", 0))
         self.assertEqual(len(self.frames(ran.output)), 5)
         ran = tool("film", noise, "--every", 1000, "--frames", 1001)
         self.assertEqual((ran.errors, len(self.frames(ran.output))), ("", 1001))
         ran = tool("film", noise, "--every", 1, "--limit", 1, "--frames", 10000)
-        self.assertRegex(ran.errors, r"^film: no answer in 1 s: the film ends at count [\d,]+ of 1,000,000\n$")
+        self.assertRegex(ran.errors, r"^galluspa film: no answer in 1 s: the film ends at count [\d,]+ of 1,000,000\n$")
 
     def test_a_film_is_full(self) -> None:
         film, source = Film(1), random.Random(1)
@@ -107,9 +107,9 @@ class FilmTest(ToolTest):
         self.assert_refused(tool("film", stored, "--ms", 70000), "'70000' is not a whole number")
         self.assert_refused(tool("film", stored, "-o", self.folder / "none/it.png"), "No such file or directory")
         ran = tool("film", stored, "-o", "/dev/full")
-        self.assertEqual((ran.errors, ran.status), ("film: /dev/full: No space left on device\n", 3))
+        self.assertEqual((ran.errors, ran.status), ("galluspa film: /dev/full: No space left on device\n", 3))
 
     def test_a_disk_that_is_full_is_told(self) -> None:
         with open("/dev/full", "wb") as full:
-            ran = subprocess.run([TOOLS / "film", FACE], stdout=full, stderr=subprocess.PIPE, check=False)
-        self.assertEqual((ran.returncode, ran.stderr), (3, b"film: standard output: No space left on device\n"))
+            ran = subprocess.run([GALLUSPA, "film", FACE], stdout=full, stderr=subprocess.PIPE, check=False)
+        self.assertEqual((ran.returncode, ran.stderr), (3, b"galluspa film: standard output: No space left on device\n"))

@@ -1,4 +1,4 @@
-"""tools/find: each condition against the instructions one by one, segments side by side, and what is refused."""
+"""galluspa find: each condition against the instructions one by one, segments side by side, and what is refused."""
 
 import json
 import random
@@ -11,13 +11,13 @@ from unittest import mock
 
 from galluspa import finding, recording
 from galluspa.command import Refused
-from galluspa.conditions import BECOMES, SENDS, conditions_of
+from galluspa.conditions import BECOMES, COUNTER, SENDS, TAKES, WRITTEN, conditions_of
 from galluspa.finding import KEPT, Search
 from galluspa.instructions import address, is_store
 from galluspa.library import Library
 from galluspa.limits import TimeIsUp
 from galluspa.tracing import Run, Step
-from of_tools.samples import EXAMPLES, JUMP, STORED, TOOLS, ToolTest, claim, encoded, on_terminal, record, rejoining, session, tool
+from of_tools.samples import EXAMPLES, GALLUSPA, JUMP, STORED, ToolTest, claim, encoded, on_terminal, record, rejoining, session, tool
 
 FACE = EXAMPLES / "face.orsr"
 # R1 := -56; R2 := 10; R2 := R2 - 1 until it is 0; R0 := 65 is sent and stored at 400; a jump to itself.
@@ -142,6 +142,20 @@ class ConditionsTest(ToolTest):
         for words in (["sent", "H=5"], ["sent", "H", "5"], ["sent H = 5"], ["sent", "h=-5"]):
             self.assertEqual([it.raws[0].kind for it in conditions_of(words)], [SENDS, BECOMES], words)
 
+    def test_a_device_that_becomes_a_value_may_follow_an_input(self) -> None:
+        """What follows `input` is its kind only if no value is assigned to it."""
+        for name in ("switches", "mouse", "serial"):
+            taken, *rest = WRITTEN[name]
+            for words in (["input", f"{name}=3"], [f"input {name} = 3"], ["input", f"{name}=0x3"]):
+                self.assertEqual([it.text for it in conditions_of(words)], ["input", words[-1].removeprefix("input ").replace(" ", "")], words)
+                self.assertEqual([len(it.raws) for it in conditions_of(words)], [5, 1 + len(rest)], words)
+            for words in (["input", name, f"{name}=3"], [f"input={name}", f"{name}=3"]):
+                self.assertEqual([it.raws for it in conditions_of(words)], [(taken,), WRITTEN[name]], words)
+            self.assertEqual([it.raws[0].kind for it in conditions_of(["input", name, "3"])], [TAKES, COUNTER])
+        for words in (["input", "timer=3"], ["input", "key=3"]):
+            with self.assertRaisesRegex(Refused, "expected input alone, or with one of"):
+                conditions_of(words)
+
     def test_there_are_no_more_than_the_library_takes(self) -> None:
         conditions_of(["sent"] * 64)
         conditions_of(["input"] * 12)
@@ -162,8 +176,8 @@ class FindTest(ToolTest):
 
     def test_the_example_finds_something(self) -> None:
         example = tool("find", "--help").output.decode().splitlines()[-1].split()
-        self.assertEqual(example[:2], ["tools/find", "examples/face.orsr"])
-        self.assertEqual(len(self.found(FACE, *example[2:])), 1)
+        self.assertEqual(example[:3], ["galluspa", "find", "examples/face.orsr"])
+        self.assertEqual(len(self.found(FACE, *example[3:])), 1)
 
     def test_the_first_the_last_and_all_are_shown_as_a_trace_shows_them(self) -> None:
         made = self.file("it.orsr", record(session(COUNTING, [40, 100], [(80, "key", 65)])))
@@ -180,16 +194,16 @@ class FindTest(ToolTest):
         made = self.file("it.orsr", record(session(COUNTING, [4000])))
         ran = tool("find", made, "--all", "PC=1", "--most", 3)
         self.assertEqual([line.split()[0] for line in ran.output.splitlines()], [b"1", b"4", b"7"])
-        self.assertEqual((ran.errors, ran.status), ("find: there are more than these 3: --most N prints more, and --from 10 goes on\n", 0))
+        self.assertEqual((ran.errors, ran.status), ("galluspa find: printed the first 3: use --most N for more, or --from 10 to go on\n", 0))
         self.assertEqual(len(tool("find", made, "--all", "PC=1").output.splitlines()), 1000)
         self.assertEqual(len(self.found(made, "--all", "PC=1", "--most", KEPT + 1, "-j", 2)), 1333)
 
     def test_what_does_not_come_about_is_told(self) -> None:
         ran = tool("find", self.file("it.orsr", record(session(COUNTING, [40]))), "stop", "sent", "R5=7", "store", "Mem[000400]")
         self.assertEqual((ran.output, ran.status), (b"", 1))
-        self.assertEqual(ran.errors, "find: stop or sent or R5=7 or store Mem[000400] does not come about from 0 to 40\n")
+        self.assertEqual(ran.errors, "galluspa find: no stop or sent or R5=7 or store Mem[000400] in 0..40\n")
         ran = tool("find", self.file("it.orsr", record(session([0x600B0000], [1 << 40]))), "--last", "PC=5")
-        self.assertEqual((ran.errors, ran.status), (f"find: PC=5 does not come about from 0 to {1 << 40}: the machine has stopped\n", 1))
+        self.assertEqual((ran.errors, ran.status), (f"galluspa find: no PC=5 in 0..{1 << 40}: the machine has stopped\n", 1))
 
     def test_segments_are_searched_side_by_side(self) -> None:
         counts = [*range(1_000_000, 12_000_001, 1_000_000)]
@@ -219,7 +233,7 @@ class FindTest(ToolTest):
         made = self.file("it.orsr", record(session(COUNTING, [3_000_000])))
         told = on_terminal("find", made, "R5=9")
         self.assertRegex(told, rb"searched 524,288 of 3,000,000\r")
-        self.assertRegex(told, rb"\x1b\[K\rfind: R5=9 does not come about from 0 to 3000000\r\n$")
+        self.assertRegex(told, rb"\x1b\[K\rgalluspa find: no R5=9 in 0\.\.3000000\r\n$")
 
     def endless(self) -> tuple[object, ...]:
         """A recording of billions of instructions, and the option that names a program that accepts it at once."""
@@ -230,12 +244,12 @@ class FindTest(ToolTest):
 
     def test_what_there_is_no_time_for_is_told(self) -> None:
         for words, told in (
-            ("R5=9", r"R5=9 does not come about from 0 to \d+"), ("--last R5=9 -j 1", "nothing is searched yet"),
-            ("--last R5=9 -j 4", "nothing is searched yet"), (f"--all R0=9 --to {1 << 33}", r"the search came to \d{7,}"),
-            ("--all R0=9 -j 4", r"the search came to \d{7,}"),
+            ("R5=9", r"no R5=9 in 0\.\.\d+"), ("--last R5=9 -j 1", "searched nothing yet"),
+            ("--last R5=9 -j 4", "searched nothing yet"), (f"--all R0=9 --to {1 << 33}", r"searched 0\.\.\d{7,}"),
+            ("--all R0=9 -j 4", r"searched 0\.\.\d{7,}"),
         ):
             ran = tool("find", *self.endless(), *words.split(), "--limit", 2)
-            self.assertRegex(ran.errors, rf"^find: no answer in 2 s: {told}\n$")
+            self.assertRegex(ran.errors, rf"^galluspa find: no answer in 2 s: {told}\n$")
             self.assertEqual((ran.status, [line.split()[0] for line in ran.output.splitlines()]), (3, [b"24"] if "--all" in words else []))
 
     def test_how_far_a_search_came(self) -> None:
@@ -256,7 +270,7 @@ class FindTest(ToolTest):
     def test_a_signal_ends_it_at_once(self) -> None:
         for jobs in (1, 4):
             for number, status in ((signal.SIGINT, 130), (signal.SIGTERM, 143)):
-                command = [str(it) for it in (TOOLS / "find", *self.endless(), "R5=9", "-j", jobs)]
+                command = [str(it) for it in (GALLUSPA, "find", *self.endless(), "R5=9", "-j", jobs)]
                 begun = subprocess.Popen(command, stdout=subprocess.PIPE, stderr=subprocess.PIPE)
                 time.sleep(1.5)
                 begun.send_signal(number)
@@ -268,8 +282,8 @@ class FindTest(ToolTest):
         made = self.file("it.orsr", record(session(COUNTING, [4000])))
         with open("/dev/full", "wb") as full:
             for words in (["PC=1"], ["PC=1", "--all", "--most", "100000"]):
-                ran = subprocess.run([TOOLS / "find", made, *words], stdout=full, stderr=subprocess.PIPE, check=False)
-                self.assertEqual((ran.returncode, ran.stderr), (3, b"find: standard output: No space left on device\n"))
+                ran = subprocess.run([GALLUSPA, "find", made, *words], stdout=full, stderr=subprocess.PIPE, check=False)
+                self.assertEqual((ran.returncode, ran.stderr), (3, b"galluspa find: standard output: No space left on device\n"))
 
     def test_devices_have_names(self) -> None:
         keys = self.file("keys.orsr", record((EXAMPLES / "keys.json").read_bytes()))
@@ -296,7 +310,7 @@ class FindTest(ToolTest):
             ran, alone = tool("trace", keys, "--until", quoted), tool("trace", keys, "--until", *words)
             self.assertEqual((ran.output, ran.errors, ran.status), (alone.output, "", 0))
         for text in ("", " "):
-            self.assert_refused(tool("find", keys, text), "no condition: want PC=N")
+            self.assert_refused(tool("find", keys, text), "no condition: expected PC=N")
 
     def test_refuses_bad_input(self) -> None:
         stored = self.file("stored.orsr", STORED)
@@ -306,8 +320,8 @@ class FindTest(ToolTest):
         self.assert_refused(tool("find", self.file("short.orsr", STORED[:-1]), "stop"), "refused 1 short at byte 9503")
         for words, told in (
             ("--from 101", "--from 101 is after the last checkpoint, which is at 100"), ("--to 101", "--to 101 is after the last checkpoint, which is at 100"),
-            ("--from 5 --to 5", "no count is from 5 up to but not including 5"), ("--from 100", "no count is from 100 up to but not including 100"),
-            ("--from 6 --to 5", "no count is from 6"), ("--most 5", "--most is for --all"), ("--last --all", "not allowed with"),
+            ("--from 5 --to 5", "--to 5 must come after --from 5"), ("--from 100", "--from 100 is at the last checkpoint: give an earlier count"),
+            ("--from 6 --to 5", "--to 5 must come after --from 6"), ("--most 5", "use --most with --all"), ("--last --all", "not allowed with"),
             ("-j 0", "'0' is not a whole number from 1 to 64"), ("-j 65", "'65' is not a whole number"), ("--library none", "no library at none"),
         ):
             self.assert_refused(tool("find", stored, "stop", *words.split()), told)
@@ -315,33 +329,32 @@ class FindTest(ToolTest):
             self.assert_refused(tool("find", stored, *words.split()), told)
 
 
-PROGRAMS_NAME = ("not a number, and names of a program are not known here: tools/assemble FILE --words has the number of each word, a quarter of "
-                 "its address")
+PROGRAMS_NAME = "not a number, and there is no symbol file: --symbols FILE gives names to addresses, and galluspa assemble FILE --symbols NAME.sym"
 # Conditions that are none, and what is told of them.
 REFUSED: Sequence[tuple[str, str]] = (
-    ("R16=1", "R16: want PC=N; store, load or change with a PLACE; NAME=VALUE"), ("stops", "stops: want PC=N"), ("timer=5", "timer: want PC=N"),
-    ("R1=", "R1: want a number, decimal or hexadecimal with 0x in front"), ("R1", "R1: want a number"), ("r1=x", "r1 x: want a number"),
-    ("store", "store: want a PLACE: an address or FIRST-LAST, a device such as KEY, page N, or dot X,Y; a number is decimal"), ("change", "change: want a PLACE"),
-    ("PC=", "PC: want a number"), ("PC=5-", "PC 5-: want a number"), ("5-x", "5-x: want PC=N"), ("store E7F00", "store E7F00: write 0xE7F00: numbers are decimal, or have 0x in front"),
+    ("R16=1", "R16: expected PC=N; store, load or change with a PLACE; NAME=VALUE"), ("stops", "stops: expected PC=N"), ("timer=5", "timer: expected PC=N"),
+    ("R1=", "R1: expected a number, decimal or hexadecimal with 0x in front"), ("R1", "R1: expected a number"), ("r1=x", "r1 x: expected a number"),
+    ("store", "store: expected a PLACE: an address or FIRST-LAST, a device such as KEY, page N, or dot X,Y; a number is decimal"), ("change", "change: expected a PLACE"),
+    ("PC=", "PC: expected a number"), ("PC=5-", "PC 5-: expected a number"), ("5-x", "5-x: expected PC=N"), ("store E7F00", "store E7F00: write 0xE7F00: numbers are decimal, or have 0x in front"),
     ("load 0FFFFDCH", "load 0FFFFDCH: write 0xFFFFDC: numbers"), ("load $FFDC", "load $FFDC: write 0xFFDC: numbers"), ("PC=1fH", "PC 1fH: write 0x1f"),
     ("PC=handle", f"PC handle: handle is {PROGRAMS_NAME}"), ("store handle", f"store handle: handle is {PROGRAMS_NAME}"), ("PC=KEY", "KEY is not a number, and"),
-    ("load -65", "load -65: want a PLACE"), ("load -0", "load -0: want a PLACE"), ("change KEY", "change KEY: an address is below 100000 (hexadecimal)"),
-    ("sent k", "sent k: want a byte as its number, which is 107"), ("sent 'k'", "sent 'k': want a byte as its number, which is 107"),
-    ("sent H", "sent H: want a byte as its number, which is 72, or H=VALUE for the register"), ("sent h stop", "sent h: want a byte as its number, which is 104, or h=VALUE"),
-    ("sent H=x", "sent H: want a byte as its number, which is 72, or H=VALUE"), ("sent 'H' 5", "sent 'H': want a byte as its number, which is 72"),
-    ("store page x", "store page x: want a number"), ("sent stop R1", "R1: want a number"),
-    ("input pen", "input pen: want input alone, or with one of timer, switches, mouse, key, serial"), ("input stop pen", "pen: want PC=N"),
+    ("load -65", "load -65: expected a PLACE"), ("load -0", "load -0: expected a PLACE"), ("change KEY", "change KEY: an address is below 100000 (hexadecimal)"),
+    ("sent k", "sent k: expected a byte as its number, which is 107"), ("sent 'k'", "sent 'k': expected a byte as its number, which is 107"),
+    ("sent H", "sent H: expected a byte as its number, which is 72, or H=VALUE for the register"), ("sent h stop", "sent h: expected a byte as its number, which is 104, or h=VALUE"),
+    ("sent H=x", "sent H: expected a byte as its number, which is 72, or H=VALUE"), ("sent 'H' 5", "sent 'H': expected a byte as its number, which is 72"),
+    ("store page x", "store page x: expected a number"), ("sent stop R1", "R1: expected a number"),
+    ("input pen", "input pen: expected input alone, or with one of timer, switches, mouse, key, serial"), ("input stop pen", "pen: expected PC=N"),
     ("PC=4194304", "PC 4194304: a PC is below 4,194,304 (400000 hexadecimal)"),
     ("0x400000", "0x400000: a PC is below"), ("PC=5-3", "PC 5-3: nothing is from 5 to 3"), ("store 9-7", "store 9-7: nothing is from 9 to 7"),
-    ("R1=-0x80000001", "R1 can have no bit but"), ("LEDs=-1", "LEDs can have no bit but"), ("R1=-", "R1 -: want a number"),
+    ("R1=-0x80000001", "R1 can have no bit but"), ("LEDs=-1", "LEDs can have no bit but"), ("R1=-", "R1 -: expected a number"),
     ("R1=0x100000000", "R1 can have no bit but those of FFFFFFFF (hexadecimal)"), ("flags=16", "flags can have no bit but those of F "),
-    ("flags=X", "flags X: want a number, decimal or hexadecimal with 0x in front, or letters of NZCV"), ("LEDs=256", "LEDs can have no bit but those of FF "), ("mouse=0x400", "mouse can have no bit but"),
+    ("flags=X", "flags X: expected a number, decimal or hexadecimal with 0x in front, or letters of NZCV"), ("LEDs=256", "LEDs can have no bit but those of FF "), ("mouse=0x400", "mouse can have no bit but"),
     ("store 0x100000", "store 0x100000: an address is below 100000, or is that of a device, from FFFFC0 on (hexadecimal)"),
     ("load 0xFFFFC-0x100000", "an address is below 100000, or is that of a device"), ("store 0x1000000", "an address is below 16,777,216"),
     ("change 0xFFFFC4", "change 0xFFFFC4: an address is below 100000 (hexadecimal)"), ("store page 1024", "a page is below 1,024"),
-    ("store dot 1024,0", "want dot X,Y, with X below 1024 and Y below 768"), ("store dot 0,768", "want dot X,Y"), ("store dot 5", "want dot X,Y"),
-    ("change 4 mask 0", "want a mask from 1 to FFFFFFFF"), ("change 4 mask", "want a mask"), ("change 4 mask 0x100000000", "want a mask"),
-    ("sent 256", "sent 256: a byte is at most FF (hexadecimal)"), ("store Mem[xyz]", "store Mem[xyz]: want"), ("=", "=: want PC=N"),
+    ("store dot 1024,0", "expected dot X,Y, with X below 1024 and Y below 768"), ("store dot 0,768", "expected dot X,Y"), ("store dot 5", "expected dot X,Y"),
+    ("change 4 mask 0", "expected a mask from 1 to FFFFFFFF"), ("change 4 mask", "expected a mask"), ("change 4 mask 0x100000000", "expected a mask"),
+    ("sent 256", "sent 256: a byte is at most FF (hexadecimal)"), ("store Mem[xyz]", "store Mem[xyz]: expected"), ("=", "=: expected PC=N"),
 )
 
 

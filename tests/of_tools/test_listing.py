@@ -1,4 +1,4 @@
-"""tools/listing, against the tables of the examples."""
+"""galluspa listing, against the tables of the examples."""
 
 import re
 from collections.abc import Iterator

@@ -1,11 +1,11 @@
-"""tools/output: the bytes that a recording claims were sent, all of them and those of a checkpoint."""
+"""galluspa output: the bytes that a recording claims were sent, all of them and those of a checkpoint."""
 
 import os
 import pty
 import subprocess
 
 from galluspa.recording import page_of
-from of_tools.samples import EXAMPLES, JUMP, STORED, TOOLS, ToolTest, claim, encoded, record, tool
+from of_tools.samples import EXAMPLES, GALLUSPA, JUMP, STORED, ToolTest, claim, encoded, record, tool
 
 
 class OutputTest(ToolTest):
@@ -32,7 +32,7 @@ class OutputTest(ToolTest):
             text = self.file("it.orsr", encoded(2, [page_of(JUMP)], [claim(0), claim(5, output=sent)]))
             reader, terminal = pty.openpty()
             with open(terminal, "wb") as shown:
-                ran = subprocess.run([TOOLS / "output", text], stdout=shown, stderr=subprocess.PIPE, check=False)
+                ran = subprocess.run([GALLUSPA, "output", text], stdout=shown, stderr=subprocess.PIPE, check=False)
                 told = os.read(reader, 100) if status == 0 else b""
             os.close(reader)
             self.assertEqual((ran.returncode, told), (status, sent.replace(b"\n", b"\r\n") if status == 0 else b""))

@@ -1,4 +1,4 @@
-"""tools/package: installed on a clean root, used, and removed without a trace; manual pages and completion."""
+"""galluspa package: installed on a clean root, used, and removed without a trace; manual pages and completion."""
 
 import os
 import re
@@ -8,9 +8,10 @@ import unittest
 from pathlib import Path
 
 from galluspa.command import Refused
-from galluspa.manual import page, tools_of
-from galluspa.packages import library_folder
-from of_tools.samples import EXAMPLES, STORED, TOOLS, Ran, ToolTest, run, tool
+from galluspa.commands import commands
+from galluspa.manual import page
+from galluspa.packages import EARLIER_COMMANDS, library_folder
+from of_tools.samples import EXAMPLES, STORED, Ran, ToolTest, run, tool
 
 
 LINK = re.compile(r"\]\(([^)#:]+)(?:#[^)]*)?\)")
@@ -29,17 +30,22 @@ class WordsTest(ToolTest):
     def test_helps(self) -> None:
         self.assert_helps("package")
 
-    def test_each_tool_has_a_manual_page_without_a_fault(self) -> None:
-        tools = tools_of(TOOLS)
-        self.assertIn("suite", [it.name for it in tools])
-        for it in tools:
-            made = self.file(f"galluspa-{it.name}.1", page(it, "November 24, 2026"))
+    def test_the_manual_page_has_each_subcommand_and_no_fault(self) -> None:
+        for is_clone in (False, True):
+            there = commands(is_clone)
+            made = self.file("galluspa.1", page(there, "November 24, 2026"))
             ran = run(["mandoc", "-Tlint", "-W", "style", made])
             told = [line for line in ran.output.decode().splitlines() if "referenced manual not found" not in line]
-            self.assertEqual((told, ran.errors), ([], ""), it.name)
+            self.assertEqual((told, ran.errors), ([], ""))
             shown = re.sub(".\b", "", run(["mandoc", "-Tascii", made]).output.decode())
-            for action in it.options:
-                self.assertIn(max(action.option_strings, key=len), shown)
+            sections = re.split(r"^   galluspa ([a-z-]+)$", shown, flags=re.MULTILINE)
+            self.assertEqual(sections[1::2], [it.name for it in there])
+            for it, section in zip(there, sections[2::2], strict=True):
+                self.assertIn(f"\n     {it.name:15}", sections[0])
+                for action in it.parser()._actions:
+                    if action.dest != "help":
+                        self.assertIn(max(action.option_strings, key=len, default=str(action.metavar)), section)
+        self.assertNotEqual(commands(False), commands(True))
 
     def test_refuses_bad_input(self) -> None:
         self.assert_refused(tool("package"), "--into")
@@ -119,27 +125,33 @@ class PackageTest(ToolTest):
         for command in commands:
             ran = run([*command, face])
             self.assertEqual((ran.output, ran.status), (line, 0))
-        for name in ("oberon_replay", "galluspa-suite", "galluspa-slice"):
+        for name in ("oberon_replay", "galluspa"):
             self.assertTrue((prefix / f"share/man/man1/{name}.1.gz").is_file())
         self.assertEqual(self.completed(prefix, "oberon_replay", "re"), ["record"])
         self.assertEqual(self.completed(prefix, "oberon_replay", "check", "--w"), ["--workers"])
         self.assertEqual(self.completed(prefix, "galluspa-suite", "--ju"), ["--junit"])
         self.assertEqual(self.completed(prefix, "galluspa-suite", "ex"), [])
         self.assertEqual(self.completed(prefix, "galluspa", "rec"), ["record", "recording-of"])
+        self.assertEqual(self.completed(prefix, "galluspa", "hel"), ["help"])
         self.assertEqual(self.completed(prefix, "galluspa", "suite", "--ju"), ["--junit"])
+        self.assertEqual(self.completed(prefix, "galluspa", "check", "--"), ["--help", "--workers", "--cut", "--program"])
+        self.assertEqual(self.completed(prefix, "oberon_replay", "check", "--"), ["--workers", "--cut", "--help"])
+        self.assertEqual(self.completed(prefix, "oberon_replay", "suite", "--ju"), [])
         self.assertFalse(list(prefix.rglob("__pycache__")))
 
     def assert_named(self, prefix: Path) -> None:
-        """Each tool names itself, and others, as it is installed."""
-        names = sorted(path.name for path in (prefix / "bin").iterdir() if path.name != "oberon_replay")
-        self.assertEqual(names, ["galluspa", *(f"galluspa-{it.name}" for it in tools_of(TOOLS) if it.name not in
-                                               ("main", "build-library", "package"))])
-        for name in names:
-            ran = run([prefix / "bin" / name, "--help"])
-            self.assertTrue(ran.output.startswith(f"usage: {name} ".encode()), ran.output)
+        """Each subcommand names itself as it is typed, also by its earlier name, and those of a clone are not there."""
+        names = sorted(path.name for path in (prefix / "bin").iterdir())
+        self.assertEqual(names, ["galluspa", *(f"galluspa-{name}" for name in EARLIER_COMMANDS), "oberon_replay"])
+        self.assertLess(set(EARLIER_COMMANDS), {it.name for it in commands(False)})
+        for it in commands(False):
+            ran = run([prefix / "bin/galluspa", it.name, "--help"])
+            self.assertTrue(ran.output.startswith(f"usage: galluspa {it.name} ".encode()), ran.output)
             self.assertNotIn(b"tools/", ran.output)
-        for name in ("galluspa", "galluspa-suite"):
-            self.assertTrue(run([prefix / "bin" / name, "--bad"]).errors.startswith(f"{name}: "))
+        self.assertEqual(run([prefix / "bin/galluspa-find", "--help"]), run([prefix / "bin/galluspa", "find", "--help"]))
+        self.assertTrue(run([prefix / "bin/galluspa-suite", "--bad"]).errors.startswith("galluspa suite: "))
+        self.assertNotIn(b"build-library", run([prefix / "bin/galluspa", "--help"]).output)
+        self.assertIn("package: neither a file nor a command", run([prefix / "bin/galluspa", "package"]).errors)
 
     def assert_opens(self, prefix: Path) -> None:
         """The command `galluspa` opens files, the tools and the live page."""

@@ -74,7 +74,7 @@ class RecipesTest(ToolTest):
     def environment(self) -> dict[str, str]:
         """Where the program, the servers' words and no bytecode are found."""
         return {
-            **os.environ, "PATH": f"{self.folder}/bin:{FOUND}", "PYTHONDONTWRITEBYTECODE": "1",
+            **os.environ, "PATH": f"{self.folder}/bin:{TOP}:{FOUND}", "PYTHONDONTWRITEBYTECODE": "1",
             "SLURM_CONF": f"{self.folder}/slurm.conf", "PARALLEL_SSH": f"ssh -F {self.folder}/ssh_config",
         }
 
@@ -193,7 +193,7 @@ class SlurmTest(RecipesTest):
         self.killing(True)
         ran = self.run_recipe("stretches")
         self.assertEqual(ran.status, 2)
-        self.assertIn("0-1.line: not a line of 0-1.orsr", ran.errors)
+        self.assertIn("0-1.line: not a verdict line of 0-1.orsr", ran.errors)
         self.killing(False)
         self.assertEqual(self.run_recipe("stretches").status, 1)
 

@@ -1,4 +1,4 @@
-"""tools/recording-of: the recording in a live report comes out as it went in, and no page makes the tool grow or hang."""
+"""galluspa recording-of: the recording in a live report comes out as it went in, and no page makes the tool grow or hang."""
 
 import base64
 import gzip
@@ -28,11 +28,11 @@ class RecordingOfTest(ToolTest):
     def test_refuses_bad_input(self) -> None:
         self.assert_refused(tool("recording-of"), "PAGE")
         self.assert_refused(tool("recording-of", self.folder / "none"), "No such file")
-        self.assert_refused(tool("recording-of", self.report(STORED)), "it holds no recording")
+        self.assert_refused(tool("recording-of", self.report(STORED)), "no recording in this page")
         whole = gzip.compress(STORED)
-        self.assert_refused(tool("recording-of", self.page(whole, whole)), "it holds 2 recordings")
+        self.assert_refused(tool("recording-of", self.page(whole, whole)), "2 recordings in this page")
         bomb = gzip.compress(bytes(120_000_000), 1)
-        for packed, told in ((b"ORSR", "can't be unpacked"), (whole[:-20], "is cut off"), (bomb, "longer")):
+        for packed, told in ((b"ORSR", "is not compressed data"), (whole[:-20], "is cut off"), (bomb, "longer")):
             self.assert_refused(tool("recording-of", self.page(packed)), told)
         odd = self.file("page.html", b'<script type="text/plain" id="g-recording">\xff</script>')
-        self.assert_refused(tool("recording-of", odd), "unpacked")
+        self.assert_refused(tool("recording-of", odd), "is not compressed data")

@@ -1,4 +1,4 @@
-"""tools/report, its page in a real browser."""
+"""galluspa report, its page in a real browser."""
 
 import base64
 import html
@@ -86,7 +86,7 @@ class ReportWordsTest(ReportTest):
         self.assert_refused(tool("report", stored, "--program", "/bin/none"), "no program at /bin/none")
         self.assert_refused(tool("report", stored, "--bad"), "--bad")
 
-        self.assert_refused(tool("report", stored, "--text", "--live"), "a text can't check a recording again")
+        self.assert_refused(tool("report", stored, "--text", "--live"), "a text cannot check a recording again")
 
     def test_pages_may_load_and_run_nothing(self) -> None:
         policy = """<meta http-equiv="Content-Security-Policy" content="default-src 'none'; style-src 'unsafe-inline'; """
@@ -273,7 +273,7 @@ class ReportInBrowserTest(ReportTest):
             line = run([PROGRAM, "check"], text).output.decode().rstrip("\n")
             expected = f"Computed in this browser: {line}, the line of this report"
             with self.running.page(self.report(text, name, "--live")) as page:
-                for other in (None, "openExample('draw')", "openBytes('other.orsr', EXAMPLES && new Uint8Array(3))"):
+                for other in (None, "openExample('draw')", "openBytes('other.orsr', new Uint8Array(3))"):
                     page.answer("document.querySelector('#again').textContent = ''")
                     if other:
                         page.answer(other)

@@ -1,4 +1,4 @@
-"""tools/session, both ways."""
+"""galluspa session, both ways."""
 
 import json
 import struct
@@ -108,7 +108,7 @@ class SessionTest(ToolTest):
             self.assertEqual((ran.status, ran.errors), (0, ""))
             place = ("--memory", image, "--at", at, "--checkpoints", 1)
             ran = tool("session", *place, "--set", f"PC={pc}")
-            self.assertRegex(ran.errors, f"warning: PC is .*; if it is a byte address, want PC={pc // 4:,}\n$")
+            self.assertRegex(ran.errors, f"warning: PC is .*; if it is a byte address, use PC={pc // 4:,}\n$")
             self.assertEqual(tool("session", *place, "--set", f"PC={pc // 4}").errors, "")
 
     def test_refuses_bad_input(self) -> None:
@@ -117,7 +117,7 @@ class SessionTest(ToolTest):
         self.assert_refused(tool("session"), "--memory")
         self.assert_refused(tool("session", "--memory", image), "checkpoints")
         self.assert_refused(tool("session", "--memory", image, "--every", 5), "--until")
-        self.assert_refused(tool("session", "--memory", image, *every, "--checkpoints", "1"), "either")
+        self.assert_refused(tool("session", "--memory", image, *every, "--checkpoints", "1"), "name the checkpoints: ")
         self.assert_refused(tool("session", "--memory", image, "--every", 1, "--until", 5000), "5,000 checkpoints")
         self.assert_refused(tool("session", "--memory", image, "--every", 9, "--until", 5), "0 checkpoints")
         self.assert_refused(tool("session", "--memory", image, "--checkpoints", "5,5"), "'5' is not a count from 6")
@@ -130,7 +130,7 @@ class SessionTest(ToolTest):
             words = ["--set", f"rate={rate}", "--set", f"phase={phase}"]
             self.assert_refused(tool("session", "--memory", image, *every, *words), f"phase {phase} is not below")
         self.assert_refused(tool("session", "--of", self.file("short.orsr", STORED[:-1])), "refused 1 short at byte 9503")
-        self.assert_refused(tool("session", "--of", self.file("it.orsr", STORED), "--set", "R1=1"), "--of takes all")
+        self.assert_refused(tool("session", "--of", self.file("it.orsr", STORED), "--set", "R1=1"), "--of takes everything")
 
     def test_refuses_bad_inputs(self) -> None:
         for line, told in (

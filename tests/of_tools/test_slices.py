@@ -1,4 +1,4 @@
-"""tools/slice and tools/join: the slices of a recording, and the line of the whole from theirs."""
+"""galluspa slice and galluspa join: the slices of a recording, and the line of the whole from theirs."""
 
 from itertools import pairwise
 from pathlib import Path
@@ -55,7 +55,7 @@ class SliceTest(SlicesTest):
 
     def test_refuses_bad_input(self) -> None:
         self.assert_refused(tool("slice", FACE), "--from")
-        self.assert_refused(tool("slice", FACE, "--from", 2, "--to", 2), "want a later checkpoint")
+        self.assert_refused(tool("slice", FACE, "--from", 2, "--to", 2), "--to 2 must come after --from 2")
         self.assert_refused(tool("slice", FACE, "--from", 2, "--to", 5), "no checkpoint 5")
         self.assert_refused(tool("slice", self.file("short.orsr", b"ORSR"), "--from", 0, "--to", 1), "refused 1 short")
 
@@ -105,14 +105,14 @@ class JoinTest(SlicesTest):
     def test_refuses_what_does_not_make_a_whole(self) -> None:
         pieces = [self.stretch(FACE, at, at + 1) for at in range(4)]
         self.assert_refused(tool("join", FACE), "I-J.orsr")
-        self.assert_refused(tool("join", FACE, *pieces[:2], pieces[3]), "no line is of the stretch from checkpoint 2 to 3")
-        self.assert_refused(tool("join", FACE, self.file("7-9.orsr", b"")), "want a name as 0-2.orsr")
-        self.assert_refused(tool("join", FACE, self.file("first.orsr", b"")), "want a name as 0-2.orsr")
+        self.assert_refused(tool("join", FACE, *pieces[:2], pieces[3]), "no slice covers checkpoint 2 to 3")
+        self.assert_refused(tool("join", FACE, self.file("7-9.orsr", b"")), "name it I-J.orsr, after two checkpoints of ")
+        self.assert_refused(tool("join", FACE, self.file("first.orsr", b"")), "name it I-J.orsr, after two checkpoints of ")
         other = self.file("other/0-1.orsr", pieces[1].read_bytes())
-        self.assert_refused(tool("join", FACE, other), "not the stretch of", "from checkpoint 0 to 1")
+        self.assert_refused(tool("join", FACE, other), "not the slice of", "from checkpoint 0 to 1")
         for line in ("accepted 1 checkpoints 3999999 steps", "accepted 2 checkpoints 4000000 steps", "no memory",
                      "false checkpoint 2 at 4000000 part R5", "false checkpoint 1 at 3 part R5", "refused 1 short at byte 4"):
             self.file("0-1.line", line + "\n")
-            self.assert_refused(tool("join", FACE, *pieces), "0-1.line: not a line of 0-1.orsr")
+            self.assert_refused(tool("join", FACE, *pieces), "0-1.line: not a verdict line of 0-1.orsr")
         (self.folder / "0-1.line").unlink()
         self.assert_refused(tool("join", FACE, *pieces), "0-1.line: No such file")

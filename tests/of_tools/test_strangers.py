@@ -15,7 +15,7 @@ from xml.etree import ElementTree
 
 from galluspa.recording import page_of
 from of_tools.samples import (
-    EXAMPLES, JUMP, PROGRAM, STORED, TOOLS, Ran, ToolTest, claim, encoded, on_terminal, record, rejoining, run, session, tool,
+    EXAMPLES, GALLUSPA, JUMP, PROGRAM, STORED, Ran, ToolTest, claim, encoded, on_terminal, record, rejoining, run, session, tool,
 )
 
 FACE = EXAMPLES / "face.orsr"
@@ -39,7 +39,8 @@ class OutputTest(ToolTest):
         self.file("suite/a.orsr", STORED)
         return [
             ["claim", FACE, "--at", 1, "--set", "R5=9"], ["coverage", self.folder / "suite"], ["explain", FACE],
-            ["diff", FACE, FACE], ["film", FACE], ["join", FACE, piece], ["listing", FACE], ["main", FACE], ["main", "--version"],
+            ["diff", FACE, FACE], ["film", FACE], ["join", FACE, piece], ["listing", FACE], ["check", FACE], ["--version"],
+            ["record", EXAMPLES / "keys.json"], ["screen", "--at", 1, FACE], ["migrate", FACE],
             ["output", self.file("hello.orsr", record((EXAMPLES / "hello.json").read_bytes()))], ["recording-of", live],
             ["report", FACE], ["report", "--help"], ["session", "--of", FACE], ["slice", FACE, "--from", 1, "--to", 2],
             ["suite", self.folder / "suite"],
@@ -47,7 +48,7 @@ class OutputTest(ToolTest):
 
     def ended(self, words: Sequence[object], output: Any, **options: Any) -> Ran:
         """A tool with this standard output."""
-        command = [str(TOOLS / str(words[0])), *map(str, words[1:])]
+        command = [str(GALLUSPA), *map(str, words)]
         ran = subprocess.run(command, stdout=output, stderr=subprocess.PIPE, check=False, **options)
         return Ran(b"", ran.stderr.decode(), ran.returncode)
 
@@ -56,14 +57,15 @@ class OutputTest(ToolTest):
         os.close(reader)
         self.addCleanup(os.close, broken)
         for words in self.commands():
+            name = "galluspa" if words[0] == "--version" else f"galluspa {words[0]}"
             with open("/dev/full", "wb") as full:
                 ran = self.ended(words, full)
-            self.assertEqual((ran.status, ran.errors), (3, f"{words[0]}: standard output: No space left on device\n"))
+            self.assertEqual((ran.status, ran.errors), (3, f"{name}: standard output: No space left on device\n"))
         for words in self.commands()[:4]:
             ran = self.ended(words, None, preexec_fn=lambda: os.close(1))
-            self.assertEqual((ran.status, ran.errors), (3, f"{words[0]}: standard output: Bad file descriptor\n"))
+            self.assertEqual((ran.status, ran.errors), (3, "galluspa: standard output: Bad file descriptor\n"))
             ran = self.ended(words, broken)
-            self.assertEqual((ran.status, ran.errors), (3, f"{words[0]}: standard output: Broken pipe\n"))
+            self.assertEqual((ran.status, ran.errors), (3, f"galluspa {words[0]}: standard output: Broken pipe\n"))
 
     def test_a_file_that_cannot_be_written_costs_the_others_nothing(self) -> None:
         self.file("a.orsr", STORED)
@@ -71,25 +73,28 @@ class OutputTest(ToolTest):
         ran = tool("suite", self.folder, "--junit", "/dev/full", "--keep", kept, "--page", self.folder / "none/page.html")
         self.assertEqual(ran.status, 2)
         self.assertEqual(ran.errors.splitlines(), [
-            "suite: /dev/full: No space left on device", f"suite: {self.folder}/none/page.html: No such file or directory"])
+            "galluspa suite: /dev/full: No space left on device", f"galluspa suite: {self.folder}/none/page.html: No such file or directory"])
         self.assertEqual(list(json.loads(kept.read_bytes())["recordings"]), ["a.orsr"])
         ran = tool("suite", self.folder, "--junit", "/dev/full")
-        self.assertEqual((ran.status, ran.errors), (3, "suite: /dev/full: No space left on device\n"))
+        self.assertEqual((ran.status, ran.errors), (3, "galluspa suite: /dev/full: No space left on device\n"))
 
     def test_bytes_go_on_no_terminal(self) -> None:
         reader, terminal = pty.openpty()
         self.addCleanup(os.close, reader)
         with open(terminal, "wb") as shown:
             ran = self.ended(["slice", FACE, "--from", 1, "--to", 2], shown)
-        self.assertEqual((ran.status, ran.errors), (2, "slice: what is printed is not text: send it into a file, with > FILE\n"))
+        self.assertEqual((ran.status, ran.errors), (2, "galluspa slice: the output is not text: write it into a file, with > FILE\n"))
 
 
 class NamesTest(ToolTest):
     def test_no_tool_shows_a_name_raw(self) -> None:
         path = self.file(HOSTILE, rejoining(9))
-        commands = [
+        commands: list[list[object]] = [
             ["claim", path, "--at", 9, "--set", "R5=9"], ["explain", path], ["join", path, path], ["listing", path],
-            ["main", path, path], ["recording-of", path], ["report", path], ["report", "--text", path], ["session", "--of", path],
+            ["check", path, path], [path, path], ["record", path], ["screen", "--at", 1, path, "-o", path / "none"],
+            ["migrate", path, "-o", path / "none"], [HOSTILE], ["help", HOSTILE], ["screen", "--at", HOSTILE, path],
+            ["check", "--workers", HOSTILE, path], ["recording-of", path], ["report", path], ["report", "--text", path],
+            ["session", "--of", path],
             ["session", "--memory", path, "--set", HOSTILE, "--every", 1, "--until", 1], ["slice", path, "--from", 1, "--to", 9],
             ["suite", path], ["coverage", path], ["suite", self.folder], ["coverage", self.folder],
             ["trace", path, "--until", HOSTILE], ["find", path, HOSTILE], ["find", path, "R5=9"], ["bisect", path, "--", HOSTILE, "{count}"],
@@ -98,7 +103,7 @@ class NamesTest(ToolTest):
         ]
         self.assert_shown(commands)
         self.file(HOSTILE, b"{")
-        self.assert_shown(it for it in commands if it[0] in ("explain", "listing", "main", "bisect"))
+        self.assert_shown(it for it in commands if it[0] in ("explain", "listing", "check", "record", "bisect"))
         self.assertEqual(raw(on_terminal("suite", self.folder)).strip(b"\r\x1b"), b"")
 
     def assert_shown(self, commands: Iterable[list[object]]) -> None:
@@ -145,7 +150,7 @@ class NamesTest(ToolTest):
             "accepted \u0664 checkpoints 20000000 steps",
         ):
             self.file("0-4.line", line + "\n")
-            self.assert_refused(tool("join", FACE, face), "not a line of 0-4.orsr")
+            self.assert_refused(tool("join", FACE, face), "not a verdict line of 0-4.orsr")
         for part in ("page 1023", "keys", "out", "LEDs"):
             self.file("0-4.line", f"false checkpoint 1 at 4000000 part {part}\n")
             self.assertEqual(tool("join", FACE, face).output.decode(), f"false checkpoint 1 at 4000000 part {part}\n")
@@ -272,11 +277,11 @@ class TimeTest(ToolTest):
         false = self.file("it.orsr", rejoining(9))
         limited = ("--limit", 1, "--program", self.slow())
         ran = tool("report", false, *limited)
-        self.assertEqual((ran.status, ran.errors), (3, "report: no answer in 1 s\n"))
+        self.assertEqual((ran.status, ran.errors), (3, "galluspa report: no answer in 1 s\n"))
         self.assertIn(b'class="bad">no answer in 1 s</h1>', ran.output)
         self.assertIn(b'id="checkpoint-2"', ran.output)
         ran = tool("explain", false, *limited)
-        self.assertEqual((ran.output, ran.errors, ran.status), (b"", "explain: no answer in 1 s\n", 3))
+        self.assertEqual((ran.output, ran.errors, ran.status), (b"", "galluspa explain: no answer in 1 s\n", 3))
         self.file("suite/a.orsr", STORED)
         self.file("suite/b.orsr", record(session([JUMP], [1000])))
         waiting = self.file("waiting", f"#!/bin/sh\n[ $1 = record ] && sleep 2\nexec {PROGRAM} \"$@\"\n")
@@ -305,9 +310,9 @@ class TimeTest(ToolTest):
         program.chmod(0o755)
         start = time.monotonic()
         with open("/dev/full", "wb") as full:
-            command = [str(it) for it in (TOOLS / "suite", self.folder / "suite", "--program", program)]
+            command = [str(it) for it in (GALLUSPA, "suite", self.folder / "suite", "--program", program)]
             ran = subprocess.run(command, stdout=full, stderr=subprocess.PIPE, check=False)
-        self.assertEqual((ran.returncode, ran.stderr), (3, b"suite: standard output: No space left on device\n"))
+        self.assertEqual((ran.returncode, ran.stderr), (3, b"galluspa suite: standard output: No space left on device\n"))
         self.assertLess(time.monotonic() - start, 20)
 
     def test_signals_end_runs_of_the_library_at_once(self) -> None:
@@ -318,7 +323,11 @@ class TimeTest(ToolTest):
         rows: list[tuple[int, int, list[object]]] = [(signal.SIGINT, 130, ["--from", 1 << 39]), (signal.SIGTERM, 143, ["--until", "stop"])]
         for number, status, words in rows:
             start = time.monotonic()
-            self.ended_by(number, status, trace + words, lambda room: time.monotonic() - start > 0.7)
+
+            def has_begun(room: str) -> bool:
+                return "libgalluspa" in self.maps.read_text() and time.monotonic() - start > 0.7
+
+            self.ended_by(number, status, trace + words, has_begun)
 
     def test_a_package_that_is_ended_leaves_no_folder(self) -> None:
         for number, status in ((signal.SIGINT, 130), (signal.SIGTERM, 143)):
@@ -328,8 +337,9 @@ class TimeTest(ToolTest):
     def ended_by(self, number: int, status: int, words: Sequence[object], has_begun: Callable[[str], object]) -> None:
         """Ends a tool by a signal once it has begun; it ends at once, without a word, and leaves no temporary file."""
         with tempfile.TemporaryDirectory() as room:
-            command = [str(TOOLS / str(words[0])), *map(str, words[1:])]
+            command = [str(GALLUSPA), *map(str, words)]
             begun = subprocess.Popen(command, stdout=subprocess.DEVNULL, stderr=subprocess.PIPE, env={**os.environ, "TMPDIR": room})
+            self.maps = Path(f"/proc/{begun.pid}/maps")
             end = time.monotonic() + 20
             while not has_begun(room):
                 self.assertLess(time.monotonic(), end, words[0])

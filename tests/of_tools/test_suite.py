@@ -1,4 +1,4 @@
-"""tools/suite: TAP, expectations, exit statuses, earlier runs, JUnit XML, and the page."""
+"""galluspa suite: TAP, expectations, exit statuses, earlier runs, JUnit XML, and the page."""
 
 import base64
 import io
@@ -11,7 +11,7 @@ from xml.etree import ElementTree
 from PIL import Image
 
 from of_tools import browser
-from of_tools.samples import EXAMPLES, PROGRAM, STORED, TOOLS, TOP, ToolTest, on_terminal, rejoining, run, tool
+from of_tools.samples import EXAMPLES, GALLUSPA, PROGRAM, STORED, TOP, ToolTest, on_terminal, rejoining, run, tool
 
 
 class SuitesTest(ToolTest):
@@ -55,9 +55,9 @@ class SuiteTest(SuitesTest):
 
     def test_prove_reads_it(self) -> None:
         self.suite()
-        self.assertEqual(run(["prove", TOOLS / "suite", "::", self.folder]).status, 0)
+        self.assertEqual(run(["prove", GALLUSPA, "::", "suite", self.folder]).status, 0)
         self.file("a.expect", "false\n")
-        ran = run(["prove", TOOLS / "suite", "::", self.folder])
+        ran = run(["prove", GALLUSPA, "::", "suite", self.folder])
         self.assertEqual(ran.status, 1)
         self.assertIn(b"Failed 1/3 subtests", ran.output)
 
@@ -162,7 +162,7 @@ class JUnitTest(SuitesTest):
         self.suite()
         for option in ("--junit", "--keep", "--page"):
             ran = tool("suite", self.folder, option, self.folder / "none/it")
-            self.assertEqual((ran.status, ran.errors.splitlines()), (2, [f"suite: {self.folder}/none/it: No such file or directory"]))
+            self.assertEqual((ran.status, ran.errors.splitlines()), (2, [f"galluspa suite: {self.folder}/none/it: No such file or directory"]))
 
 
 class PageTest(SuitesTest):
@@ -209,7 +209,7 @@ class PageTest(SuitesTest):
 
     def test_wants_its_libraries_only_for_a_page(self) -> None:
         self.suite()
-        bare = ["/usr/bin/python3", "-B", "-S", TOOLS / "suite", self.folder]
+        bare = ["/usr/bin/python3", "-B", "-S", GALLUSPA, "suite", self.folder]
         self.assertEqual(run(bare).status, 0)
         self.assert_refused(run([*bare, "--page", self.folder / "it.html"]), "apt-get install python3-pil python3-jinja2")
 

@@ -1,4 +1,4 @@
-"""tools/trace: what each instruction changes, conditions, checkpoints; and what instructions write, against the library."""
+"""galluspa trace: what each instruction changes, conditions, checkpoints; and what instructions write, against the library."""
 
 import json
 import random
@@ -96,12 +96,12 @@ class TraceTest(ToolTest):
             self.assertEqual([int(line.split()[0]) for line in lines], [count - 1, count], condition)
         ran = tool("trace", self.file("it.orsr", made), "--until", "stop")
         self.assertEqual((ran.output, ran.status), (b"", 1))
-        self.assertEqual(ran.errors, "trace: stop does not come about from 0 to 40\n")
+        self.assertEqual(ran.errors, "galluspa trace: no stop in 0..40\n")
 
     def test_the_way_to_the_beginning_shows_progress(self) -> None:
         recorded = self.file("it.orsr", record(session((0x40080001, 0xE7FFFFFE), [1 << 26])))
         told = on_terminal("trace", recorded, "--from", 60_000_000, "--steps", 1)
-        self.assertIn(b"the recording is checked\r", told)
+        self.assertIn(b"checking the recording\r", told)
         self.assertRegex(told, rb"at \d\d?,\d{3},\d{3} of 60,000,000\r\x1b\[K\r$")
 
     def test_shows_progress_on_a_terminal(self) -> None:
@@ -152,14 +152,14 @@ class TraceTest(ToolTest):
         self.assert_refused(tool("trace"), "RECORDING")
         self.assert_refused(tool("trace", self.folder / "none"), "No such file")
         self.assert_refused(tool("trace", self.file("short.orsr", STORED[:-1])), "refused 1 short at byte 9503")
-        self.assert_refused(tool("trace", stored, "--to", 5, "--steps", 5), "either --steps or --to")
-        self.assert_refused(tool("trace", stored, "--from", 6, "--to", 5), "--from 6 is after")
+        self.assert_refused(tool("trace", stored, "--to", 5, "--steps", 5), "use --steps or --to")
+        self.assert_refused(tool("trace", stored, "--from", 6, "--to", 5), "--to 5 is before --from 6")
         self.assert_refused(tool("trace", stored, "--at", 2), "no checkpoint 2")
         self.assert_refused(tool("trace", stored, "--at", 1), "count 0 is before checkpoint 1, at 100")
         self.assert_refused(tool("trace", stored, "--from", 101), "--from 101 is after the last checkpoint, which is at 100")
         self.assert_refused(tool("trace", stored, "--from", (1 << 40) + 1), "'1099511627777' is not a whole number from 0 to ")
-        for words, told in ((["write"], "write: want a PLACE"), (["R16=1"], "R16: want PC=N"), (["R1="], "R1: want"), (["x"], "x: want"),
-                            (["sent", "1", "R1"], "R1: want"), (["write", "1", "mask"], "mask: want"), (["PC=0x400000"], "PC 0x400000: a PC is below"),
+        for words, told in ((["write"], "write: expected a PLACE"), (["R16=1"], "R16: expected PC=N"), (["R1="], "R1: expected"), (["x"], "x: expected"),
+                            (["sent", "1", "R1"], "R1: expected"), (["write", "1", "mask"], "mask: expected"), (["PC=0x400000"], "PC 0x400000: a PC is below"),
                             (["flags=16"], "flags can have no bit but those of F ")):
             self.assert_refused(tool("trace", stored, "--until", *words), told)
 
@@ -283,13 +283,13 @@ class LongRunTest(ToolTest):
             ran = tool("trace", stopped, "--until", *condition)
             self.assertLess(time.monotonic() - start, 5)
             self.assertEqual((ran.status, ran.output), (1, b""))
-            self.assertIn(f"does not come about from 0 to {1 << 40}: the machine has stopped", ran.errors)
+            self.assertIn(f"in 0..{1 << 40}: the machine has stopped", ran.errors)
         self.assertIn(b"stopped (divisor)", tool("trace", stopped, "--until", "stop").output)
 
     def test_what_there_is_no_time_for_is_told(self) -> None:
         idle = self.file("it.orsr", record(session([JUMP], [9])))
         ran = tool("trace", idle, "--until", "stop", "--to", 1 << 40, "--limit", 1)
-        self.assertRegex(ran.errors, r"^trace: no answer in 1 s: stop does not come about from 0 to \d+\n$")
+        self.assertRegex(ran.errors, r"^galluspa trace: no answer in 1 s: no stop in 0\.\.\d+\n$")
         self.assertEqual((ran.status, ran.output), (3, b""))
 
 

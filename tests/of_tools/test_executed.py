@@ -1,0 +1,109 @@
+"""What a run does, by counts of its instructions, against a look at each of them."""
+
+import unittest
+from dataclasses import replace
+from unittest import mock
+
+from galluspa import executed, recording
+from galluspa.assembler import ADD, ALWAYS, MOV, MUL, NE, SUB, V, XOR, branch, imm, load, store
+from galluspa.command import Refused
+from galluspa.coverage import INSTRUCTIONS, Coverage, Row
+from galluspa.library import WORDS, Library
+from galluspa.program import Program
+from galluspa.recording import Recording
+from galluspa.sessions import Session
+from galluspa.steps import steps_of
+from galluspa.tracing import Run
+from of_programs import randomly, waiting
+from of_programs.trial import memory_of
+from of_tools.samples import record
+
+PROGRAMS = 12
+MOST = 600
+# Counts R1 down from 65,535; multiplies once; and counts again for ever.
+DOWN = (imm(MOV, 1, 0, 0xFFFF), imm(SUB, 1, 1, 1), branch(NE, -2))
+ONCE = (*DOWN, imm(MUL, 2, 2, 3), *DOWN, branch(ALWAYS, -4))
+
+
+def run_of(session: Session, counts: int) -> tuple[Run, Recording]:
+    """The run of a session up to a count, and its recording."""
+    text = record(replace(session, checkpoints=[counts]).text().encode())
+    read = recording.read(text)
+    return Run(Library.find(None), text, read, range(1)), read
+
+
+def rows_by_force(read: Recording, counts: int) -> set[Row]:
+    """The rows that the single instructions of a run are in."""
+    seen = Coverage()
+    seen.add("it", steps_of(Program.find(None), "it", read, list(range(counts))))
+    return {(table, row) for (table, row, _) in seen.times if table in INSTRUCTIONS}
+
+
+class BindingTest(unittest.TestCase):
+    """The calls of the library that count and trace, as the tools call them."""
+
+    def setUp(self) -> None:
+        self.down, _ = run_of(Session(memory=memory_of(DOWN)), 100)
+        self.start, self.library = self.down.machine(0), self.down.library
+
+    def test_a_profile_has_each_word(self) -> None:
+        counted = self.library.profile(self.start, self.down.inputs, 101)
+        self.assertEqual([(at, counted.visits[at], counted.departures[at]) for at in counted.visited()], [(0, 1, 0), (1, 50, 0), (2, 50, 50)])
+        self.assertEqual((len(counted.visits), len(counted.departures), counted.instructions, self.start.count), (WORDS, WORDS, 101, 0))
+        first, later = self.library.profile(self.start, self.down.inputs, 7), self.down.machine(7)
+        self.assertEqual(first + self.library.profile(later, self.down.inputs, 101), counted)
+
+    def test_a_trace_has_the_processor_of_each_count(self) -> None:
+        """R1 is 65,535 after the first instruction, and one less after each second one from there on."""
+        traced = self.library.steps(self.start, self.down.inputs, 6)
+        wanted = [(0, 0), (1, 0xFFFF), (2, 0xFFFE), (1, 0xFFFE), (2, 0xFFFD), (1, 0xFFFD)]
+        self.assertEqual([(it.pc, it.r[1], it.flags, it.stop) for it in traced], [(*it, 0, 0) for it in wanted])
+
+    def test_what_is_out_of_range_is_refused(self) -> None:
+        later, wrong = self.down.machine(7), self.start.copy()
+        wrong.state.stop = 5
+        with self.assertRaisesRegex(Refused, "from 7 to 6: a number is out of its range"):
+            self.library.profile(later, self.down.inputs, 6)
+        with self.assertRaisesRegex(Refused, "a number is out of its range"):
+            self.library.steps(wrong, self.down.inputs, 1)
+
+
+class ExecutedTest(unittest.TestCase):
+    def test_finds_what_single_instructions_are(self) -> None:
+        """Of programs that change their own instructions, or stop, and of some that wait."""
+        for seed in range(PROGRAMS):
+            for case in (randomly.case(seed), waiting.case(seed)):
+                counts = min(case.counts, MOST)
+                run, read = run_of(case.session, counts)
+                found = executed.executed(run, counts)
+                self.assertEqual(found.looked_at, counts, case.name)
+                self.assertEqual(found.rows, rows_by_force(read, counts), case.name)
+
+    def test_an_instruction_that_is_changed_back_is_seen(self) -> None:
+        """A word is ADD at each other turn, and XOR at the others; and both when the run begins and when it ends it is ADD."""
+        turned = 4
+        words = (load(1, 0, 4 * turned), imm(XOR, 1, 1, 0), store(1, 0, 4 * turned), imm(MOV, 3, 0, 0), imm(ADD, 2, 2, 1), branch(ALWAYS, -6))
+        flip = words[turned] ^ imm(XOR, 2, 2, 1)
+        self.assertEqual(flip & ~0xF0000, 0)
+        # The bits in which the two differ are above the low half of a word, so the byte that has them is turned.
+        words = (load(1, 0, 4 * turned + 2) | V, imm(XOR, 1, 1, flip >> 16), store(1, 0, 4 * turned + 2) | V, *words[3:])
+        for counts in (7, 12, 600):
+            run, read = run_of(Session(memory=memory_of(words)), counts)
+            self.assertEqual(executed.executed(run, counts).rows, rows_by_force(read, counts), counts)
+        self.assertLessEqual({("operations", "ADD"), ("operations", "XOR")}, executed.executed(run, counts).rows)
+
+    def test_of_a_run_that_is_too_long_stretches_are_looked_at(self) -> None:
+        run, _ = run_of(Session(memory=memory_of(ONCE)), 1_000_000)
+        self.assertIn(("operations", "MUL"), executed.executed(run, 1_000_000).rows)
+        with mock.patch.multiple(executed, EXAMINED=64_000, STRETCHES=64):
+            found = executed.executed(run, 1_000_000)
+            self.assertEqual((found.looked_at, ("operations", "MUL") in found.rows), (64_000, False))
+            looked_at = [count for stretch in executed.stretches(1_000_000) for count in stretch]
+            self.assertEqual((len(set(looked_at)), looked_at[0], looked_at[-1]), (64_000, 0, 999_999))
+
+    def test_a_program_that_always_changes_itself_is_looked_at_as_long_as_is_said(self) -> None:
+        words = (imm(ADD, 1, 1, 16), store(1, 5, 12), branch(ALWAYS, 0), 0, branch(ALWAYS, -5))
+        run, _ = run_of(Session(memory=memory_of(words)), 100_000)
+        with mock.patch.object(executed, "TRIES", 50):
+            found = executed.executed(run, 100_000)
+        self.assertTrue(0 < found.looked_at < 1000, found.looked_at)
