@@ -88,10 +88,10 @@ loop:   ADD R0, R0, 1
 }
 
 
-def labels(path: Path) -> dict[str, int]:
-    """The words of the labels of a source."""
-    lines = [line.split() for line in tool("assemble", path, "--words").output.decode().splitlines()]
-    return {it[2][:-1]: int(it[0]) for it in lines if len(it) > 2 and it[2].endswith(":")}
+def labels(symbols: Path) -> dict[str, int]:
+    """The words of the labels in a symbol file, whose addresses are of bytes."""
+    lines = [line.split("\t")[0].split() for line in symbols.read_text().splitlines()]
+    return {it[-1]: int(it[0], 16) // 4 for it in lines if len(it) > 2 and it[-2] in "td"}
 
 
 def make_programs(folder: Path) -> None:
@@ -103,10 +103,10 @@ def make_programs(folder: Path) -> None:
     for name, source in SOURCES.items():
         path = folder / f"{name}.asm"
         path.write_text(source)
-        made = tool("assemble", path, "-o", folder / f"{name}.json")
+        made = tool("assemble", path, "-o", folder / f"{name}.json", "--symbols", folder / f"{name}.sym")
         if made.status:
             fail(f"{name}.asm: {made.errors}")
-        found[name] = labels(path)
+        found[name] = labels(folder / f"{name}.sym")
     (folder / "labels.json").write_text(json.dumps(found))
 
 
