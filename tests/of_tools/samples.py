@@ -10,7 +10,7 @@ import subprocess
 import sys
 import tempfile
 import unittest
-from collections.abc import Callable, Iterable, Mapping, Sequence
+from collections.abc import Callable, Iterable, Iterator, Mapping, Sequence
 from dataclasses import dataclass
 from pathlib import Path
 from typing import Any
@@ -153,6 +153,14 @@ class ToolTest(unittest.TestCase):
         path.parent.mkdir(parents=True, exist_ok=True)
         path.write_bytes(content if isinstance(content, bytes) else content.encode())
         return path
+
+    @contextlib.contextmanager
+    def takes_at_most(self, seconds: float) -> Iterator[None]:
+        """What is done takes at most so many seconds of the processor, in this process and in those that it ended: what else the
+        machine does meanwhile does not count."""
+        start = sum(os.times()[:4])
+        yield
+        self.assertLess(sum(os.times()[:4]) - start, seconds)
 
     def assert_refused(self, ran: Ran, *told: str) -> None:
         """A command printed nothing, told what is wrong in one line, and ended with status 2."""

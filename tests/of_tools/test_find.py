@@ -276,7 +276,7 @@ class FindTest(ToolTest):
                 begun.send_signal(number)
                 start = time.monotonic()
                 self.assertEqual((*begun.communicate(timeout=20), begun.returncode), (b"", b"", status))
-                self.assertLess(time.monotonic() - start, 1)
+                self.assertLess(time.monotonic() - start, 5)
 
     def test_a_full_disk_is_told(self) -> None:
         made = self.file("it.orsr", record(session(COUNTING, [4000])))

@@ -237,7 +237,8 @@ class ReportInBrowserTest(ReportTest):
         with self.running.page(page_file) as page:
             self.assertEqual(page.answer("document.querySelectorAll('.checkpoint').length"), 4097)
             page.answer("document.querySelector('#checkpoint-4096').scrollIntoView()")
-            self.assertLess(time.monotonic() - start, 20)
+            # Four seconds on an idle machine; other tests run beside it.
+            self.assertLess(time.monotonic() - start, 60)
             self.assertEqual(page.errors, [])
             self.assert_dots(page, text, [0])
 

@@ -347,5 +347,5 @@ class TimeTest(ToolTest):
             begun.send_signal(number)
             start = time.monotonic()
             errors = begun.communicate(timeout=20)[1]
-            self.assertLess(time.monotonic() - start, 1, words[0])
+            self.assertLess(time.monotonic() - start, 5, words[0])
             self.assertEqual((begun.returncode, errors, os.listdir(room)), (status, b"", []), words[0])

@@ -234,10 +234,9 @@ class AtOnceTest(ToolTest):
 
     def test_a_search_goes_faster(self) -> None:
         counting = self.file("it.orsr", record(session((0x40080001, 0xE7FFFFFE), [100_000])))
-        start = time.monotonic()
-        lines = tool("trace", counting, "--until", "R0=15000", "--steps", "2").output.decode().splitlines()
+        with self.takes_at_most(15):
+            lines = tool("trace", counting, "--until", "R0=15000", "--steps", "2").output.decode().splitlines()
         self.assertEqual([int(line.split()[0]) for line in lines], [29_997, 29_998])
-        self.assertLess(time.monotonic() - start, 15)
 
 
 class SliceTest(ToolTest):
@@ -279,9 +278,8 @@ class LongRunTest(ToolTest):
     def test_a_search_on_a_machine_that_has_stopped_ends_at_once(self) -> None:
         stopped = self.file("it.orsr", record(session([0x600B0000], [1 << 40])))
         for condition in (["sent"], ["R5=7"], ["write", "400"]):
-            start = time.monotonic()
-            ran = tool("trace", stopped, "--until", *condition)
-            self.assertLess(time.monotonic() - start, 5)
+            with self.takes_at_most(5):
+                ran = tool("trace", stopped, "--until", *condition)
             self.assertEqual((ran.status, ran.output), (1, b""))
             self.assertIn(f"in 0..{1 << 40}: the machine has stopped", ran.errors)
         self.assertIn(b"stopped (divisor)", tool("trace", stopped, "--until", "stop").output)
