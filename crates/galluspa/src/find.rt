@@ -1,6 +1,6 @@
 //! A search through a run of a machine in the memory of a caller.
 ghost use Rattle.std.specs.Prelude.{◌≡◌, ◌≢◌, ◌≤◌, ◌⊎◌, ◌↔◌, length, map};
-ghost use Rattle.std.specs.Prelude.{All, IfErr, IfOk, IsSome, IsTrue, None, Option, OnOk, Some};
+ghost use Rattle.std.specs.Prelude.{IfErr, IfOk, IsTrue, None, Option, OnOk, Some};
 ghost use Rattle.risc_model.specs.MachineState.{cpu_state};
 ghost use Rattle.risc_search.specs.Search.{IsFirst, IsLast};
 ghost use Rattle.galluspa.specs.Find.{AreConditions, HasSearched, IsInSearchRange, becomes, changes, condition_of};

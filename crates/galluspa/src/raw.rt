@@ -1,12 +1,13 @@
 //! The state of a machine and its inputs in the memory of a caller: plain numbers in the layout of C.
-ghost use Rattle.std.specs.Prelude.{◌≡◌, ◌≤◌, ◌<◌, ◌^◌, ◌↔◌, ◌++◌, ◌-◌, ℕ, All, IfNone, IfSome, IsSome};
-ghost use Rattle.std.specs.Prelude.{drop, length, replicate, slice_index};
+ghost use Rattle.std.specs.Prelude.{◌≡◌, ◌≤◌, ◌<◌, ◌↔◌, ◌++◌, ◌-◌, All, IfNone, IfSome, IsSome};
+ghost use Rattle.std.specs.Prelude.{drop, length, replicate};
 ghost use Rattle.risc_core.specs.declared.branch.TheConstants.{COUNTER_END};
 ghost use Rattle.risc_core.specs.Flags.{flags_of};
 ghost use Rattle.risc_model.specs.MachineState.{cpu_state};
 ghost use Rattle.galluspa.specs.Raw.{AreDevices, IsCpu, IsWhole, cpu_of, devices_of};
 
 use crate::front::copy_to_front;
+use oberon_format::words_fit;
 use risc_core::COUNTER_END;
 use risc_devices::Devices;
 use risc_model::{Cpu, Flags};
@@ -60,11 +61,6 @@ pub struct RawInput {
     /// The value, in the range of its kind.
     pub value: u32,
 }
-
-/// States that each word is below 2^32, which its type ensures.
-fn words_fit(words: &[u32])
-    ensures { (i : ℕ) → slice_index words.now i < 2 ^ 32 }
-{}
 
 fn cpu_of_parts(r: [u32; 16], h: u32, pc: u32, flags: u32, stop: u8) -> Cpu
     ensures { cpu_state result ≡ record { r = r; h = h; pc = pc; flags = flags_of flags; stop = stop } }

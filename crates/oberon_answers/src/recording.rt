@@ -1,5 +1,5 @@
 //! The recording of a session.
-ghost use Rattle.std.specs.Prelude.{◌≡◌, IfOk};
+ghost use Rattle.std.specs.Prelude.{IfOk};
 ghost use Rattle.oberon_answers.specs.Record.{IsRecord, IsRecordOf, IsRefusal};
 
 use crate::answer::Answer;

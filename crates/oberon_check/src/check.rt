@@ -2,7 +2,7 @@
 //!
 //! This module starts the threads and joins them. What a worker does is in `worker`, the verdict from all workers' shares in
 //! `gathering`, and what is printed in `report`.
-ghost use Rattle.std.specs.Prelude.{◌≡◌, ◌≤◌, vec_len, All, IfOk};
+ghost use Rattle.std.specs.Prelude.{◌≡◌, ◌≤◌, ℕ, vec_len, map, All, IfOk};
 ghost use Rattle.std.specs.Int.{div_ceil};
 ghost use Rattle.oberon_claims.specs.Pass.{fresh_pass};
 ghost use Rattle.oberon_format.specs.Recording.{last_of};
@@ -69,19 +69,10 @@ pub(crate) fn work_all<R: Threads + Sync, G: Gate + Sync>(
 /// Returns the shares, or an error if some worker ran out of memory.
 pub(crate) fn shares_of(
     alloc: Global,
-    r: &Recording,
-    claims: &Claims,
-    cut: u32,
     results: Vec<Result<Done, AllocError>>,
 ) -> Result<Vec<Done>, AllocError>
-    requires { All (λ d. IfOk d (IsShareOf r.now cut claims.now)) results.items }
-    ensures len { IfOk result (λ v. vec_len v ≡ vec_len results) }
-    ensures shares { IfOk result (λ v. All (IsShareOf r.now cut claims.now) v.items) }
+    ensures { IfOk result (λ shares. map Ok shares.items ≡ results.items) }
 {
-    // Only the contract uses these.
-    let _ = r;
-    let _ = claims;
-    let _ = cut;
     let mut done = Vec::new(alloc);
     for result in results {
         let share = result?;
@@ -95,16 +86,14 @@ fn verdict_of(
     alloc: Global,
     r: &Recording,
     claims: Claims,
-    cut: u32,
     results: Vec<Result<Done, AllocError>>,
 ) -> Result<Verdict, AllocError>
     requires len { vec_len results ≡ claims.workers }
-    requires shares { All (λ d. IfOk d (IsShareOf r.now cut claims)) results.items }
+    requires shares { (cut : ℕ) × All (λ d. IfOk d (IsShareOf r.now cut claims)) results.items }
     ensures { IfOk result (IsVerdict r.now) }
 {
-    let done = shares_of(alloc, r, &claims, cut, results)?;
-    let verdict = gather(alloc, r, claims, done)?;
-    Ok(verdict)
+    let done = shares_of(alloc, results)?;
+    gather(alloc, r, claims, done)
 }
 
 /// Returns the verdict on a recording. `workers` threads, 1 to `MAX_WORKERS`, replay its segments; a job is `cut` consecutive
@@ -127,5 +116,5 @@ pub fn check_recording<R: Threads + Wait + Sync, G: Gate + Sync>(
     let jobs = (r.count() - 1).div_ceil(cut);
     let (claims, passes) = Claims::new(alloc, jobs, workers)?;
     let results = work_all(rt, alloc, r, &claims, passes, cut, gate)?;
-    Ok(verdict_of(alloc, r, claims, cut, results)?)
+    Ok(verdict_of(alloc, r, claims, results)?)
 }

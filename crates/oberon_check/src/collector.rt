@@ -5,8 +5,8 @@
 ghost use Rattle.std.specs.Prelude.{◌≡◌, ◌<◌, ◌≤◌, All, IfOk, IfErr, OnOk, length};
 ghost use Rattle.oberon_format.specs.Recording.{IsLawful};
 ghost use Rattle.oberon_check.specs.Verdict.{IsVerdict};
-ghost use Rattle.oberon_check.specs.Segment.{SegmentVerdictRecord, IsTrueSegmentVerdict};
-ghost use Rattle.oberon_check.specs.Collecting.{IsFirstDouble, IsCollectFault, collect_fault_number};
+ghost use Rattle.oberon_check.specs.Segment.{IsTrueSegmentVerdict};
+ghost use Rattle.oberon_check.specs.Collecting.{IsFirstDouble, IsCollectFault};
 ghost use Rattle.oberon_check.specs.inner.Tally.{IsFirstUnmarked, IsTally, end_of, lesser_of};
 
 use crate::part::Part;
@@ -25,18 +25,6 @@ pub enum CollectFault {
     /// all segments if none failed.
     #[error("segment {0} has no verdict")]
     Missing(u32),
-}
-
-impl CollectFault {
-    /// Returns the fault's number, 1 or 2.
-    pub fn number(self) -> u8
-        ensures { result ≡ collect_fault_number self }
-    {
-        match self {
-            CollectFault::Double(_) => 1,
-            CollectFault::Missing(_) => 2,
-        }
-    }
 }
 
 /// The largest number of segments: one up to each checkpoint but checkpoint 0.

@@ -1,11 +1,10 @@
 //! The verdict from the shares of all workers. A single worker's share is in `worker`.
 ghost use Rattle.std.specs.Prelude.{◌≡◌, ℕ, [], ◌∷◌, ◌++◌, vec_len, All, IfOk, OnOk};
-ghost use Rattle.oberon_check.specs.declared.collector.CollectFault.{CollectFault};
-ghost use Rattle.oberon_check.specs.Collecting.{IsCollectFault};
 ghost use Rattle.oberon_check.specs.Gathering.{all_verdicts, IsGathered};
+ghost use Rattle.oberon_format.specs.Recording.{RecordingParts};
 ghost use Rattle.oberon_check.specs.Verdict.{IsVerdict};
 ghost use Rattle.oberon_check.specs.Work.{IsDone, IsShareOf};
-ghost use Rattle.oberon_check.specs.inner.Progress.{IsGatheredIfTrue};
+ghost use Rattle.oberon_check.specs.inner.Progress.{AreCollected};
 
 use crate::collector::collect;
 use crate::segment::SegmentVerdict;
@@ -35,19 +34,15 @@ fn take_apart(
 /// collector finds no fault in them.
 fn all_verdicts(
     alloc: Global,
-    r: &Recording,
     claims: Claims,
     done: Vec<Done>,
 ) -> Result<Vec<SegmentVerdict>, AllocError>
     requires all { vec_len done ≡ claims.workers }
-    requires shares { (cut : ℕ) × All (IsShareOf r.now cut claims) done.items }
+    requires shares { (r : RecordingParts) × (cut : ℕ) × All (IsShareOf r cut claims) done.items }
     ensures verdicts { IfOk result (λ vs. vs.items ≡ all_verdicts done.items) }
-    ensures recordings { IfOk result (λ vs. All (λ v. v.recording ≡ r.now) vs.items) }
-    ensures whole { IfOk result (λ vs. (fault : CollectFault) → ¬ (IsCollectFault r.now vs.items fault)) }
-    ensures gathered { IfOk result (λ vs. IsGatheredIfTrue r.now done.items vs.items) }
+    ensures collected { IfOk result (λ vs.
+        (r : RecordingParts) (cut : ℕ) → All (IsShareOf r cut claims) done.items → AreCollected r done.items vs.items) }
 {
-    // Only the contract uses the recording.
-    let _ = r;
     let mut passes = Vec::new(alloc);
     let mut verdicts = Vec::new(alloc);
     for share in done {
@@ -73,7 +68,7 @@ pub fn gather(
     ensures verdict { IfOk result (IsVerdict r.now) }
     ensures gathered { IfOk result (IsGathered r.now done.items) }
 {
-    let verdicts = all_verdicts(alloc, r, claims, done)?;
+    let verdicts = all_verdicts(alloc, claims, done)?;
     match collect(r, verdicts.as_slice()) {
         Ok(verdict) => Ok(verdict),
         Err(_) => unreachable!(),

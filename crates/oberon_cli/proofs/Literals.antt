@@ -1,12 +1,32 @@
 -- What literal arguments ask for.
-use Rattle.std.proofs.Common.{◌≡◌, [], ◌∷◌, Some, None, refl, codes, inl}
+use Rattle.std.proofs.Common.{◌≡◌, ◌∙◌, [], ◌∷◌, Option, Some, None, refl, sym, codes, inl}
 use Rattle.clap.proofs.OnLiterals.{clap_on_literals}
 use Rattle.oberon_cli.specs.Asked.{IsHelp, request_in, faults, found}
+use Rattle.oberon_cli.specs.declared.arguments.Refusal.{Refusal}
+use Rattle.oberon_cli.specs.declared.arguments.Refusal.TheVariants.{Help, Words, Memory}
+use Rattle.oberon_cli.specs.declared.arguments.Request.{Request}
 use Rattle.oberon_cli.specs.declared.arguments.Request.TheVariants.{Check, Migrate, Record, Screen}
+use Rattle.oberon_cli.specs.inner.Requests.{RefusedBy}
 
 pub check : request_in (codes "check" ∷ []) ≡ Some (Check 2 1)
 unfolding clap_on_literals faults found
 check = refl
+
+pub no_arguments : request_in [] ≡ Some (Check 2 1)
+no_arguments = check
+
+check_faultless : faults (codes "check" ∷ []) ≡ []
+unfolding clap_on_literals faults
+check_faultless = refl
+
+some-none : (request : Request) → Some request ≡ None → ⊥
+some-none request e = absurd cc
+
+-- why `check` alone may be refused, so may no arguments: only for lack of memory
+pub check_refused : (refusal : Refusal) → RefusedBy (codes "check" ∷ []) refusal → RefusedBy [] refusal
+check_refused (Help error) is = absurd (rw check_faultless at is)
+check_refused Words is = absurd (some-none (Check 2 1) (sym check ∙ is.0))
+check_refused Memory is = tt
 
 pub check_workers : request_in (codes "check" ∷ codes "--workers" ∷ codes "3" ∷ []) ≡ Some (Check 3 1)
 unfolding clap_on_literals faults found

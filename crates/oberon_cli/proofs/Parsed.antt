@@ -13,7 +13,6 @@ use Rattle.clap.specs.declared.error.kind.ErrorKind.TheVariants as kind
 use Rattle.clap.specs.declared.error.kind.ErrorKind.TheVariants.{DisplayHelp, OutOfMemory}
 use Rattle.oberon_cli.specs.Program.{program_app}
 use Rattle.oberon_cli.specs.declared.arguments.Request.{Request}
-use Rattle.oberon_cli.specs.declared.arguments.Request.TheVariants.{Check}
 use Rattle.oberon_cli.specs.declared.arguments.Refusal.{Refusal}
 use Rattle.oberon_cli.specs.declared.arguments.Refusal.TheVariants.{Words}
 use Rattle.oberon_cli.specs.Asked.{IsRefused, request_in, faults, found, request_of}
@@ -23,12 +22,12 @@ pub some_arguments : (n : ℕ) → false ≡ (n == 0) → 0 < n
 some_arguments zero is = cc
 some_arguments (suc n) is = omega arith
 
--- no arguments ask for a check
-pub asked_no_arguments : {X : Type 0} (arguments : List X) (text : X → Text) → true ≡ (length arguments == 0) → request_in (map text arguments) ≡ Some (Check 2 1)
-asked_no_arguments [] text is = refl
-asked_no_arguments (argument ∷ arguments) text is =
-    let none : length (argument ∷ arguments) ≡ 0 = true-eqb _ _ is in
-    absurd (omega (arith, none))
+-- what is true of no arguments is true of these, if there are none
+pub no_arguments : {X : Type 0} (P : List Text → Type 0) (arguments : List X) (text : X → Text) → true ≡ (length arguments == 0) → P [] → P (map text arguments)
+no_arguments P [] text is none = none
+no_arguments P (argument ∷ arguments) text is none =
+    let empty : length (argument ∷ arguments) ≡ 0 = true-eqb _ _ is in
+    absurd (omega (arith, empty))
 
 pub simple : is_simple program_app ≡ true
 simple = refl

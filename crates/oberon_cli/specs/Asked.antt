@@ -45,12 +45,14 @@ faults arguments = fault_of program_app arguments
 unfoldable pub found : List Text → Option (Text × List Row)
 found arguments = subcommand_of program_app arguments
 
--- what the arguments ask for; no arguments ask for a check
+-- what the arguments ask for as `clap` finds it: nothing if there is a fault
+abbrev pub parsed : List Text → Option Request
+parsed arguments = if is_empty (faults arguments) then option_and_then (λ p. request_of p.0 p.1) (found arguments) else None
+
+-- what the arguments ask for; no arguments ask for what `check` alone does, which has the defaults of its options
 abbrev pub request_in : List Text → Option Request
-request_in [] = Some (Check 2 1)
-request_in (argument ∷ arguments) =
-    if is_empty (faults (argument ∷ arguments)) then option_and_then (λ p. request_of p.0 p.1) (found (argument ∷ arguments))
-    else None
+request_in [] = parsed (codes "check" ∷ [])
+request_in (argument ∷ arguments) = parsed (argument ∷ arguments)
 
 -- the arguments ask for help. `clap` reports some arguments, such as `help` before an unknown command, with one of two kinds of
 -- fault, so these may get help or may be refused

@@ -45,14 +45,9 @@ abbrev pub program_shape : Shape
 program_shape =
     record (new_shape (codes "oberon_replay")) { no_binary_name = true; subcommand_required = true }
 
--- the program before its commands are added
-abbrev pub without_commands_app : App
-without_commands_app = record { top = program_shape; subs = [] }
-
--- the program with the two commands that run the machine
-abbrev pub replaying_app : App
-replaying_app = with_subcommand (with_subcommand without_commands_app check_app.top) record_app.top
-
--- the whole program, with all four commands
+-- the program: this shape, and the four commands in their order
 abbrev pub program_app : App
-program_app = with_subcommand (with_subcommand replaying_app screen_app.top) migrate_app.top
+program_app =
+    with_subcommand
+    (with_subcommand (with_subcommand (with_subcommand (record { top = program_shape; subs = [] }) check_app.top) record_app.top) screen_app.top)
+    migrate_app.top

@@ -1,5 +1,5 @@
 //! What the arguments of the command line ask for. The command line itself is in `command`.
-ghost use Rattle.std.specs.Prelude.{◌≡◌, ◌≤◌, Some, IfSome, map, IfOk, IfErr, option_and_then};
+ghost use Rattle.std.specs.Prelude.{◌≡◌, ◌≤◌, ◌<◌, Some, IfSome, length, map, IfOk, IfErr, option_and_then};
 ghost use Rattle.clap.specs.Words.{found_of, kind_of, rows_of, subcommand_rows_of};
 ghost use Rattle.oberon_cli.specs.inner.Requests.{IsWithinLimits, RefusedBy, refusal_by};
 ghost use Rattle.oberon_cli.specs.Asked.{request_in, number_at, request_of};
@@ -68,7 +68,7 @@ impl From<AllocError> for Refusal {
     }
 }
 
-/// Returns what the arguments ask for, from what `clap` reads. No arguments ask for a check with 2 workers and cut 1.
+/// Returns what the arguments ask for. No arguments ask for what `check` alone asks for.
 pub fn request_in<'a>(alloc: Global, arguments: &'a [&'a str]) -> Result<Request, Refusal>
     ensures ok { IfOk result (λ request.
         request_in (map (λ argument. argument.now) arguments.entry.now) ≡ Some request) }
@@ -76,8 +76,19 @@ pub fn request_in<'a>(alloc: Global, arguments: &'a [&'a str]) -> Result<Request
     ensures err { IfErr result (RefusedBy (map (λ argument. argument.now) arguments.entry.now)) }
 {
     if arguments.is_empty() {
-        return Ok(Request::Check { workers: 2, cut: 1 });
+        return parsed(alloc, &["check"]);
     }
+    parsed(alloc, arguments)
+}
+
+/// Returns what arguments ask for, from what `clap` reads.
+fn parsed<'a>(alloc: Global, arguments: &'a [&'a str]) -> Result<Request, Refusal>
+    requires { 0 < length arguments.now }
+    ensures ok { IfOk result (λ request.
+        request_in (map (λ argument. argument.now) arguments.entry.now) ≡ Some request) }
+    ensures limits { IfOk result IsWithinLimits }
+    ensures err { IfErr result (RefusedBy (map (λ argument. argument.now) arguments.entry.now)) }
+{
     match program(alloc)?.try_get_matches_from(arguments) {
         Ok(matches) => request_of(&matches).ok_or(Refusal::Words),
         Err(error) => Err(refusal_of(error)),

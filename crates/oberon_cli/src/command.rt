@@ -4,8 +4,7 @@ ghost use Rattle.std.specs.Prelude.{◌≡◌, IfOk, false};
 ghost use Rattle.clap.specs.Simple.{new_app};
 ghost use Rattle.clap.specs.Words.{app_of, rule_of};
 ghost use Rattle.oberon_cli.specs.Program.{at_rule, cut_rule, number_rule, workers_rule};
-ghost use Rattle.oberon_cli.specs.Program.{check_app, migrate_app, record_app, screen_app};
-ghost use Rattle.oberon_cli.specs.Program.{program_app, replaying_app, without_commands_app};
+ghost use Rattle.oberon_cli.specs.Program.{check_app, migrate_app, program_app, record_app, screen_app};
 ghost use Rattle.clap.specs.declared.builder.command.Command.TheViews.{out-Command as fields_of};
 
 use clap::{Arg, ArgAction, Command, value_parser};
@@ -17,35 +16,20 @@ use std::alloc::{AllocError, Global};
 pub fn program<'a>(alloc: Global) -> Result<Command<'a>, AllocError>
     ensures app { IfOk result (λ command. app_of command ≡ program_app) }
 {
+    let check = check(alloc)?;
     let screen = screen(alloc)?;
-    replaying(alloc)?
+    Command::new(alloc, "oberon_replay")
+        .bin_name("oberon_replay")?
+        .about(
+            "Records sessions of a Project Oberon workstation, checks and migrates recordings, and shows their screens",
+        )
+        .after_help("Example:\n  oberon_replay <face.orsr")
+        .no_binary_name(true)
+        .subcommand_required(true)
+        .subcommand(check)?
+        .subcommand(record(alloc))?
         .subcommand(screen)?
         .subcommand(migrate(alloc))
-}
-
-/// Returns the program with its first two commands, which run the machine.
-fn replaying<'a>(alloc: Global) -> Result<Command<'a>, AllocError>
-    ensures app { IfOk result (λ command. app_of command ≡ replaying_app) }
-{
-    let check = check(alloc)?;
-    without_commands(alloc)?
-        .subcommand(check)?
-        .subcommand(record(alloc))
-}
-
-fn without_commands<'a>(alloc: Global) -> Result<Command<'a>, AllocError>
-    ensures app { IfOk result (λ command. app_of command ≡ without_commands_app) }
-{
-    Ok(
-        Command::new(alloc, "oberon_replay")
-            .bin_name("oberon_replay")?
-            .about(
-                "Records sessions of a Project Oberon workstation, checks and migrates recordings, and shows their screens",
-            )
-            .after_help("Example:\n  oberon_replay <face.orsr")
-            .no_binary_name(true)
-            .subcommand_required(true),
-    )
 }
 
 fn check<'a>(alloc: Global) -> Result<Command<'a>, AllocError>

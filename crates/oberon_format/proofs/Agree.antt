@@ -1,5 +1,5 @@
 -- An encoding of parts has their fields, and so their first fault.
-use Rattle.oberon_format.proofs.Common.{[], add-zero, All, All-from_recursion, ap, ap₂, AreFormed, AreWritable, arith, AUXILIARY_AT, change_bytes, change_count, CHANGE_LEN, change_of, change_offset, changes, CHANGES_AT, changes_in, checkpoint_at, checkpoint_bytes, checkpoint_fields, checkpoint_of, checkpoint_size, CheckpointParts, checkpoints, rate_and_phase, common_bytes, drop, encoding, Event, event_bytes, event_fields, event_of, event_offset, event_start, events, field_words, fields_in, fields_of, first_broken, first_fault_of, FIRST_VERSION, flat_map, get_or, get_or-map, get_or_default, header_bytes, HEADER_LEN, if◌then◌else◌, inl, inr, is_version, HasStillTimer, IsWritable, key_bytes, KEYS_AT, KIND_AT, kind_fits, kind_of, word_since_2, tail_words, length, length-append, List, long_at, long_bytes, named_len, nat_le, no_change, no_checkpoint, no_event, page_id_after, page_id_before, output_of, page_at, page_id_of, page_offset, pages, PAGE_SLOTS, RATE_AT, RecordingParts, refl, REGISTERS_AT, SENT_AT, slice_index, slice_range, start, start_in, subst, suc, sym, TABLE_AT, table_before, tail_bytes, take, true, value_fits, value_of, VERSION, version, word_at, words_bytes, words_from, zero, ℕ, ◌*◌, ◌++◌, ◌+◌, ◌-◌, ◌<◌, ◌==◌, ◌^◌, ◌∙◌, ◌∷◌, ◌≡◌, ◌≤◌}
+use Rattle.oberon_format.proofs.Common.{[], add-zero, All, All-from_recursion, ap, ap₂, AreFormed, AreWritable, arith, H_AT, change_bytes, change_count, CHANGE_LEN, change_of, change_offset, changes, CHANGES_AT, changes_in, checkpoint_at, checkpoint_bytes, checkpoint_fields, checkpoint_of, checkpoint_len, CheckpointParts, checkpoints, rate_and_phase, common_bytes, drop, encoding, Event, event_bytes, event_fields, event_of, event_offset, event_start, events, field_words, fields_in, fields_of, first_broken, first_fault_of, FIRST_VERSION, flat_map, get_or, get_or-map, get_or_default, header_bytes, HEADER_LEN, if◌then◌else◌, inl, inr, is_version, HasStillTimer, IsWritable, key_bytes, KEYS_AT, KIND_AT, kind_fits, kind_of, word_since_2, tail_words, length, length-append, List, long_at, long_bytes, named_len, nat_le, no_change, no_checkpoint, no_event, page_id_after, page_id_before, output_of, page_at, page_id_of, page_offset, pages, PAGE_SLOTS, RATE_AT, RecordingParts, refl, REGISTERS_AT, SENT_AT, slice_index, slice_range, start, start_in, subst, suc, sym, TABLE_AT, table_before, tail_bytes, take, true, value_fits, value_of, VERSION, version, word_at, words_bytes, words_from, zero, ℕ, ◌*◌, ◌++◌, ◌+◌, ◌-◌, ◌<◌, ◌==◌, ◌^◌, ◌∙◌, ◌∷◌, ◌≡◌, ◌≤◌}
 use Rattle.std.proofs.lemmas.List.{get_or_append_left}
 use Rattle.oberon_format.specs.Rules.{rules}
 use Rattle.oberon_format.proofs.Bytes.{HasBytes, bytes_left, bytes_right, long_read, words_read, word_of, parts_read, length-long_bytes, length-words_bytes}
@@ -26,7 +26,7 @@ event_agrees bytes offset e s =
 pub record HasCommon (bytes : List ℕ) (p : ℕ) (c : CheckpointParts) : Type 0 where
   pub count : long_at bytes p ≡ c.count
   pub registers : words_from bytes p REGISTERS_AT 16 ≡ c.cpu.r
-  pub fields : words_from bytes p AUXILIARY_AT 10 ≡ field_words c
+  pub fields : words_from bytes p H_AT 10 ≡ field_words c
   pub keys : slice_range bytes (p + KEYS_AT) (p + SENT_AT) ≡ key_bytes c.devices
   pub sent : word_at bytes (p + SENT_AT) ≡ length c.sent
 
@@ -48,7 +48,7 @@ common_agrees bytes p c fits s =
       count = long_read bytes p c.count fits.count (bytes_left bytes p a r s1);
       registers = words_read bytes p REGISTERS_AT (p + REGISTERS_AT) 16 c.cpu.r refl (sym count)
           (λ i d lt. subst (λ (x : ℕ). x < 2 ^ 32) (get_or_default c.cpu.r i 0 d lt) (fits.formed.words i)) (bytes_right bytes p (p + REGISTERS_AT) a r (omega arith) s1);
-      fields = words_read bytes p AUXILIARY_AT (p + AUXILIARY_AT) 10 (field_words c) refl refl (fields_wide c fits) (bytes_right bytes p (p + AUXILIARY_AT) (a ++ r) f (omega arith) s2);
+      fields = words_read bytes p H_AT (p + H_AT) 10 (field_words c) refl refl (fields_wide c fits) (bytes_right bytes p (p + H_AT) (a ++ r) f (omega arith) s2);
       keys = ap (λ (m : ℕ). take m (drop (p + KEYS_AT) bytes)) many ∙ keys.is;
       sent = ap (λ (ws : List ℕ). slice_index ws 0) (words_read bytes p SENT_AT (p + SENT_AT) 1 (length c.sent ∷ []) refl refl
           (All-from_recursion (λ x. x < 2 ^ 32) (length c.sent ∷ []) (fits.sent, tt)) (bytes_right bytes p (p + SENT_AT) (a ++ r ++ f ++ k) n (omega arith) s));
@@ -105,7 +105,7 @@ checkpoint_agrees : (v : ℕ) (bytes : List ℕ) (p : ℕ) (before : List ℕ) (
     → checkpoint_of bytes p ≡ checkpoint_fields v before c
 unfolding words_from
 checkpoint_agrees v bytes p before c front later =
-    let word : (k : ℕ) → slice_index (words_from bytes p AUXILIARY_AT 10) k ≡ slice_index (field_words c) k = λ k. ap (λ (ws : List ℕ). slice_index ws k) front.fields in
+    let word : (k : ℕ) → slice_index (words_from bytes p H_AT 10) k ≡ slice_index (field_words c) k = λ k. ap (λ (ws : List ℕ). slice_index ws k) front.fields in
     λ i. record {
       count = front.count i;
       pc = word 1 i;
@@ -183,9 +183,9 @@ module _ (v : ℕ) (bytes : List ℕ) (r : RecordingParts) (known : is_version v
     start_is (suc k) le =
         let so_far = start_is k (omega arith) in
         let count = ap (change_count bytes) so_far ∙ (later_in k (omega arith)).count in
-        ap (λ (n : ℕ). start bytes k + checkpoint_size (version bytes) n) count
-        ∙ ap (λ (n : ℕ). start bytes k + checkpoint_size n (changes_in v (table_before r.checkpoints k) (checkpoint_at r k))) version_is
-        ∙ ap (λ (n : ℕ). n + checkpoint_size v (changes_in v (table_before r.checkpoints k) (checkpoint_at r k))) so_far
+        ap (λ (n : ℕ). start bytes k + checkpoint_len (version bytes) n) count
+        ∙ ap (λ (n : ℕ). start bytes k + checkpoint_len n (changes_in v (table_before r.checkpoints k) (checkpoint_at r k))) version_is
+        ∙ ap (λ (n : ℕ). n + checkpoint_len v (changes_in v (table_before r.checkpoints k) (checkpoint_at r k))) so_far
 
     at_start : (k : ℕ) → k < length r.checkpoints → HasBytes bytes (start bytes k) (checkpoint_bytes v (table_before r.checkpoints k) (checkpoint_at r k))
     at_start k lt = subst (λ (p : ℕ). HasBytes bytes p (checkpoint_bytes v (table_before r.checkpoints k) (checkpoint_at r k))) (sym (start_is k (omega arith))) (are.checkpoints k lt)

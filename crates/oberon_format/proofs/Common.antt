@@ -46,7 +46,7 @@ unfoldable pub use Rattle.oberon_format.specs.Fields.{total}
 pub use Rattle.oberon_format.specs.Fields.{EventFields, Fields, sent_below}
 unfoldable pub use Rattle.oberon_format.specs.FirstFault.{each, first_broken, Rule}
 pub use Rattle.oberon_format.specs.Formed.{AreFormed, AreWritable, IsFormed, IsWritable}
-unfoldable pub use Rattle.oberon_format.specs.Layout.{change_count, change_offset, checkpoint_size, checkpoints, event_offset, event_start, events, word_since_2, long_at, output_offset, page_id_offset, page_offset, pages, start, version, word_at}
+unfoldable pub use Rattle.oberon_format.specs.Layout.{change_count, change_offset, checkpoint_len, checkpoints, event_offset, event_start, events, word_since_2, long_at, output_offset, page_id_offset, page_offset, pages, start, version, word_at}
 pub use Rattle.oberon_format.specs.Line.{IsNamedFault}
 unfoldable pub use Rattle.oberon_format.specs.PartFields.{changes_in, checkpoint_fields, event_fields, fault_of_parts, fields_in, no_event, start_in}
 pub use Rattle.oberon_format.specs.Ranges.{are_keys, in_ranges, is_change, is_checkpoint, is_count, is_event, is_output, is_version}
@@ -58,7 +58,7 @@ pub use Rattle.oberon_format.specs.declared.change.Change.{Change}
 pub use Rattle.oberon_format.specs.declared.checkpoint.Checkpoint.{Checkpoint}
 pub use Rattle.oberon_format.specs.declared.fault.Fault.{Fault}
 pub use Rattle.oberon_format.specs.declared.fields.CheckpointFields.{CheckpointFields}
-pub use Rattle.oberon_format.specs.declared.layout.TheConstants.{AUXILIARY_AT, CHANGES_AT, CHANGE_COUNT_AT, CHANGE_LEN, CHECKPOINTS_AT, CHECKPOINT_LEN, COMMON_LEN, COUNTER_AT, EVENTS_AT, EVENT_LEN, FIRST_VERSION, FLAGS_AT, HEADER_LEN, KEYS_AT, KIND_AT, LAST_AT, LEDS_AT, LONGEST_RECORDING, MAGIC, MAGIC_AT, MOUSE_AT, PAGE_ID_AT, PAGES_AT, PAGE_LEN, PHASE_AT, RATE_AT, REGISTERS_AT, SENT_AT, SERIAL_AT, STOP_AT, SWITCHES_AT, TABLE_AT, TIMER_AT, VALUE_AT, VERSION, VERSION_AT, WAITING_AT}
+pub use Rattle.oberon_format.specs.declared.layout.TheConstants.{H_AT, CHANGES_AT, CHANGE_COUNT_AT, CHANGE_LEN, CHECKPOINTS_AT, CHECKPOINT_LEN, COMMON_LEN, PC_AT, EVENTS_AT, EVENT_LEN, FIRST_VERSION, FLAGS_AT, HEADER_LEN, KEYS_AT, KIND_AT, LAST_AT, LEDS_AT, LONGEST_RECORDING, MAGIC, MAGIC_AT, MOUSE_AT, PAGE_ID_AT, PAGES_AT, PAGE_LEN, PHASE_AT, RATE_AT, REGISTERS_AT, SENT_AT, SERIAL_AT, STOP_AT, SWITCHES_AT, TABLE_AT, TIMER_AT, VALUE_AT, VERSION, VERSION_AT, WAITING_AT}
 pub use Rattle.oberon_format.specs.declared.ranges.TheConstants.{FLAGS_END, LEDS_END, MAX_CHECKPOINTS, MAX_KEYS, MAX_STOP, SERIAL_END, SWITCHES_END}
 unfoldable pub use Rattle.oberon_format.specs.inner.Decoded.{checkpoints_at, decoded, EachAt, IsEventAt, page_at, pages_at, table_at, words_from}
 pub use Rattle.oberon_format.specs.inner.Tested.{HasPageIds, IsSized, Meets, encoded_change_rules}

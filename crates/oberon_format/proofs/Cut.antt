@@ -1,5 +1,5 @@
 -- How long the file of a recording can be, and that a file that is cut after that many bytes has the first fault of the whole.
-use Rattle.oberon_format.proofs.Common.{[], ap, ap₂, arith, Bool, cases_lt, change_at, change_count, CHANGE_COUNT_AT, CHANGE_LEN, change_of, change_offset, CHANGES_AT, checkpoint_of, checkpoint_rules, checkpoint_size, CheckpointFields, checkpoints, CHECKPOINTS_AT, COUNTER_AT, drop, drop-take, each, eqb-true, EVENT_LEN, event_of, event_offset, event_start, events, EVENTS_AT, false, Fields, fields_of, first_broken, first_fault_of, FIRST_VERSION, FLAGS_AT, HEADER_LEN, if◌then◌else◌, inl, inr, KEYS_AT, KIND_AT, LAST_AT, word_since_2, le-leb, LEDS_AT, length, length-take, List, little_from-take, long_at, LONGEST_RECORDING, MAGIC_AT, MAX_OUTPUT, MOUSE_AT, named_len, nat_le, ne_eqb, None, page_id_after, PAGE_ID_AT, page_id_before, page_id_of, page_id_offset, PAGES_AT, PHASE_AT, PAGE_SLOTS, RATE_AT, RecordingParts, refl, SENT_AT, sent_below, SERIAL_AT, slice_range, Some, start, STOP_AT, subst, suc, SWITCHES_AT, sym, take, take-take, Text, total, true, VALUE_AT, version, VERSION_AT, WAITING_AT, file_len, word_at, zero, ℕ, ◌*◌, ◌+◌, ◌-◌, ◌<◌, ◌==◌, ◌∙◌, ◌∷◌, ◌≡◌, ◌≤◌}
+use Rattle.oberon_format.proofs.Common.{[], ap, ap₂, arith, Bool, cases_lt, change_at, change_count, CHANGE_COUNT_AT, CHANGE_LEN, change_of, change_offset, CHANGES_AT, checkpoint_of, checkpoint_rules, checkpoint_len, CheckpointFields, checkpoints, CHECKPOINTS_AT, PC_AT, drop, drop-take, each, eqb-true, EVENT_LEN, event_of, event_offset, event_start, events, EVENTS_AT, false, Fields, fields_of, first_broken, first_fault_of, FIRST_VERSION, FLAGS_AT, HEADER_LEN, if◌then◌else◌, inl, inr, KEYS_AT, KIND_AT, LAST_AT, word_since_2, le-leb, LEDS_AT, length, length-take, List, little_from-take, long_at, LONGEST_RECORDING, MAGIC_AT, MAX_OUTPUT, MOUSE_AT, named_len, nat_le, ne_eqb, None, page_id_after, PAGE_ID_AT, page_id_before, page_id_of, page_id_offset, PAGES_AT, PHASE_AT, PAGE_SLOTS, RATE_AT, RecordingParts, refl, SENT_AT, sent_below, SERIAL_AT, slice_range, Some, start, STOP_AT, subst, suc, SWITCHES_AT, sym, take, take-take, Text, total, true, VALUE_AT, version, VERSION_AT, WAITING_AT, file_len, word_at, zero, ℕ, ◌*◌, ◌+◌, ◌-◌, ◌<◌, ◌==◌, ◌∙◌, ◌∷◌, ◌≡◌, ◌≤◌}
 use Rattle.oberon_format.proofs.ChangeLemmas.{after-same}
 use Rattle.oberon_format.proofs.Encoded.{length-encoding}
 use Rattle.oberon_format.proofs.LawfulLemmas.{lawful_formed}
@@ -47,7 +47,7 @@ checkpoint_of-take : (n : ℕ) (bytes : List ℕ) (offset : ℕ) → LONGEST_REC
 checkpoint_of-take n bytes offset over within =
     λ i. record {
       count = long_at-take n bytes offset (omega arith) i;
-      pc = word_at-take n bytes (offset + COUNTER_AT) (omega arith) i;
+      pc = word_at-take n bytes (offset + PC_AT) (omega arith) i;
       flags = word_at-take n bytes (offset + FLAGS_AT) (omega arith) i;
       stop = word_at-take n bytes (offset + STOP_AT) (omega arith) i;
       switches = word_at-take n bytes (offset + SWITCHES_AT) (omega arith) i;
@@ -144,7 +144,7 @@ module _ (n : ℕ) (bytes : List ℕ) (over : LONGEST_RECORDING < n) (within : n
     -- the offset of the next checkpoint
     next_start : start cut (suc k) ≡ start bytes (suc k)
     unfolding start
-    next_start = ap₂ (λ (offset size : ℕ). offset + size) below.begins (ap₂ checkpoint_size (version-take n bytes over) count_here)
+    next_start = ap₂ (λ (offset size : ℕ). offset + size) below.begins (ap₂ checkpoint_len (version-take n bytes over) count_here)
 
     module _ (few_changes : change_count bytes (start bytes k) ≤ PAGE_SLOTS) where
       near_next : start bytes (suc k) ≤ most bytes (suc k)

@@ -1,5 +1,5 @@
 -- What the reader makes of a file without a fault is the recording that the file encodes.
-use Rattle.oberon_format.proofs.Common.{[], add-zero, All, All-drop, All-from_recursion, All-take, ap, AreBytes, AreFormed, AreOrdered, ArePages, AreWritable, arith, AUXILIARY_AT, before_count, between_none, cases_lt, Change, change_bytes, change_count, CHANGE_COUNT_AT, CHANGE_LEN, change_of, change_offset, changes, CHANGES_AT, changes_in, checkpoint_at, checkpoint_bytes, checkpoint_of, checkpoint_size, CheckpointParts, checkpoints, CHECKPOINTS_AT, checkpoints_at, rate_and_phase, common_bytes, count_before, COUNTER_AT, decoded, drop, EachAt, Event, event_bytes, event_floor, event_offset, event_rules, events, EVENTS_AT, field_words, fields_of, fill_by_all, first_fault_of, FIRST_VERSION, FLAGS_AT, flat_map, get_or, get_or-map, get_or-map-range_with_len, get_or_default, get_or_past, HasPageIds, header_bytes, if◌then◌else◌, inl, inr, IsEventAt, IsFormed, IsLawful, IsPage, HasStillTimer, IsWritable, key_bytes, KEYS_AT, KIND_AT, kind_of, word_since_2, tail_words, leb-true, LEDS_AT, length, length-append, length-between, length-map-range_with_len, List, little_from-lt, long_at, long_bytes, map-range_with_len_more, MAX_COUNT, Meets, MOUSE_AT, no_change, no_checkpoint, PAGE_ID_AT, number_back, page_id_before, output_of, output_offset, page_at, page_id_of, page_id_offset, page_offset, pages, PAGES_AT, pages_at, slot_floor, PAGE_SLOTS, prior_page_id, RATE_AT, RecordingParts, refl, REGISTERS_AT, SENT_AT, SERIAL_AT, slice_index, slice_range, start, start_in, STOP_AT, subst, suc, SWITCHES_AT, sym, TABLE_AT, table_at, table_before, tail_bytes, take, Text, TIMER_AT, value_of, VERSION, version, WAITING_AT, word_at, words_bytes, words_from, zero, ℕ, ◌*◌, ◌++◌, ◌+◌, ◌-◌, ◌<◌, ◌==◌, ◌^◌, ◌∙◌, ◌∷◌, ◌≡◌, ◌≤◌}
+use Rattle.oberon_format.proofs.Common.{[], add-zero, All, All-drop, All-from_recursion, All-take, ap, AreBytes, AreFormed, AreOrdered, ArePages, AreWritable, arith, H_AT, before_count, between_none, cases_lt, Change, change_bytes, change_count, CHANGE_COUNT_AT, CHANGE_LEN, change_of, change_offset, changes, CHANGES_AT, changes_in, checkpoint_at, checkpoint_bytes, checkpoint_of, checkpoint_len, CheckpointParts, checkpoints, CHECKPOINTS_AT, checkpoints_at, rate_and_phase, common_bytes, count_before, PC_AT, decoded, drop, EachAt, Event, event_bytes, event_floor, event_offset, event_rules, events, EVENTS_AT, field_words, fields_of, fill_by_all, first_fault_of, FIRST_VERSION, FLAGS_AT, flat_map, get_or, get_or-map, get_or-map-range_with_len, get_or_default, get_or_past, HasPageIds, header_bytes, if◌then◌else◌, inl, inr, IsEventAt, IsFormed, IsLawful, IsPage, HasStillTimer, IsWritable, key_bytes, KEYS_AT, KIND_AT, kind_of, word_since_2, tail_words, leb-true, LEDS_AT, length, length-append, length-between, length-map-range_with_len, List, little_from-lt, long_at, long_bytes, map-range_with_len_more, MAX_COUNT, Meets, MOUSE_AT, no_change, no_checkpoint, PAGE_ID_AT, number_back, page_id_before, output_of, output_offset, page_at, page_id_of, page_id_offset, page_offset, pages, PAGES_AT, pages_at, slot_floor, PAGE_SLOTS, prior_page_id, RATE_AT, RecordingParts, refl, REGISTERS_AT, SENT_AT, SERIAL_AT, slice_index, slice_range, start, start_in, STOP_AT, subst, suc, SWITCHES_AT, sym, TABLE_AT, table_at, table_before, tail_bytes, take, Text, TIMER_AT, value_of, VERSION, version, WAITING_AT, word_at, words_bytes, words_from, zero, ℕ, ◌*◌, ◌++◌, ◌+◌, ◌-◌, ◌<◌, ◌==◌, ◌^◌, ◌∙◌, ◌∷◌, ◌≡◌, ◌≤◌}
 use Rattle.risc_model.specs.InputOrder.{count_at}
 use Rattle.oberon_format.proofs.ChangeLemmas.{AreLawful, after-bounded, after-same, change_in, lawful-are}
 use Rattle.oberon_format.proofs.PartLemmas.{member, table_next}
@@ -122,7 +122,7 @@ module _ (bytes : List ℕ) (are_bytes : AreBytes bytes) (meets : Meets bytes) w
     formed = record {
       registers = length-words_from bytes o REGISTERS_AT 16;
       words = λ a. words_fit bytes o REGISTERS_AT 16 a are_bytes;
-      auxiliary = word_fits bytes (o + AUXILIARY_AT) are_bytes;
+      auxiliary = word_fits bytes (o + H_AT) are_bytes;
       devices = record {
         timer = word_fits bytes (o + TIMER_AT) are_bytes;
         rate = later_fits bytes (o + RATE_AT) are_bytes;
@@ -147,20 +147,20 @@ module _ (bytes : List ℕ) (are_bytes : AreBytes bytes) (meets : Meets bytes) w
     fits = record {
       formed = formed;
       count = long_fits bytes o are_bytes;
-      counter = word_fits bytes (o + COUNTER_AT) are_bytes;
+      counter = word_fits bytes (o + PC_AT) are_bytes;
       stop = word_fits bytes (o + STOP_AT) are_bytes;
       sent = omega (arith, sent_len, word_fits bytes (o + SENT_AT) are_bytes);
     }
 
     -- the fields that begin it are in the file
-    fields_are : words_from bytes o AUXILIARY_AT 10 ≡ field_words c
+    fields_are : words_from bytes o H_AT 10 ≡ field_words c
     unfolding words_from
     fields_are =
         let flags = sym (number_back (word_at bytes (o + FLAGS_AT)) few.flags) in
         let serial = sym (serial_whole (word_at bytes (o + SERIAL_AT)) few.serial) in
         let waiting = sym keys_len in
         λ i.
-        word_at bytes (o + AUXILIARY_AT) ∷ word_at bytes (o + COUNTER_AT) ∷ flags i ∷ word_at bytes (o + STOP_AT) ∷ word_at bytes (o + TIMER_AT)
+        word_at bytes (o + H_AT) ∷ word_at bytes (o + PC_AT) ∷ flags i ∷ word_at bytes (o + STOP_AT) ∷ word_at bytes (o + TIMER_AT)
         ∷ word_at bytes (o + SWITCHES_AT) ∷ word_at bytes (o + LEDS_AT) ∷ word_at bytes (o + MOUSE_AT) ∷ serial i ∷ waiting i ∷ []
 
     common_back : HasBytes bytes o (common_bytes c)
@@ -171,7 +171,7 @@ module _ (bytes : List ℕ) (are_bytes : AreBytes bytes) (meets : Meets bytes) w
         let a = long_bytes c.count in let r = words_bytes c.cpu.r in
         let f = words_bytes (field_words c) in
         let ks = key_bytes c.devices in let n = words_bytes (length c.sent ∷ []) in
-        let fields = subst (λ (ws : List ℕ). HasBytes bytes (o + AUXILIARY_AT) (words_bytes ws)) fields_are (words_back bytes o AUXILIARY_AT (o + AUXILIARY_AT) 10 refl each_byte (omega arith)) in
+        let fields = subst (λ (ws : List ℕ). HasBytes bytes (o + H_AT) (words_bytes ws)) fields_are (words_back bytes o H_AT (o + H_AT) 10 refl each_byte (omega arith)) in
         let sent = subst (λ (x : ℕ). HasBytes bytes (o + SENT_AT) (words_bytes (x ∷ []))) (sym sent_len) (words_back bytes o SENT_AT (o + SENT_AT) 1 refl each_byte (omega arith)) in
         let many : length ks ≡ o + SENT_AT - (o + KEYS_AT) = omega (arith, length-key_bytes c.devices formed.devices.keys) in
         let keys : HasBytes bytes (o + KEYS_AT) ks = record {
@@ -181,7 +181,7 @@ module _ (bytes : List ℕ) (are_bytes : AreBytes bytes) (meets : Meets bytes) w
         let lf : length (a ++ r ++ f) ≡ KEYS_AT = length-append (a ++ r) f ∙ omega (arith, length-words_bytes (field_words c)) in
         let lk : length (a ++ r ++ f ++ ks) ≡ SENT_AT = length-append (a ++ r ++ f) ks ∙ omega arith in
         let s1 = bytes_join bytes o (o + REGISTERS_AT) a r (omega arith) (long_back bytes o each_byte (omega arith)) (words_back bytes o REGISTERS_AT (o + REGISTERS_AT) 16 refl each_byte (omega arith)) in
-        let s2 = bytes_join bytes o (o + AUXILIARY_AT) (a ++ r) f (omega arith) s1 fields in
+        let s2 = bytes_join bytes o (o + H_AT) (a ++ r) f (omega arith) s1 fields in
         let s3 = bytes_join bytes o (o + KEYS_AT) (a ++ r ++ f) ks (omega arith) s2 keys in
         bytes_join bytes o (o + SENT_AT) (a ++ r ++ f ++ ks) n (omega arith) s3 sent
 
@@ -318,7 +318,7 @@ module _ (bytes : List ℕ) (are_bytes : AreBytes bytes) (meets : Meets bytes) w
         let here = checkpoint_is K k no_checkpoint (omega arith) in
         let size : changes_in (version bytes) (table_before r.checkpoints k) (checkpoint_at r k) ≡ change_count bytes (start bytes k) =
         ap (changes_in (version bytes) (table_before r.checkpoints k)) here ∙ count_back k (omega arith) (table_before r.checkpoints k) (numbers_before K k (omega arith)) in
-        ap (λ (m : ℕ). start_in (version bytes) r k + checkpoint_size (version bytes) m) size ∙ ap (λ (m : ℕ). m + checkpoint_size (version bytes) (change_count bytes (start bytes k))) so_far
+        ap (λ (m : ℕ). start_in (version bytes) r k + checkpoint_len (version bytes) m) size ∙ ap (λ (m : ℕ). m + checkpoint_len (version bytes) (change_count bytes (start bytes k))) so_far
 
     event_back : (i : ℕ) (d : Event) → i < length inputs → HasBytes bytes (event_offset bytes i) (event_bytes (get_or inputs i d))
     unfolding event_bytes words_from

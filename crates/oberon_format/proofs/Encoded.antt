@@ -1,5 +1,5 @@
 -- The parts of an encoding at their offsets.
-use Rattle.oberon_format.proofs.Common.{[], All-from_recursion, ap, AreFormed, ArePages, AreWritable, arith, Bool, cases_lt, Change, change_bytes, CHANGE_LEN, changes, CHANGES_AT, changes_in, checkpoint_at, checkpoint_bytes, CHECKPOINT_LEN, checkpoint_size, CheckpointParts, checkpoints_bytes, common_bytes, COMMON_LEN, cond, DeviceState, drop, drop_at, EachAt, encoding, Event, event_bytes, EVENT_LEN, event_start, false, field_words, FIRST_VERSION, flat_map, get_or, get_or_default, header_bytes, HEADER_LEN, inl, inr, is_phase, is_version, IsFormed, IsLawful, IsPhase, IsTable, IsWritable, key_bytes, tail_words, length, length-append, length-replicate, List, MAGIC, MAX_KEYS, mouse_word_fits, nat_tests, no_change, no_checkpoint, output_of, PAGE_LEN, page_offset, RecordingParts, refl, start_in, subst, suc, sym, table_before, tail_bytes, take, take-append-drop, IsEncoding, true, VERSION, words_bytes, zero, ℕ, ◌*◌, ◌++◌, ◌+◌, ◌<◌, ◌==◌, ◌^◌, ◌∙◌, ◌∷◌, ◌≡◌, ◌≤◌}
+use Rattle.oberon_format.proofs.Common.{[], All-from_recursion, ap, AreFormed, ArePages, AreWritable, arith, Bool, cases_lt, Change, change_bytes, CHANGE_LEN, changes, CHANGES_AT, changes_in, checkpoint_at, checkpoint_bytes, CHECKPOINT_LEN, checkpoint_len, CheckpointParts, checkpoints_bytes, common_bytes, COMMON_LEN, cond, DeviceState, drop, drop_at, EachAt, encoding, Event, event_bytes, EVENT_LEN, event_start, false, field_words, FIRST_VERSION, flat_map, get_or, get_or_default, header_bytes, HEADER_LEN, inl, inr, is_phase, is_version, IsFormed, IsLawful, IsPhase, IsTable, IsWritable, key_bytes, tail_words, length, length-append, length-replicate, List, MAGIC, MAX_KEYS, mouse_word_fits, nat_tests, no_change, no_checkpoint, output_of, PAGE_LEN, page_offset, RecordingParts, refl, start_in, subst, suc, sym, table_before, tail_bytes, take, take-append-drop, IsEncoding, true, VERSION, words_bytes, zero, ℕ, ◌*◌, ◌++◌, ◌+◌, ◌<◌, ◌==◌, ◌^◌, ◌∙◌, ◌∷◌, ◌≡◌, ◌≤◌}
 use Rattle.oberon_format.proofs.Bytes.{AreWide, HasBytes, HaveLength, bytes_whole, bytes_join, bytes_left, bytes_right, length-long_bytes, length-parts, length-word_bytes, length-words_bytes, parts_back, parts_read}
 use Rattle.oberon_format.proofs.ChangeLemmas.{change_in, changes-lawful, changes-new}
 use Rattle.oberon_format.proofs.LawfulLemmas.{flags_fit, lawful_formed, serial_fits}
@@ -31,7 +31,7 @@ length-common_bytes c formed =
     let registers = formed.registers in let few = formed.devices.keys in
     simp (length-append, length-long_bytes, length-word_bytes, length-words_bytes, length-replicate) (omega arith)
 
-pub length-checkpoint_bytes : (v : ℕ) (before : List ℕ) (c : CheckpointParts) → IsFormed c → length (checkpoint_bytes v before c) ≡ checkpoint_size v (changes_in v before c)
+pub length-checkpoint_bytes : (v : ℕ) (before : List ℕ) (c : CheckpointParts) → IsFormed c → length (checkpoint_bytes v before c) ≡ checkpoint_len v (changes_in v before c)
 unfolding checkpoint_bytes tail_bytes
 length-checkpoint_bytes v before c formed = go (v == FIRST_VERSION) where
   go : (b : Bool) → length (common_bytes c ++ cond b (words_bytes c.table) (words_bytes (tail_words before c) ++ flat_map change_bytes (changes before c.table)))

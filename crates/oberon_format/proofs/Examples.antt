@@ -1,5 +1,5 @@
 -- Worked examples of the definitions: each computes to the value that the format asks for.
-use Rattle.oberon_format.proofs.Common.{[], are_keys, Change, change_bytes, change_offset, change_rules, changes_below, checkpoint_fields, checkpoint_rules, checkpoint_size, CheckpointParts, common_bytes, COMMON_LEN, COUNTER_AT, each, end_rules, event_start, false, fault_of_parts, Fields, fields_in, first_broken, first_fault_of, header_bytes, is_count, is_event, is_output, is_phase, length, List, long_at, long_bytes, LONGEST_RECORDING, MAGIC, map, no_checkpoint, None, page_id_after, page_id_before, page_id_offset, page_id_rules, refl, replicate, slice_index, Some, start, start_in, suc, take, total, true, VERSION, word_at, word_bytes, words_bytes, zero, zero_numbers, ℕ, ◌*◌, ◌++◌, ◌+◌, ◌^◌, ◌∷◌, ◌≡◌}
+use Rattle.oberon_format.proofs.Common.{[], are_keys, Change, change_bytes, change_offset, change_rules, changes_below, checkpoint_fields, checkpoint_rules, checkpoint_len, CheckpointParts, common_bytes, COMMON_LEN, PC_AT, each, end_rules, event_start, false, fault_of_parts, Fields, fields_in, first_broken, first_fault_of, header_bytes, is_count, is_event, is_output, is_phase, length, List, long_at, long_bytes, LONGEST_RECORDING, MAGIC, map, no_checkpoint, None, page_id_after, page_id_before, page_id_offset, page_id_rules, refl, replicate, slice_index, Some, start, start_in, suc, take, total, true, VERSION, word_at, word_bytes, words_bytes, zero, zero_numbers, ℕ, ◌*◌, ◌++◌, ◌+◌, ◌^◌, ◌∷◌, ◌≡◌}
 use Rattle.oberon_format.specs.Rules.{rules}
 use Rattle.risc_devices.specs.Input as input
 use Rattle.oberon_format.specs.declared.fault.Fault.TheVariants as fault
@@ -134,11 +134,11 @@ sixteen-keys = refl
 -- offsets of fields: the second checkpoint of version 1 after one page, its first page id, that of version 2 after three changes,
 -- its second change, and the length of the longest file
 offsets : Answers (λ (x : ℕ). x) (
-    (event_start 1 0 + checkpoint_size 1 0, 5276)
+    (event_start 1 0 + checkpoint_len 1 0, 5276)
     ∷ (page_id_offset 5276 0, 5408)
-    ∷ (event_start 1 0 + checkpoint_size 2 3, 1216)
+    ∷ (event_start 1 0 + checkpoint_len 2 3, 1216)
     ∷ (change_offset 1048 1, 1200)
-    ∷ (event_start 65536 1000000 + checkpoint_size 2 1024 * 4097 + 1048576, LONGEST_RECORDING) ∷ [])
+    ∷ (event_start 65536 1000000 + checkpoint_len 2 1024 * 4097 + 1048576, LONGEST_RECORDING) ∷ [])
 offsets = refl
 
 -- the bytes of a number, of a count, of the header of a file of version 2 with no page, no event and one checkpoint (it begins with
@@ -162,6 +162,6 @@ claim = record no_checkpoint {
   cpu = record no_checkpoint.cpu { r = 5 ∷ replicate 15 0; pc = 100 };
 }
 
-bytes-of-fields : (length (common_bytes claim) ≡ COMMON_LEN) × (take 12 (common_bytes claim) ≡ 100 ∷ 0 ∷ 0 ∷ 0 ∷ 0 ∷ 0 ∷ 0 ∷ 0 ∷ 5 ∷ 0 ∷ 0 ∷ 0 ∷ []) × (word_at (common_bytes claim) COUNTER_AT ≡ 100)
+bytes-of-fields : (length (common_bytes claim) ≡ COMMON_LEN) × (take 12 (common_bytes claim) ≡ 100 ∷ 0 ∷ 0 ∷ 0 ∷ 0 ∷ 0 ∷ 0 ∷ 0 ∷ 5 ∷ 0 ∷ 0 ∷ 0 ∷ []) × (word_at (common_bytes claim) PC_AT ≡ 100)
 unfolding common_bytes word_bytes long_bytes word_at
 bytes-of-fields = (refl, refl, refl)

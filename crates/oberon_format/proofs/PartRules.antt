@@ -1,5 +1,5 @@
 -- The rules of a checkpoint of parts, as the code tests them: the lengths are right, and changes are those between two tables.
-use Rattle.oberon_format.proofs.Common.{add-one, ap, arith, change_rules, changes, CHANGES_AT, Checkpoint, checkpoint_at, checkpoint_fields, checkpoint_parts, checkpoint_rules, checkpoint_size, CheckpointFields, CheckpointParts, count_before, each, encoded_change_rules, Event, Fault, field_rules, fields_in, first_broken, get_or, le-leb, length, length-map, List, LONGEST_RECORDING, map, MAX_CHECKPOINTS, MAX_EVENTS, MAX_PAGES, nat_le, None, Option, option_or, parts_of, prior_page_id, RecordingParts, refl, Rule, sent_below, slice_index, Some, start_in, suc, sym, table_before, VERSION, ℕ, ◌++◌, ◌+◌, ◌<◌, ◌∙◌, ◌∷◌, ◌≡◌, ◌≤◌}
+use Rattle.oberon_format.proofs.Common.{add-one, ap, arith, change_rules, changes, CHANGES_AT, Checkpoint, checkpoint_at, checkpoint_fields, checkpoint_parts, checkpoint_rules, checkpoint_len, CheckpointFields, CheckpointParts, count_before, each, encoded_change_rules, Event, Fault, field_rules, fields_in, first_broken, get_or, le-leb, length, length-map, List, LONGEST_RECORDING, map, MAX_CHECKPOINTS, MAX_EVENTS, MAX_PAGES, nat_le, None, Option, option_or, parts_of, prior_page_id, RecordingParts, refl, Rule, sent_below, slice_index, Some, start_in, suc, sym, table_before, VERSION, ℕ, ◌++◌, ◌+◌, ◌<◌, ◌∙◌, ◌∷◌, ◌≡◌, ◌≤◌}
 use Rattle.oberon_format.proofs.ChangeLemmas.{change_in}
 use Rattle.oberon_format.proofs.CheckpointLemmas.{checkpoint_at-is}
 use Rattle.oberon_format.proofs.PartLemmas.{start_in_rises, start_in_next, start_in_within, changed_room, prior_encoded}
@@ -57,9 +57,9 @@ by_changes pages offset old passed new a b o none is found same =
 
 -- the offset of the next checkpoint
 pub next_offset : (r : RecordingParts) (k offset size : ℕ) (fields : CheckpointFields) → offset ≡ start_in VERSION r k
-    → fields ≡ (fields_in VERSION r).checkpoint k → size ≡ checkpoint_size VERSION fields.changes → offset + size ≡ start_in VERSION r (k + 1)
+    → fields ≡ (fields_in VERSION r).checkpoint k → size ≡ checkpoint_len VERSION fields.changes → offset + size ≡ start_in VERSION r (k + 1)
 next_offset r k offset size fields at are long =
-    ap (λ (n : ℕ). n + size) at ∙ ap (λ (n : ℕ). start_in VERSION r k + n) (long ∙ ap (λ (y : CheckpointFields). checkpoint_size VERSION y.changes) are)
+    ap (λ (n : ℕ). n + size) at ∙ ap (λ (n : ℕ). start_in VERSION r k + n) (long ∙ ap (λ (y : CheckpointFields). checkpoint_len VERSION y.changes) are)
     ∙ sym (start_in_next VERSION r k) ∙ ap (start_in VERSION r) (sym (add-one k))
 
 -- no checkpoint within the limits begins after the longest file

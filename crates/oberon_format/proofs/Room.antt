@@ -1,23 +1,23 @@
 -- How far the parts of a file reach.
-use Rattle.oberon_format.proofs.Common.{add-one, ap, arith, change_count, CHANGE_LEN, change_offset, CHANGES_AT, CHECKPOINT_LEN, checkpoint_size, checkpoints, event_offset, events, fields_of, FIRST_VERSION, inl, inr, IsSized, length, List, Meets, named_len, nat_tests, refl, start, suc, VERSION, version, zero, ℕ, ◌*◌, ◌+◌, ◌<◌, ◌∙◌, ◌≡◌, ◌≤◌}
+use Rattle.oberon_format.proofs.Common.{add-one, ap, arith, change_count, CHANGE_LEN, change_offset, CHANGES_AT, CHECKPOINT_LEN, checkpoint_len, checkpoints, event_offset, events, fields_of, FIRST_VERSION, inl, inr, IsSized, length, List, Meets, named_len, nat_tests, refl, start, suc, VERSION, version, zero, ℕ, ◌*◌, ◌+◌, ◌<◌, ◌∙◌, ◌≡◌, ◌≤◌}
 use Rattle.oberon_format.proofs.RuleLemmas.{version_cases, is_first, is_later, rises}
 
 -- a checkpoint of either version has the common fields, and at least three more numbers
-pub size_least : (v n : ℕ) → CHANGES_AT ≤ checkpoint_size v n
+pub size_least : (v n : ℕ) → CHANGES_AT ≤ checkpoint_len v n
 size_least v n = grind (arith, nat_tests)
 
 -- by the version
-pub size_first : (v n : ℕ) → v ≡ FIRST_VERSION → checkpoint_size v n ≡ CHECKPOINT_LEN
+pub size_first : (v n : ℕ) → v ≡ FIRST_VERSION → checkpoint_len v n ≡ CHECKPOINT_LEN
 size_first v n is = rw (is_first v is) refl
 
-size_later : (v n : ℕ) → v ≡ VERSION → checkpoint_size v n ≡ CHANGES_AT + CHANGE_LEN * n
+size_later : (v n : ℕ) → v ≡ VERSION → checkpoint_len v n ≡ CHANGES_AT + CHANGE_LEN * n
 size_later v n is = rw (is_later v is) refl
 
 pub start_none : (bytes : List ℕ) → start bytes 0 ≡ event_offset bytes (events bytes)
 unfolding start
 start_none bytes = refl
 
-pub start_next : (bytes : List ℕ) (k : ℕ) → start bytes (suc k) ≡ start bytes k + checkpoint_size (version bytes) (change_count bytes (start bytes k))
+pub start_next : (bytes : List ℕ) (k : ℕ) → start bytes (suc k) ≡ start bytes k + checkpoint_len (version bytes) (change_count bytes (start bytes k))
 unfolding start
 start_next bytes k = refl
 
@@ -31,8 +31,8 @@ start_first bytes zero is = omega arith
 start_first bytes (suc k) is = omega (arith, start_first bytes k is, start_next bytes k, size_first (version bytes) (change_count bytes (start bytes k)) is)
 
 -- the offset of the next one, by the length of this one
-pub offset_next : (bytes : List ℕ) (k offset n size : ℕ) → offset ≡ start bytes k → n ≡ change_count bytes offset → size ≡ checkpoint_size (version bytes) n → offset + size ≡ start bytes (k + 1)
-offset_next bytes k offset n size at many is = omega (arith, ap (start bytes) (add-one k) ∙ start_next bytes k, is ∙ ap (checkpoint_size (version bytes)) (many ∙ ap (change_count bytes) at))
+pub offset_next : (bytes : List ℕ) (k offset n size : ℕ) → offset ≡ start bytes k → n ≡ change_count bytes offset → size ≡ checkpoint_len (version bytes) n → offset + size ≡ start bytes (k + 1)
+offset_next bytes k offset n size at many is = omega (arith, ap (start bytes) (add-one k) ∙ start_next bytes k, is ∙ ap (checkpoint_len (version bytes)) (many ∙ ap (change_count bytes) at))
 
 -- in version 2, by the number of changes
 pub start_later : (bytes : List ℕ) (k offset n : ℕ) → version bytes ≡ VERSION → offset ≡ start bytes k → n ≡ change_count bytes offset → start bytes (suc k) ≡ change_offset offset n
@@ -61,7 +61,7 @@ whole_room bytes k sized lt is =
     omega (arith, start_le bytes (suc k) (checkpoints bytes) (omega arith), start_first bytes (suc k) is, start_first bytes k is, start_first bytes (checkpoints bytes) is, sized.long, named_first bytes is)
 
 -- and each checkpoint of either version, in a file that breaks no rule
-checkpoint_there : (bytes : List ℕ) (k : ℕ) → Meets bytes → k < checkpoints bytes → start bytes k + checkpoint_size (version bytes) (change_count bytes (start bytes k)) ≤ length bytes
+checkpoint_there : (bytes : List ℕ) (k : ℕ) → Meets bytes → k < checkpoints bytes → start bytes k + checkpoint_len (version bytes) (change_count bytes (start bytes k)) ≤ length bytes
 checkpoint_there bytes k meets lt = omega (arith, start_le bytes (suc k) (checkpoints bytes) (omega arith), start_next bytes k, meets.len_is)
 
 pub common_there : (bytes : List ℕ) (k : ℕ) → Meets bytes → k < checkpoints bytes → start bytes k + CHANGES_AT ≤ length bytes

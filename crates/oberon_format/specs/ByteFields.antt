@@ -5,7 +5,7 @@ use Rattle.oberon_format.specs.declared.change.Change.{Change}
 use Rattle.oberon_format.specs.declared.fault.Fault.{Fault}
 use Rattle.oberon_format.specs.declared.fault.Fault.TheVariants as fault
 use Rattle.oberon_format.specs.declared.fields.CheckpointFields.{CheckpointFields}
-use Rattle.oberon_format.specs.declared.layout.TheConstants.{FIRST_VERSION, MAGIC_AT, LAST_AT, KIND_AT, VALUE_AT, COUNTER_AT}
+use Rattle.oberon_format.specs.declared.layout.TheConstants.{FIRST_VERSION, MAGIC_AT, LAST_AT, KIND_AT, VALUE_AT, PC_AT}
 use Rattle.oberon_format.specs.declared.layout.TheConstants.{FLAGS_AT, STOP_AT, SWITCHES_AT, LEDS_AT, MOUSE_AT, SERIAL_AT}
 use Rattle.oberon_format.specs.declared.layout.TheConstants.{WAITING_AT, KEYS_AT, SENT_AT, RATE_AT, PHASE_AT, PAGE_ID_AT}
 use Rattle.oberon_format.specs.Changes.{page_id_after}
@@ -27,7 +27,7 @@ event_of bytes offset = record {
 abbrev pub checkpoint_of : List ℕ → ℕ → CheckpointFields
 checkpoint_of bytes offset = record {
   count = long_at bytes offset;
-  pc = word_at bytes (offset + COUNTER_AT);
+  pc = word_at bytes (offset + PC_AT);
   flags = word_at bytes (offset + FLAGS_AT);
   stop = word_at bytes (offset + STOP_AT);
   switches = word_at bytes (offset + SWITCHES_AT);

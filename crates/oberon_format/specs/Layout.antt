@@ -33,8 +33,8 @@ abbrev pub change_offset : ℕ → ℕ → ℕ
 change_offset checkpoint i = checkpoint + CHANGES_AT + CHANGE_LEN * i
 
 -- the length of a checkpoint, from the version and the number of its changes
-abbrev pub checkpoint_size : ℕ → ℕ → ℕ
-checkpoint_size version changes = if version == FIRST_VERSION then CHECKPOINT_LEN else CHANGES_AT + CHANGE_LEN * changes
+abbrev pub checkpoint_len : ℕ → ℕ → ℕ
+checkpoint_len version changes = if version == FIRST_VERSION then CHECKPOINT_LEN else CHANGES_AT + CHANGE_LEN * changes
 
 -- the version of a file, and the numbers of pages, events and checkpoints in its header
 abbrev pub version : List ℕ → ℕ
@@ -64,7 +64,7 @@ change_count bytes offset = word_since_2 bytes (offset + CHANGE_COUNT_AT)
 -- the offset of checkpoint k: the checkpoints follow the events, one after another
 unfoldable pub start : List ℕ → ℕ → ℕ
 start bytes zero = event_offset bytes (events bytes)
-start bytes (suc k) = start bytes k + checkpoint_size (version bytes) (change_count bytes (start bytes k))
+start bytes (suc k) = start bytes k + checkpoint_len (version bytes) (change_count bytes (start bytes k))
 
 -- the offset of the output of a file: after the last checkpoint
 abbrev pub output_offset : List ℕ → ℕ

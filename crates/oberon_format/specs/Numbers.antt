@@ -7,7 +7,7 @@ use Rattle.risc_pages.specs.declared.sizes.TheConstants.{PAGE_SLOTS}
 use Rattle.oberon_format.specs.declared.layout.TheConstants.{MAGIC, FIRST_VERSION, VERSION, HEADER_LEN, PAGE_LEN, EVENT_LEN}
 use Rattle.oberon_format.specs.declared.layout.TheConstants.{CHECKPOINT_LEN, COMMON_LEN, CHANGE_LEN, LONGEST_RECORDING, MAGIC_AT}
 use Rattle.oberon_format.specs.declared.layout.TheConstants.{VERSION_AT, PAGES_AT, EVENTS_AT, CHECKPOINTS_AT, LAST_AT, KIND_AT}
-use Rattle.oberon_format.specs.declared.layout.TheConstants.{VALUE_AT, PAGE_ID_AT, REGISTERS_AT, AUXILIARY_AT, COUNTER_AT, FLAGS_AT}
+use Rattle.oberon_format.specs.declared.layout.TheConstants.{VALUE_AT, PAGE_ID_AT, REGISTERS_AT, H_AT, PC_AT, FLAGS_AT}
 use Rattle.oberon_format.specs.declared.layout.TheConstants.{STOP_AT, TIMER_AT, SWITCHES_AT, LEDS_AT, MOUSE_AT, SERIAL_AT}
 use Rattle.oberon_format.specs.declared.layout.TheConstants.{WAITING_AT, KEYS_AT, SENT_AT, TABLE_AT, RATE_AT, PHASE_AT}
 use Rattle.oberon_format.specs.declared.layout.TheConstants.{CHANGE_COUNT_AT, CHANGES_AT}
@@ -43,8 +43,8 @@ pub record HasHeaderOffsets : Type 0 where
 -- the offsets of the fields of a checkpoint, from its start
 pub record HasCheckpointOffsets : Type 0 where
   pub registers_at : REGISTERS_AT ≡ 8
-  pub auxiliary_at : AUXILIARY_AT ≡ 72
-  pub counter_at : COUNTER_AT ≡ 76
+  pub h_at : H_AT ≡ 72
+  pub pc_at : PC_AT ≡ 76
   pub flags_at : FLAGS_AT ≡ 80
   pub stop_at : STOP_AT ≡ 84
   pub timer_at : TIMER_AT ≡ 88

@@ -11,7 +11,7 @@ use Rattle.oberon_format.specs.declared.fields.CheckpointFields.{CheckpointField
 use Rattle.oberon_format.specs.declared.layout.TheConstants.{MAGIC, FIRST_VERSION, VERSION}
 use Rattle.oberon_format.specs.Fields.{EventFields, Fields}
 use Rattle.oberon_format.specs.FirstFault.{first_broken}
-use Rattle.oberon_format.specs.Layout.{event_start, checkpoint_size}
+use Rattle.oberon_format.specs.Layout.{event_start, checkpoint_len}
 use Rattle.oberon_format.specs.Recording.{RecordingParts, checkpoint_at, table_before, output_of}
 use Rattle.oberon_format.specs.Rules.{rules}
 
@@ -48,7 +48,7 @@ checkpoint_fields version before c = record {
 unfoldable pub start_in : ℕ → RecordingParts → ℕ → ℕ
 start_in version r zero = event_start (length r.pool) (length r.inputs)
 start_in version r (suc k) =
-    start_in version r k + checkpoint_size version (changes_in version (table_before r.checkpoints k) (checkpoint_at r k))
+    start_in version r k + checkpoint_len version (changes_in version (table_before r.checkpoints k) (checkpoint_at r k))
 
 -- the fields of the file of these parts in a version. A number that is too large for its field breaks that field's rule
 abbrev pub fields_in : ℕ → RecordingParts → Fields

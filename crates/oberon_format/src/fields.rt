@@ -13,8 +13,8 @@ use crate::change::change_count;
 use crate::checkpoint::Checkpoint;
 use crate::fault::Fault;
 use crate::layout::{
-    CHANGE_COUNT_AT, CHANGES_AT, COUNTER_AT, FLAGS_AT, KEYS_AT, LEDS_AT, MOUSE_AT, PHASE_AT,
-    RATE_AT, SENT_AT, SERIAL_AT, STOP_AT, SWITCHES_AT, VERSION, WAITING_AT, word_since_2,
+    CHANGE_COUNT_AT, CHANGES_AT, FLAGS_AT, KEYS_AT, LEDS_AT, MOUSE_AT, PC_AT, PHASE_AT, RATE_AT,
+    SENT_AT, SERIAL_AT, STOP_AT, SWITCHES_AT, VERSION, WAITING_AT, word_since_2,
 };
 use crate::number::{u32_at, u64_at};
 use crate::ranges::{
@@ -69,7 +69,7 @@ impl CheckpointFields {
         keys.copy_from_slice(&bytes[offset + KEYS_AT..offset + SENT_AT]);
         CheckpointFields {
             count: u64_at(bytes, offset),
-            pc: u32_at(bytes, offset + COUNTER_AT),
+            pc: u32_at(bytes, offset + PC_AT),
             flags: u32_at(bytes, offset + FLAGS_AT),
             stop: u32_at(bytes, offset + STOP_AT),
             switches: u32_at(bytes, offset + SWITCHES_AT),

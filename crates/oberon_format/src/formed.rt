@@ -1,6 +1,6 @@
-//! Facts that the types of a checkpoint's parts guarantee. Each function here only reads.
+//! Facts that the types of bytes, of words and of a checkpoint's parts guarantee. Each function here only reads.
 
-ghost use Rattle.std.specs.Prelude.{◌<◌, ◌^◌, All, map};
+ghost use Rattle.std.specs.Prelude.{◌<◌, ◌^◌, ℕ, All, map, slice_index};
 ghost use Rattle.oberon_format.specs.CheckpointParts.{checkpoint_parts};
 ghost use Rattle.oberon_format.specs.Formed.{IsFormed, AreFormed};
 
@@ -25,6 +25,12 @@ pub(crate) fn all_formed_law(checkpoints: &[Checkpoint])
 }
 
 /// States that each byte is below 256, which its type ensures.
-pub(crate) fn bytes_fit(bytes: &[u8])
+pub fn bytes_fit(bytes: &[u8])
     ensures { All (λ byte. byte < 2 ^ 8) bytes.now }
+{}
+
+/// States that each word is below 2^32, which its type ensures.
+pub fn words_fit(words: &[u32])
+    ensures all { All (λ word. word < 2 ^ 32) words.now }
+    ensures each { (i : ℕ) → slice_index words.now i < 2 ^ 32 }
 {}

@@ -3,7 +3,7 @@
 //! Each offset and each length has its one name here, which definitions, contracts and code use. All are in bytes.
 
 ghost use Rattle.std.specs.Prelude.{◌≡◌, ◌≤◌, ◌+◌, ◌==◌, length};
-ghost use Rattle.oberon_format.specs.Layout.{page_offset, event_start, checkpoint_size, version, pages, events, checkpoints, start};
+ghost use Rattle.oberon_format.specs.Layout.{page_offset, event_start, checkpoint_len, version, pages, events, checkpoints, start};
 ghost use Rattle.oberon_format.specs.Layout.{word_since_2};
 
 use crate::number::u32_at;
@@ -63,9 +63,9 @@ pub(crate) const VALUE_AT: usize = 12;
 pub(crate) const REGISTERS_AT: usize = 8;
 
 /// H.
-pub(crate) const AUXILIARY_AT: usize = 72;
+pub(crate) const H_AT: usize = 72;
 
-pub(crate) const COUNTER_AT: usize = 76;
+pub(crate) const PC_AT: usize = 76;
 
 pub(crate) const FLAGS_AT: usize = 80;
 
@@ -113,7 +113,7 @@ pub(crate) const CHANGES_AT: usize = 144;
 pub(crate) const PAGE_ID_AT: usize = 4;
 
 #[inline]
-pub(crate) fn page_start(p: usize) -> usize
+pub(crate) fn page_offset(p: usize) -> usize
     requires { p ≤ MAX_PAGES }
     ensures { result ≡ page_offset p }
 {
@@ -127,14 +127,14 @@ pub(crate) fn event_start(pages: u32, i: usize) -> usize
     requires events { i ≤ MAX_EVENTS }
     ensures { result ≡ event_start pages i }
 {
-    page_start(pages as usize) + EVENT_LEN * i
+    page_offset(pages as usize) + EVENT_LEN * i
 }
 
 /// Returns the length of a checkpoint of the current version, from its number of changes.
 #[inline]
 pub(crate) fn changed_len(changes: u32) -> usize
     requires { changes ≤ PAGE_SLOTS }
-    ensures { result ≡ checkpoint_size VERSION changes }
+    ensures { result ≡ checkpoint_len VERSION changes }
 {
     CHANGES_AT + CHANGE_LEN * changes as usize
 }
@@ -187,7 +187,7 @@ pub(crate) fn first_checkpoint(bytes: &[u8]) -> usize
 pub(crate) fn checkpoint_len(bytes: &[u8], changes: u32) -> usize
     requires header { HEADER_LEN ≤ length bytes.now }
     requires changes { changes ≤ PAGE_SLOTS }
-    ensures { result ≡ checkpoint_size (version bytes.now) changes }
+    ensures { result ≡ checkpoint_len (version bytes.now) changes }
 {
     if is_first_version(bytes) {
         CHECKPOINT_LEN

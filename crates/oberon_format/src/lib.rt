@@ -27,6 +27,7 @@ mod writing;
 
 pub use checkpoint::Checkpoint;
 pub use fault::Fault;
+pub use formed::{bytes_fit, words_fit};
 pub use laws::{
     cut_file_law, fault_of_parts_law, file_of_parts_law, file_or_fault_law, lawful_parts_law,
     longest_file_law, migrated_again_law, named_fault_law, numbers_law, one_file_at_most_law,

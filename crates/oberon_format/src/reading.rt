@@ -1,6 +1,10 @@
-//! Reading of a file without a fault. `rules` tests before whether it has one.
+//! Reading of a file without a fault.
+//!
+//! A file is walked twice: `rules` tests all of it first and allocates nothing, and then this module decodes it with no further
+//! test. So a faulty file is never answered with out of memory. The first walk ends where the output begins, whose offset it
+//! hands to the second.
 
-ghost use Rattle.std.specs.Prelude.{◌≡◌, ◌≤◌, ◌<◌, ◌+◌, ◌*◌, ◌^◌, ℕ, All, true, length, IfOk, slice_index, map};
+ghost use Rattle.std.specs.Prelude.{◌≡◌, ◌≤◌, ◌<◌, ◌+◌, ◌*◌, ℕ, true, length, IfOk, map};
 ghost use Rattle.oberon_format.specs.CheckpointParts.{checkpoint_parts};
 ghost use Rattle.oberon_format.specs.Layout.{word_at, version, pages, events, checkpoints, page_id_offset, change_offset};
 ghost use Rattle.oberon_format.specs.Layout.{change_count, start, output_offset};
@@ -17,13 +21,13 @@ ghost use Rattle.risc_model.specs.MachineState.{cpu_state};
 use crate::change::Change;
 use crate::checkpoint::Checkpoint;
 use crate::fault::Fault;
-use crate::formed::{all_formed_law, bytes_fit};
+use crate::formed::{all_formed_law, bytes_fit, words_fit};
 use crate::layout::{
-    AUXILIARY_AT, CHANGE_COUNT_AT, CHANGE_LEN, CHANGES_AT, CHECKPOINT_LEN, COUNTER_AT, EVENT_LEN,
-    FLAGS_AT, HEADER_LEN, KEYS_AT, KIND_AT, LEDS_AT, MOUSE_AT, PHASE_AT, RATE_AT, REGISTERS_AT,
-    SENT_AT, SERIAL_AT, STOP_AT, SWITCHES_AT, TABLE_AT, TIMER_AT, VALUE_AT, VERSION, WAITING_AT,
+    CHANGE_COUNT_AT, CHANGE_LEN, CHANGES_AT, CHECKPOINT_LEN, EVENT_LEN, FLAGS_AT, H_AT, HEADER_LEN,
+    KEYS_AT, KIND_AT, LEDS_AT, MOUSE_AT, PC_AT, PHASE_AT, RATE_AT, REGISTERS_AT, SENT_AT,
+    SERIAL_AT, STOP_AT, SWITCHES_AT, TABLE_AT, TIMER_AT, VALUE_AT, VERSION, WAITING_AT,
     checkpoint_count, checkpoint_len, event_count, event_start, first_checkpoint, is_first_version,
-    page_count, page_start, word_since_2,
+    page_count, page_offset, word_since_2,
 };
 use crate::number::{u32_at, u64_at};
 use crate::recording::Recording;
@@ -85,18 +89,12 @@ fn pool_of(alloc: Global, bytes: &[u8]) -> Result<Pool, AllocError>
 {
     let mut pool = Pool::with_capacity(alloc, page_count(bytes))?;
     for p in 0..page_count(bytes) as usize {
-        let words = words_from(bytes, page_start(p), 0);
+        let words = words_from(bytes, page_offset(p), 0);
         words_fit(&words);
         pool.push(Page { words })?;
     }
     Ok(pool)
 }
-
-/// States that each word fits in four bytes, which its type ensures.
-fn words_fit(words: &[u32])
-    ensures all { All (λ word. word < 2 ^ 32) words.now }
-    ensures each { (i : ℕ) → slice_index words.now i < 2 ^ 32 }
-{}
 
 #[tactic(auto, using(risc_devices::proofs::InputLemmas::kind_fits))]
 fn event_of(bytes: &[u8], offset: usize) -> Event
@@ -146,8 +144,8 @@ fn cpu_of(bytes: &[u8], offset: usize) -> Cpu
     words_fit(&r);
     Cpu {
         r,
-        h: u32_at(bytes, offset + AUXILIARY_AT),
-        pc: u32_at(bytes, offset + COUNTER_AT),
+        h: u32_at(bytes, offset + H_AT),
+        pc: u32_at(bytes, offset + PC_AT),
         flags: Flags::from_number(u32_at(bytes, offset + FLAGS_AT)),
         stop: u32_at(bytes, offset + STOP_AT) as u8,
     }

@@ -46,7 +46,7 @@ impl Recording {
     ghost use Rattle.std.specs.Prelude.{◌≡◌, ◌↔◌, IfErr, IsOk, MatchOption};
     ghost use Rattle.oberon_format.specs.Line.{IsNamedFault};
     ghost use Rattle.oberon_format.specs.PartFields.{fault_of_parts};
-    ghost use Rattle.oberon_format.specs.Recording.{parts_of, IsLawful};
+    ghost use Rattle.oberon_format.specs.Recording.{parts_of, output_of, IsLawful};
 
     /// Makes the recording of these parts.
     ///
@@ -135,5 +135,17 @@ impl Recording {
         ensures lawful { IsLawful self.now }
     {
         &self.checkpoints[k as usize]
+    }
+
+    /// Returns the number of bytes that all checkpoints sent, at most 1,048,576.
+    pub fn output_len(&self) -> usize
+        ensures len { result ≡ length (output_of self.now.checkpoints) }
+        ensures lawful { IsLawful self.now }
+    {
+        let mut len = 0;
+        for k in 0..self.count() {
+            len += self.checkpoint(k).sent.len();
+        }
+        len
     }
 }

@@ -1,13 +1,13 @@
 //! Writing of a recording, front to back.
 
-ghost use Rattle.std.specs.Prelude.{◌≡◌, ◌++◌, ◌+◌, ◌≤◌, length, map, IfOk, OnOk};
+ghost use Rattle.std.specs.Prelude.{◌≡◌, ◌++◌, ◌+◌, ◌≤◌, length, IfOk, OnOk};
 ghost use Rattle.std.specs.List.{flat_map};
 ghost use Rattle.oberon_format.specs.Changes.{changes};
 ghost use Rattle.oberon_format.specs.CheckpointParts.{checkpoint_parts};
 ghost use Rattle.oberon_format.specs.PartFields.{start_in};
-ghost use Rattle.oberon_format.specs.Recording.{IsLawful, output_of};
+ghost use Rattle.oberon_format.specs.Recording.{output_of};
 ghost use Rattle.oberon_format.specs.Encoding.{word_bytes, long_bytes, words_bytes, event_bytes, field_words, common_bytes};
-ghost use Rattle.oberon_format.specs.Encoding.{change_bytes, checkpoint_bytes, checkpoints_bytes, header_bytes, encoding};
+ghost use Rattle.oberon_format.specs.Encoding.{change_bytes, checkpoint_bytes, checkpoints_bytes, header_bytes};
 ghost use Rattle.oberon_format.specs.Text.{IsEncoding};
 
 use crate::change::change_count;
@@ -24,15 +24,6 @@ use std::alloc::{AllocError, Global};
 /// Returns the one file of a recording in version 2. Its capacity is allocated at once.
 pub fn write(alloc: Global, r: &Recording) -> Result<Vec<u8>, AllocError>
     ensures { IfOk result (λ bytes. IsEncoding VERSION bytes.items r.now) }
-{
-    let bytes = encode(alloc, r)?;
-    Ok(bytes)
-}
-
-#[tactic(auto, unfolding(crate::specs::Encoding::encoding))]
-fn encode(alloc: Global, r: &Recording) -> Result<Vec<u8>, AllocError>
-    ensures bytes { IfOk result (λ bytes. bytes.items ≡ encoding VERSION r.now) }
-    ensures lawful { IfOk result (λ _. IsLawful r.now) }
 {
     let mut out = Vec::with_capacity(alloc, encoded_len(r))?;
     push_header(&mut out, r)?;
@@ -53,17 +44,7 @@ fn encoded_len(r: &Recording) -> usize
         let before = table_before(r.checkpoints(), k as usize, &zeros);
         len += changed_len(change_count(before, &r.checkpoint(k).table));
     }
-    len + output_len(r)
-}
-
-fn output_len(r: &Recording) -> usize
-    ensures { result ≡ length (output_of r.now.checkpoints) }
-{
-    let mut total = 0;
-    for k in 0..r.count() {
-        total += r.checkpoint(k).sent.len();
-    }
-    total
+    len + r.output_len()
 }
 
 /// Appends the four bytes of a number, the lowest first.

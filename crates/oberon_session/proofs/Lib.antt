@@ -18,7 +18,6 @@ mod Whole
 mod StoredLaws
 pub mod JoinedOrder
 mod Continuing
-mod Outputs
 mod Growing
 mod FirstTables
 mod Deciding

@@ -87,8 +87,8 @@ start-any : (k : List ℕ) (d : Data) (ms : Members) → start_found (put k d ms
   flags = cond (bytes_eq k (codes "flags")) (Some d) (get_member (codes "flags") ms) >>= number_of;
   rate = cond (bytes_eq k (codes "rate")) (Some d) (get_member (codes "rate") ms) >>= number_of;
   phase = cond (bytes_eq k (codes "phase")) (Some d) (get_member (codes "phase") ms) >>= number_of;
-  only_1 = is_among (start_names 1) k && are_among (start_names 1) ms;
-  only_2 = is_among (start_names 2) k && are_among (start_names 2) ms;
+  fits_version_1 = is_among (start_names 1) k && are_among (start_names 1) ms;
+  fits_version_2 = is_among (start_names 2) k && are_among (start_names 2) ms;
 }
 start-any k d ms = λ i. record {
   registers = get-put (codes "R") k d ms i >>= numbers_of;
@@ -97,8 +97,8 @@ start-any k d ms = λ i. record {
   flags = get-put (codes "flags") k d ms i >>= number_of;
   rate = get-put (codes "rate") k d ms i >>= number_of;
   phase = get-put (codes "phase") k d ms i >>= number_of;
-  only_1 = among-put (start_names 1) k d ms i;
-  only_2 = among-put (start_names 2) k d ms i;
+  fits_version_1 = among-put (start_names 1) k d ms i;
+  fits_version_2 = among-put (start_names 2) k d ms i;
 }
 
 pub start-put : (k : List ℕ) (d : Data) (ms : Members) → start_found (put k d ms) ≡ with_start_member k d (start_found ms)
@@ -117,12 +117,12 @@ start-put k d ms = go (bytes_eq k (codes "R")) (bytes_eq k (codes "H")) (bytes_e
 start-of : (version : ℕ) (ms : Members) → start_of version (object ms) ≡ start_in version (start_found ms)
 start-of version ms = go (version == 1) refl (are_among (start_names 1) ms) (are_among (start_names 2) ms) refl refl
   where
-    go : (one : Bool) → (version == 1) ≡ one → (only_1 only_2 : Bool) → are_among (start_names 1) ms ≡ only_1 → are_among (start_names 2) ms ≡ only_2
+    go : (one : Bool) → (version == 1) ≡ one → (fits_version_1 fits_version_2 : Bool) → are_among (start_names 1) ms ≡ fits_version_1 → are_among (start_names 2) ms ≡ fits_version_2
         → start_of version (object ms) ≡ start_in version (start_found ms)
-    go true is true only_2 is1 is2 = rw (is, is1) refl
-    go true is false only_2 is1 is2 = rw (is, is1) refl
-    go false is only_1 true is1 is2 = rw (is, is2) refl
-    go false is only_1 false is1 is2 = rw (is, is2) refl
+    go true is true fits_version_2 is1 is2 = rw (is, is1) refl
+    go true is false fits_version_2 is1 is2 = rw (is, is1) refl
+    go false is fits_version_1 true is1 is2 = rw (is, is2) refl
+    go false is fits_version_1 false is1 is2 = rw (is, is2) refl
 
 start-of-value : (version : ℕ) (json : Data) → start_of version json ≡ (start_object json >>= start_in version)
 start-of-value version null = refl

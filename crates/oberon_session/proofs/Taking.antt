@@ -183,6 +183,23 @@ items-none-by depth (suc n) ts going e = ap (λ o. converted of_items (items_ste
 pub items-none : (depth : ℕ) (ts : List Token) → after_end_array ts ≡ None → one_value depth ts ≡ None → all_items depth ts ≡ None
 items-none depth ts going e = items-none-by depth (length ts) ts going e
 
+first-of : (d : Data) (o : Option (Items × List Token)) (ms : Items) (left : List Token) → parse_map (item d) o ≡ Some (ms, left) → (rest : Items) × (ms ≡ item d rest)
+first-of d None ms left e = absurd cc
+first-of d (Some p) ms left e = (p.0, sym (ap (λ q. q.0) (ap (pick (item d p.0, p.1)) e)))
+
+none-taken : (taken : Items × List Token) → None ≡ Some taken → ⊥
+none-taken taken e = absurd cc
+
+-- items that do not end at once have a first
+pub items-some : (depth : ℕ) (ts left : List Token) (ms : Items) → after_end_array ts ≡ None → all_items depth ts ≡ Some (ms, left) → (d : Data) × (rest : Items) × (ms ≡ item d rest)
+items-some depth ts left ms going is = go (one_value depth ts) refl
+  where
+    go : (first : Option (Data × List Token)) → one_value depth ts ≡ first → (d : Data) × (rest : Items) × (ms ≡ item d rest)
+    go None one = absurd (none-taken (ms, left) (sym (items-none depth ts going one) ∙ is))
+    go (Some p) one =
+        let first = first-of p.0 (all_items depth p.1) ms left (sym (items-more depth ts p.1 p.0 going one) ∙ is) in
+        (p.0, first.0, first.1)
+
 -- ---- a turn of the loop over members
 
 module _ (before : Members) where

@@ -1,5 +1,5 @@
 //! The pages of a session, each with its slot, decoded from hexadecimal digits.
-ghost use Rattle.std.specs.Prelude.{◌≡◌, ◌≢◌, ◌↔◌, ◌<◌, ◌≤◌, ◌^◌, length, map, slice_index};
+ghost use Rattle.std.specs.Prelude.{◌≡◌, ◌≢◌, ◌↔◌, ◌<◌, ◌^◌, map, slice_index};
 ghost use Rattle.std.specs.List.{All};
 ghost use Rattle.oberon_session.specs.inner.Drafts.{GivesOr, page_view};
 ghost use Rattle.oberon_session.specs.Parts.{placed_view};

@@ -1,9 +1,8 @@
 //! What may follow the last checkpoint of a recording. Nothing here allocates memory.
 
-ghost use Rattle.std.specs.Prelude.{◌≡◌, ◌≢◌, ◌≤◌, ◌<◌, ◌↔◌, All, IfNone, IfSome, IsTrue, length};
-ghost use Rattle.recording_limits.specs.declared.limits.TheConstants.{MAX_OUTPUT};
+ghost use Rattle.std.specs.Prelude.{◌≡◌, ◌≢◌, ◌≤◌, ◌<◌, ◌↔◌, All, IfNone, IfSome, IsTrue};
 ghost use Rattle.risc_model.specs.InputOrder.{AreOrdered};
-ghost use Rattle.oberon_format.specs.Recording.{IsLawful, output_of};
+ghost use Rattle.oberon_format.specs.Recording.{IsLawful};
 ghost use Rattle.oberon_session.specs.Extended.{HasRoom, HasTakenAll, IsExtendFault, IsNext, last_count, outcome_of};
 ghost use Rattle.oberon_session.specs.declared.extend_fault.ExtendFault.{ExtendFault};
 
@@ -43,7 +42,7 @@ fn limit_fault(recording: &Recording, inputs: &[Event], claim: &Claim<'_>) -> Op
     if recording.count() > LAST_CHECKPOINT {
         return Some(ExtendFault::Checkpoints);
     }
-    if claim.sent.len() > MAX_OUTPUT as usize - output_len(recording) {
+    if claim.sent.len() > MAX_OUTPUT as usize - recording.output_len() {
         return Some(ExtendFault::Output);
     }
     None
@@ -103,15 +102,4 @@ fn are_ordered(inputs: &[Event]) -> bool
         least = event.count;
     }
     true
-}
-
-fn output_len(recording: &Recording) -> usize
-    ensures len { result ≡ length (output_of recording.now.checkpoints) }
-    ensures bound { result ≤ MAX_OUTPUT }
-{
-    let mut len = 0;
-    for k in 0..recording.count() {
-        len += recording.checkpoint(k).sent.len();
-    }
-    len
 }

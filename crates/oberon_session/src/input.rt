@@ -11,7 +11,7 @@ use crate::SessionFault;
 use crate::draft::InputDraft;
 use crate::head::{Head, take_head};
 use crate::list::with_item;
-use crate::value::{finish, number, pass, pass_items, text};
+use crate::value::{number, pass_items, pass_other, text};
 use json::Reader;
 use std::alloc::Global;
 
@@ -26,10 +26,7 @@ pub fn inputs(
 {
     match take_head(reader, depth)? {
         Head::Array(inside) => inputs_inside(alloc, reader, inside),
-        head => {
-            finish(reader, head)?;
-            Ok(None)
-        }
+        head => pass_other(reader, head),
     }
 }
 
@@ -56,10 +53,7 @@ fn input(reader: &mut Reader<'_>, depth: usize) -> Result<Option<InputDraft>, Se
 {
     match take_head(reader, depth)? {
         Head::Array(inside) => input_inside(reader, inside),
-        head => {
-            finish(reader, head)?;
-            Ok(None)
-        }
+        head => pass_other(reader, head),
     }
 }
 
@@ -83,7 +77,6 @@ fn input_inside(reader: &mut Reader<'_>, depth: usize) -> Result<Option<InputDra
     if reader.take_end_array() {
         return Ok(input_in(count, kind, value));
     }
-    pass(reader, depth)?;
     pass_items(reader, depth)?;
     Ok(None)
 }

@@ -8,7 +8,7 @@ ghost use Rattle.oberon_session.specs.inner.Taken.{Takes, all_items, one_value};
 
 use crate::SessionFault;
 use crate::head::{Head, take_head};
-use crate::value::{finish, number};
+use crate::value::{number, pass_other};
 use json::Reader;
 use std::alloc::Global;
 
@@ -39,10 +39,7 @@ pub fn numbers(
 {
     match take_head(reader, depth)? {
         Head::Array(inside) => numbers_inside(alloc, reader, inside),
-        head => {
-            finish(reader, head)?;
-            Ok(None)
-        }
+        head => pass_other(reader, head),
     }
 }
 

@@ -13,7 +13,7 @@ use crate::SessionFault;
 use crate::draft::PageDraft;
 use crate::head::{Head, take_head};
 use crate::list::with_item;
-use crate::value::{finish, next_key, number, pass, text};
+use crate::value::{next_key, number, pass, pass_other, text};
 use json::Reader;
 use std::alloc::Global;
 
@@ -36,10 +36,7 @@ pub fn pages<'a>(
 {
     match take_head(reader, depth)? {
         Head::Array(inside) => pages_inside(alloc, reader, inside),
-        head => {
-            finish(reader, head)?;
-            Ok(None)
-        }
+        head => pass_other(reader, head),
     }
 }
 
@@ -69,10 +66,7 @@ fn page<'a>(reader: &mut Reader<'a>, depth: usize) -> Result<Option<PageDraft<'a
             let members = page_members(reader, inside)?;
             Ok(members.page())
         }
-        head => {
-            finish(reader, head)?;
-            Ok(None)
-        }
+        head => pass_other(reader, head),
     }
 }
 

@@ -1,6 +1,6 @@
 //! Reads a session from its JSON.
 
-ghost use Rattle.std.specs.Prelude.{◌≡◌, ◌↔◌, ◌<◌, ◌^◌, IfOk, IfErr, IsTrue, length, slice_index};
+ghost use Rattle.std.specs.Prelude.{◌≡◌, ◌<◌, IfOk, IfErr};
 ghost use Rattle.risc_model.specs.MachineState.{cpu_state};
 ghost use Rattle.oberon_session.specs.inner.Drafts.{draft_view, start_view};
 ghost use Rattle.oberon_session.specs.Session.{Breaks, IsSession, Describes, cpu_of};

@@ -1,6 +1,6 @@
 //! The recorder: makes the recording of a session.
 
-ghost use Rattle.std.specs.Prelude.{◌≡◌, ◌≢◌, ◌+◌, ◌<◌, ◌^◌, ℕ, All, length, None, Some, IfOk, IfErr, OnOk};
+ghost use Rattle.std.specs.Prelude.{◌≡◌, ◌≢◌, ◌+◌, ◌<◌, ℕ, All, length, None, Some, IfOk, IfErr, OnOk};
 ghost use Rattle.risc_devices.specs.DeviceState.{IsPhase};
 ghost use Rattle.oberon_format.specs.Defined.{IsTrueAt};
 ghost use Rattle.oberon_format.specs.Recording.{parts_of, IsLawful};
@@ -11,7 +11,7 @@ use crate::record_fault::RecordFault;
 use crate::running::reach;
 use crate::session::Session;
 use crate::storing::{StoredPages, store_first, store_pages};
-use oberon_format::{Checkpoint, MAX_OUTPUT, MAX_PAGES, Recording};
+use oberon_format::{Checkpoint, MAX_OUTPUT, MAX_PAGES, Recording, bytes_fit};
 use risc_devices::Devices;
 use risc_model::Inputs;
 use risc_pages::Pool;
@@ -114,11 +114,6 @@ fn record_next(
     })?;
     Ok(())
 }
-
-/// States that each byte is below 256, which its type ensures.
-pub fn bytes_fit(bytes: &[u8])
-    ensures { All (λ byte. byte < 2 ^ 8) bytes.now }
-{}
 
 /// Returns the recording of all that was recorded. It copies the inputs, which the session keeps.
 fn finish(alloc: Global, inputs: &Inputs, recorder: Recorder) -> Result<Recording, RecordFault>

@@ -1,7 +1,6 @@
 //! Reads a draft of a session from JSON of the right shape. Ranges and order are tested in `range` and `events`.
 
 ghost use Rattle.std.specs.Prelude.{◌≡◌, option_map};
-ghost use Rattle.json.specs.Lex.{tokens};
 ghost use Rattle.serde_json.specs.Data.{no_members};
 ghost use Rattle.serde_json.specs.Read.{read};
 ghost use Rattle.oberon_session.specs.Draft.{draft_of, version_of};
@@ -17,7 +16,7 @@ use crate::input::inputs;
 use crate::list::numbers;
 use crate::page::pages;
 use crate::start::{StartMembers, start};
-use crate::value::{finish, next_key, number, pass, text};
+use crate::value::{next_key, number, pass, pass_other, text};
 use json::{Reader, Scratch};
 use std::alloc::Global;
 
@@ -70,10 +69,7 @@ fn session<'a>(
             found.take_all(alloc, reader, inside)?;
             Ok(found.draft())
         }
-        head => {
-            finish(reader, head)?;
-            Ok(None)
-        }
+        head => pass_other(reader, head),
     }
 }
 

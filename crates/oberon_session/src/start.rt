@@ -1,6 +1,6 @@
 //! The initial state of a session, as its JSON has it.
 
-ghost use Rattle.std.specs.Prelude.{◌≡◌, ◌==◌, Some, if◌then◌else◌, length, option_map};
+ghost use Rattle.std.specs.Prelude.{◌≡◌, ◌==◌, Some, if◌then◌else◌, option_map};
 ghost use Rattle.serde_json.specs.Data.{no_members};
 ghost use Rattle.oberon_session.specs.inner.Drafts.{start_view};
 ghost use Rattle.oberon_session.specs.inner.Found.{start_found, start_in, start_object, with_start_member};
@@ -11,7 +11,7 @@ use crate::SessionFault;
 use crate::draft::StartDraft;
 use crate::head::{Head, take_head};
 use crate::list::numbers;
-use crate::value::{finish, next_key, number, pass};
+use crate::value::{next_key, number, pass, pass_other};
 use json::Reader;
 use std::alloc::Global;
 
@@ -25,8 +25,8 @@ pub struct StartMembers {
     pub flags: Option<u64>,
     pub rate: Option<u64>,
     pub phase: Option<u64>,
-    pub only_1: bool,
-    pub only_2: bool,
+    pub fits_version_1: bool,
+    pub fits_version_2: bool,
 }
 
 /// Takes a value, and returns what its members say if it is an object.
@@ -44,10 +44,7 @@ pub fn start(
             found.take_all(alloc, reader, inside)?;
             Ok(Some(found))
         }
-        head => {
-            finish(reader, head)?;
-            Ok(None)
-        }
+        head => pass_other(reader, head),
     }
 }
 
@@ -62,8 +59,8 @@ impl StartMembers {
             flags: None,
             rate: None,
             phase: None,
-            only_1: true,
-            only_2: true,
+            fits_version_1: true,
+            fits_version_2: true,
         }
     }
 
@@ -114,18 +111,18 @@ impl StartMembers {
             }
             "rate" => {
                 self.rate = number(reader, depth)?;
-                self.only_1 = false;
+                self.fits_version_1 = false;
                 Ok(())
             }
             "phase" => {
                 self.phase = number(reader, depth)?;
-                self.only_1 = false;
+                self.fits_version_1 = false;
                 Ok(())
             }
             _ => {
                 pass(reader, depth)?;
-                self.only_1 = false;
-                self.only_2 = false;
+                self.fits_version_1 = false;
+                self.fits_version_2 = false;
                 Ok(())
             }
         }
@@ -159,12 +156,12 @@ impl StartMembers {
 
     /// Reports whether there are no other members than those of a version.
     fn is_only(&self, version: u64) -> bool
-        ensures { result ≡ (if version == 1 then self.now.only_1 else self.now.only_2) }
+        ensures { result ≡ (if version == 1 then self.now.fits_version_1 else self.now.fits_version_2) }
     {
         if version == 1 {
-            self.only_1
+            self.fits_version_1
         } else {
-            self.only_2
+            self.fits_version_2
         }
     }
 }

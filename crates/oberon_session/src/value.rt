@@ -5,13 +5,12 @@ ghost use Rattle.std.specs.Prelude.{◌≡◌, IfErr, IfOk, List, None, Some, �
 ghost use Rattle.json.specs.Json.{read_key};
 ghost use Rattle.json.specs.Token.{Token};
 ghost use Rattle.serde_json.specs.Data.{no_members};
-ghost use Rattle.oberon_session.specs.Shape.{each, list_of, number_of, text_of};
+ghost use Rattle.oberon_session.specs.Shape.{number_of, text_of};
 ghost use Rattle.oberon_session.specs.inner.Taken.{HasHead, IsAfterHead, Takes, all_items, all_members, one_value};
 
 use crate::SessionFault;
 use crate::head::{Head, take_head};
 use json::Reader;
-use std::alloc::Global;
 
 /// Takes a value, and drops it.
 #[cycle(pass)]
@@ -24,7 +23,7 @@ pub fn pass(reader: &mut Reader<'_>, depth: usize) -> Result<(), SessionFault>
 
 /// Takes what comes after the head of a value.
 #[cycle(pass)]
-pub fn finish(reader: &mut Reader<'_>, head: Head<'_>) -> Result<(), SessionFault>
+fn finish(reader: &mut Reader<'_>, head: Head<'_>) -> Result<(), SessionFault>
     ensures { (depth : ℕ) (ts : List Token) → IsAfterHead depth ts reader.old head.entry
         → Takes (one_value depth ts) reader.new (λ json _. HasHead json head.entry) result }
 {
@@ -33,6 +32,15 @@ pub fn finish(reader: &mut Reader<'_>, head: Head<'_>) -> Result<(), SessionFaul
         Head::Array(inside) => pass_items(reader, inside),
         Head::Text(_) | Head::Number(_) | Head::Other => Ok(()),
     }
+}
+
+/// Takes what comes after the head of a value that is not wanted, and returns none in its place.
+pub fn pass_other<T>(reader: &mut Reader<'_>, head: Head<'_>) -> Result<Option<T>, SessionFault>
+    ensures { (depth : ℕ) (ts : List Token) → IsAfterHead depth ts reader.old head.entry
+        → Takes (one_value depth ts) reader.new (λ json found. HasHead json head.entry × (found ≡ None)) result }
+{
+    finish(reader, head)?;
+    Ok(None)
 }
 
 /// Takes the items of an array, and its end.
@@ -74,10 +82,7 @@ pub fn number(reader: &mut Reader<'_>, depth: usize) -> Result<Option<u64>, Sess
 {
     match take_head(reader, depth)? {
         Head::Number(n) => Ok(n),
-        head => {
-            finish(reader, head)?;
-            Ok(None)
-        }
+        head => pass_other(reader, head),
     }
 }
 
@@ -88,9 +93,6 @@ pub fn text<'a>(reader: &mut Reader<'a>, depth: usize) -> Result<Option<&'a str>
 {
     match take_head(reader, depth)? {
         Head::Text(text) => Ok(Some(text)),
-        head => {
-            finish(reader, head)?;
-            Ok(None)
-        }
+        head => pass_other(reader, head),
     }
 }

@@ -108,8 +108,8 @@ fn has_timers(first: &Checkpoint, last: &Checkpoint) -> bool {
 
 /// Returns the part of this recording that is not that of the five changes, if there is one.
 fn part_unlike_five(recording: &Recording) -> Option<&'static str> {
-    if recording.count() != 2 {
-        return Some("number of checkpoints");
+    if recording.count() != 2 || recording.output_len() != 2 {
+        return Some("number of checkpoints, or of bytes sent");
     }
     let (first, last) = (recording.checkpoint(0), recording.checkpoint(1));
     if !has_numbers(first, last) {

@@ -2,7 +2,9 @@
 use Rattle.std.specs.Prelude.{ℕ, ◌≡◌, List, ◌++◌, All, Contains}
 use Rattle.oberon_claims.specs.Pass.{PassRecord}
 use Rattle.oberon_format.specs.Recording.{RecordingParts, IsLawful, last_of}
+use Rattle.oberon_check.specs.declared.collector.CollectFault.{CollectFault}
 use Rattle.oberon_check.specs.declared.verdict.Verdict.{Verdict}
+use Rattle.oberon_check.specs.Collecting.{IsCollectFault}
 use Rattle.oberon_check.specs.Gathering.{IsGathered}
 use Rattle.oberon_check.specs.Segment.{SegmentVerdictRecord, IsSeries, IsTrueSegmentVerdict}
 use Rattle.oberon_check.specs.Verdict.{IsVerdict}
@@ -44,7 +46,9 @@ pub record IsLooked (p q : PassRecord) : Type 0 where
   pub ended : q.ended ≡ p.ended
   pub shown : (x : ℕ) → Contains p.shown x → Contains q.shown x
 
--- if the segment verdicts are true, any verdict that follows from them is as `IsGathered` says of the shares
-abbrev pub IsGatheredIfTrue : RecordingParts → List DoneRecord → List SegmentVerdictRecord → Type 0
-IsGatheredIfTrue r done verdicts =
-    IsLawful r → All IsTrueSegmentVerdict verdicts → (verdict : Verdict) → IsVerdict r verdict → IsGathered r done verdict
+-- the segment verdicts are of this recording, and have no fault; and if they are true, any verdict that follows from them is as
+-- `IsGathered` says of the shares
+pub record AreCollected (r : RecordingParts) (done : List DoneRecord) (verdicts : List SegmentVerdictRecord) : Type 0 where
+  pub recordings : All (λ v. v.recording ≡ r) verdicts
+  pub whole : (fault : CollectFault) → ¬ (IsCollectFault r verdicts fault)
+  pub gathered : IsLawful r → All IsTrueSegmentVerdict verdicts → (verdict : Verdict) → IsVerdict r verdict → IsGathered r done verdict

@@ -7,7 +7,7 @@ use Rattle.risc_devices.specs.Input.{kind_of, value_of}
 use Rattle.risc_model.specs.declared.event.Event.{Event}
 use Rattle.risc_model.specs.MachineState.{CpuState}
 use Rattle.risc_pages.specs.declared.sizes.TheConstants.{PAGE_SLOTS}
-use Rattle.oberon_format.specs.declared.layout.TheConstants.{KIND_AT, VALUE_AT, REGISTERS_AT, AUXILIARY_AT, COUNTER_AT, FLAGS_AT}
+use Rattle.oberon_format.specs.declared.layout.TheConstants.{KIND_AT, VALUE_AT, REGISTERS_AT, H_AT, PC_AT, FLAGS_AT}
 use Rattle.oberon_format.specs.declared.layout.TheConstants.{STOP_AT, TIMER_AT, SWITCHES_AT, LEDS_AT, MOUSE_AT, SERIAL_AT}
 use Rattle.oberon_format.specs.declared.layout.TheConstants.{WAITING_AT, KEYS_AT, SENT_AT, RATE_AT, PHASE_AT}
 use Rattle.oberon_format.specs.CheckpointParts.{CheckpointParts}
@@ -40,8 +40,8 @@ IsEventAt bytes i e = IsEvent bytes (event_offset bytes i) e
 abbrev pub cpu_at : List ℕ → ℕ → CpuState
 cpu_at bytes offset = record {
   r = words_from bytes offset REGISTERS_AT 16;
-  h = word_at bytes (offset + AUXILIARY_AT);
-  pc = word_at bytes (offset + COUNTER_AT);
+  h = word_at bytes (offset + H_AT);
+  pc = word_at bytes (offset + PC_AT);
   flags = flags_of (word_at bytes (offset + FLAGS_AT));
   stop = word_at bytes (offset + STOP_AT);
 }

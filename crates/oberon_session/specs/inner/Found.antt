@@ -65,8 +65,8 @@ pub record StartFound : Type 0 where
   pub flags : Option ℕ
   pub rate : Option ℕ
   pub phase : Option ℕ
-  pub only_1 : Bool
-  pub only_2 : Bool
+  pub fits_version_1 : Bool
+  pub fits_version_2 : Bool
 
 abbrev pub start_found : Members → StartFound
 start_found members = record {
@@ -76,8 +76,8 @@ start_found members = record {
   flags = get_member (codes "flags") members >>= number_of;
   rate = get_member (codes "rate") members >>= number_of;
   phase = get_member (codes "phase") members >>= number_of;
-  only_1 = are_among (start_names 1) members;
-  only_2 = are_among (start_names 2) members;
+  fits_version_1 = are_among (start_names 1) members;
+  fits_version_2 = are_among (start_names 2) members;
 }
 
 abbrev pub with_start_member : List ℕ → Data → StartFound → StartFound
@@ -86,13 +86,13 @@ with_start_member name json found =
     else if bytes_eq name (codes "H") then record found { h = number_of json }
     else if bytes_eq name (codes "PC") then record found { pc = number_of json }
     else if bytes_eq name (codes "flags") then record found { flags = number_of json }
-    else if bytes_eq name (codes "rate") then record found { rate = number_of json; only_1 = false }
-    else if bytes_eq name (codes "phase") then record found { phase = number_of json; only_1 = false }
-    else record found { only_1 = false; only_2 = false }
+    else if bytes_eq name (codes "rate") then record found { rate = number_of json; fits_version_1 = false }
+    else if bytes_eq name (codes "phase") then record found { phase = number_of json; fits_version_1 = false }
+    else record found { fits_version_1 = false; fits_version_2 = false }
 
 abbrev pub start_in : ℕ → StartFound → Option Start
 start_in version found = do
-  all ← only_if (if version == 1 then found.only_1 else found.only_2) found
+  all ← only_if (if version == 1 then found.fits_version_1 else found.fits_version_2) found
   h ← all.h
   pc ← all.pc
   flags ← all.flags

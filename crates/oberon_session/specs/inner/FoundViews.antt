@@ -17,8 +17,8 @@ start_found_view found = record {
   flags = found.flags;
   rate = found.rate;
   phase = found.phase;
-  only_1 = found.only_1;
-  only_2 = found.only_2;
+  fits_version_1 = found.fits_version_1;
+  fits_version_2 = found.fits_version_2;
 }
 
 abbrev pub session_found_view : SessionMembers → SessionFound

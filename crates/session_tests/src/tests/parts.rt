@@ -1,9 +1,7 @@
 //! Sessions that are made of their parts: each refusal, and the session of the stored run.
 
-ghost use Rattle.std.specs.Prelude.{◌<◌, ◌^◌, All};
-
 use super::{START, recording_of};
-use oberon_format::write;
+use oberon_format::{words_fit, write};
 use oberon_session::{PlacedPage, Session, SessionFault, make_recording};
 use risc_model::{Cpu, Flags, Inputs};
 use risc_pages::Page;
@@ -107,11 +105,6 @@ fn cpu_at(pc: u32, stop: u8) -> Cpu {
         stop,
     }
 }
-
-/// States that each word is below 2^32, as its type says.
-fn words_fit(words: &[u32])
-    ensures { All (λ word. word < 2 ^ 32) words.now }
-{}
 
 /// Returns a page with this first word, in a page slot.
 fn page_at(at: u16, word: u32) -> PlacedPage {

@@ -23,4 +23,4 @@ verdict_of-requires-clause-len g c =
     ∙ length-replicate c.args.workers (fresh_pass c.in_ok-claims.claims) ∙ sym c.in_ok-claims.ensures.workers
 
 pub verdict_of-requires-clause-shares : goal.verdict_of-requires-clause-shares
-verdict_of-requires-clause-shares g c = c.in_ok-results.ensures.shares
+verdict_of-requires-clause-shares g c = (c.args.cut, c.in_ok-results.ensures.shares)

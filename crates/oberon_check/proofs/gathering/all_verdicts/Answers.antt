@@ -4,11 +4,11 @@ use Rattle.std.proofs.lemmas.List.{map-append, length-map}
 use Rattle.oberon_claims.specs.Counts.{times, once_below}
 use Rattle.oberon_claims.specs.Pass.{PassRecord}
 use Rattle.oberon_claims.specs.Ledger.{all_taken, all_reported, all_shown, SomeEnded, IsLeastOf}
-use Rattle.oberon_format.specs.Recording.{last_of}
-use Rattle.oberon_check.specs.Segment.{SegmentVerdictRecord, IsTrueSegmentVerdict}
-use Rattle.oberon_check.specs.Collecting.{IsCollectFault}
-use Rattle.oberon_check.specs.Work.{DoneRecord, IsDone}
+use Rattle.oberon_format.specs.Recording.{RecordingParts, last_of}
+use Rattle.oberon_check.specs.Segment.{SegmentVerdictRecord}
+use Rattle.oberon_check.specs.Work.{DoneRecord, IsDone, IsShareOf}
 use Rattle.oberon_check.specs.Gathering.{passes_of, all_verdicts}
+use Rattle.oberon_check.specs.inner.Progress.{AreCollected}
 use Rattle.std.proofs.lemmas.List.{nil_from_length}
 use Rattle.std.proofs.lemmas.List.Elements.{All-push}
 use Rattle.oberon_check.proofs.Shares.{verdicts_snoc, books, recordings, pieces, first_share}
@@ -46,9 +46,6 @@ verdicts_are c = c.loop-share.invariant.verdicts ∙ ap all_verdicts (whole c)
 all_done : (c : After-drop-share-iterator-2) (k : ℕ) (d : DoneRecord) → k < length c.args.done.items → IsDone (get_or c.args.done.items k d)
 all_done c = subst (λ (ds : List DoneRecord). (k : ℕ) (d : DoneRecord) → k < length ds → IsDone (get_or ds k d)) (whole c) c.loop-share.invariant.done
 
-all_of : (c : After-drop-share-iterator-2) (k : ℕ) (v : SegmentVerdictRecord) → k < length (all_verdicts c.args.done.items) → (get_or (all_verdicts c.args.done.items) k v).recording ≡ c.args.r.now
-all_of c = recordings c.args.r.now c.requires.shares.0 c.args.claims c.args.done.items (all_done c) c.requires.shares.1
-
 pub finish-ledger-requires-clause-all : goal.finish-ledger-requires-clause-all
 finish-ledger-requires-clause-all c =
     c.loop-share.passes.ok.0 ∙ ap length (passes_are c) ∙ length-map c.args.done.items (λ (d : DoneRecord). d.pass) ∙ sym c.args.done.ok.0 ∙ c.requires.all
@@ -56,41 +53,41 @@ finish-ledger-requires-clause-all c =
 pub finish-ledger-requires-clause-book : goal.finish-ledger-requires-clause-book
 finish-ledger-requires-clause-book c =
     subst (λ (ps : List PassRecord). (k : ℕ) (p : PassRecord) → k < length ps → (get_or ps k p).book ≡ c.args.claims) (sym (passes_are c))
-    (books c.args.r.now c.requires.shares.0 c.args.claims c.args.done.items c.requires.shares.1)
+    (books c.requires.shares.0 c.requires.shares.1 c.args.claims c.args.done.items c.requires.shares.2)
 
-back : (c : After-finish-ledger) → AllBack (last_of c.args.r.now) c.requires.shares.0 (passes_of c.args.done.items) (all_verdicts c.args.done.items)
-back c =
-    let f = c.finish-ledger.ensures in
-    let ds : List DoneRecord = c.args.done.items in
-    let cut : ℕ = c.requires.shares.0 in
-    let shares = c.requires.shares.1 in
-    let done = all_done c.before in
-    let passes = passes_are c.before in
-    let count = c.requires.all in
-    let len = c.args.done.ok.0 in
-    let some = f.workers.0 in
-    let first = first_share c.args.r.now cut c.args.claims ds (omega arith) done shares in
-    let taken = f.whole (subst SomeEnded (sym passes) first.ended) ∙ first.jobs in record {
-      some = first.cut_some;
-      done = pieces c.args.r.now cut c.args.claims ds done shares;
-      each = λ x. subst (λ (ps : List PassRecord). times x (all_taken ps) ≡ once_below x c.finish-ledger.result.taken) passes (f.taken x) ∙ ap (once_below x) taken;
-      shown_reported = subst (λ (ps : List PassRecord). All (λ x. Contains (all_reported ps) x) (all_shown ps)) passes f.shown;
-    }
+module _ (c : After-finish-ledger) (r : RecordingParts) (cut : ℕ) (shares : (k : ℕ) (d : DoneRecord) → k < length c.args.done.items → IsShareOf r cut c.args.claims (get_or c.args.done.items k d)) where
+  all_of : (k : ℕ) (v : SegmentVerdictRecord) → k < length (all_verdicts c.args.done.items) → (get_or (all_verdicts c.args.done.items) k v).recording ≡ r
+  all_of = recordings r cut c.args.claims c.args.done.items (all_done c.before) shares
+
+  back : AllBack (last_of r) cut (passes_of c.args.done.items) (all_verdicts c.args.done.items)
+  back =
+      let f = c.finish-ledger.ensures in
+      let ds : List DoneRecord = c.args.done.items in
+      let done = all_done c.before in
+      let passes = passes_are c.before in
+      let count = c.requires.all in
+      let len = c.args.done.ok.0 in
+      let some = f.workers.0 in
+      let first = first_share r cut c.args.claims ds (omega arith) done shares in
+      let taken = f.whole (subst SomeEnded (sym passes) first.ended) ∙ first.jobs in record {
+        some = first.cut_some;
+        done = pieces r cut c.args.claims ds done shares;
+        each = λ x. subst (λ (ps : List PassRecord). times x (all_taken ps) ≡ once_below x c.finish-ledger.result.taken) passes (f.taken x) ∙ ap (once_below x) taken;
+        shown_reported = subst (λ (ps : List PassRecord). All (λ x. Contains (all_reported ps) x) (all_shown ps)) passes f.shown;
+      }
+
+  collected : AreCollected r c.args.done.items (all_verdicts c.args.done.items)
+  collected = record {
+    recordings = all_of;
+    whole = λ fault is. no_fault r cut (passes_of c.args.done.items) (all_verdicts c.args.done.items) back fault is;
+    gathered = λ lawful truth verdict is.
+        let least = subst (λ (ps : List PassRecord). IsLeastOf (all_reported ps) c.finish-ledger.result.least) (passes_are c.before) c.finish-ledger.ensures.least in
+        answered r cut c.args.done.items back all_of c.finish-ledger.result.least least lawful truth verdict is;
+  }
 
 pub returns-clause-verdicts : goal.returns-clause-verdicts
 returns-clause-verdicts c = verdicts_are c.before
 
-pub returns-clause-recordings : goal.returns-clause-recordings
-returns-clause-recordings c =
-    subst (λ (vs : List SegmentVerdictRecord). (k : ℕ) (v : SegmentVerdictRecord) → k < length vs → (get_or vs k v).recording ≡ c.args.r.now) (sym (verdicts_are c.before)) (all_of c.before)
-
-pub returns-clause-whole : goal.returns-clause-whole
-returns-clause-whole c fault is =
-    no_fault c.args.r.now c.requires.shares.0 (passes_of c.args.done.items) (all_verdicts c.args.done.items) (back c) fault
-    (subst (λ (vs : List SegmentVerdictRecord). IsCollectFault c.args.r.now vs fault) (verdicts_are c.before) is)
-
-pub returns-clause-gathered : goal.returns-clause-gathered
-returns-clause-gathered c lawful truth verdict is =
-    let least = subst (λ (ps : List PassRecord). IsLeastOf (all_reported ps) c.finish-ledger.result.least) (passes_are c.before) c.finish-ledger.ensures.least in
-    answered c.args.r.now c.requires.shares.0 c.args.done.items (back c) (all_of c.before) c.finish-ledger.result.least least lawful
-    (subst (λ (vs : List SegmentVerdictRecord). All IsTrueSegmentVerdict vs) (verdicts_are c.before) truth) verdict is
+pub returns-clause-collected : goal.returns-clause-collected
+returns-clause-collected c r cut shares =
+    subst (λ (vs : List SegmentVerdictRecord). AreCollected r c.args.done.items vs) (sym (verdicts_are c.before)) (collected c r cut shares)

@@ -10,5 +10,5 @@ pub loop-p-preserved : goal.loop-p-preserved
 loop-p-preserved c =
     let bytes = c.args.bytes.now in let p = c.loop-p.p in
     c.in_ok-push.ensures.ok ∙ ap (λ (pool : List (List ℕ)). pool ++ c.words_from-words.result ∷ []) c.loop-p.invariant
-    ∙ ap (λ (page : List ℕ). pages_at bytes p ++ page ∷ []) (c.words_from-words.ensures ∙ ap (λ (at : ℕ). words_from bytes at 0 256) c.page_start.ensures)
+    ∙ ap (λ (page : List ℕ). pages_at bytes p ++ page ∷ []) (c.words_from-words.ensures ∙ ap (λ (at : ℕ). words_from bytes at 0 256) c.page_offset.ensures)
     ∙ sym (map-range_with_len_more (page_at bytes) 0 p p (omega arith))

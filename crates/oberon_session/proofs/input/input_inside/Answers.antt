@@ -1,8 +1,9 @@
-use Rattle.std.proofs.Common.{◌≡◌, ◌∙◌, [], ◌∷◌, None, Some, ap, arith, refl}
+use Rattle.std.proofs.Common.{◌≡◌, ◌∙◌, [], ◌∷◌, None, Some, ap, arith, refl, sym}
 use Rattle.std.proofs.lemmas.Result.{err_from_is_err_and}
 use Rattle.json.specs.Json.{after_end_array, parse_map}
 use Rattle.oberon_session.specs.inner.Found.{input_in}
-use Rattle.oberon_session.proofs.Taking.{items_before, next-refused, next-taken, taken-all, taken-none}
+use Rattle.oberon_session.specs.inner.Taken.{all_items}
+use Rattle.oberon_session.proofs.Taking.{items-some, items_before, next-refused, next-taken, taken-all, taken-none}
 use Rattle.oberon_session.proofs.input.input_inside.Goals as goal
 
 pub returns-then-take_end_array : goal.returns-then-take_end_array
@@ -67,20 +68,6 @@ returns-then-take_end_array-4 c =
     let closed : after_end_array c.number-2.new.reader ≡ Some c.take_end_array-4.new.self = grind arith in
     (_, taken-all _ _ (c.in_ok-count.ensures.0 ∷ c.in_ok-kind.ensures.0 ∷ c.in_ok-value.ensures.0 ∷ []) _ t3 _ closed, c.input_in.ensures ∙ (λ i. input_in (c.in_ok-count.ensures.2 i) (c.in_ok-kind.ensures.2 i) (c.in_ok-value.ensures.2 i)))
 
-pub returns-in_err-pass : goal.returns-in_err-pass
-returns-in_err-pass c =
-    let g1 : (after_end_array c.args.reader.now ≡ None) × (c.take_end_array.new.self ≡ c.args.reader.now) = grind arith in
-    let t1 = next-taken _ _ [] _ _ (taken-none _ _) g1 c.number.new.reader _ c.in_ok-count.ensures.1 in
-    let g2 : (after_end_array c.number.new.reader ≡ None) × (c.take_end_array-2.new.self ≡ c.number.new.reader) = grind arith in
-    let t2 = next-taken _ _ (c.in_ok-count.ensures.0 ∷ []) _ _ t1 g2 c.text.new.reader _ c.in_ok-kind.ensures.1 in
-    let g3 : (after_end_array c.text.new.reader ≡ None) × (c.take_end_array-3.new.self ≡ c.text.new.reader) = grind arith in
-    let t3 = next-taken _ _ (c.in_ok-count.ensures.0 ∷ c.in_ok-kind.ensures.0 ∷ []) _ _ t2 g3 c.number-2.new.reader _ c.in_ok-value.ensures.1 in
-    let g4 : (after_end_array c.number-2.new.reader ≡ None) × (c.take_end_array-4.new.self ≡ c.number-2.new.reader) = grind arith in
-    let from = err_from_is_err_and c.from_residual-in_err-pass.result c.from_residual-in_err-pass.ensures.1 in
-    rw (from.1, from.2) (λ no.
-    let wrong = c.in_err-pass.ensures no in
-    (wrong.0, next-refused _ _ (c.in_ok-count.ensures.0 ∷ c.in_ok-kind.ensures.0 ∷ c.in_ok-value.ensures.0 ∷ []) _ _ t3 g4 wrong.1))
-
 pub returns-in_err-pass_items : goal.returns-in_err-pass_items
 returns-in_err-pass_items c =
     let g1 : (after_end_array c.args.reader.now ≡ None) × (c.take_end_array.new.self ≡ c.args.reader.now) = grind arith in
@@ -90,11 +77,10 @@ returns-in_err-pass_items c =
     let g3 : (after_end_array c.text.new.reader ≡ None) × (c.take_end_array-3.new.self ≡ c.text.new.reader) = grind arith in
     let t3 = next-taken _ _ (c.in_ok-count.ensures.0 ∷ c.in_ok-kind.ensures.0 ∷ []) _ _ t2 g3 c.number-2.new.reader _ c.in_ok-value.ensures.1 in
     let g4 : (after_end_array c.number-2.new.reader ≡ None) × (c.take_end_array-4.new.self ≡ c.number-2.new.reader) = grind arith in
-    let t4 = next-taken _ _ (c.in_ok-count.ensures.0 ∷ c.in_ok-kind.ensures.0 ∷ c.in_ok-value.ensures.0 ∷ []) _ _ t3 g4 c.pass.new.reader _ c.in_ok-pass.ensures.1 in
     let from = err_from_is_err_and c.from_residual-in_err-pass_items.result c.from_residual-in_err-pass_items.ensures.1 in
     rw (from.1, from.2) (λ no.
     let wrong = c.in_err-pass_items.ensures no in
-    (wrong.0, t4.0 ∙ ap (parse_map (items_before (c.in_ok-count.ensures.0 ∷ c.in_ok-kind.ensures.0 ∷ c.in_ok-value.ensures.0 ∷ c.in_ok-pass.ensures.0 ∷ []))) wrong.1))
+    (wrong.0, t3.0 ∙ ap (parse_map (items_before (c.in_ok-count.ensures.0 ∷ c.in_ok-kind.ensures.0 ∷ c.in_ok-value.ensures.0 ∷ []))) (ap (all_items c.args.depth) (sym g4.1) ∙ wrong.1)))
 
 pub returns : goal.returns
 returns c =
@@ -105,6 +91,6 @@ returns c =
     let g3 : (after_end_array c.text.new.reader ≡ None) × (c.take_end_array-3.new.self ≡ c.text.new.reader) = grind arith in
     let t3 = next-taken _ _ (c.in_ok-count.ensures.0 ∷ c.in_ok-kind.ensures.0 ∷ []) _ _ t2 g3 c.number-2.new.reader _ c.in_ok-value.ensures.1 in
     let g4 : (after_end_array c.number-2.new.reader ≡ None) × (c.take_end_array-4.new.self ≡ c.number-2.new.reader) = grind arith in
-    let t4 = next-taken _ _ (c.in_ok-count.ensures.0 ∷ c.in_ok-kind.ensures.0 ∷ c.in_ok-value.ensures.0 ∷ []) _ _ t3 g4 c.pass.new.reader _ c.in_ok-pass.ensures.1 in
-    let others = c.in_ok-pass_items.ensures in
-    (_, t4.0 ∙ ap (parse_map (items_before (c.in_ok-count.ensures.0 ∷ c.in_ok-kind.ensures.0 ∷ c.in_ok-value.ensures.0 ∷ c.in_ok-pass.ensures.0 ∷ []))) others.1, refl)
+    let others = ap (all_items c.args.depth) (sym g4.1) ∙ c.in_ok-pass_items.ensures.1 in
+    let fourth = items-some c.args.depth c.number-2.new.reader _ _ g4.0 others in
+    (_, t3.0 ∙ ap (parse_map (items_before (c.in_ok-count.ensures.0 ∷ c.in_ok-kind.ensures.0 ∷ c.in_ok-value.ensures.0 ∷ []))) others, rw fourth.2 refl)

@@ -11,7 +11,7 @@ returns-in-Array c =
     let at : IsAfterHead c.args.depth c.args.reader.now c.take_head.new.reader (head.Array c.in-Array.inside) = rw c.in-Array.is at c.in_ok-head.ensures.ok in
     takes-weaker _ _ _ _ _ (λ json found h. h.2 ∙ sym (ap inputs_of h.1)) (takes-array c.take_head.new.reader _ _ _ _ _ at.0 _ at.1 c.inputs_inside.ensures)
 
-pub returns-in_ok-finish-in_default : goal.returns-in_ok-finish-in_default
-returns-in_ok-finish-in_default c =
-    let one = c.in_ok-finish-in_default.ensures c.args.depth c.args.reader.now c.in_ok-head.ensures.ok in
-    (one.0, one.1, no-inputs-of one.0 (not-array one.0 _ one.2 c.in_default.not-Array))
+pub returns-in_default : goal.returns-in_default
+returns-in_default c =
+    takes-weaker _ _ _ _ _ (λ json found h. rw h.1 (no-inputs-of json (not-array json _ h.0 c.in_default.not-Array)))
+    (c.pass_other.ensures c.args.depth c.args.reader.now c.in_ok-head.ensures.ok)

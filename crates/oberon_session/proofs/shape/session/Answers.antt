@@ -4,7 +4,7 @@ use Rattle.oberon_session.specs.inner.Found.{draft_found}
 use Rattle.oberon_session.specs.declared.head.Head.TheVariants as head
 use Rattle.oberon_session.specs.inner.Taken.{IsAfterHead}
 use Rattle.oberon_session.proofs.Members.{no-draft, draft-of}
-use Rattle.oberon_session.proofs.Taking.{not-object, object-read, object-refused}
+use Rattle.oberon_session.proofs.Taking.{not-object, object-read, object-refused, takes-weaker}
 use Rattle.oberon_session.proofs.shape.session.Goals as goal
 
 pub returns-in_err-take_all-in-Object : goal.returns-in_err-take_all-in-Object
@@ -21,7 +21,7 @@ returns-in_ok-take_all-in-Object c =
     let all = c.in_ok-take_all-in-Object.ensures in
     (_, object-read _ _ _ _ _ _ at.0 at.1 all.1, c.draft.ensures ∙ ap draft_found all.2 ∙ sym (draft-of all.0))
 
-pub returns-in_ok-finish-in_default : goal.returns-in_ok-finish-in_default
-returns-in_ok-finish-in_default c =
-    let one = c.in_ok-finish-in_default.ensures c.args.depth c.args.reader.now c.in_ok-head.ensures.ok in
-    (one.0, one.1, no-draft one.0 (not-object one.0 _ one.2 c.in_default.not-Object))
+pub returns-in_default : goal.returns-in_default
+returns-in_default c =
+    takes-weaker _ _ _ _ _ (λ json found h. rw h.1 (no-draft json (not-object json _ h.0 c.in_default.not-Object)))
+    (c.pass_other.ensures c.args.depth c.args.reader.now c.in_ok-head.ensures.ok)

@@ -1,7 +1,7 @@
-use Rattle.oberon_session.proofs.Taking.{not-number}
+use Rattle.oberon_session.proofs.Taking.{not-number, takes-weaker}
 use Rattle.oberon_session.proofs.value.number.Goals as goal
 
-pub returns-in_ok-finish-in_default : goal.returns-in_ok-finish-in_default
-returns-in_ok-finish-in_default c =
-    let one = c.in_ok-finish-in_default.ensures c.args.depth c.args.reader.now c.in_ok-head.ensures.ok in
-    (one.0, one.1, not-number one.0 _ one.2 c.in_default.not-Number)
+pub returns-in_default : goal.returns-in_default
+returns-in_default c =
+    takes-weaker _ _ _ _ _ (λ json found h. rw h.1 (not-number json _ h.0 c.in_default.not-Number))
+    (c.pass_other.ensures c.args.depth c.args.reader.now c.in_ok-head.ensures.ok)

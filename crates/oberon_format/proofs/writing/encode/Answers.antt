@@ -1,8 +1,0 @@
-use Rattle.oberon_format.proofs.Common.{arith, ◌∙◌}
-use Rattle.oberon_format.proofs.WriteLemmas.{parts_joined}
-use Rattle.oberon_format.proofs.writing.encode.Goals as goal
-
-pub returns-clause-bytes : goal.returns-clause-bytes
-returns-clause-bytes c =
-    parts_joined c.args.r.now c.events.result.now _ _ _ _ _ _ (c.events.ensures.events ∙ c.inputs.ensures.inputs) c.in_ok-out.ensures.items c.in_ok-push_header.ensures
-    c.in_ok-push_events.ensures c.in_ok-push_checkpoints.ensures c.in_ok-push_output.ensures (search arith)
