@@ -1,0 +1,23 @@
+"""The parts of tests/page that use the page in a browser: the tests of a part use one browser, one after another."""
+
+from collections.abc import Callable, Mapping, Sequence
+
+from of_page import game, inputs, kept, said, timeline, touch, use
+from of_page.desk import Desk
+
+Task = Callable[[Desk], None]
+
+# The parts that take longest come first.
+PARTS: Mapping[str, Sequence[Task]] = {
+    "long": (use.run_long,),
+    "timeline": timeline.TASKS,
+    "said": said.TASKS,
+    "kept": kept.TASKS,
+    "inputs": inputs.TASKS,
+    "game": game.TASKS,
+    "touch": touch.TASKS,
+    "desk": use.TASKS,
+}
+
+# The names of all parts, with those that use no browser or one of their own.
+NAMES = ("build", "answers", "past", "closing", "served", *PARTS)
