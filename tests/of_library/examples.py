@@ -17,15 +17,15 @@ def lockstep(folder: Path, flags: Sequence[str]) -> None:
     given = [*names, str(EXAMPLES / "face.orsr"), *map(str, range(1, 201))]
     source = [*WARNINGS, "-Wno-unused-function", str(EXAMPLES / "c/lockstep.c")]
     right, wrong = f"{folder}/lockstep", f"{folder}/lockstep_wrong"
-    expect("lockstep.c", run("cc", *source, f"-I{TOP}/bench", *flags, "-o", right), (b"", 0))
+    expect("lockstep.c", run("cc", *source, f"-I{TOP}/reference", *flags, "-o", right), (b"", 0))
     output, status = run(right, *given)
     if status or output.count(b": the same at ") != len(given):
         fail(f"lockstep: status {status}, {output!r:.400}")
-    header = (TOP / "bench/machine.h").read_text()
+    header = (TOP / "reference/machine.h").read_text()
     expect("ANN in machine.h", header.count("x = b & ~c;"), 1)
     (folder / "planted").mkdir()
     (folder / "planted/machine.h").write_text(header.replace("x = b & ~c;", "x = b & c;"))
-    expect("lockstep.c with a wrong ANN", run("cc", *source, f"-I{folder}/planted", f"-I{TOP}/bench", *flags, "-o", wrong), (b"", 0))
+    expect("lockstep.c with a wrong ANN", run("cc", *source, f"-I{folder}/planted", f"-I{TOP}/reference", *flags, "-o", wrong), (b"", 0))
     found = 0
     for seed in range(1, 41):
         output, status = run(wrong, str(seed))
@@ -45,7 +45,7 @@ def walk(folder: Path, built: Path) -> None:
     """The commands of docs/from-c.md print what it shows."""
     room = folder / "walk"
     room.mkdir()
-    for part in ("examples", "bench", "crates"):
+    for part in ("examples", "reference", "crates"):
         (room / part).symlink_to(TOP / part)
     (room / "out").symlink_to(built)
     environment = {**os.environ, "PATH": f"{PROGRAM.parent}:{os.environ['PATH']}"}

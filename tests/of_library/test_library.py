@@ -64,12 +64,12 @@ def test_memory_that_is_refused(flags: Sequence[str], tmp_path: Path) -> None:
 
 def test_find_in_c(flags: Sequence[str], tmp_path: Path) -> None:
     """The example that searches compiles without warnings."""
-    expect("find.c", run("cc", *WARNINGS, str(EXAMPLES / "c/find.c"), f"-I{TOP}/bench", *flags, "-o", f"{tmp_path}/find"), (b"", 0))
+    expect("find.c", run("cc", *WARNINGS, str(EXAMPLES / "c/find.c"), f"-I{TOP}/reference", *flags, "-o", f"{tmp_path}/find"), (b"", 0))
 
 
 def test_profile_in_c(flags: Sequence[str], tmp_path: Path) -> None:
     """The example that counts prints the counts of hello."""
-    counts.run_profile(tmp_path, [f"-I{TOP}/bench", *flags])
+    counts.run_profile(tmp_path, [f"-I{TOP}/reference", *flags])
 
 
 def test_lockstep(flags: Sequence[str], tmp_path: Path) -> None:

@@ -24,7 +24,7 @@ TABLE = re.compile(r"^<!-- (galluspa listing .*) -->\n((?:\|.*\n)+)", re.MULTILI
 QUOTED = re.compile(r"^```text\n(.*?)^```$", re.DOTALL | re.MULTILINE)
 SOURCE = re.compile(r"`((?:src|specs)/[\w./]+)`")
 LINK = re.compile(r"\]\(([^)#:]+)(?:#[^)]*)?\)")
-PARTS = ("tools", "examples", "crates", "docs", "bench", "include")
+PARTS = ("tools", "examples", "crates", "docs", "bench", "reference", "include")
 # The commands of the documents are found as in an installation.
 ENVIRONMENT = {**os.environ, "PATH": f"{PROGRAM.parent}:{TOP}:{os.environ['PATH']}", "PYTHONDONTWRITEBYTECODE": "1"}
 
