@@ -64,7 +64,9 @@ def test_memory_that_is_refused(flags: Sequence[str], tmp_path: Path) -> None:
 
 def test_find_in_c(flags: Sequence[str], tmp_path: Path) -> None:
     """The example that searches compiles without warnings."""
-    expect("find.c", run("cc", *WARNINGS, str(EXAMPLES / "c/find.c"), f"-I{TOP}/reference", *flags, "-o", f"{tmp_path}/find"), (b"", 0))
+    expect(
+        "find.c", run("cc", *WARNINGS, str(EXAMPLES / "c/find.c"), f"-I{TOP}/reference", *flags, "-o", f"{tmp_path}/find"), (b"", 0)
+    )
 
 
 def test_profile_in_c(flags: Sequence[str], tmp_path: Path) -> None:
