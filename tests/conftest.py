@@ -10,7 +10,21 @@ from support import TOP
 
 LIBRARIES = [TOP / folder / "libgalluspa.so" for folder in ("crates/galluspa/out", "out/lib")]
 # The files of tests that take longest, the longest first: they begin first, so that no process waits for one of them at the end.
-LONGEST: list[str] = []
+LONGEST = [
+    "test_find",
+    "test_strangers",
+    "test_report",
+    "test_wheel",
+    "test_documents",
+    "test_recipes",
+    "test_session",
+    "test_coverage",
+    "test_slices",
+    "test_bisect",
+    "test_symbols",
+    "test_package",
+    "test_trace",
+]
 
 
 @pytest.fixture(scope="session")
