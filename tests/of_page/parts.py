@@ -20,4 +20,4 @@ PARTS: Mapping[str, Sequence[Task]] = {
 }
 
 # The names of all parts, with those that use no browser or one of their own.
-NAMES = ("build", "answers", "past", "closing", "served", *PARTS)
+NAMES = ("build", "answers", "past", "closing", "served", "evidence", *PARTS)

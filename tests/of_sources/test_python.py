@@ -7,7 +7,7 @@ from pathlib import Path
 
 from of_tools.samples import GALLUSPA, TOOLS, TOP, Ran, ToolTest, run
 
-COLUMNS = 120
+COLUMNS = 132
 NOT_SOURCES = {"out", "__pycache__"}
 # What mypy looks at.
 TYPED = ("tools", "tests", "bench", "docs")
@@ -22,6 +22,7 @@ FORMATTED = (
     "tests/of_library/test_library.py",
     "tests/of_page/conftest.py",
     "tests/of_page/desks.py",
+    "tests/of_page/test_evidence.py",
     "tests/of_page/parts.py",
     "tests/of_page/test_module.py",
     "tests/of_page/test_use.py",
@@ -88,7 +89,7 @@ class SourcesTest(ToolTest):
         ran = self.typed([script, self.file("tools/module.py", "def two():\n    return 2\n")], self.folder / "cache")
         self.assertIn(b"Found 2 errors in 2 files", ran.output)
 
-    def test_lines_of_tools_are_no_longer_than_a_screen(self) -> None:
+    def test_no_line_of_tools_is_too_long(self) -> None:
         for path in sources(TOOLS):
             lines = path.read_text().splitlines()
             long = [f"{path}:{number}" for number, line in enumerate(lines, 1) if len(line) > COLUMNS]

@@ -38,20 +38,24 @@ def is_value(before: str) -> bool:
 def run_suite(
     folder: Path, arguments: Sequence[str], jobs: int, needed: Mapping[str, str | Path], dist: str = "loadfile"
 ) -> NoReturn:
-    """Runs the tests of a folder in so many processes, by default each file of tests in one of them. Arguments are those of pytest; besides, a file of
-    the folder goes by its name, as in `test_suite`, and so do its tests: `test_suite.SuiteTest.test_colours`."""
+    """Runs the tests of a folder in so many processes, by default each file of tests in one of them. Arguments are those of pytest; besides,
+    a file of the folder goes by its name, as in `test_film`, and so do its tests: `test_film.FilmTest.test_helps`."""
     get_ready(folder.name, needed)
-    words = [_as_test(folder, word, before) for word, before in zip(arguments, ["", *arguments])]
-    if not any(word.startswith(str(folder)) for word in words):
-        words.append(str(folder))
-    options = ["-c", str(TOP / "pyproject.toml"), "--rootdir", str(TOP), *_processes(arguments, jobs, dist)]
+    words = chosen(folder, arguments)
+    options = ["-c", str(TOP / "pyproject.toml"), "--rootdir", str(TOP), *processes(arguments, jobs, dist)]
     os.environ["PYTHONDONTWRITEBYTECODE"] = "1"
     command = [sys.executable, "-m", "pytest", *options, *words]
     sys.stdout.flush()
     os.execv(sys.executable, command)
 
 
-def _processes(arguments: Sequence[str], jobs: int, dist: str) -> list[str]:
+def chosen(folder: Path, arguments: Sequence[str]) -> list[str]:
+    """Returns the arguments as pytest has them: with the paths of tests, which are all of the folder if none is named."""
+    words = [_as_test(folder, word, before) for word, before in zip(arguments, ["", *arguments])]
+    return words if any(word.startswith(str(folder)) for word in words) else [*words, str(folder)]
+
+
+def processes(arguments: Sequence[str], jobs: int, dist: str) -> list[str]:
     """Returns the options of pytest that say in how many processes the tests run."""
     if jobs == 1 or ALONE & set(arguments) or any(word.startswith(("-n", "--numprocesses", "--dist")) for word in arguments):
         return []
