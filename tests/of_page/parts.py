@@ -1,4 +1,7 @@
-"""The parts of tests/page that use the page in a browser: the tests of a part use one browser, one after another."""
+"""The parts of tests/page that use the page in a browser: the tests of a part use one browser, one after another.
+
+A task is a test. It begins with what it opens itself, since it is also run alone, by its name. A module for a part has them in `TASKS`.
+"""
 
 from collections.abc import Callable, Mapping, Sequence
 

@@ -1,6 +1,7 @@
 """The commands of tests/: how their arguments choose tests, and what tests/alongside says of what it runs."""
 
 import shutil
+from importlib import import_module
 from importlib.machinery import SourceFileLoader
 from importlib.util import module_from_spec, spec_from_loader
 from pathlib import Path
@@ -8,6 +9,8 @@ from types import ModuleType
 
 import pytest
 
+from of_page import closing
+from of_page.parts import PARTS
 from of_tools.samples import TOP, run
 from support.suites import chosen, processes
 
@@ -66,8 +69,23 @@ def script(name: str) -> ModuleType:
 
 def test_parts_of_the_page() -> None:
     """The name of a part is an option, but not as the value of another; pytest gets a file in one word with its option."""
-    words = ["--module", "page.wasm", "timeline", "-k", "kept", "--part", "game"]
-    assert script("page").as_options(words) == ["--module=page.wasm", "--part=timeline", "-k", "kept", "--part=game"]
+    words = ["--module", "page.wasm", "timeline", "-k", "kept", "--part", "game", "build"]
+    assert script("page").as_options(words) == [
+        "--module=page.wasm",
+        "--part=timeline",
+        "-k",
+        "kept",
+        "--part=game",
+        "--part=build",
+    ]
+
+
+def test_all_tasks_of_the_page_belong_to_a_part() -> None:
+    """No module has tasks that tests/page does not do."""
+    modules = [path.stem for path in sorted((TOP / "tests/of_page").glob("*.py")) if "\nTASKS = " in path.read_text()]
+    tasks = {task for name in modules for task in import_module(f"of_page.{name}").TASKS}
+    assert len(modules) > 5
+    assert tasks - {task for done in PARTS.values() for task in done} == set(closing.TASKS)
 
 
 def alongside(folder: Path, lines: str) -> tuple[list[str], int]:
