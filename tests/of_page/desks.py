@@ -8,6 +8,9 @@ from tempfile import TemporaryDirectory
 from of_page.desk import PAGE, Desk
 from of_tools import browser
 
+# The width and the height of a window in which the screen, the timeline and a tab are seen.
+WINDOW = (1400, 900)
+
 
 class Desks:
     """The desk of the part whose tests run: a browser with the page open."""
@@ -28,9 +31,11 @@ class Desks:
 
     @contextmanager
     def of(self, part: str) -> Iterator[Desk]:
-        """The desk of a part. If what is done with it fails, its pages show what they had, and the next test has a new one."""
+        """The desk of a part, with a window of the same size for each test. If what is done with it fails, its pages show what they had, and
+        the next test has a new one."""
         desk = self._opened(part)
         try:
+            desk.page.resize(*WINDOW)
             yield desk
             desk.expect_sound()
         except Exception:
