@@ -72,6 +72,9 @@ class Wheel(bdist_wheel):
 class Sources(sdist):
     """Makes a source distribution, which says its version, since it has no commits."""
 
+    # Some stubs of setuptools lack it.
+    distribution: Any
+
     def make_release_tree(self, base_dir: str, files: list[str]) -> None:
         """Lays out its files."""
         super().make_release_tree(base_dir, files)

@@ -1,7 +1,7 @@
 /* emulator IMAGE FRAMES: a small emulator of the usual shape. Its main loop does 60 frames a second: it sets the millisecond
  * timer, takes the keys that were typed on standard input, runs the instructions of a frame, and shows what was sent.
  *
- * The processor is that of bench/machine.h. emulator-recorded.c is this program with a recorder in it. */
+ * The processor is that of reference/machine.h. emulator-recorded.c is this program with a recorder in it. */
 #include <poll.h>
 #include <time.h>
 #include <unistd.h>

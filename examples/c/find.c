@@ -1,32 +1,14 @@
 /* find FILE ADDRESS TO: prints the count of the first store to the word at an address, and that of the last one, before the count
  * TO in the run of a recording, with the instruction that stores. An address is a hexadecimal number of bytes.
  *
- * The recording is taken to be true: check it first. bench/recording.h reads its inputs. */
-#include "galluspa.h"
-#include "machine.h"
-#include "recording.h"
+ * The recording is taken to be true: check it first. start.h reads its inputs. */
+#include "start.h"
 
 enum { AT_ONCE = 4000000 }; /* the steps of a call, which takes about a tenth of a second */
 
 static galluspa_state start, state;
 static uint32_t start_words[GALLUSPA_WORDS], words[GALLUSPA_WORDS];
 static uint8_t sent[1 << 20];
-
-/* Reads the initial state of a recording, and its inputs. Returns how many there are. */
-static size_t read_start(const char *name, galluspa_input **inputs) {
-    uint8_t *text = malloc(GALLUSPA_LONGEST + 1);
-    FILE *file = fopen(name, "rb");
-    if (!text || !file) { perror(name); exit(3); }
-    size_t length = fread(text, 1, GALLUSPA_LONGEST + 1, file), many;
-    fclose(file);
-    if (galluspa_claim(text, length, 0, &start, start_words, GALLUSPA_WORDS)) { fprintf(stderr, "%s: refused\n", name); exit(2); }
-    Event *events = read_events(text, &many);
-    if (!(*inputs = malloc((many + 1) * sizeof **inputs))) die("no memory");
-    for (size_t i = 0; i < many; i++) (*inputs)[i] = (galluspa_input){events[i].count, events[i].kind, events[i].value};
-    free(events);
-    free(text);
-    return many;
-}
 
 /* Advances the machine to a count. */
 static void advance(const galluspa_input *inputs, size_t many, uint64_t to) {
@@ -59,7 +41,7 @@ static int find(const galluspa_input *inputs, size_t many, uint32_t address, uin
 int main(int argc, char **argv) {
     galluspa_input *inputs;
     if (argc != 4) die("find FILE ADDRESS TO");
-    size_t many = read_start(argv[1], &inputs);
+    size_t many = read_start(argv[1], &start, start_words, &inputs);
     uint32_t address = (uint32_t)strtoul(argv[2], 0, 16);
     uint64_t to = strtoull(argv[3], 0, 10);
     for (uint32_t wanted = GALLUSPA_FIRST; wanted <= GALLUSPA_LAST; wanted++) {

@@ -5,11 +5,10 @@
  * The two are compared every FRAME instructions; a frame at whose end they differ is run again in frames of a tenth, down to a
  * single instruction. With -f 1 each instruction is compared. Ends with status 0 if they never differ, and 1 if they do.
  *
- * The emulator is bench/machine.h, and bench/recording.h reads the inputs. To test another one, replace load, seen and advance,
+ * The emulator is reference/machine.h, and start.h reads the inputs. To test another one, replace load, seen and advance,
  * which are all that knows of it. */
-#include "galluspa.h"
 #include "machine.h"
-#include "recording.h" /* after the emulator, which may be another than the one beside it */
+#include "start.h" /* after the emulator, which may be another than the one beside recording.h */
 
 enum { SENT = 1 << 20 };
 
@@ -153,21 +152,13 @@ static size_t inputs_at_random(galluspa_input *inputs, size_t many, uint64_t ste
 
 /* The inputs of a recording, whose first state goes to the side; its last count goes to `to`. */
 static size_t inputs_of(const char *name, Side *c, galluspa_input **inputs, uint64_t *to) {
-    uint8_t *text = malloc(GALLUSPA_LONGEST + 1);
-    FILE *file = fopen(name, "rb");
-    if (!text || !file) { perror(name); exit(3); }
-    size_t length = fread(text, 1, GALLUSPA_LONGEST + 1, file);
-    fclose(file);
-    uint8_t code = galluspa_claim(text, length, 0, &c->state, c->words, GALLUSPA_WORDS);
     static Side last;
-    if (!code) code = galluspa_claim(text, length, (uint32_t)number(text + 16, 4) - 1, &last.state, last.words, GALLUSPA_WORDS);
-    if (code) { fprintf(stderr, "%s: refused: %u\n", name, code); exit(2); }
+    size_t length;
+    uint8_t *text = read_recording(name, &length);
+    read_claim(name, text, length, 0, &c->state, c->words);
+    read_claim(name, text, length, (uint32_t)number(text + 16, 4) - 1, &last.state, last.words);
     *to = last.state.count;
-    size_t many;
-    Event *events = read_events(text, &many);
-    if (!(*inputs = malloc((many + 1) * sizeof **inputs))) die("no memory");
-    for (size_t i = 0; i < many; i++) (*inputs)[i] = (galluspa_input){events[i].count, events[i].kind, events[i].value};
-    free(events);
+    size_t many = read_inputs(text, inputs);
     free(text);
     return many;
 }

@@ -1,11 +1,10 @@
 /* record FILE STEPS EVERY: runs an emulator written in C from the first state of a recording, with its inputs, and records it while it
  * runs: a checkpoint every EVERY instructions, up to STEPS. Writes the recording to standard output.
  *
- * The emulator is bench/machine.h, and bench/recording.h reads the inputs. To record another one, replace load, seen and advance,
+ * The emulator is reference/machine.h, and start.h reads the inputs. To record another one, replace load, seen and advance,
  * which are all that knows of it. */
-#include "galluspa.h"
 #include "machine.h"
-#include "recording.h" /* after the emulator, which may be another than the one beside it */
+#include "start.h" /* after the emulator, which may be another than the one beside recording.h */
 
 static Machine machine;
 static galluspa_state state;
@@ -71,30 +70,12 @@ static void checkpoint(Text *text, const galluspa_input *inputs, size_t many) {
     next = old;
 }
 
-/* The inputs of a recording, whose first state goes to the emulator. */
-static size_t inputs_of(const char *name, galluspa_input **inputs) {
-    uint8_t *text = malloc(GALLUSPA_LONGEST + 1);
-    FILE *file = fopen(name, "rb");
-    if (!text || !file) { perror(name); exit(3); }
-    size_t length = fread(text, 1, GALLUSPA_LONGEST + 1, file);
-    fclose(file);
-    uint8_t refusal = galluspa_claim(text, length, 0, &state, words, GALLUSPA_WORDS);
-    if (refusal) { fprintf(stderr, "%s: refused: %u\n", name, refusal); exit(2); }
-    size_t many;
-    Event *events = read_events(text, &many);
-    if (!(*inputs = malloc((many + 1) * sizeof **inputs))) die("no memory");
-    for (size_t i = 0; i < many; i++) (*inputs)[i] = (galluspa_input){events[i].count, events[i].kind, events[i].value};
-    free(events);
-    free(text);
-    return many;
-}
-
 int main(int argc, char **argv) {
     static Text text;
     galluspa_input *inputs;
     if (argc != 4) die("record FILE STEPS EVERY");
     uint64_t steps = strtoull(argv[2], 0, 10), every = strtoull(argv[3], 0, 10);
-    size_t many = inputs_of(argv[1], &inputs), next = 0;
+    size_t many = read_start(argv[1], &state, words, &inputs), next = 0;
     if (!every) die("a checkpoint every 0 instructions");
     if (!(machine.sent = malloc(machine.sent_room = 4096))) die("no memory");
     load();

@@ -1,7 +1,7 @@
 /* state RECORDING COUNT MEMORY: runs an emulator written in C from the first state of a recording, with its inputs, up to
  * a count, writes its memory to a file, and prints its state as JSON. This is what `galluspa bisect` asks of an emulator.
  *
- * The emulator is bench/machine.h, and bench/recording.h reads the recording. */
+ * The emulator is reference/machine.h, and reference/recording.h reads the recording. */
 #include "replay.h"
 
 static void print(const Machine *m, const char *memory) {

@@ -1,7 +1,6 @@
 """What the tests of the library for C share: where things are, and how commands are run and answers compared."""
 
 import subprocess
-import sys
 from pathlib import Path
 from typing import Any, NoReturn
 
@@ -16,12 +15,12 @@ WARNINGS = ["-std=c11", "-O2", "-Wall", "-Wextra", "-Werror"]
 
 def fail(why: str) -> NoReturn:
     """Ends the test, and says why."""
-    sys.exit(f"library: {why}")
+    raise AssertionError(why)
 
 
-def run(*words: str | bytes | Path, given: bytes | None = None, **more: Any) -> tuple[bytes, int]:
+def run(*words: str | bytes | Path, given: bytes | None = None, limit: float | None = 300, **more: Any) -> tuple[bytes, int]:
     """What a command printed on both outputs, and its status."""
-    ran = subprocess.run(list(words), input=given, stdout=subprocess.PIPE, stderr=subprocess.STDOUT, timeout=300, **more)
+    ran = subprocess.run(list(words), input=given, stdout=subprocess.PIPE, stderr=subprocess.STDOUT, timeout=limit, **more)
     return ran.stdout, ran.returncode
 
 

@@ -49,12 +49,13 @@ function answerTo([ask, given]) {
   return JSON.parse(JSON.stringify({ ...said, id: undefined }, encoded));
 }
 
-/** The least time that a task takes, in ms, of a few turns. */
+/** The least time of a processor that a task takes, in ms, of a few turns: what else the machine does meanwhile does not count. */
 function leastTime(task) {
-  return Math.min(...Array.from({ length: 9 }, () => {
-    const begun = performance.now();
+  return Math.min(...Array.from({ length: 30 }, () => {
+    const begun = process.cpuUsage();
     task();
-    return performance.now() - begun;
+    const { user, system } = process.cpuUsage(begun);
+    return (user + system) / 1000;
   }));
 }
 

@@ -8,7 +8,7 @@ from contextlib import contextmanager
 from pathlib import Path
 
 import galluspa.recording
-from of_page.desk import PAGE, SENT, Desk, expect, fail, program
+from of_page.desk import OWN_JUDGED, PAGE, SENT, Desk, expect, fail, program
 from of_tools import browser
 
 KEY = 4
@@ -61,9 +61,10 @@ class Person(Desk):
     def kept(self) -> list[tuple[str, int, int]]:
         """What the page offers of what is kept: the branch of each, its count and its inputs."""
         self.page.wait(f"{KEPT}.length")
-        found = [ITEM.fullmatch(text) for text in self.page.answer(KEPT)]
-        if None in found:
-            fail(f"what is kept: {self.page.answer(KEPT)}")
+        texts = self.page.answer(KEPT)
+        found = [it for it in map(ITEM.fullmatch, texts) if it]
+        if len(found) != len(texts):
+            fail(f"what is kept: {texts}")
         return sorted((it[2] or "", int(it[3].replace(",", "")), int(it[4])) for it in found)
 
     def resume(self) -> None:
@@ -77,6 +78,8 @@ class Person(Desk):
         self.page.answer("document.getElementById('g-own-line').textContent = ''")
         self.press_button("#g-save-recording")
         recording = self.saved("draw-live.orsr")
+        # The verdict moves what is below it, so that a click that comes before it may miss.
+        self.page.wait(OWN_JUDGED)
         expect("the line of what was kept", program("check", recording)[1], 0)
         return "".join(chr(event.value) for event in galluspa.recording.read(recording).events if event.kind == KEY)
 
@@ -210,7 +213,7 @@ def end_at_once(folder: Path) -> None:
 
 def end_process(folder: Path) -> None:
     """A key is kept half a second later, though the browser's process is ended, without a pause and without a word."""
-    counts = []
+    counts: list[int] = []
     for keys in ("a", "b", "c"):
         with begun(folder) as who:
             if counts:
@@ -263,11 +266,4 @@ def take_over_and_end(folder: Path) -> None:
     print("ended: after a take-over, and on a branch that was returned to, the browser's process was ended")
 
 
-def drive(folder: Path) -> None:
-    """All of it, each with a browser profile of its own."""
-    for name, task in (("at-once", end_at_once), ("process", end_process), ("reload", take_over_and_reload), ("kill", take_over_and_end)):
-        (folder / name).mkdir(parents=True)
-        try:
-            task(folder / name)
-        except RuntimeError as error:
-            fail(f"{name}: {error}")
+TASKS = (end_at_once, end_process, take_over_and_reload, take_over_and_end)

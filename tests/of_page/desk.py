@@ -2,9 +2,7 @@
 
 import base64
 import re
-import sys
 import time
-from collections.abc import Callable
 from functools import cache
 from pathlib import Path
 from typing import NoReturn
@@ -43,8 +41,8 @@ window.pixelsSet = () => {
 
 
 def fail(why: str) -> NoReturn:
-    """Ends the test."""
-    sys.exit(f"page: {why}")
+    """Ends the test, and says why."""
+    raise AssertionError(why)
 
 
 def expect(what: str, found: object, wanted: object) -> None:
@@ -187,15 +185,3 @@ class Desk:
         expect("the errors of the page", [it for it in self.page.errors if not it.startswith(NO_GESTURE)], [])
         outside = [url for url in self.page.requests if not url.startswith(("file:", "blob:", "data:"))]
         expect("what the page asked of the network", outside, [])
-
-
-def use(folder: Path, task: Callable[[Desk], None]) -> None:
-    """Does something with the page in a browser of its own."""
-    folder.mkdir()
-    try:
-        with browser.browser() as running, running.page(PAGE) as page:
-            desk = Desk(running, page, folder)
-            task(desk)
-            desk.expect_sound()
-    except RuntimeError as error:
-        fail(f"{error}")

@@ -136,10 +136,12 @@ def continue_after(desk: Desk) -> None:
     print("snake: continued after a reload, by the card of the empty page")
 
 
-def drive(desk: Desk) -> None:
-    """All of it."""
-    follow_score(desk)
+def play_on(desk: Desk) -> None:
+    """Plays to the end, and goes on from before it."""
     play(desk)
     end_with_goal(desk)
     go_on_before_crash(desk)
     continue_after(desk)
+
+
+TASKS = (follow_score, play_on)

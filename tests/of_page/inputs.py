@@ -216,11 +216,4 @@ def json_of(name: str, **changes: object) -> bytes:
     return json.dumps({**json.loads((EXAMPLES / name).read_text()), **changes}).encode()
 
 
-def drive(desk: Desk) -> None:
-    """All of it."""
-    click_fast(desk)
-    stroke(desk)
-    send_lines(desk)
-    compose_text(desk)
-    go_to_checkpoints(desk)
-    wait_quietly(desk)
+TASKS = (click_fast, stroke, send_lines, compose_text, go_to_checkpoints, wait_quietly)

@@ -272,13 +272,6 @@ def survive_other_pages(desk: Desk) -> None:
     print("kept: 11 odd items of another page are unreadable, one is refused, and a database of another version is shown and forgotten")
 
 
-def drive(desk: Desk) -> None:
-    """All of it."""
-    keep_each(desk)
-    keep_under_its_name(desk)
-    resume_twice(desk)
-    forget_and_undo(desk)
-    survive_other_pages(desk)
-    ask_before_dropping(desk)
-    return_unkept(desk)
-    keep_seldom(desk)
+TASKS = (
+    keep_each, keep_under_its_name, resume_twice, forget_and_undo, survive_other_pages, ask_before_dropping, return_unkept, keep_seldom,
+)

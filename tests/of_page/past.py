@@ -112,7 +112,6 @@ def make_programs(folder: Path) -> None:
 
 def compare(folder: Path) -> None:
     """Looks, searches and take-overs of the page's workers, in node. The program accepts what was recorded after a take-over."""
-    folder.mkdir()
     make_programs(folder)
     ran = subprocess.run(["node", TOP / "tests/of_page/past.js", PAGE, folder], capture_output=True, text=True, check=False)
     lines = [line.split(" ") for line in ran.stdout.splitlines()]

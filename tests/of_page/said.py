@@ -99,6 +99,8 @@ def fill_pages(desk: Desk) -> None:
 def go_on_full(desk: Desk) -> None:
     """A recording that is full already when it is run on is said to be at once, and the machine runs."""
     page = desk.page
+    # As fast as it goes, it is at the last count before it is seen to run.
+    page.answer("el('speed').value = 'clock'")
     desk.start("sent.orsr", encoded(2, [page_of(JUMP)], [claim(0), claim(10, output=b"x" * (1 << 20))]))
     page.answer("showClaim(1).then(() => runOnFrom(1))")
     page.wait("countOf(app.latest.state) === 10")
@@ -239,15 +241,6 @@ def refuse_each(desk: Desk) -> None:
     print("refusals: each request has its own; a worker that breaks is said to, and the machine goes on; refused recordings take no memory")
 
 
-def drive(desk: Desk) -> None:
-    """All of it."""
-    say_full(desk)
-    fill_inputs(desk)
-    fill_pages(desk)
-    go_on_full(desk)
-    keep_last_room(desk)
-    end_at_last_count(desk)
-    leave_what_is_open(desk)
-    judge_both(desk)
-    end_at_once(desk)
-    refuse_each(desk)
+TASKS = (
+    say_full, fill_inputs, fill_pages, go_on_full, keep_last_room, end_at_last_count, leave_what_is_open, judge_both, end_at_once, refuse_each,
+)

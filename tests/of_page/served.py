@@ -17,6 +17,7 @@ def served(folder: Path) -> Iterator[str]:
     command = [folder / "web/serve", "--port", "0", "--module", PAGE]
     with subprocess.Popen([str(word) for word in command], stdout=subprocess.PIPE, text=True) as running:
         try:
+            assert running.stdout
             yield running.stdout.readline().strip()
         finally:
             running.terminate()

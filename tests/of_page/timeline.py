@@ -94,6 +94,7 @@ def drag(desk: Desk) -> None:
 def press_each(desk: Desk) -> None:
     """Each key of the region does what it is for."""
     page = desk.page
+    run_to_end(desk, "face.orsr", FACE)
     look_at(desk, 8000000)
     for key, modifiers, count in (("ArrowLeft", 0, 7999999), ("ArrowRight", 0, 8000000), ("[", 0, 4000000), ("]", 0, 8000000), ("Home", 0, 0),
                                   ("]", 0, 4000000), (",", 0, 0), ("End", 0, 20000000), ("[", 0, 12000000), (".", 0, 20000000)):
@@ -296,11 +297,11 @@ def meet_breakpoint(desk: Desk) -> None:
     gutter = "el('listing').querySelector('button[data-pc=\"6\"]')"
     page.wait(gutter)
     page.wait("el('trace').querySelector('.here')")
-    place = page.answer(f"(({{ left, top }}) => [left + 4, top + 4])({gutter}.getBoundingClientRect())")
-    page.send_mouse("mousePressed", *place, time.time(), 1)
+    x, y = page.answer(f"(({{ left, top }}) => [left + 4, top + 4])({gutter}.getBoundingClientRect())")
+    page.send_mouse("mousePressed", x, y, time.time(), 1)
     # The machine moves between the press of the button and its release, so the listing is shown anew.
     page.answer("showListing(3, app.latest.listing.slice(0, -1)); showListing(0, app.latest.listing)")
-    page.send_mouse("mouseReleased", *place, time.time())
+    page.send_mouse("mouseReleased", x, y, time.time())
     page.wait("breaks.size")
     expect("the breakpoint beside the listing", page.answer("[...breaks]"), [6])
     desk.click("run")
@@ -447,27 +448,21 @@ def look_narrow(desk: Desk) -> None:
         expect(f"whether the transport is in sight at {place}", 0 <= top < bottom <= 850, True)
     page.answer("scrollTo(0, 0)")
     page.prefer("light")
-    for width, height, wanted in ((1800, 1400, [1024, "pixelated"]), (1280, 1100, [None, "auto"])):
+    windows: tuple[tuple[int, int, int | None, str], ...] = ((1800, 1400, 1024, "pixelated"), (1280, 1100, None, "auto"))
+    for width, height, wanted, rendered in windows:
         page.resize(width, height)
         page.answer("new Promise((done) => requestAnimationFrame(() => setTimeout(done, 50)))")
         size, rendering = page.answer("[el('screen').offsetWidth, el('screen').style.imageRendering]")
-        expect(f"the screen at {width} points", [size if wanted[0] else None, rendering], wanted)
+        expect(f"the screen at {width} points", (size if wanted else None, rendering), (wanted, rendered))
     print("400 points: five buttons and one lane, which stay in sight; light and dark")
 
 
-def drive(desk: Desk) -> None:
-    """All of it."""
-    desk.reload()
-    drag(desk)
-    press_each(desk)
-    ask_who(desk)
-    ask_devices(desk)
-    search(desk)
-    stop_search(desk)
-    look_ahead(desk)
+def meet_breakpoints(desk: Desk) -> None:
+    """A breakpoint is met, and then met again, at each speed."""
     meet_breakpoint(desk)
     meet_each(desk)
-    show_false(desk)
-    branch(desk)
-    ask_before_dropping(desk)
-    look_narrow(desk)
+
+
+TASKS = (
+    drag, press_each, ask_who, ask_devices, search, stop_search, look_ahead, meet_breakpoints, show_false, branch, ask_before_dropping, look_narrow,
+)

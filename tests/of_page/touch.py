@@ -106,15 +106,27 @@ def tap_dot(desk: Desk) -> None:
     print("touch: a tap on a dot has its instruction, and the card is closed by one")
 
 
-def drive(desk: Desk) -> None:
-    """All of it, in a window of 400 points and in a wide one."""
+def touch_all(desk: Desk, width: int, height: int) -> None:
+    """All of it, in a window of a size."""
     desk.page.use_touch(True)
-    for width, height in ((400, 850), (1400, 900)):
-        desk.page.resize(width, height)
-        tap_cards(desk)
-        drag_cursor(desk)
-        pinch(desk)
-        tap_dot(desk)
-        pinch_running(desk)
+    desk.page.resize(width, height)
+    tap_cards(desk)
+    drag_cursor(desk)
+    pinch(desk)
+    tap_dot(desk)
+    pinch_running(desk)
     desk.page.use_touch(False)
     expect("what is said at the end", desk.page.answer(shown("notice")), "")
+
+
+def touch_narrow(desk: Desk) -> None:
+    """All of it, in a window of 400 points."""
+    touch_all(desk, 400, 850)
+
+
+def touch_wide(desk: Desk) -> None:
+    """All of it, in a wide window."""
+    touch_all(desk, 1400, 900)
+
+
+TASKS = (touch_narrow, touch_wide)

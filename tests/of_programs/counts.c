@@ -1,5 +1,5 @@
 /* counts RECORDING [FROM TO] ..: does the instructions of a recording one after another, as far as its last checkpoint, on the machine of
- * bench/machine.h, and counts them by themselves. It writes 262,144 numbers of 8 bytes: how often the instruction of each word was done;
+ * reference/machine.h, and counts them by themselves. It writes 262,144 numbers of 8 bytes: how often the instruction of each word was done;
  * 262,144 more: how often another word than the next one came after it; and the processor at each count from FROM up to TO, of which the
  * ranges rise, as galluspa_processor lays it out. The lowest byte of a number comes first, as this machine has it. */
 #include "replay.h"

@@ -6,7 +6,7 @@ import hashlib
 import json
 import os
 import re
-import shutil
+import select
 import subprocess
 import tempfile
 import time
@@ -14,7 +14,7 @@ from collections.abc import Iterator
 from contextlib import contextmanager
 from dataclasses import dataclass
 from pathlib import Path
-from typing import IO
+from typing import IO, Any
 
 FLAGS = ("--headless=new", "--no-sandbox", "--disable-gpu", "--hide-scrollbars", "--no-first-run", "--disable-extensions",
          "--disable-background-networking", "--host-resolver-rules=MAP * ~NOTFOUND, EXCLUDE 127.0.0.1", "--force-device-scale-factor=1")
@@ -32,6 +32,9 @@ INSIDE = "globalThis.inside = (text) => eval(text);\n"
 
 # Seconds that a wait takes at most. They are many, since a wait ends when what it waits for is there.
 PATIENCE = 120
+
+# Seconds that a page whose test failed has to show itself once more.
+LAST_PATIENCE = 20
 
 # What is wrong with how the blocks of a page lie: a page or a block too wide, and two blocks that overlap.
 FAULTS = """
@@ -66,11 +69,14 @@ class Pipe:
         self._errors = errors
         self._rest = b""
         self._asked = 0
+        # The pages that are open, and the seconds that they have to answer, if there is a limit.
+        self.pages: list[Page] = []
+        self.limit: float | None = None
         # The files that pages began to save, by the browser's names for the downloads: their own names, and which of them are whole.
         self.begun: dict[str, str] = {}
         self.whole: set[str] = set()
 
-    def send(self, message: dict) -> int:
+    def send(self, message: dict[str, Any]) -> int:
         """Asks something, and gives the number by which the answer will be known."""
         self._asked += 1
         rest = json.dumps({"id": self._asked, **message}).encode() + b"\0"
@@ -81,15 +87,18 @@ class Pipe:
             raise RuntimeError(f"the browser ended; it said: {self._said()}") from error
         return self._asked
 
-    def receive(self) -> dict:
+    def receive(self) -> dict[str, Any]:
         """The next thing that is told."""
         while b"\0" not in self._rest:
+            if not select.select([self._from], [], [], self.limit)[0]:
+                raise RuntimeError(f"the browser says nothing for {self.limit} seconds")
             more = os.read(self._from, 1 << 20)
             if not more:
                 raise RuntimeError(f"the browser ended; it said: {self._said()}")
             self._rest += more
         message, _, self._rest = self._rest.partition(b"\0")
-        return json.loads(message)
+        told: dict[str, Any] = json.loads(message)
+        return told
 
     def _said(self) -> str:
         self._errors.seek(0)
@@ -138,8 +147,9 @@ class Page:
         self._ask("Page.navigate", url=self.url)
         while self._read().get("method") != "Page.loadEventFired":
             pass
+        pipe.pages.append(self)
 
-    def answer(self, expression: str) -> object:
+    def answer(self, expression: str) -> Any:
         """The value of an expression of JavaScript in the page; promises are waited for."""
         if self._is_inside:
             expression = f"(globalThis.inside ?? eval)({json.dumps(expression)})"
@@ -166,10 +176,18 @@ class Page:
         """The page as a printer would get it, as PDF."""
         return base64.b64decode(self._ask("Page.printToPDF", printBackground=False)["data"])
 
+    def leave(self, path: Path) -> None:
+        """Writes the whole page as it is seen to PATH.png, and what its console said to PATH.txt."""
+        path.with_suffix(".txt").write_text("".join(f"{line}\n" for line in (self.url, *self.errors)))
+        clip = {**self._ask("Page.getLayoutMetrics")["cssContentSize"], "scale": 1}
+        picture = self._ask("Page.captureScreenshot", format="png", captureBeyondViewport=True, clip=clip)["data"]
+        path.with_suffix(".png").write_bytes(base64.b64decode(picture))
+
     def wait(self, expression: str, moving: str = "0") -> None:
         """Waits until an expression is true. The patience is for a machine that does much else: it ends where for two minutes neither the
         expression became true nor the value of `moving` another."""
-        seen, end = None, time.monotonic() + PATIENCE
+        seen: object = None
+        end = time.monotonic() + PATIENCE
         while not self.answer(f"Boolean({expression})"):
             if (now := self.answer(moving)) != seen:
                 seen, end = now, time.monotonic() + PATIENCE
@@ -185,7 +203,7 @@ class Page:
 
     def point(self, kind: str, x: float, y: float, buttons: int = 0) -> None:
         """Moves the mouse (`mouseMoved`), or presses or releases its left key (`mousePressed`, `mouseReleased`)."""
-        button = {"button": "none"} if kind == "mouseMoved" else {"button": "left", "clickCount": 1}
+        button: dict[str, object] = {"button": "none"} if kind == "mouseMoved" else {"button": "left", "clickCount": 1}
         self._ask("Input.dispatchMouseEvent", type=kind, x=x, y=y, buttons=buttons, **button)
 
     def send_mouse(self, kind: str, x: float, y: float, at: float, buttons: int = 0) -> None:
@@ -278,30 +296,33 @@ class Page:
     def heap(self) -> float:
         """The bytes of the page's own script that are in use, garbage left out."""
         self._ask("HeapProfiler.collectGarbage")
-        return self._ask("Runtime.getHeapUsage")["usedSize"]
+        used: float = self._ask("Runtime.getHeapUsage")["usedSize"]
+        return used
 
     def close(self) -> None:
         """Closes the page. What the browser asks first is answered."""
         self._ask("Page.close")
         while not self._is_gone:
             self._read()
+        self._pipe.pages.remove(self)
         self._copy.cleanup()
 
-    def _ask(self, method: str, **parameters: object) -> dict:
+    def _ask(self, method: str, **parameters: object) -> dict[str, Any]:
         session = {"sessionId": self._session} if self._session else {}
         asked = self._pipe.send({"method": method, "params": parameters, **session})
         while (told := self._read()).get("id") != asked:
             pass
         if "error" in told:
             raise RuntimeError(told["error"])
-        return told["result"]
+        result: dict[str, Any] = told["result"]
+        return result
 
-    def _read(self) -> dict:
+    def _read(self) -> dict[str, Any]:
         told = self._pipe.receive()
         self._note(told.get("method"), told.get("params", {}))
         return told
 
-    def _note(self, method: str | None, told: dict) -> None:
+    def _note(self, method: str | None, told: dict[str, Any]) -> None:
         if method == "Runtime.exceptionThrown":
             self.errors.append(told["exceptionDetails"]["text"])
         elif method == "Runtime.consoleAPICalled":
@@ -330,7 +351,7 @@ class Browser:
     """A browser that runs."""
 
     pipe: Pipe
-    process: subprocess.Popen
+    process: subprocess.Popen[bytes]
 
     def kill(self) -> None:
         """Ends the browser at once, with no time to do anything more."""
@@ -343,6 +364,17 @@ class Browser:
         opened = Page(self.pipe, path)
         yield opened
         opened.close()
+
+    def leave(self) -> None:
+        """Leaves a picture of each page that is open and what its console said in a new folder, and prints where that is."""
+        folder = Path(tempfile.mkdtemp(prefix="galluspa-page-"))
+        self.pipe.limit = LAST_PATIENCE
+        print(f"what the pages showed, and what their consoles said: {folder}")
+        for number, page in enumerate(self.pipe.pages):
+            try:
+                page.leave(folder / f"page-{number}")
+            except (OSError, RuntimeError) as error:
+                print(f"page {number} shows nothing: {error}")
 
 
 @contextmanager
@@ -357,13 +389,17 @@ def browser(profile: Path | None = None) -> Iterator[Browser]:
         os.dup2(write, 4)
 
     with tempfile.TemporaryDirectory(ignore_cleanup_errors=True) as folder, tempfile.TemporaryFile() as errors:
-        command = [shutil.which("chromium"), *FLAGS, f"--user-data-dir={profile or folder}", "--remote-debugging-pipe"]
+        command = ["chromium", *FLAGS, f"--user-data-dir={profile or folder}", "--remote-debugging-pipe"]
         running = subprocess.Popen(command, preexec_fn=place_pipes, close_fds=False, stdin=subprocess.DEVNULL,
                                    stdout=subprocess.DEVNULL, stderr=errors)
         os.close(from_us)
         os.close(to_us)
+        found = Browser(Pipe(to_browser, from_browser, errors), running)
         try:
-            yield Browser(Pipe(to_browser, from_browser, errors), running)
+            yield found
+        except Exception:
+            found.leave()
+            raise
         finally:
             os.close(to_browser)
             os.close(from_browser)

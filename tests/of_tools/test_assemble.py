@@ -341,8 +341,8 @@ class AssembleTest(ToolTest):
 
     def test_what_is_written_in_place_of_other_names_can_be_written(self) -> None:
         """Each name of another assembler is unknown here, and each instruction that is offered is one."""
-        for name, here in HERE.items():
-            self.assert_wrong(f"{name} R1", f"1:1: {name} is neither an instruction nor a directive: write {here}")
+        told = (f"{name} is neither an instruction nor a directive: write {here}" for name, here in HERE.items())
+        self.assert_wrong("\n".join(f"{name} R1" for name in HERE), *(f"{line}:1: {text}" for line, text in enumerate(told, 1)))
         offered = {word for here in HERE.values() for word in re.findall(r"\b[A-Z]{2,}'?(?![A-Z])", here)}
         self.assertEqual(offered - MNEMONICS - {"LABEL", "OFFSET", "ADDRESS", "NAME", "VALUE"}, set())
         self.assertLess({name for names, _ in FALSE_FRIENDS for name in names.split()}, MNEMONICS)

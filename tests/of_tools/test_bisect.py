@@ -66,7 +66,7 @@ MISTAKES = (
     Mistake("an input late by one", "recording.h", "(Event){number(at, 8),", "(Event){number(at, 8) + 1,", KEYS_AT),
     Mistake("a millisecond late by one", "machine.h", "++m->phase == m->rate", "++m->phase > m->rate", 6),
 )
-SOURCES = ("bench/machine.h", "bench/recording.h", "bench/replay.h", "examples/c/state.c")
+SOURCES = ("reference/machine.h", "reference/recording.h", "reference/replay.h", "examples/c/state.c")
 
 
 def compile_state(folder: Path, mistake: Mistake | None) -> None:

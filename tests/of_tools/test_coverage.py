@@ -8,7 +8,7 @@ from of_tools import browser
 from of_tools.samples import EXAMPLES, JUMP, STORED, TOP, ToolTest, claim, encoded, record, run, session, tool
 
 SUITE = EXAMPLES / "suite"
-# A mistake in bench/machine.h, and the recordings that show it.
+# A mistake in reference/machine.h, and the recordings that show it.
 MISTAKES = (
     ("x = b & ~c;", "x = b & c;", ["operations/ann"]),
     ("case 4: is = m->c | m->z; break;", "case 4: is = m->c; break;", ["branches/bhi", "branches/bls"]),
@@ -104,11 +104,11 @@ class OwnSuiteTest(ToolTest):
 
     def false_ones(self, old: str, new: str) -> list[str]:
         """The recordings that an emulator in C doesn't replay as they say, once something in it is another."""
-        machine = (TOP / "bench/machine.h").read_text()
+        machine = (TOP / "reference/machine.h").read_text()
         self.assertIn(old, machine)
         self.file("c/machine.h", machine.replace(old, new, 1))
-        for name in ("recording.h", "replay.h", "replay.c"):
-            self.file(f"c/{name}", (TOP / "bench" / name).read_bytes())
+        for path in (TOP / "reference/recording.h", TOP / "reference/replay.h", TOP / "bench/replay.c"):
+            self.file(f"c/{path.name}", path.read_bytes())
         replay = self.folder / "c/replay"
         subprocess.run(["cc", "-O1", "-w", "-o", replay, self.folder / "c/replay.c"], check=True)
         paths = sorted(SUITE.rglob("*.orsr"))

@@ -14,6 +14,8 @@ from of_tools.samples import EXAMPLES, PROGRAM, TOP, ToolTest, run
 
 GUIDES = ("recording-your-system", "suites", "debugging", "from-python")
 SHOWING = [*sorted((TOP / "docs/lessons").glob("*.md")), *(TOP / f"docs/{name}.md" for name in GUIDES)]
+# What shows the commands of the program, in its crate's folder, and those of the tools, at the top.
+OVERVIEWS = (TOP / "README.md", TOP / "docs/commands.md")
 CRATES = sorted(TOP.glob("crates/*/README.md"))
 LINKING = [
     TOP / "README.md", *sorted(TOP.glob("*/README.md")), EXAMPLES / "suite/README.md", *sorted(TOP.glob("docs/*.md")),
@@ -24,7 +26,7 @@ TABLE = re.compile(r"^<!-- (galluspa listing .*) -->\n((?:\|.*\n)+)", re.MULTILI
 QUOTED = re.compile(r"^```text\n(.*?)^```$", re.DOTALL | re.MULTILINE)
 SOURCE = re.compile(r"`((?:src|specs)/[\w./]+)`")
 LINK = re.compile(r"\]\(([^)#:]+)(?:#[^)]*)?\)")
-PARTS = ("tools", "examples", "crates", "docs", "bench", "include")
+PARTS = ("tools", "examples", "crates", "docs", "bench", "reference", "include")
 # The commands of the documents are found as in an installation.
 ENVIRONMENT = {**os.environ, "PATH": f"{PROGRAM.parent}:{TOP}:{os.environ['PATH']}", "PYTHONDONTWRITEBYTECODE": "1"}
 
@@ -68,8 +70,8 @@ class DocumentsTest(ToolTest):
         folder.mkdir(parents=True)
         (folder / "stdin").symlink_to(TOP / "crates/oberon_replay/stdin")
         (self.folder / "examples").symlink_to(EXAMPLES)
-        shown = list(commands_of((TOP / "README.md").read_text()))
-        self.assertGreaterEqual(len(shown), 7)
+        shown = [it for document in OVERVIEWS for it in commands_of(document.read_text())]
+        self.assertGreaterEqual(len(shown), 12)
         for command in shown:
             ran = run(["bash", "-c", command.line], cwd=folder, env=ENVIRONMENT)
             self.assertTrue(command.prints(ran.output.decode()), f"$ {command.line}\n{ran.output.decode()}")
@@ -77,8 +79,8 @@ class DocumentsTest(ToolTest):
     def test_the_tools_run_as_the_readme_shows_them(self) -> None:
         for part in PARTS:
             (self.folder / part).symlink_to(TOP / part)
-        lines = [line for line in (TOP / "README.md").read_text().splitlines() if line.startswith(("galluspa ", "cc "))]
-        self.assertGreaterEqual(len(lines), 9)
+        lines = [line for document in OVERVIEWS for line in document.read_text().splitlines() if line.startswith(("galluspa ", "cc "))]
+        self.assertGreaterEqual(len(lines), 20)
         for line in lines:
             ran = run(["bash", "-c", line], cwd=self.folder, env=ENVIRONMENT)
             self.assertEqual((ran.status, ran.errors), (0, ""), line)

@@ -18,7 +18,7 @@ def compiled(folder: Path, name: str) -> Path:
     program = folder / name
     library = [LIBRARY] if "recorded" in name else []
     flags = ["-O2", "-Wall", "-Wextra", "-Werror", "-Wno-unused-function", "-Wno-unused-result"]
-    command = [str(it) for it in ("cc", *flags, f"-I{TOP}/bench", f"-I{TOP}/include", EXAMPLES / f"c/{name}.c", *library, "-o", program)]
+    command = [str(it) for it in ("cc", *flags, f"-I{TOP}/reference", f"-I{TOP}/include", EXAMPLES / f"c/{name}.c", *library, "-o", program)]
     subprocess.run(command, check=True)
     return program
 

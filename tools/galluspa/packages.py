@@ -32,7 +32,7 @@ EARLIER_COMMANDS = (
 )
 LIBRARIES = ("libgalluspa.a", "libgalluspa.so")
 BUILT = ("crates/galluspa/out", "out/lib")
-FOLDERS = ("tools", "examples", "bench", "docs", "include")
+FOLDERS = ("tools", "examples", "bench", "reference", "docs", "include")
 TEXTS = ("README.md", "CHANGELOG.md", "LICENSE", "web/galluspa.html", "galluspa")
 # What the README of a package says, wherever the package is.
 ABOUT = """# Galluspa

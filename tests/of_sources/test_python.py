@@ -1,16 +1,37 @@
-"""The Python of this repository, with and without a suffix: pyflakes and mypy find nothing in it, and no line of tools/ is too long."""
+"""The Python of this repository, with and without a suffix: pyflakes and mypy find nothing in it, no line of tools/ is too long, and black
+would change nothing in the files that are formatted already."""
 
 import os
-from collections.abc import Iterator
+from collections.abc import Iterable, Iterator
 from pathlib import Path
 
 from of_tools.samples import GALLUSPA, TOOLS, TOP, Ran, ToolTest, run
 
-COLUMNS = 120
+COLUMNS = 132
 NOT_SOURCES = {"out", "__pycache__"}
-# What mypy looks at, and what in it is not typed throughout.
+# What mypy looks at.
 TYPED = ("tools", "tests", "bench", "docs")
-NOT_TYPED = ("tests/page", "tests/of_page/*", "tests/of_tools/browser.py")
+# The files and folders that black has formatted, by the settings of pyproject.toml. A file or folder comes here as soon as it has:
+# `black FILE ..` formats files, also those that have no suffix.
+FORMATTED = (
+    "tests/conftest.py",
+    "tests/lint",
+    "tests/library",
+    "tests/of_library/arguments.py",
+    "tests/of_library/conftest.py",
+    "tests/of_library/test_library.py",
+    "tests/of_page/conftest.py",
+    "tests/of_page/desks.py",
+    "tests/of_page/test_evidence.py",
+    "tests/of_page/parts.py",
+    "tests/of_page/test_module.py",
+    "tests/of_page/test_use.py",
+    "tests/of_sources",
+    "tests/of_tools/conftest.py",
+    "tests/page",
+    "tests/support",
+    "tests/tools",
+)
 
 
 def sources(top: Path) -> Iterator[Path]:
@@ -35,7 +56,7 @@ def is_python(path: Path) -> bool:
 class SourcesTest(ToolTest):
     def test_pyflakes_finds_nothing(self) -> None:
         found = sorted(sources(TOP))
-        self.assertLess({GALLUSPA, TOP / "tests/tools", TOOLS / "galluspa/recording.py"}, set(found))
+        self.assertLess({GALLUSPA, TOP / "tests/lint", TOOLS / "galluspa/recording.py"}, set(found))
         ran = run(["pyflakes3", *found])
         self.assertEqual((ran.output.decode(), ran.errors, ran.status), ("", "", 0))
 
@@ -46,7 +67,7 @@ class SourcesTest(ToolTest):
         ran = run(["pyflakes3", *sources(self.folder)])
         self.assertEqual((len(ran.output.splitlines()), ran.status), (3, 1))
 
-    def typed(self, paths: Iterator[Path]) -> Ran:
+    def typed(self, paths: Iterable[Path], cache: Path) -> Ran:
         """What mypy finds in these files. It takes a script, which has no suffix, for a module by a link that has one."""
         links, modules = self.folder / "links", []
         links.mkdir()
@@ -56,20 +77,39 @@ class SourcesTest(ToolTest):
                 link.symlink_to(path)
                 path = link
             modules.append(path)
-        return run(["mypy", "--config-file", TOP / "pyproject.toml", "--cache-dir", self.folder / "cache", *modules], cwd=TOP)
+        return run(["mypy", "--config-file", TOP / "pyproject.toml", "--cache-dir", cache, *modules], cwd=TOP)
 
     def test_mypy_finds_nothing(self) -> None:
         found = [GALLUSPA, TOP / "setup.py", *(path for name in TYPED for path in sources(TOP / name))]
-        ran = self.typed(path for path in found if not any(path.relative_to(TOP).match(it) for it in NOT_TYPED))
+        ran = self.typed(found, TOP / "out/mypy")
         self.assertEqual((ran.output.decode().splitlines()[:-1], ran.errors, ran.status), ([], "", 0))
 
     def test_mypy_finds_what_is_wrong(self) -> None:
         script = self.file("tools/script", "#!/usr/bin/python3\ndef one() -> int:\n    return 'one'\n")
-        ran = self.typed(iter([script, self.file("tools/module.py", "def two():\n    return 2\n")]))
+        ran = self.typed([script, self.file("tools/module.py", "def two():\n    return 2\n")], self.folder / "cache")
         self.assertIn(b"Found 2 errors in 2 files", ran.output)
 
-    def test_lines_of_tools_are_no_longer_than_a_screen(self) -> None:
+    def test_no_line_of_tools_is_too_long(self) -> None:
         for path in sources(TOOLS):
             lines = path.read_text().splitlines()
             long = [f"{path}:{number}" for number, line in enumerate(lines, 1) if len(line) > COLUMNS]
             self.assertEqual(long, [])
+
+    def formatted(self, *paths: Path) -> Ran:
+        """What black would change in these files."""
+        return run(["black", "--check", "--quiet", "--config", TOP / "pyproject.toml", *paths])
+
+    def test_black_changes_nothing(self) -> None:
+        places = [TOP / name for name in FORMATTED]
+        self.assertEqual([place for place in places if not place.exists()], [])
+        found = sorted({path for place in places for path in (sources(place) if place.is_dir() else [place])})
+        changed = (
+            [str(path.relative_to(TOP)) for path in found if self.formatted(path).status] if self.formatted(*found).status else []
+        )
+        self.assertEqual(changed, [])
+
+    def test_black_finds_what_is_not_formatted(self) -> None:
+        path = self.file("module.py", "x = { 'a':1 }\n")
+        self.assertEqual(self.formatted(path).status, 1)
+        path.write_text('x = {"a": 1}\n')
+        self.assertEqual(self.formatted(path).status, 0)

@@ -1,0 +1,26 @@
+"""The parts of tests/page that use the page in a browser: the tests of a part use one browser, one after another.
+
+A task is a test. It begins with what it opens itself, since it is also run alone, by its name. A module for a part has them in `TASKS`.
+"""
+
+from collections.abc import Callable, Mapping, Sequence
+
+from of_page import game, inputs, kept, said, timeline, touch, use
+from of_page.desk import Desk
+
+Task = Callable[[Desk], None]
+
+# The parts that take longest come first.
+PARTS: Mapping[str, Sequence[Task]] = {
+    "long": (use.run_long,),
+    "timeline": timeline.TASKS,
+    "said": said.TASKS,
+    "kept": kept.TASKS,
+    "inputs": inputs.TASKS,
+    "game": game.TASKS,
+    "touch": touch.TASKS,
+    "desk": use.TASKS,
+}
+
+# The names of all parts, with those that use no browser or one of their own.
+NAMES = ("build", "answers", "past", "closing", "served", "evidence", *PARTS)
