@@ -28,6 +28,16 @@ CALL_BY_OFFSET = 15
 WAY_BACK = 0xC7
 
 
+def is_call(word: int) -> bool:
+    """Whether a word is a branch that may be taken and keeps the way back."""
+    return is_branch(word) and bool(word & LINK) and word >> 24 & 15 != NEVER
+
+
+def is_way_back(word: int) -> bool:
+    """Whether a word is a branch to the address in a register, without a link, as a procedure ends."""
+    return is_branch(word) and not word & (LINK | U)
+
+
 def with_remark(shown: str, remarks: Sequence[str]) -> str:
     """A line, with what is said by name after it."""
     return f"{shown}  ; {', '.join(remarks)}" if remarks else shown
@@ -150,14 +160,15 @@ class Callers:
                 yield word
                 at = word
 
+    def follows_call(self, back: int) -> bool:
+        """Whether a word is the address of an instruction that comes after a call."""
+        return back % 4 == 0 and 4 <= back < MEMORY_BYTES and is_call(self._words[back // 4 - 1])
+
     def _is_way_back(self, back: int, at: int) -> bool:
         """Whether a word may be the way back from the procedure that an address is in."""
-        if back % 4 or not 4 <= back < MEMORY_BYTES:
+        if not self.follows_call(back):
             return False
-        call = self._words[back // 4 - 1]
-        if not is_branch(call) or not call & LINK or call >> 24 & 15 == NEVER:
-            return False
-        entry = self.entry_of(at)
+        call, entry = self._words[back // 4 - 1], self.entry_of(at)
         return self._called_by(back // 4 - 1) == entry if call & U else entry is None or self.entry_of(back) != entry
 
 

@@ -236,14 +236,49 @@ class Symbols:
         return group >= 0 and KINDS[self._of_group(group)[0][1][2]] == DATA
 
     def source(self, address: int) -> str:
-        """The line of the source that an instruction is of, which goes on up to the next line or the next name;
-        nothing if it is not known."""
+        """The line of the source that an instruction is of, as it is shown; nothing if it is not known."""
+        found = self.line_at(address)
+        return found.text if found else ""
+
+    def line_at(self, address: int) -> Source | None:
+        """The line of the source that an instruction is of, which goes on up to the next line or the next name; None
+        if it is not known."""
+        at = self._line_index(address)
+        if at >= 0:
+            return Source(*self._lines[at])
+        return next((Source(address, it.file, it.line) for it in self.exactly(address) if it.file), None)
+
+    def _line_index(self, address: int) -> int:
+        """Which of the lines of sources an address is in; -1 if it is in none."""
         at = bisect_right(self._line_addresses, address) - 1
         start = self._line_addresses[at] if at >= 0 else -1
-        if start == address or start >= 0 and self._group(start) == self._group(address) >= 0:
-            return Source(*self._lines[at]).text
-        defined = (Source(address, it.file, it.line).text for it in self.exactly(address) if it.file)
-        return next(defined, "")
+        is_in_it = start == address or start >= 0 and self._group(start) == self._group(address) >= 0
+        return at if is_in_it else -1
+
+    def line_range(self, address: int) -> range | None:
+        """The addresses around an address that are of the same line of the source; None if the line is not known."""
+        at = self._line_index(address)
+        if at < 0:
+            return range(address, address + 4) if self.line_at(address) else None
+        first, end = at, at + 1
+        while first and self._lines[first - 1][1:] == self._lines[at][1:]:
+            first -= 1
+        while end < len(self._lines) and self._lines[end][1:] == self._lines[at][1:]:
+            end += 1
+        starts, _ = self._groups
+        following = bisect_right(starts, address)
+        least = max(self._line_addresses[first], starts[following - 1] if following else 0)
+        most = [self._line_addresses[end]] if end < len(self._lines) else []
+        return range(least, min([*most, *starts[following : following + 1], MEMORY_BYTES]))
+
+    def addresses_of_line(self, file: str, line: int) -> list[int]:
+        """Where the instructions of a line of a source begin. The name of the file may be its end, after a slash."""
+        return [address for address, name, number in self._lines
+                if number == line and (name == file or name.endswith(f"/{file}"))]
+
+    def names(self) -> Iterable[str]:
+        """All names."""
+        return self._by_name.keys()
 
     def places(self, name: str) -> list[int]:
         """The different addresses of a name, or values of a constant."""

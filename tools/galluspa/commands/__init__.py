@@ -64,6 +64,8 @@ GROUPS = {
         Command("recording-of", "take the recording out of a report that `report --live` made"),
         Command("explain", "say why a recording is false, or why a recording or a session is refused"),
         Command("find", "find when something happens in a run: the first time, the last or each"),
+        Command("state", "print the machine at any count: registers, devices, memory, stack and screen"),
+        Command("debug", "debug the recorded program, forward and backward, with the words of gdb"),
         Command("trace", "print the instructions of a run, and what each changes"),
         Command("diff", "print the first input, checkpoint and part in which two recordings differ"),
         Command("output", "print the bytes that a recording claims were sent"),
