@@ -1,4 +1,4 @@
-"""Reads the numbers and addresses that a user of `galluspa state` or `galluspa debug` writes: registers, names and sums.
+"""Reads the numbers and addresses that users of `galluspa state` and `galluspa debug` write: registers, names, sums.
 
 A register stands for its value in a state, and a name for its address in a symbol file.
 """

@@ -100,6 +100,6 @@ def split(text: str) -> list[str]:
 def word_at(address: int, text: str) -> int:
     """The number of the word at a byte address."""
     if address % 4 or address >= MEMORY_BYTES:
-        raise Refused(f"{shown(text)} is byte {address:X} (hexadecimal), and an instruction is at a multiple of 4 below "
-                      f"{MEMORY_BYTES:X}")
+        raise Refused(f"{shown(text)} is byte {address:X} (hexadecimal), and an instruction is at a multiple of 4 "
+                      f"below {MEMORY_BYTES:X}")
     return address // 4

@@ -99,7 +99,8 @@ class Command:
 COMMANDS = (
     Command("run", ("r",), "", "go to the beginning, and run to the first point", Commands.restart),
     Command("continue", ("c",), "[N]", "run to the next point, or to the N-th", Commands.go_on, True),
-    Command("reverse-continue", ("rc",), "[N]", "run backward to the point before, or to the N-th", Commands.go_back, True),
+    Command("reverse-continue", ("rc",), "[N]", "run backward to the point before, or to the N-th",
+            Commands.go_back, True),
     Command("step", ("s",), "[N]", "run to another line of the source; without lines, do an instruction",
             Commands.step_line, True),
     Command("reverse-step", ("rs",), "[N]", "go back to the beginning of the line, or of the one before",

@@ -290,8 +290,10 @@ class Debugger:
     def _was_called(self) -> tuple[int, int] | None:
         """The word after the call that is the instruction before, and the stack's pointer; None if it is no call."""
         before = self.run.step(self.count - 1)
-        is_called = before and before.word is not None and is_call(before.word) and before.after.pc != before.before.pc + 1
-        return (before.before.pc + 1, self.machine.state.r[14]) if before and is_called else None
+        if before is None or before.word is None or not is_call(before.word):
+            return None
+        following = before.before.pc + 1
+        return (following, self.machine.state.r[14]) if before.after.pc != following else None
 
     # Moves backward
 
