@@ -115,12 +115,11 @@ class Callers:
         """Where procedures probably begin, by rising address: where calls by an offset go to, and at names that come
         after a way back or after data."""
         calls = [at for at, word in enumerate(self._words) if word >> 28 == CALL_BY_OFFSET]
-        named = (at for at in self._symbols.begins() if not at or self._is_end(at - 4))
-        return sorted({*map(self._called_by, calls), *named})
-
-    def _is_end(self, at: int) -> bool:
-        """Whether a procedure may end with the word at an address."""
-        return self._words[at // 4] >> 24 == WAY_BACK or self._symbols.is_data(at)
+        words, symbols = self._words, self._symbols
+        named = symbols.begins()
+        ended = [at for at in named if not at or words[at // 4 - 1] >> 24 == WAY_BACK]
+        after_data = [at for at in named if symbols.is_data(at - 4)] if symbols.has_data else []
+        return sorted({*map(self._called_by, calls), *ended, *after_data})
 
     def _called_by(self, at: int) -> int:
         """The address that the call by an offset in a word goes to."""
@@ -152,8 +151,8 @@ class Callers:
             at = back
         if pointer % 4 or pointer >= MEMORY_BYTES:
             return
-        for place in range(pointer // 4, min(pointer // 4 + STACK_WORDS, MEMORY_BYTES // 4)):
-            word = self._words[place]
+        stack = self._words[pointer // 4 : pointer // 4 + STACK_WORDS]
+        for word in [it for it in stack if not it & 3 and 4 <= it < MEMORY_BYTES]:
             if is_saved and word == back:
                 is_saved = False
             elif self._is_way_back(word, at):

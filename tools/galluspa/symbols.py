@@ -136,9 +136,24 @@ class Symbols:
         return self._ends[group]
 
     @cached_property
+    def _all_ends(self) -> list[int]:
+        """Up to where the names of each address reach."""
+        starts, firsts = self._groups
+        if len(starts) < len(self._placed):
+            return list(map(self._end, range(len(starts))))
+        following = [*starts[1:], WORDS]
+        return [start + int(row[1], 16) if row[1].strip("0") else min(after, start + REACH)
+                for (start, row), after in zip(self._placed, following)]
+
+    @cached_property
+    def _is_nested(self) -> bool:
+        """Whether names reach beyond the next address that has names."""
+        return any(end > after for end, after in zip(self._all_ends, self._groups[0][1:]))
+
+    @cached_property
     def _furthest(self) -> list[int]:
         """How far the names of each address and of those before it reach."""
-        return list(accumulate(map(self._end, range(len(self._groups[0]))), max))
+        return list(accumulate(self._all_ends, max))
 
     @cached_property
     def _stretches(self) -> tuple[list[int], list[int]]:
@@ -191,7 +206,7 @@ class Symbols:
         at = bisect_right(self._groups[0], address) - 1
         if at < 0 or address < self._end(at):
             return at
-        if self._furthest[at] <= address:
+        if not self._is_nested or self._furthest[at] <= address:
             return -1
         bounds, owners = self._stretches
         return owners[bisect_right(bounds, address) - 1]
@@ -228,7 +243,12 @@ class Symbols:
 
     def begins(self) -> list[int]:
         """The addresses that have names of code, by rising address."""
-        return [address for address, row in self._placed if KINDS[row[2]] == CODE]
+        return [address for address, row in self._placed if row[2] in "tT"]
+
+    @cached_property
+    def has_data(self) -> bool:
+        """Whether there are names of data."""
+        return any(row[2] not in "tT" for _, row in self._placed)
 
     def is_data(self, address: int) -> bool:
         """Whether an address is shown with the name of data."""
