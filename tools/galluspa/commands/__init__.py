@@ -57,6 +57,7 @@ GROUPS = {
     "Write programs and sessions": (
         Command("assemble", "assemble a source into a session, a memory image or a list of its words"),
         Command("session", "make a session from a memory image, registers and inputs, or from a recording"),
+        Command("symbols", "make a symbol file of the modules that are loaded in a memory of Project Oberon"),
         Command("listing", "list the instructions of a session or a recording"),
     ),
     "Look into a recording": (
