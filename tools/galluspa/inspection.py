@@ -38,6 +38,11 @@ def named(value: int, symbols: Symbols) -> str:
     return symbols.text(value) if is_address else symbols.value(value)
 
 
+def held_name(register: str, value: int, symbols: Symbols) -> str:
+    """The names of what a register holds; R15 may hold any address of code, since it has the way back."""
+    return symbols.text(value) if register == "R15" else named(value, symbols)
+
+
 def status_line(state: Checkpoint) -> str:
     """The count, and whether the machine runs."""
     return f"count {state.count:,}, " + (f"stopped ({STOPS[state.stop]})" if state.stop else "running")
@@ -47,8 +52,8 @@ def register_lines(state: Checkpoint, symbols: Symbols) -> Iterator[str]:
     """R0 to R15, H, PC and the flags: in hexadecimal and as numbers with a sign, with the names of addresses."""
     for name, value in zip(states.REGISTERS, state.registers, strict=True):
         signed = value - (value >> 31 << 32)
-        address = named(value, symbols) if name != "R15" else symbols.text(value)
-        yield with_remark(f"{name:6}{value:08X}  {signed:>11}", [*filter(None, [address])])
+        held = held_name(name, value, symbols)
+        yield with_remark(f"{name:6}{value:08X}  {signed:>11}", [*filter(None, [held])])
     yield f"{'H':6}{state.h:08X}  {state.h - (state.h >> 31 << 32):>11}"
     yield with_remark(f"{'PC':6}{state.pc:<8}  {4 * state.pc:>10X}H", [*filter(None, [symbols.text(4 * state.pc)])])
     yield f"flags {states.flags(state.flags)}"
@@ -147,7 +152,7 @@ def as_object(machine: Machine, symbols: Symbols) -> dict[str, object]:
 def _names(state: Checkpoint, symbols: Symbols) -> Mapping[str, str]:
     """The names of the addresses in registers and of the program counter, and the line of the source."""
     pairs = zip(states.REGISTERS, state.registers, strict=True)
-    names = {name: symbols.text(value) if name == "R15" else named(value, symbols) for name, value in pairs}
+    names = {name: held_name(name, value, symbols) for name, value in pairs}
     names |= {"PC": symbols.text(4 * state.pc), "source": symbols.source(4 * state.pc)}
     return {part: name for part, name in names.items() if name}
 
