@@ -51,7 +51,7 @@ class Views(Base):
         if meant[0] == "devices":
             return inspection.device_lines(machine.seen())
         if meant[0] == "stack":
-            return inspection.stack_lines(machine, STACK_WORDS, symbols)
+            return inspection.stack_lines(machine, STACK_WORDS, symbols, self._callers())
         if meant[0] == "breakpoints":
             return self._points()
         if meant[0] == "inputs":
@@ -137,28 +137,32 @@ class Views(Base):
         nothing(text)
         debugger = self.debugger
         yield "probably:"
-        for at, name in enumerate(inspection.callers_of(debugger.machine, debugger.symbols)):
+        for at, name in enumerate(self._callers().of(debugger.machine.seen())):
             yield f"#{at:<3}{name}"
 
     def calls(self, text: str) -> Iterator[str]:
         """The calls that have not returned, each searched in the run."""
         nothing(text)
-        debugger, count = self.debugger, self.debugger.count
+        debugger, there = self.debugger, self.debugger.machine
         try:
-            yield f"#0  {self._place_of(count)}"
-            for at in range(1, 1000):
+            yield f"#0  {self._place_of(debugger.count)}"
+            for at in range(1, MOST_CALLS):
                 debugger.at(debugger.activation().count - 1)
                 yield f"#{at:<3}{self._place_of(debugger.count)}"
         except Refused:
             return
         finally:
-            debugger.at(count)
+            debugger.return_to(there)
+
+    def _callers(self) -> Callers:
+        """What guesses who called, in the memory at this count."""
+        return inspection.callers_in(self.debugger.machine, self.debugger.symbols)
 
     def _place_of(self, count: int) -> str:
+        """Where the machine is: its procedure, its line of the source, and the count."""
         state, symbols = self.debugger.machine.seen(), self.debugger.symbols
-        callers = Callers(memoryview(self.debugger.machine.memory()).cast("I"), symbols)
         source = symbols.source(4 * state.pc)
-        return f"{callers.text(4 * state.pc)}{f', {source}' if source else ''}, at {count:,}"
+        return f"{self._callers().text(4 * state.pc)}{f', {source}' if source else ''}, at {count:,}"
 
     def list_source(self, text: str) -> Iterator[str]:
         """Shows lines of the source: around this one or another, or the next ones."""

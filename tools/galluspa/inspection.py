@@ -77,9 +77,13 @@ def memory_lines(machine: Machine, address: int, number: int, symbols: Symbols) 
         yield with_remark(shown, [*filter(None, [symbols.text(4 * at)])])
 
 
-def stack_lines(machine: Machine, number: int, symbols: Symbols) -> Iterator[str]:
+def callers_in(machine: Machine, symbols: Symbols) -> Callers:
+    """What guesses who called, in a machine's memory."""
+    return Callers(memoryview(machine.memory()).cast("I"), symbols)
+
+
+def stack_lines(machine: Machine, number: int, symbols: Symbols, callers: Callers) -> Iterator[str]:
     """Words of memory from R14 on, with what those probably are that follow a call: the ways back."""
-    callers = Callers(memoryview(machine.memory()).cast("I"), symbols)
     pointer = machine.state.r[14]
     if pointer >= MEMORY_BYTES:
         yield f"R14 is {pointer:08X}, beyond the memory"
@@ -89,14 +93,9 @@ def stack_lines(machine: Machine, number: int, symbols: Symbols) -> Iterator[str
         yield f"{line}{f'  <- probably back to {callers.text(word)}' if callers.follows_call(word) else ''}"
 
 
-def callers_of(machine: Machine, symbols: Symbols) -> Sequence[str]:
+def callers_line(machine: Machine, callers: Callers) -> str:
     """Where the machine is, who probably called that, who called that one, and so on."""
-    return Callers(memoryview(machine.memory()).cast("I"), symbols).of(machine.seen())
-
-
-def callers_line(machine: Machine, symbols: Symbols) -> str:
-    """The same, in a line."""
-    return f"probably: {' < '.join(callers_of(machine, symbols))}"
+    return f"probably: {' < '.join(callers.of(machine.seen()))}"
 
 
 def instruction_lines(machine: Machine, first: int, number: int, symbols: Symbols) -> Iterator[str]:

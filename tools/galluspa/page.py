@@ -96,7 +96,7 @@ class Moment:
             count=count, status=inspection.status_line(state), registers=states.registers(state, None),
             others=states.others(state, None, 2), next=placed_lines(step, symbols) if step else [],
             names=[f"{name} {text}" for name, text in held if text],
-            callers=inspection.callers_line(machine, symbols) if symbols else "",
+            callers=inspection.callers_line(machine, inspection.callers_in(machine, symbols)) if symbols else "",
             picture=base64.b64encode(picture(inspection.screen_of(machine, program))).decode(),
         )
 

@@ -3,6 +3,8 @@
 Names are claims of whoever made the file. They are shown beside numbers, and nothing is decided by them.
 """
 
+import contextlib
+import gc
 import re
 import unicodedata
 from bisect import bisect_left, bisect_right
@@ -343,10 +345,23 @@ def parsed(content: bytes) -> Symbols:
         text = content.decode("utf-8-sig")
     except UnicodeDecodeError as error:
         raise Mistaken(content.count(b"\n", 0, error.start) + 1, "not a text in UTF-8") from error
-    found = _read(text) if max(map(len, text.split("\n"))) <= LONGEST_LINE else None
+    with _uncollected():
+        found = _read(text) if max(map(len, text.split("\n"))) <= LONGEST_LINE else None
     if found is None:
         raise _first_mistake(text)
     return found
+
+
+@contextlib.contextmanager
+def _uncollected() -> Iterator[None]:
+    """Has Python look for no garbage meanwhile: among many objects that stay, that takes a third of the time."""
+    was_enabled = gc.isenabled()
+    gc.disable()
+    try:
+        yield
+    finally:
+        if was_enabled:
+            gc.enable()
 
 
 def _read(text: str) -> Symbols | None:
@@ -455,6 +470,8 @@ def symbols_for(asked: Path | None, *beside: Path) -> Symbols:
             raise Refused(where) from mistake
         complain(f"{where}; its names are not shown")
         return NONE
+    # Names stay until the tool ends: they are not looked through for garbage any more.
+    gc.freeze()
     found.origin = shown(path.name)
     complain(f"{len(found):,} {'name' if len(found) == 1 else 'names'} from {path}")
     return found

@@ -12,9 +12,10 @@ from dataclasses import dataclass, field
 from galluspa.command import Refused, progress
 from galluspa.conditions import COUNTER, PC_WORDS, STOPS, Condition, Raw
 from galluspa.finding import Hit, Search
+from galluspa.inspection import callers_in
 from galluspa.library import WORDS, Machine
 from galluspa.limits import Limit, TimeIsUp
-from galluspa.naming import Callers, is_call, is_way_back
+from galluspa.naming import is_call, is_way_back
 from galluspa.recording import STOPS as STOP_NAMES
 from galluspa.symbols import Symbols
 from galluspa.tracing import Run, Step
@@ -172,6 +173,10 @@ class Debugger:
         if count != self.count:
             self._machine = self.run.machine(count)
             self.count = count
+
+    def return_to(self, machine: Machine) -> None:
+        """Goes back to where the debugger was, with the machine that it had there."""
+        self._machine, self.count = machine, machine.count
 
     def add(self, text: str, condition: Condition, is_after: bool = False) -> Point:
         """Adds a point."""
@@ -367,8 +372,7 @@ class Debugger:
         """The call by which the machine came to be in its procedure: the last one of it that has not returned. Refused
         if there is none."""
         pc = self.machine.state.pc
-        callers = Callers(memoryview(self.machine.memory()).cast("I"), self.symbols)
-        entry = callers.entry_of(4 * pc)
+        entry = callers_in(self.machine, self.symbols).entry_of(4 * pc)
         to = self.count + 1
         while entry is not None and (hit := self.last([at_word(entry // 4)], 0, to)):
             state, to = hit.step.before, hit.count

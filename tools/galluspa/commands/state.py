@@ -82,8 +82,9 @@ def shown(run: Run, machine: Machine, asked: Namespace, symbols: Symbols) -> Ite
         yield from inspection.memory_lines(machine, address_in_memory(address, state, symbols), words, symbols)
     if asked.stack:
         yield ""
-        yield inspection.callers_line(machine, symbols)
-        yield from inspection.stack_lines(machine, STACK_WORDS, symbols)
+        callers = inspection.callers_in(machine, symbols)
+        yield inspection.callers_line(machine, callers)
+        yield from inspection.stack_lines(machine, STACK_WORDS, symbols, callers)
 
 
 def as_object(machine: Machine, asked: Namespace, symbols: Symbols) -> dict[str, object]:
@@ -94,7 +95,7 @@ def as_object(machine: Machine, asked: Namespace, symbols: Symbols) -> dict[str,
         found["memory"] = [inspection.memory_objects(machine, address, words, symbols) for address, words in places]
     if asked.stack:
         found["stack"] = inspection.memory_objects(machine, state.registers[14], STACK_WORDS, symbols)
-        found["probably"] = inspection.callers_of(machine, symbols)
+        found["probably"] = inspection.callers_in(machine, symbols).of(state)
     return found
 
 
