@@ -92,14 +92,15 @@ class ExecutedTest(unittest.TestCase):
             self.assertEqual(executed.executed(run, counts).rows, rows_by_force(read, counts), counts)
         self.assertLessEqual({("operations", "ADD"), ("operations", "XOR")}, executed.executed(run, counts).rows)
 
-    def test_of_a_run_that_is_too_long_stretches_are_looked_at(self) -> None:
+    def test_a_long_run_is_looked_at_wholly_or_as_long_as_there_is_time(self) -> None:
+        """The one multiplication of a hundred million instructions is found, also in more parts than there are tries."""
         run, _ = run_of(Session(memory=memory_of(ONCE)), 1_000_000)
-        self.assertIn(("operations", "MUL"), executed.executed(run, 1_000_000).rows)
-        with mock.patch.multiple(executed, EXAMINED=64_000, STRETCHES=64):
-            found = executed.executed(run, 1_000_000)
-            self.assertEqual((found.looked_at, ("operations", "MUL") in found.rows), (64_000, False))
-            looked_at = [count for stretch in executed.stretches(1_000_000) for count in stretch]
-            self.assertEqual((len(set(looked_at)), looked_at[0], looked_at[-1]), (64_000, 0, 999_999))
+        for counts, most in ((100_000_000, executed.MOST_STEPS), (200_000, 1000)):
+            with mock.patch.multiple(executed, MOST_STEPS=most, TRIES=50):
+                found = executed.executed(run, counts)
+            self.assertEqual((found.looked_at, ("operations", "MUL") in found.rows), (counts, True))
+        with mock.patch.object(executed, "SECONDS", 0.0):
+            self.assertEqual(executed.executed(run, 1_000_000).looked_at, 0)
 
     def test_a_program_that_always_changes_itself_is_looked_at_as_long_as_is_said(self) -> None:
         words = (imm(ADD, 1, 1, 16), store(1, 5, 12), branch(ALWAYS, 0), 0, branch(ALWAYS, -5))

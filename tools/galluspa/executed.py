@@ -1,23 +1,25 @@
 """Which instructions a run does: the library counts how often each word is executed, and finds when a run changes one.
 
-Of a run that is too long, stretches are looked at, which are evenly spread.
+The whole run is counted, as long as there is time.
 """
 
 from collections.abc import Iterator, Sequence
 from dataclasses import dataclass, field
 
 from galluspa.conditions import CHANGE, MOST_CONDITIONS, WORD, Raw
+from galluspa.command import progress
 from galluspa.coverage import Row, row_of
 from galluspa.finding import array_of
 from galluspa.library import FIRST, MOST_STEPS, Machine, Profile
+from galluspa.limits import Limit
 from galluspa.recording import STOPS
 from galluspa.tracing import Run
 
-# All instructions of a run of at most so many are looked at; and of a longer one so many, in so many stretches.
-EXAMINED, STRETCHES = 1 << 26, 64
+# A run is looked at for so many seconds.
+SECONDS = 60
 # How many counts a part of a run has in which no instruction that it does is changed: the first part, and the least.
 FIRST_PART, LEAST_PART, GROWTH = 1 << 10, 1 << 6, 8
-# So many parts are tried, of a run that changes its own instructions all the time.
+# So many parts are tried in which a run changes its own instructions.
 TRIES = 1000
 # Instructions are watched all together, with what is between them, if they are in more groups than so many.
 GROUPS = 16 * MOST_CONDITIONS
@@ -33,38 +35,26 @@ class Executed:
 
 
 def executed(run: Run, to: int) -> Executed:
-    """What a run does up to a count."""
+    """What a run does up to a count, or up to where it comes in time."""
     found, machine = Executed(), run.machine(0)
-    tries, size = TRIES, FIRST_PART
-    for stretch in stretches(to):
-        run.advance(machine, stretch.start)
-        while machine.count < stretch.stop and tries:
-            tries -= 1
-            end = min(stretch.stop, machine.count + size)
-            profile = run.library.profile(machine, run.inputs, end)
-            changed = _first_change(run, machine, end, list(profile.visited()))
-            if changed is None:
-                size = min(size * GROWTH, MOST_STEPS)
-            elif size > LEAST_PART:
-                size //= GROWTH
-                continue
-            else:
-                # Up to this instruction, which changes one of them, all are what they were.
-                end = changed + 1
-                profile = run.library.profile(machine, run.inputs, end)
+    tries, size, limit = TRIES, FIRST_PART, Limit(SECONDS)
+    while machine.count < to and tries and not limit.is_over:
+        progress(f"counted what the run exercises up to {machine.count:,} of {to:,}")
+        end = min(to, machine.count + size)
+        profile = run.library.profile(machine, run.inputs, end)
+        changed = _first_change(run, machine, end, list(profile.visited()))
+        if changed is None:
+            size = min(size * GROWTH, MOST_STEPS)
             _add(found, run, machine, end, profile)
+            continue
+        tries -= 1
+        if size > LEAST_PART:
+            size //= GROWTH
+            continue
+        # Up to this instruction, which changes one of them, all are what they were.
+        end = changed + 1
+        _add(found, run, machine, end, run.library.profile(machine, run.inputs, end))
     return found
-
-
-def stretches(to: int) -> Iterator[range]:
-    """The counts that are looked at of those up to one."""
-    if to <= EXAMINED:
-        yield range(to)
-        return
-    length = EXAMINED // STRETCHES
-    for at in range(STRETCHES):
-        first = (to - length) * at // (STRETCHES - 1)
-        yield range(first, first + length)
 
 
 def _first_change(run: Run, machine: Machine, end: int, words: Sequence[int]) -> int | None:

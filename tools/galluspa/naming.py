@@ -28,6 +28,16 @@ CALL_BY_OFFSET = 15
 WAY_BACK = 0xC7
 
 
+def is_call(word: int) -> bool:
+    """Whether a word is a branch that may be taken and keeps the way back."""
+    return is_branch(word) and bool(word & LINK) and word >> 24 & 15 != NEVER
+
+
+def is_way_back(word: int) -> bool:
+    """Whether a word is a branch to the address in a register, without a link, as a procedure ends."""
+    return is_branch(word) and not word & (LINK | U)
+
+
 def with_remark(shown: str, remarks: Sequence[str]) -> str:
     """A line, with what is said by name after it."""
     return f"{shown}  ; {', '.join(remarks)}" if remarks else shown
@@ -105,12 +115,11 @@ class Callers:
         """Where procedures probably begin, by rising address: where calls by an offset go to, and at names that come
         after a way back or after data."""
         calls = [at for at, word in enumerate(self._words) if word >> 28 == CALL_BY_OFFSET]
-        named = (at for at in self._symbols.begins() if not at or self._is_end(at - 4))
-        return sorted({*map(self._called_by, calls), *named})
-
-    def _is_end(self, at: int) -> bool:
-        """Whether a procedure may end with the word at an address."""
-        return self._words[at // 4] >> 24 == WAY_BACK or self._symbols.is_data(at)
+        words, symbols = self._words, self._symbols
+        named = symbols.begins()
+        ended = [at for at in named if not at or words[at // 4 - 1] >> 24 == WAY_BACK]
+        after_data = [at for at in named if symbols.is_data(at - 4)] if symbols.has_data else []
+        return sorted({*map(self._called_by, calls), *ended, *after_data})
 
     def _called_by(self, at: int) -> int:
         """The address that the call by an offset in a word goes to."""
@@ -142,22 +151,23 @@ class Callers:
             at = back
         if pointer % 4 or pointer >= MEMORY_BYTES:
             return
-        for place in range(pointer // 4, min(pointer // 4 + STACK_WORDS, MEMORY_BYTES // 4)):
-            word = self._words[place]
+        stack = self._words[pointer // 4 : pointer // 4 + STACK_WORDS]
+        for word in [it for it in stack if not it & 3 and 4 <= it < MEMORY_BYTES]:
             if is_saved and word == back:
                 is_saved = False
             elif self._is_way_back(word, at):
                 yield word
                 at = word
 
+    def follows_call(self, back: int) -> bool:
+        """Whether a word is the address of an instruction that comes after a call."""
+        return back % 4 == 0 and 4 <= back < MEMORY_BYTES and is_call(self._words[back // 4 - 1])
+
     def _is_way_back(self, back: int, at: int) -> bool:
         """Whether a word may be the way back from the procedure that an address is in."""
-        if back % 4 or not 4 <= back < MEMORY_BYTES:
+        if not self.follows_call(back):
             return False
-        call = self._words[back // 4 - 1]
-        if not is_branch(call) or not call & LINK or call >> 24 & 15 == NEVER:
-            return False
-        entry = self.entry_of(at)
+        call, entry = self._words[back // 4 - 1], self.entry_of(at)
         return self._called_by(back // 4 - 1) == entry if call & U else entry is None or self.entry_of(back) != entry
 
 

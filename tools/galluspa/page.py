@@ -4,23 +4,25 @@ import base64
 import hashlib
 import os
 import shlex
-from collections.abc import Iterator
+from collections.abc import Iterable, Iterator
 from dataclasses import dataclass, field, replace
 from functools import cached_property
-from itertools import islice
+from itertools import groupby, islice
 
 from markupsafe import Markup
 
-from galluspa import explanation, recording, states
+from galluspa import explanation, inspection, recording, states
 from galluspa.command import FAILED, Refused
 from galluspa.escapes import printable
 from galluspa.explanation import FalseClaim, explain_false
 from galluspa.faults import explain_fault
+from galluspa.film import picture
 from galluspa.instructions import instruction
 from galluspa.library import Library
 from galluspa.limits import TimeIsUp
 from galluspa.live import Live
-from galluspa.naming import with_remark
+from galluspa.naming import placed_lines, remark_on_part, with_remark
+from galluspa.notes import Note
 from galluspa.pages import templates
 from galluspa.pictures import Screens, screens, with_differences_in_red
 from galluspa.program import ACCEPTED, REFUSED, Answer, Program
@@ -51,6 +53,59 @@ class Shown:
     alike: int
     picture: str
     is_small: bool
+
+
+    @property
+    def is_unchanged(self) -> bool:
+        """Whether nothing changed since the checkpoint before but the count."""
+        parts = [*self.registers, *self.others]
+        return self.number > 0 and not (self.slots or self.sent or self.picture or any(it.is_changed for it in parts))
+
+
+@dataclass(frozen=True)
+class Group:
+    """Checkpoints that are shown together, or folded since nothing changes in them."""
+
+    shown: list[Shown]
+    is_folded: bool
+
+
+@dataclass(frozen=True)
+class Moment:
+    """The machine at a count: its parts, its next instruction, the names of what is in its registers, who probably
+    called, and its screen as base64."""
+
+    count: int
+    status: str
+    registers: list[Part]
+    others: list[Part]
+    next: list[str]
+    names: list[str]
+    callers: str
+    picture: str
+
+    @staticmethod
+    def of(run: Run, program: Program, count: int, symbols: Symbols) -> "Moment":
+        """The machine of a run at a count."""
+        machine = run.machine(count)
+        state = machine.seen()
+        step = next(run.steps(machine.copy(), count + 1), None)
+        pairs = zip(states.REGISTERS, state.registers, strict=True)
+        held = ((name, inspection.held_name(name, value, symbols)) for name, value in pairs)
+        return Moment(
+            count=count, status=inspection.status_line(state), registers=states.registers(state, None),
+            others=states.others(state, None, 2), next=placed_lines(step, symbols) if step else [],
+            names=[f"{name} {text}" for name, text in held if text],
+            callers=inspection.callers_line(machine, inspection.callers_in(machine, symbols)) if symbols else "",
+            picture=base64.b64encode(picture(inspection.screen_of(machine, program))).decode(),
+        )
+
+    def plain(self) -> Iterator[str]:
+        """The same as lines."""
+        yield self.status
+        yield from (f"  {line.strip()}" for line in self.next)
+        yield from (f"  {part.name} {part.text}" for part in [*self.registers, *self.others])
+        yield from (f"  {line}" for line in [*self.names, *filter(None, [self.callers])])
 
 
 @dataclass(frozen=True)
@@ -84,6 +139,9 @@ class Report:
     recording: Recording | None
     library: str | None = None
     symbols: Symbols = NONE
+    note: Note = Note()
+    # The count with which the page begins, if one is wanted.
+    at: int | None = None
 
     @staticmethod
     def of(
@@ -131,6 +189,29 @@ class Report:
         except TimeIsUp as over:
             return None, f"What the machine has was not found: {over}."
 
+    @cached_property
+    def _moment(self) -> Moment | None:
+        """The machine at the count that is wanted, if there is time."""
+        if self.at is None or self.answer.status == FAILED:
+            return None
+        if self.recording is None:
+            raise Refused(f"--at {self.at}: {self.answer.line}")
+        last = self._read.checkpoints[-1].count
+        if self.at > last:
+            raise Refused(f"--at {self.at} is after the last checkpoint, which is at {last}")
+        run = Run.of_answer(Library.find(self.library, self.program.limit), self.text, self._read, self.answer)
+        try:
+            return Moment.of(run, self.program, self.at, self.symbols)
+        except TimeIsUp:
+            return None
+
+    def _groups(self, shown: Iterable[Shown]) -> Iterator[Group]:
+        """The checkpoints, those together in which nothing changes; one that is false is alone."""
+        false_at = (self.answer.false_claim or (None, ""))[0]
+        for is_folded, group in groupby(shown, lambda it: it.is_unchanged and it.number != false_at):
+            some = list(group)
+            yield from [Group(some, True)] if is_folded else (Group([it], False) for it in some)
+
     def html(self, is_live: bool = False) -> Iterator[str]:
         """The page, piece by piece; one that is live can check its recording again, and run on from its checkpoints."""
         found = templates()
@@ -156,13 +237,21 @@ class Report:
             explanation=explanation,
             symbols=self.symbols,
             pictures=self._pictures(),
-            shown=self._shown(drawn) if drawn else (),
+            groups=self._groups(self._shown(drawn)) if drawn else (),
+            note=self.note,
+            at=self.at,
+            moment=self._moment,
+            remark=lambda it: remark_on_part(it.name, (it.claimed, it.defined), self.symbols),
             inputs=self._inputs() if self.recording else (),
         )
 
     def plain(self) -> Iterator[str]:
         """The lines of a text that says the line, the initial state, and what changed at each checkpoint."""
+        yield from (self.note.title, *self.note.lines, "") if self.note else ()
         yield self.answer.line
+        yield from self._moment.plain() if self._moment else ()
+        if self.at is not None and not self._moment:
+            yield f"There was no time for the machine at count {self.at:,}."
         if fault := self._fault():
             yield from fault.explanation
             yield from (line.before + line.marked + line.after for line in fault.lines)

@@ -3,6 +3,8 @@
 Names are claims of whoever made the file. They are shown beside numbers, and nothing is decided by them.
 """
 
+import contextlib
+import gc
 import re
 import unicodedata
 from bisect import bisect_left, bisect_right
@@ -136,9 +138,24 @@ class Symbols:
         return self._ends[group]
 
     @cached_property
+    def _all_ends(self) -> list[int]:
+        """Up to where the names of each address reach."""
+        starts, firsts = self._groups
+        if len(starts) < len(self._placed):
+            return list(map(self._end, range(len(starts))))
+        following = [*starts[1:], WORDS]
+        return [start + int(row[1], 16) if row[1].strip("0") else min(after, start + REACH)
+                for (start, row), after in zip(self._placed, following)]
+
+    @cached_property
+    def _is_nested(self) -> bool:
+        """Whether names reach beyond the next address that has names."""
+        return any(end > after for end, after in zip(self._all_ends, self._groups[0][1:]))
+
+    @cached_property
     def _furthest(self) -> list[int]:
         """How far the names of each address and of those before it reach."""
-        return list(accumulate(map(self._end, range(len(self._groups[0]))), max))
+        return list(accumulate(self._all_ends, max))
 
     @cached_property
     def _stretches(self) -> tuple[list[int], list[int]]:
@@ -191,7 +208,7 @@ class Symbols:
         at = bisect_right(self._groups[0], address) - 1
         if at < 0 or address < self._end(at):
             return at
-        if self._furthest[at] <= address:
+        if not self._is_nested or self._furthest[at] <= address:
             return -1
         bounds, owners = self._stretches
         return owners[bisect_right(bounds, address) - 1]
@@ -228,7 +245,12 @@ class Symbols:
 
     def begins(self) -> list[int]:
         """The addresses that have names of code, by rising address."""
-        return [address for address, row in self._placed if KINDS[row[2]] == CODE]
+        return [address for address, row in self._placed if row[2] in "tT"]
+
+    @cached_property
+    def has_data(self) -> bool:
+        """Whether there are names of data."""
+        return any(row[2] not in "tT" for _, row in self._placed)
 
     def is_data(self, address: int) -> bool:
         """Whether an address is shown with the name of data."""
@@ -236,14 +258,49 @@ class Symbols:
         return group >= 0 and KINDS[self._of_group(group)[0][1][2]] == DATA
 
     def source(self, address: int) -> str:
-        """The line of the source that an instruction is of, which goes on up to the next line or the next name;
-        nothing if it is not known."""
+        """The line of the source that an instruction is of, as it is shown; nothing if it is not known."""
+        found = self.line_at(address)
+        return found.text if found else ""
+
+    def line_at(self, address: int) -> Source | None:
+        """The line of the source that an instruction is of, which goes on up to the next line or the next name; None
+        if it is not known."""
+        at = self._line_index(address)
+        if at >= 0:
+            return Source(*self._lines[at])
+        return next((Source(address, it.file, it.line) for it in self.exactly(address) if it.file), None)
+
+    def _line_index(self, address: int) -> int:
+        """Which of the lines of sources an address is in; -1 if it is in none."""
         at = bisect_right(self._line_addresses, address) - 1
         start = self._line_addresses[at] if at >= 0 else -1
-        if start == address or start >= 0 and self._group(start) == self._group(address) >= 0:
-            return Source(*self._lines[at]).text
-        defined = (Source(address, it.file, it.line).text for it in self.exactly(address) if it.file)
-        return next(defined, "")
+        is_in_it = start == address or start >= 0 and self._group(start) == self._group(address) >= 0
+        return at if is_in_it else -1
+
+    def line_range(self, address: int) -> range | None:
+        """The addresses around an address that are of the same line of the source; None if the line is not known."""
+        at = self._line_index(address)
+        if at < 0:
+            return range(address, address + 4) if self.line_at(address) else None
+        first, end = at, at + 1
+        while first and self._lines[first - 1][1:] == self._lines[at][1:]:
+            first -= 1
+        while end < len(self._lines) and self._lines[end][1:] == self._lines[at][1:]:
+            end += 1
+        starts, _ = self._groups
+        following = bisect_right(starts, address)
+        least = max(self._line_addresses[first], starts[following - 1] if following else 0)
+        most = [self._line_addresses[end]] if end < len(self._lines) else []
+        return range(least, min([*most, *starts[following : following + 1], MEMORY_BYTES]))
+
+    def addresses_of_line(self, file: str, line: int) -> list[int]:
+        """Where the instructions of a line of a source begin. The name of the file may be its end, after a slash."""
+        return [address for address, name, number in self._lines
+                if number == line and (name == file or name.endswith(f"/{file}"))]
+
+    def names(self) -> Iterable[str]:
+        """All names."""
+        return self._by_name.keys()
 
     def places(self, name: str) -> list[int]:
         """The different addresses of a name, or values of a constant."""
@@ -288,10 +345,23 @@ def parsed(content: bytes) -> Symbols:
         text = content.decode("utf-8-sig")
     except UnicodeDecodeError as error:
         raise Mistaken(content.count(b"\n", 0, error.start) + 1, "not a text in UTF-8") from error
-    found = _read(text) if max(map(len, text.split("\n"))) <= LONGEST_LINE else None
+    with _uncollected():
+        found = _read(text) if max(map(len, text.split("\n"))) <= LONGEST_LINE else None
     if found is None:
         raise _first_mistake(text)
     return found
+
+
+@contextlib.contextmanager
+def _uncollected() -> Iterator[None]:
+    """Has Python look for no garbage meanwhile: among many objects that stay, that takes a third of the time."""
+    was_enabled = gc.isenabled()
+    gc.disable()
+    try:
+        yield
+    finally:
+        if was_enabled:
+            gc.enable()
 
 
 def _read(text: str) -> Symbols | None:
@@ -400,6 +470,8 @@ def symbols_for(asked: Path | None, *beside: Path) -> Symbols:
             raise Refused(where) from mistake
         complain(f"{where}; its names are not shown")
         return NONE
+    # Names stay until the tool ends: they are not looked through for garbage any more.
+    gc.freeze()
     found.origin = shown(path.name)
     complain(f"{len(found):,} {'name' if len(found) == 1 else 'names'} from {path}")
     return found

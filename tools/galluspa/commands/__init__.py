@@ -57,6 +57,7 @@ GROUPS = {
     "Write programs and sessions": (
         Command("assemble", "assemble a source into a session, a memory image or a list of its words"),
         Command("session", "make a session from a memory image, registers and inputs, or from a recording"),
+        Command("symbols", "make a symbol file of the modules that are loaded in a memory of Project Oberon"),
         Command("listing", "list the instructions of a session or a recording"),
     ),
     "Look into a recording": (
@@ -64,6 +65,8 @@ GROUPS = {
         Command("recording-of", "take the recording out of a report that `report --live` made"),
         Command("explain", "say why a recording is false, or why a recording or a session is refused"),
         Command("find", "find when something happens in a run: the first time, the last or each"),
+        Command("state", "print the machine at any count: registers, devices, memory, stack and screen"),
+        Command("debug", "debug the recorded program, forward and backward, with the words of gdb"),
         Command("trace", "print the instructions of a run, and what each changes"),
         Command("diff", "print the first input, checkpoint and part in which two recordings differ"),
         Command("output", "print the bytes that a recording claims were sent"),

@@ -1,21 +1,28 @@
-"""Prints the first input, the first checkpoint and its first part in which two recordings differ.
+"""Prints the first input, the first checkpoint and its first part in which two recordings differ, or all of them.
 
 The exit status is 0 if they differ in none, 1 if they do, and 2 if a file is refused. What they claim is compared, and
 not the bytes of the files: a recording and the same one in another version of the format do not differ.
 """
 
-from argparse import Namespace
+from argparse import ArgumentTypeError, Namespace
+from collections.abc import Iterator, Sequence, Set
 from pathlib import Path
 from textwrap import dedent
 
 from galluspa import recording
-from galluspa.command import OK, WRONG, Parser, read_file
-from galluspa.comparison import rows_of
+from galluspa.command import FAILED, OK, WRONG, Parser, complain, read_file
+from galluspa.comparison import PARTS, Found, found_of
+from galluspa.conditions import writing
 from galluspa.escapes import printable
 from galluspa.explanation import table
-from galluspa.naming import named_row
+from galluspa.finding import Search
+from galluspa.library import Library
+from galluspa.limits import Limit, TimeIsUp
+from galluspa.naming import named_row, placed_lines
 from galluspa.program import Program
-from galluspa.symbols import symbols_for
+from galluspa.recording import Recording
+from galluspa.symbols import Symbols, symbols_for
+from galluspa.tracing import WORKERS, Run
 
 
 def parser() -> Parser:
@@ -23,28 +30,93 @@ def parser() -> Parser:
     options = Parser(
         dedent("""\
             Prints the first input, the first checkpoint and its first part in which two recordings differ, with
-            what each of them has. It compares what the recordings claim, and does not test whether that is
-            true: `galluspa check` does."""),
+            what each of them has; with --all, each that differs. It compares what the recordings claim, and
+            does not test whether that is true: `galluspa check` does."""),
         "galluspa diff examples/face.orsr examples/face-version-1.orsr",
-        {OK: "they differ in no input and no checkpoint", WRONG: "they differ"},
+        {OK: "they differ in no input and no checkpoint, or in nothing of --only", WRONG: "they differ"},
     )
     options.add_argument("first", metavar="A", type=Path, help="a recording")
     options.add_argument("second", metavar="B", type=Path, help="the other recording")
+    options.add_argument("--only", metavar="PARTS", type=parts, default=PARTS.keys(),
+                         help=f"compare only these, with commas between them: {', '.join(PARTS)} (default: all)")
+    options.add_argument("--all", action="store_true",
+                         help="go on after the first difference: print all inputs, checkpoints and parts that differ, "
+                              "but not more than some of the inputs and of the words of each checkpoint")
+    options.add_argument("--who", action="store_true",
+                         help="run both machines, and print after each part the last instruction that wrote it in "
+                              "each: from what the checkpoint before claims, whether or not that is true")
     options.add_symbols_option()
+    options.add_limit_option("with --who, end after so many seconds")
     options.add_program_option()
+    options.add_library_option()
     return options
+
+
+def parts(text: str) -> Set[str]:
+    """The names of parts that a text has."""
+    names = [it.strip() for it in text.split(",")]
+    unknown = next((it for it in names if it not in PARTS), None)
+    if unknown is not None:
+        raise ArgumentTypeError(f"{printable(unknown) or 'nothing'} is none of {', '.join(PARTS)}")
+    return set(names)
+
+
+class Writers:
+    """Says of a part that differs which instruction wrote it last in each of two recordings."""
+
+    def __init__(
+        self, library: Library, texts: Sequence[bytes], read: Sequence[Recording], names: Sequence[Symbols]
+    ) -> None:
+        self._sides = list(zip("AB", texts, read, names, strict=True))
+        self._library = library
+
+    def lines(self, it: Found) -> Iterator[str]:
+        """The lines that say so."""
+        if it.part is None or not it.checkpoint:
+            return
+        for (side, text, read, symbols), value in zip(self._sides, it.values, strict=True):
+            run = Run(self._library, text, read, range(it.checkpoint - 1, it.checkpoint))
+            first, end = run.counts[it.checkpoint - 1 : it.checkpoint + 1]
+            condition = writing(it.part, value)
+            hit = Search(run, [condition], first, end, WORKERS).last() if condition else None
+            if hit:
+                yield from (f"    {side} {line}" for line in placed_lines(hit.step, symbols))
+            else:
+                yield f"    {side} {' ':>9} no instruction from {first} to {end} wrote it, as far as can be searched"
 
 
 def main(asked: Namespace) -> int:
     """Prints where two recordings differ; the status says whether they do."""
+    limit = Limit(asked.limit)
     program, paths = Program.find(asked.program), (asked.first, asked.second)
-    one, other = (recording.lawful(program, str(path), read_file(path)) for path in paths)
+    texts = [read_file(path) for path in paths]
+    one, other = read = [recording.lawful(program, str(path), text) for path, text in zip(paths, texts)]
     symbols = symbols_for(asked.symbols, *paths)
-    rows = [named_row(row, symbols) for row in rows_of(one, other)]
-    if not rows:
+    found = list(found_of(one, other, asked.only, asked.all))
+    if not found:
         inputs, claims = len(one.events), len(one.checkpoints) - 1
-        print(f"the same: {inputs:,} inputs, and {claims:,} checkpoints after the initial state")
+        what = f", in {', '.join(it for it in PARTS if it in asked.only)}" if asked.only != PARTS.keys() else ""
+        print(f"the same{what}: {inputs:,} inputs, and {claims:,} checkpoints after the initial state")
         return OK
-    for line in table([("", *(printable(str(path)) for path in paths)), *rows]):
-        print(line)
+    rows = [("", *(printable(str(path)) for path in paths)), *(named_row(it.row, symbols) for it in found)]
+    first, *lines = table(rows)
+    print(first)
+    writers = writers_of(asked, limit, texts, read, symbols) if asked.who else None
+    try:
+        for it, line in zip(found, lines, strict=True):
+            print(line)
+            for shown in writers.lines(it) if writers else ():
+                print(shown)
+    except TimeIsUp as over:
+        complain(f"{over}: not all writers were found")
+        return FAILED
     return WRONG
+
+
+def writers_of(
+    asked: Namespace, limit: Limit, texts: Sequence[bytes], read: Sequence[Recording], symbols: Symbols
+) -> Writers:
+    """Who wrote, with the names of the symbol file that is asked for, or of that beside each recording."""
+    is_other = asked.symbols is None and asked.second.with_suffix(".sym") != asked.first.with_suffix(".sym")
+    other = symbols_for(None, asked.second) if is_other and asked.second.name else symbols
+    return Writers(Library.find(asked.library, limit), texts, read, (symbols, other or symbols))

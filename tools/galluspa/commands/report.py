@@ -8,13 +8,17 @@ status is that of the verdict line; the page is made whatever it is.
 
 import sys
 from argparse import Namespace
+from dataclasses import replace
 from pathlib import Path
 
 from galluspa.command import (
-    FAILED, OK, REFUSED, STATUSES, WRONG, Parser, Refused, complain, escape_unwritable, read_file, with_libraries,
+    FAILED, OK, REFUSED, STATUSES, WRONG, Parser, Refused, complain, escape_unwritable, read_file, whole_number,
+    with_libraries,
 )
 from galluspa.limits import Limit
+from galluspa.notes import Note
 from galluspa.program import Program
+from galluspa.sessions import COUNTS
 from galluspa.symbols import symbols_for
 
 
@@ -31,6 +35,14 @@ def parser() -> Parser:
                          help="print the verdict line and what changes at each checkpoint, as plain text")
     options.add_argument("--live", action="store_true",
                          help="make a page that can check the recording again, and run on from any checkpoint")
+    options.add_argument("--title", metavar="TEXT",
+                         help="begin with this headline, and have the verdict be a line below it")
+    options.add_argument("--note", metavar="FILE", type=Path,
+                         help="put the text in this file above all else; without --title, its first line is the "
+                              "headline")
+    options.add_argument("--at", metavar="N", type=whole_number(0, COUNTS),
+                         help="begin with the machine at count N: its screen, registers, next instruction and, with "
+                              "names, who probably called; it needs the library")
     options.add_symbols_option()
     options.add_limit_option("end after so many seconds, with what was found by then")
     options.add_program_option()
@@ -43,8 +55,9 @@ def main(asked: Namespace) -> int:
     if asked.text and asked.live:
         raise Refused("use --text or --live: a text cannot check a recording again")
     program, text = Program.find(asked.program, Limit(asked.limit)), read_file(asked.recording)
-    symbols = symbols_for(asked.symbols, asked.recording)
+    symbols, note = symbols_for(asked.symbols, asked.recording), Note.of(asked.title, asked.note)
     report = with_libraries("galluspa.page").Report.of(program, asked.recording.name, text, asked.library, symbols)
+    report = replace(report, note=note, at=asked.at)
     if asked.text:
         sys.stdout.writelines(f"{line}\n" for line in report.plain())
     else:

@@ -1,0 +1,228 @@
+"""Debugs the program of a recording in the terminal, forward and backward, with the words of gdb.
+
+It shows the machine's own run, whatever the recording claims, up to its last checkpoint.
+"""
+
+import cmd
+import contextlib
+import signal
+import sys
+from argparse import Action, ArgumentParser, Namespace
+from collections.abc import Iterator
+from pathlib import Path
+from textwrap import dedent
+from types import FrameType
+
+from galluspa.command import FAILED, OK, REFUSED, Failed, Parser, Refused, complain, read_file, whole_number
+from galluspa.debugging import COMMANDS, Commands, Ended
+from galluspa.escapes import printable
+from galluspa.library import Library
+from galluspa.limits import TimeIsUp
+from galluspa.program import Program
+from galluspa.sessions import COUNTS
+from galluspa.sourcetext import Sources
+from galluspa.symbols import symbols_for
+from galluspa.timeline import Debugger, Interrupted, Patience, Timeline
+from galluspa.tracing import MOST_WORKERS, WORKERS, Run
+
+# A file of commands has at most so many bytes.
+MOST_BYTES = 1 << 20
+# Where words end for the completion: names have dots, signs and dashes in them.
+BETWEEN = " \t\n"
+
+
+def parser() -> Parser:
+    """The command line of this tool."""
+    listed = "\n".join(f"  {f'{it.name} {it.arguments}'.rstrip():28}{it.does}" for it in COMMANDS)
+    options = Parser(
+        dedent("""\
+            Debugs the program of a recording, forward and backward, with gdb's words for commands. It goes to
+            any count of the recording, and shows there the instruction that comes next and what that changes. It
+            shows the machine, whatever the recording claims. Ctrl-C ends a search, and not the debugger. An
+            empty line repeats the last move. The commands are:
+        """) + listed,
+        "galluspa debug examples/face.orsr -ex 'watch dot 600,219' -ex run",
+    )
+    options.add_argument("recording", metavar="RECORDING", type=Path)
+    options.add_argument("-x", "--command", metavar="FILE", action=_Given, dest="given", default=[],
+                         help="carry out the commands in a file, a line each; may be used several times")
+    options.add_argument("-ex", "--eval-command", metavar="COMMAND", action=_Given, dest="given", default=[],
+                         help="carry out a command; may be used several times, and with -x, in their order")
+    options.add_argument("--batch", action="store_true",
+                         help="end after these commands, or with status 2 at the first that is refused")
+    options.add_argument("--at", metavar="N", type=whole_number(0, COUNTS), default=0,
+                         help="the count to begin at (default 0)")
+    options.add_argument("--directory", metavar="FOLDER", type=Path, action="append", default=[],
+                         help="look for the sources in this folder (default: the current one, and that of the symbol "
+                              "file); may be used several times")
+    options.add_symbols_option()
+    options.add_argument("-j", "--jobs", metavar="N", type=whole_number(1, MOST_WORKERS), default=WORKERS,
+                         help="search N segments at the same time (default: as many as there are processors)")
+    options.add_limit_option("end a command after so many seconds")
+    options.add_program_option()
+    options.add_library_option()
+    return options
+
+
+class _Given(Action):
+    """Keeps the options -x and -ex in the order in which they are given."""
+
+    def __call__(self, parser: ArgumentParser, asked: Namespace, value: object, option: str | None = None) -> None:
+        asked.given = [*asked.given, (self.metavar, str(value))]
+
+
+def given_lines(asked: Namespace) -> Iterator[tuple[str, str]]:
+    """The commands that the command line gives, each with what is said of where it is."""
+    for kind, text in asked.given:
+        if kind != "FILE":
+            yield f"-ex {text}", text
+            continue
+        content = read_file(text, MOST_BYTES + 1)
+        if len(content) > MOST_BYTES:
+            raise Refused(f"{text}: a file of commands has at most {MOST_BYTES:,} bytes")
+        for at, line in enumerate(content.decode("utf-8", "replace").splitlines(), 1):
+            yield f"{text}:{at}", line
+
+
+class Shell(cmd.Cmd):
+    """Reads commands, and carries them out."""
+
+    identchars = cmd.Cmd.identchars + "-"
+
+    def __init__(self, commands: Commands, patience: Patience) -> None:
+        super().__init__()
+        self.commands = commands
+        self.patience = patience
+        self.again = ""
+        self.is_busy = False
+        self._prompt()
+
+    def _prompt(self) -> None:
+        self.prompt = f"({self.commands.debugger.count}) "
+
+    def carry_out(self, line: str) -> None:
+        """Carries out a command, and prints what it says. An empty line and a comment do nothing."""
+        if not line.strip() or line.lstrip().startswith("#"):
+            return
+        try:
+            for shown in self.commands.run(line):
+                self.patience.left()
+                print(shown)
+        finally:
+            self._prompt()
+
+    def onecmd(self, line: str) -> bool:
+        """Carries out a line that a user types, or if it is empty the last move again. What is wrong with it is said,
+        and the user goes on."""
+        line = line if line.strip() else self.again
+        if line == "EOF":
+            print()
+            return True
+        # In this order: a signal that comes just after it is of this command.
+        self.patience.begin()
+        self.is_busy = True
+        try:
+            self.again = self._repeatable(line)
+            self.carry_out(line)
+        except Ended:
+            return True
+        except Interrupted:
+            print("interrupted")
+        except (Refused, TimeIsUp) as refusal:
+            complain(str(refusal))
+        finally:
+            self.is_busy = False
+            sys.stdout.flush()
+        return False
+
+    def _repeatable(self, line: str) -> str:
+        """The line that an empty line after this one stands for: the same for a move, and nothing else."""
+        with contextlib.suppress(Refused):
+            if self.commands.parted(line)[0].is_repeated:
+                return line
+        return ""
+
+    def complete(self, text: str, state: int) -> str | None:  # type: ignore[override]
+        """The completions of a word, one after the other, as readline takes them."""
+        import readline
+
+        if state == 0:
+            self.completed = self.commands.completions(readline.get_line_buffer()[: readline.get_endidx()], text)
+        return self.completed[state] if state < len(self.completed) else None
+
+    def preloop(self) -> None:
+        """Has words end at blanks alone."""
+        with contextlib.suppress(ImportError):
+            import readline
+
+            readline.set_completer_delims(BETWEEN)
+
+    def interrupt(self, number: int, frame: FrameType | None) -> None:
+        """Ends what is carried out, or what is typed, when the user types Ctrl-C."""
+        if not self.is_busy:
+            raise KeyboardInterrupt
+        self.patience.is_interrupted = True
+
+    def talk(self) -> None:
+        """Reads commands of a user until the end."""
+        signal.signal(signal.SIGINT, self.interrupt)
+        while True:
+            try:
+                self.cmdloop()
+                return
+            except KeyboardInterrupt:
+                print("^C")
+
+
+def carry_out(shell: Shell, lines: Iterator[tuple[str, str]]) -> None:
+    """Carries out commands, each printed after the count as if it were typed; refused at the first that is refused."""
+    for where, line in lines:
+        if line.strip():
+            print(f"{shell.prompt}{printable(line)}")
+        shell.patience.begin()
+        try:
+            shell.carry_out(line)
+        except Failed as failure:
+            raise Failed(f"{where}: {failure}") from failure
+        except Refused as refusal:
+            raise Refused(f"{where}: {refusal}") from refusal
+        except TimeIsUp as over:
+            raise Failed(f"{where}: {over}") from over
+
+
+def follow(shell: Shell, lines: Iterator[str]) -> int:
+    """Carries out the commands of a standard input that is no terminal. One that is refused is one line, and the
+    status says so at the end."""
+    status = OK
+    for line in lines:
+        try:
+            carry_out(shell, iter([("standard input", line.rstrip("\n"))]))
+        except Ended:
+            break
+        except Refused as refusal:
+            complain(str(refusal))
+            status = FAILED if isinstance(refusal, Failed) else REFUSED
+    return status
+
+
+def main(asked: Namespace) -> int:
+    """Debugs the recording that is named."""
+    symbols = symbols_for(asked.symbols, asked.recording)
+    patience = Patience(asked.limit)
+    program = Program.find(asked.program, patience)
+    run = Timeline(Run.checked(Library.find(asked.library, patience), program, asked.recording))
+    if asked.at > run.end:
+        raise Refused(f"--at {asked.at} is after the last checkpoint, which is at {run.end}")
+    folders = [*asked.directory, Path(), (asked.symbols or asked.recording).parent]
+    shell = Shell(Commands(Debugger(run, symbols, asked.jobs, asked.at), program, Sources(folders)), patience)
+    try:
+        carry_out(shell, given_lines(asked))
+        if asked.batch:
+            return OK
+        if not sys.stdin.isatty():
+            return follow(shell, iter(sys.stdin.readline, ""))
+        print(f"{printable(asked.recording.name)}: counts 0 to {run.end:,}; help lists the commands")
+        shell.talk()
+    except Ended:
+        pass
+    return OK

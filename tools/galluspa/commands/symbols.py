@@ -1,0 +1,80 @@
+"""Makes a symbol file of the list of loaded modules that Project Oberon (2013) keeps in memory."""
+
+import sys
+from argparse import Namespace
+from pathlib import Path
+from textwrap import dedent
+
+from galluspa import recording
+from galluspa.command import OK, Parser, Refused, read_file, whole_number, write_file
+from galluspa.commands.listing import first_state_alone
+from galluspa.library import Library
+from galluspa.limits import Limit
+from galluspa.modules import symbols_of
+from galluspa.program import REFUSED, Program
+from galluspa.recording import PAGE_BYTES, PLACES
+from galluspa.sessions import COUNTS, MEMORY_BYTES
+from galluspa.symbols import written
+from galluspa.tracing import Run
+
+
+def parser() -> Parser:
+    """The command line of this tool."""
+    options = Parser(
+        dedent("""\
+            Prints a symbol file of the modules that are loaded in a memory, with their commands. It follows the
+            list that Project Oberon (2013) keeps, from the word at byte 20 on. The memory is that of a recording
+            at a count, of a session's initial state, or of an image."""),
+        "galluspa symbols --oberon system.orsr --at 2000000 -o system.sym",
+    )
+    options.add_argument("--oberon", metavar="FILE", type=Path, required=True,
+                         help="a recording, a session, or an image of the memory, 1 MB or less, from address 0 on")
+    options.add_argument("--at", metavar="N", type=whole_number(0, COUNTS),
+                         help="of a recording: the count (default: that of the last checkpoint)")
+    options.add_argument("-o", "--output", metavar="FILE", help="write the symbol file, and do not print it")
+    options.add_limit_option("end after so many seconds")
+    options.add_program_option()
+    options.add_library_option()
+    return options
+
+
+def memory_of(asked: Namespace) -> bytes:
+    """The memory that is asked for, with all its bytes."""
+    text = read_file(asked.oberon)
+    if text.startswith(b"ORSR"):
+        return _recorded(asked)
+    if asked.at is not None:
+        raise Refused(f"--at {asked.at}: {asked.oberon} is not a recording")
+    if text.lstrip().startswith(b"{"):
+        answer = Program.find(asked.program, Limit(asked.limit)).record(first_state_alone(text))
+        if answer.status == REFUSED:
+            raise Refused(f"{asked.oberon}: neither a recording nor a session: {answer.line}")
+        read = recording.read(answer.output)
+        return read.memory(read.checkpoints[0], 0, PLACES * PAGE_BYTES)
+    if len(text) > MEMORY_BYTES:
+        raise Refused(f"{asked.oberon}: an image has at most {MEMORY_BYTES:,} bytes")
+    return text.ljust(MEMORY_BYTES, b"\0")
+
+
+def _recorded(asked: Namespace) -> bytes:
+    """The memory of the machine in a recording's run."""
+    limit = Limit(asked.limit)
+    run = Run.checked(Library.find(asked.library, limit), Program.find(asked.program, limit), asked.oberon)
+    at = run.counts[-1] if asked.at is None else asked.at
+    if at > run.counts[-1]:
+        raise Refused(f"--at {at} is after the last checkpoint, which is at {run.counts[-1]}")
+    return run.machine(at).memory()
+
+
+def main(asked: Namespace) -> int:
+    """Prints or writes the symbol file that was asked for."""
+    try:
+        text = written(symbols_of(memory_of(asked)), ())
+    except Refused as refusal:
+        named = str(refusal) if str(asked.oberon) in str(refusal) else f"{asked.oberon}: {refusal}"
+        raise type(refusal)(named) from refusal
+    if asked.output:
+        write_file(asked.output, text.encode())
+    else:
+        sys.stdout.write(text)
+    return OK
