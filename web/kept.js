@@ -4,7 +4,7 @@
  * item is open in. */
 import { app } from "./app.js";
 import { branches, familyOf, NO_BRANCHES } from "./branches.js";
-import { attempt, button, el, many, messageOf, notice, paragraph, write } from "./elements.js";
+import { attempt, button, el, many, messageOf, named, notice, paragraph, plainName, write } from "./elements.js";
 import { INPUT_BYTES } from "./layout.js";
 import { runTo } from "./look.js";
 import { mayLeave, showOpened } from "./opening.js";
@@ -109,6 +109,15 @@ export function noteTyped(codes) {
     for (const { typed } of journals) if (typed.includes(codes)) typed.splice(typed.indexOf(codes), 1);
     work.safe = Math.min(work.news, work.safe + 1);
   };
+}
+
+/** Notes that the machine takes no more of the serial bytes that were sent to it. `task` has it do so. What is sent meanwhile stays.
+ * @param {() => Promise<void>} task */
+export async function forgetSerial(task) {
+  const { work } = app, sent = work.journals.map(({ typed }) => [...typed]);
+  await task();
+  work.journals.forEach((journal, at) => journal.forgetSerial(sent[at] ?? []));
+  noteNew(work);
 }
 
 /** Notes that something came that is not kept, which is done soon.
@@ -295,11 +304,14 @@ async function readItem(id) {
 function summary(kept, since) {
   const id = kept?.id, isReadable = Boolean(kept) && isItem(kept);
   const unreadable = `What is kept as ${String(id).slice(0, MOST_NAME)} cannot be read: this page did not write it.`;
-  if (!isReadable) return { id, isReadable, text: unreadable };
+  if (!isReadable) return { id, isReadable, name: "", text: unreadable };
   const { family, number, parent, count, until = count, inputs: { length } } = merged(kept, since), branch = family === undefined ? "" : `, branch ${number}`;
-  const name = kept.name.slice(0, MOST_NAME), what = `${many(until, "instruction")}, ${many(length / INPUT_BYTES, "input")}`;
-  return { id, isReadable, name, family, number, parent, end: until, text: `${name}${branch}, of ${new Date(id).toLocaleString()}: ${what}` };
+  const name = nameIn(kept), what = `${many(until, "instruction")}, ${many(length / INPUT_BYTES, "input")}`;
+  return { id, isReadable, name, family, number, parent, end: until, text: `${branch}, of ${new Date(id).toLocaleString()}: ${what}` };
 }
+
+/** @param {Labels} kept */
+const nameIn = ({ name }) => plainName(name.slice(0, MOST_NAME));
 
 /** Returns the summaries of all items, read one by one: they may be large. What came since an item was written is read before it. */
 export async function summaries() {
@@ -323,7 +335,7 @@ export async function summaries() {
 
 // The list
 
-/** @typedef {{ id: number, items: (Kept | KeptSince)[], text: string }} Forgotten */
+/** @typedef {{ id: number, items: (Kept | KeptSince)[], name: string, text: string }} Forgotten */
 
 /** @type {Map<number, Forgotten>} */
 const forgotten = new Map();
@@ -344,14 +356,24 @@ export async function showKept() {
 }
 
 /** @param {Summary} item */
-function keptItem({ id, isReadable, text }) {
+function keptItem({ id, isReadable, name, text }) {
   const resumed = isReadable ? [button("Resume", () => resume(id))] : [];
-  return [paragraph(text), ...resumed, button("Forget", () => unkeep(id, text))];
+  return [itemText("", name, text), ...resumed, button("Forget", () => unkeep(id, name, text))];
 }
 
 /** @param {Forgotten} item */
-function forgottenItem({ id, text }) {
-  return [paragraph(`Forgotten: ${text}`), button("Undo", () => unforget(id))];
+function forgottenItem({ id, name, text }) {
+  return [itemText("Forgotten: ", name, text), button("Undo", () => unforget(id))];
+}
+
+/** Returns the text of an item: a word before its name, and what it is.
+ * @param {string} before
+ * @param {string} name
+ * @param {string} text */
+function itemText(before, name, text) {
+  const made = paragraph(before);
+  made.append(named(name), text);
+  return made;
 }
 
 /** @param {Error} error */
@@ -381,7 +403,7 @@ export async function resumed(work, id, branchesOf) {
     const kept = /** @type {Kept} */ (work.left ? { ...work.labels, ...work.left } : await readItem(id));
     const others = await branchesOf(kept), answer = await app.live.ask("resume", { kept });
     const { family, number = 1, parent = 0, until = kept.count, by = work.by } = kept, { generation, fork } = answer;
-    Object.assign(work, { name: kept.name.slice(0, MOST_NAME), generation, fork, family, number, parent, by, journals: [], left: null });
+    Object.assign(work, { name: nameIn(kept), generation, fork, family, number, parent, by, journals: [], left: null });
     Object.assign(work, { sent: kept.live ? kept.sent : "", isStored: isFree && until === kept.count && Boolean(kept.live), kept: "" });
     if (!isFree) Object.assign(work, { id: null, by: null });
     showOpened(answer, work, others);
@@ -396,15 +418,16 @@ export async function resumed(work, id, branchesOf) {
 
 /**
  * @param {number} id
+ * @param {string} name
  * @param {string} text
  */
-async function unkeep(id, text) {
+async function unkeep(id, name, text) {
   const lock = await locked(id);
   if (!lock) throw new Refusal("This recording is open in another page, so it cannot be forgotten here.");
   const found = await itemsOf("readwrite", id, (store) => [id, sinceId(id)].map((key) => store.delete(key)));
   const items = /** @type {(Kept | KeptSince)[]} */ (found.filter(Boolean));
   lock.release();
-  if (items.length) forgotten.set(id, { id, items, text });
+  if (items.length) forgotten.set(id, { id, items, name, text });
   await showKept();
 }
 

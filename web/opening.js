@@ -5,7 +5,7 @@ import { branches, keepLeft, NO_BRANCHES, setBranches, showBranches } from "./br
 import { closeCard } from "./card.js";
 import { falseClaim, showClaim, showFalse, showOf } from "./claims.js";
 import { forgetBreaks } from "./code.js";
-import { attempt, el, grouped, notice, set, write } from "./elements.js";
+import { attempt, el, grouped, named, notice, plainName, set, write } from "./elements.js";
 import { beginShowing } from "./frames.js";
 import { followWork, inTurn, keep, leave } from "./kept.js";
 import { Refusal } from "./requests.js";
@@ -16,7 +16,9 @@ import { drawLanes } from "./timeline.js";
 import { verdicts } from "./verdicts.js";
 import { Work } from "./works.js";
 
-const LONGEST_READ = 118310057, LONGEST_FILE = 67108865;
+const LONGEST_READ = 118310057, LONGEST_FILE = 67108865, LATE_MS = 300;
+// How often something was chosen to be opened.
+let chosen = 0;
 
 // The sessions that the page contains, by their names.
 export const examples = () => JSON.parse(el("sessions").textContent ?? "{}");
@@ -32,8 +34,10 @@ export async function openChosen(chooser) {
 
 /** @param {File} file */
 export async function openFile(file) {
-  const most = /\.orsr$/i.test(file.name) ? LONGEST_READ : LONGEST_FILE;
-  await openBytes(file.name, new Uint8Array(await file.slice(0, most).arrayBuffer()));
+  const name = plainName(file.name), most = /\.orsr$/i.test(name) ? LONGEST_READ : LONGEST_FILE, number = ++chosen;
+  const bytes = new Uint8Array(await file.slice(0, most).arrayBuffer());
+  // A file that was chosen later counts, also if it was read sooner.
+  if (number === chosen) await openBytes(name, bytes);
 }
 
 /** Opens a file: a recording or a session by its name or its first bytes; anything else is a memory image. If it is refused, what
@@ -57,7 +61,7 @@ async function openBytes(name, bytes) {
  * @param {string} name
  * @param {string} line */
 export function showRefusal(name, line) {
-  write("refused-name", `The file ${name} is refused:`);
+  el("refused-name").replaceChildren("The file ", named(name), " is refused:");
   write("refused", line);
   write("refused-how", app.latest ? `${app.work.name} is still open.` : "");
 }
@@ -84,7 +88,9 @@ const nameOf = (name) => name.replace(/\.[^.]*$/, "") || "live";
 
 /** Whether what is open may be left. If the browser cannot keep it, the user decides. */
 export async function mayLeave() {
+  const late = setTimeout(() => notice(`Waiting for the browser to keep the recording of ${app.work.name} ..`), LATE_MS);
   await keep();
+  clearTimeout(late);
   const question = `This browser cannot keep the recording of ${app.work.name}. Open another machine, and drop it?`;
   return !isAnyUnkept() || confirm(question);
 }
@@ -139,7 +145,7 @@ function offerImage(name, bytes) {
   if (bytes.length > MEMORY_BYTES)
     throw new Refusal(`${grouped(bytes.length)} bytes are not a recording, not a session and not an image of memory`);
   setImage({ name, bytes });
-  el("image-name").textContent = `${name}, ${grouped(bytes.length)} bytes,`;
+  el("image-name").replaceChildren(named(name), `, ${grouped(bytes.length)} bytes,`);
   el("image").hidden = false;
   el("image-address").focus();
 }
@@ -164,6 +170,7 @@ export function cancelImage() {
  * @param {{}} changes */
 export async function openExample(name, changes = {}) {
   clearRefusal();
+  chosen++;
   const bytes = new TextEncoder().encode(JSON.stringify({ ...examples()[name], ...changes }));
   if (await replaced(`${name}.json`, "openSession", { bytes })) await setRun(true);
 }

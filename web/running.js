@@ -6,6 +6,8 @@ import { catchUp } from "./devices.js";
 import { el, notice } from "./elements.js";
 import { followWork } from "./kept.js";
 import { nowCount } from "./look.js";
+import { forgetFinding } from "./search.js";
+import { setGoal } from "./stops.js";
 
 export const isFast = () => el("speed").value === "fast";
 
@@ -14,6 +16,8 @@ export const everySeconds = () => Math.max(0, Math.min(3600, Math.floor(Number(e
 /** @param {boolean} isOn */
 export async function setRun(isOn) {
   notice();
+  forgetFinding();
+  setGoal(-1);
   await app.live.ask("setRun", { on: isOn, fast: isFast(), seconds: everySeconds() });
   if (!isOn) return;
   el("screen").focus({ preventScroll: true });

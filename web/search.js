@@ -21,6 +21,11 @@ const WANTED = [
 /** @type {{ isOn: boolean, request: number, begun: number, conditions: Condition[] | null, hit: { at: number, conditions: Condition[] } | null }} */
 export let finding = { isOn: false, request: 0, begun: 0, conditions: null, hit: null };
 
+/** Forgets what a search that is over said. */
+export function forgetFinding() {
+  if (!finding.isOn) write("found", "");
+}
+
 /** Forgets where something was found last. */
 export function forgetFound() {
   finding = { ...finding, hit: null };
@@ -73,8 +78,8 @@ export async function foundAt({ at, which }, conditions) {
   const what = conditionText(conditions[which] ?? conditions[0]);
   finding = { ...finding, hit: { at, conditions } };
   noteHit(at, what);
-  showFinding(`${what} at ${grouped(at)}`);
   await lookAt(at);
+  if (finding.hit?.at === at) showFinding(`${what} at ${grouped(at)}`);
   return at;
 }
 

@@ -44,7 +44,8 @@ export function followGame({ state, sent, on, isReplay }, wasReplay) {
   if (!isSnake() || isReplay || wasReplay) return;
   if (sent && app.work.sent.endsWith(OVER)) return attempt(endGame);
   if (!on) return;
-  const length = field(state, AT.LEDs);
+  // A program that has just begun shows nothing yet.
+  const length = Math.max(FIRST_LENGTH, field(state, AT.LEDs));
   if (length > snakeLength) send("mark", {});
   snakeLength = length;
 }

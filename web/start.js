@@ -3,7 +3,7 @@
 import { app, setMachine } from "./app.js";
 import { askPart, makeRegisters, showClaim } from "./claims.js";
 import {
-  compose, enterSends, letGo, listenToKeyboard, makeDevices, mouseByFields, pointed, pressed, sendSerial, switched,
+  cancelSerial, compose, enterSends, letGo, listenToKeyboard, makeDevices, mouseByFields, pointed, pressed, sendFile, sendSerial, switched,
 } from "./devices.js";
 import { attempt, el, messageOf, notice, on } from "./elements.js";
 import { heard } from "./frames.js";
@@ -72,6 +72,8 @@ function listenToDevices() {
   on("mouse", "change", mouseByFields);
   on("serial-form", "submit", sendSerial);
   on("serial", "keydown", enterSends);
+  on("serial-file", "change", ({ target }) => sendFile(target));
+  on("serial-cancel", "click", cancelSerial);
   for (const type of ["keydown", "keyup"]) on("screen", type, pressed);
   on("screen", "blur", letGo);
   for (const type of ["pointermove", "pointerdown", "pointerup", "pointercancel"]) on("screen", type, pointed);

@@ -2,7 +2,7 @@
 /* The verdict lines that the page shows, each in a place of its own: that of the file that is open, and that of the recording that
  * was saved. Each check has a worker of its own, the clerk. */
 import { app } from "./app.js";
-import { el, grouped, many, notice } from "./elements.js";
+import { el, grouped, many, named, notice } from "./elements.js";
 import { readLine } from "./lines.js";
 import { secondsOf } from "./look.js";
 import { Helper } from "./requests.js";
@@ -66,7 +66,7 @@ class Verdict {
    * @param {Bytes} bytes */
   async check(name, bytes) {
     this.clear();
-    this.part("judged").textContent = `${this.what} ${name}`;
+    this.part("judged").replaceChildren(`${this.what} `, named(name));
     const work = { begun: performance.now(), done: 0 };
     const clerk = (this.clerk = new Helper(app.module, (news) => this.heard(work, news)));
     this.timer = setInterval(() => this.progress(work, performance.now() - work.begun), 100);

@@ -1,7 +1,7 @@
 // @ts-check
 /* The first screen of an empty page: three cards, and a replay behind them, unless the reader's system asks for less motion. */
 import { app } from "./app.js";
-import { attempt, el, write } from "./elements.js";
+import { attempt, el, named } from "./elements.js";
 import { resume } from "./kept.js";
 import { examples } from "./opening.js";
 import { Helper } from "./requests.js";
@@ -43,5 +43,5 @@ export function endWelcome() {
 export function offerToContinue([newest]) {
   el("continue").disabled = !newest;
   el("continue").onclick = () => attempt(() => resume(newest.id));
-  write("continue-what", newest ? newest.text : "Nothing is kept in this browser yet.");
+  el("continue-what").replaceChildren(...(newest ? [named(newest.name), newest.text] : ["Nothing is kept in this browser yet."]));
 }

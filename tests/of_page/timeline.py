@@ -86,7 +86,7 @@ def drag(desk: Desk) -> None:
     look_at(desk, 8000000)
     desk.start("keys.json", (EXAMPLES / "keys.json").read_bytes())
     expect("the dots of a machine that is opened in the past of another", any(page_dots(desk)), False)
-    expect("what the timeline says of its screen", page.answer("lanes.painted"), [])
+    expect("what the timeline says of its screen", page.answer("lanes.cells.filter(({ lines }) => lines)"), [])
     run_to_end(desk, "face.orsr", FACE)
     print("cursor: dragged by the mouse, its words once it has settled, three pictures of the past as the program draws them, and back to now")
 
