@@ -7,7 +7,7 @@ import { isAhead, lookAt, nowCount, runTo, shownCount, shownState } from "./look
 import { ALL_BITS, showMemory } from "./memory.js";
 import { DOTS_WIDE, LINES, paint } from "./screen.js";
 import { AT, equal, field, hex, PAGE_BYTES, partsOf, rangesText, REGISTERS, sentText, STATE_BYTES, wordsOf } from "./states.js";
-import { isTab } from "./tabs.js";
+import { isTab, showTab } from "./tabs.js";
 import { notePassed } from "./timeline.js";
 import { headlineOf } from "./verdicts.js";
 import { askWho } from "./who.js";
@@ -79,13 +79,14 @@ export function showRegisters(state) {
  * @param {Bytes | null} old */
 function showParts(state, old) {
   const before = old && new Map(partsOf(old));
-  for (const [name, text] of partsOf(state)) {
+  for (const [name, plain] of partsOf(state)) {
+    const text = name === "PC" ? `${hex(4 * field(state, AT.PC), 4)} · ${plain}` : plain;
     const { value, holder } = /** @type {{ value: HTMLElement, holder: HTMLElement }} */ (registerCells.get(name));
     if (holder.textContent !== text) {
       holder.textContent = text;
       if (holder !== value) holder.setAttribute("aria-label", `${name} ${text}: who wrote it`);
     }
-    value.classList.toggle("changed", Boolean(before && before.get(name) !== text));
+    value.classList.toggle("changed", Boolean(before && before.get(name) !== plain));
   }
 }
 
@@ -222,6 +223,14 @@ async function bothParts(wrong) {
 function bothLines({ name, own, claimed, about }) {
   const line = paragraph(`${name}: the machine has ${own}, the recording claims ${claimed}.`, "both");
   return about ? [line, button("Which instruction made it so", () => askWho(about, `Who wrote ${name}`))] : [line];
+}
+
+/** Goes to the false checkpoint of the file that is open, and shows the registers there. */
+export async function showMe() {
+  const wrong = falseClaim();
+  if (!wrong) return;
+  showTab("state");
+  await toMachineAt(wrong.count);
 }
 
 /** Looks at what the machine has at a count, to which a replay runs first: before, there is only what the file claims.

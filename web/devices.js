@@ -5,6 +5,7 @@ import { app, send } from "./app.js";
 import { attempt, el, grouped, notice, on, set, write } from "./elements.js";
 import { forgetSerial, noteTyped } from "./kept.js";
 import { inputRefusalInPast, isPast, shownState } from "./look.js";
+import { isToGoOn, setRun } from "./running.js";
 import { dotAt } from "./screen.js";
 import { ARROWS, isSnake } from "./snake.js";
 import { AT, field, last, MOUSE, SWITCHES } from "./states.js";
@@ -74,7 +75,7 @@ export function pressed(event) {
 /** Whether a key is an arrow that goes to a machine that runs, which has no character for it.
  * @param {KeyboardEvent} event */
 function isArrow({ key, ctrlKey, metaKey, altKey }) {
-  return key in ARROWS && !isPs2() && !ctrlKey && !metaKey && !altKey && app.latest?.on;
+  return key in ARROWS && !isPs2() && !ctrlKey && !metaKey && !altKey && (app.latest?.on || isToGoOn);
 }
 
 /** Sends an arrow as the key that Snake has for it; else says that it is dropped.
@@ -91,14 +92,14 @@ function sayIfUncomposed() {
   if (!el("screen").editContext && isRunning()) notice("This browser composes no characters here: send them over the serial line.");
 }
 
-/** Whether keys and the mouse go to the machine now; if not, the page says why. */
+/** Whether keys and the mouse go to the machine now; if not, the page says why. One that was taken over goes on first. */
 export function isRunning() {
   if (!app.latest) return false;
   const { on, inputRefusal } = app.latest;
   if (isPast()) return notice(`${inputRefusalInPast()}.`), false;
-  if (on && !inputRefusal) return true;
-  notice(`${inputRefusal ?? "The machine is paused: keys and the mouse go to it while it runs"}.`);
-  return false;
+  if (isToGoOn && !on && !inputRefusal) attempt(() => setRun(true));
+  else if (!on || inputRefusal) return notice(`${inputRefusal ?? "The machine is paused: keys and the mouse go to it while it runs"}.`), false;
+  return true;
 }
 
 /** @param {number[]} codes */

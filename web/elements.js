@@ -41,6 +41,12 @@ export function plainName(name) {
   return name.replace(/[\p{Cc}\p{Cs}\u061c\u200e\u200f\u2028-\u202e\u2066-\u2069]/gu, (it) => `[U+${Number(it.codePointAt(0)).toString(16).toUpperCase().padStart(4, "0")}]`);
 }
 
+/** Closes the menus that are open, but for the one that has an element.
+ * @param {EventTarget | null} element */
+export function closeMenus(element = null) {
+  for (const menu of document.querySelectorAll("#galluspa .menu[open]")) if (!(element instanceof Node && menu.contains(element))) menu.removeAttribute("open");
+}
+
 /** Makes a name, whose direction changes nothing around it.
  * @param {string} name */
 export const named = (name) => made("bdi", name);

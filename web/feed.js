@@ -65,9 +65,10 @@ export class Feed {
     if (steps >= KEYFRAME_STEPS && isLong && !(isFast && performance.now() < this.due)) this.keyframe(false);
   }
 
-  /** Posts the state at a checkpoint of a file, unless there is a keyframe shortly before. */
+  /** Posts the state at a checkpoint of a file, or, if there is a keyframe shortly before, only how far the machine is. */
   checkpoint() {
     if (this.machine.count - this.last >= CHECKPOINT_STEPS) this.keyframe(true);
+    else this.post();
   }
 
   /** Posts the state, with the pages that changed since the last time.

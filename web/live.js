@@ -6,7 +6,7 @@ import { Feed } from "./feed.js";
 import { CHECKPOINT_LIMIT, readImage, readSession, writeSession } from "./formats.js";
 import { INPUT_BYTES } from "./layout.js";
 import { MOST_COUNT, Refused, unlessRefused } from "./library.js";
-import { AT, equalWords, field, joined, last, PER_SECOND, sentText, wordsOf } from "./states.js";
+import { AT, equalWords, field, hashOf, joined, last, PER_SECOND, sentText, wordsOf } from "./states.js";
 import { faultOf, library, machine } from "./station.js";
 
 const FRAME_MS = 1000 / 60, BUDGET_MS = 12, FIRST_CHUNK = 200000, LAG_MS = 100, PER_MS = PER_SECOND / 1000;
@@ -299,8 +299,8 @@ function opened(kind, begin) {
   beginRun();
   feed?.begin(generation);
   show(NOTHING, true);
-  const { recording, planned, inputs } = machine;
-  return { kind, claims: recording?.claims.map((claim) => claim.count) ?? null, version: recording?.version, inputs: inputs.length,
+  const { recording, planned, inputs } = machine, program = hashOf(wordsOf(machine.firstOf(machine.recorder.bytes).words));
+  return { kind, program, claims: recording?.claims.map((claim) => claim.count) ?? null, version: recording?.version, inputs: inputs.length,
            checkpoints: planned.length, left, generation, fork };
 }
 
@@ -425,6 +425,12 @@ export const LIVE = {
   },
   recording() {
     return made(machine.recorded().bytes);
+  },
+  /** Returns the recording up to a moment of the past.
+   * @param {Start} given
+   * @returns {Made} */
+  recordingTo(given) {
+    return { bytes: machine.recordedTo(given), count: given.at, isWhole: true };
   },
   /** Returns what the browser keeps, or null if it keeps nothing. The page has heard of all inputs in it by then. */
   kept() {

@@ -10,8 +10,9 @@ import { showDevices } from "./devices.js";
 import { attempt, el, grouped, many, notice, set, write } from "./elements.js";
 import { dropSent, showLamps } from "./frames.js";
 import { showMemory } from "./memory.js";
-import { everySeconds } from "./running.js";
-import { drawSoon } from "./screen.js";
+import { isPlaying } from "./play.js";
+import { everySeconds, isToGoOn, setToGoOn } from "./running.js";
+import { drawSoon, endPreview } from "./screen.js";
 import { forgetFinding, showSearched } from "./search.js";
 import { AT, countOf, field, PER_SECOND, STATE_BYTES } from "./states.js";
 import { setGoal, stoppedAt, stopText } from "./stops.js";
@@ -66,6 +67,7 @@ export async function lookAt(count, isSettled = true) {
   if (app.latest.on) await app.live.ask("setRun", { on: false });
   const at = Math.max(0, Math.min(Math.floor(count), lanes.end));
   if (at === nowCount()) return backToNow(isSettled);
+  endPreview();
   look = { ...look, at };
   forgetSaid();
   showLook(isSettled);
@@ -156,6 +158,7 @@ export async function takeOverHere() {
   look = NOW;
   closeCard();
   branchOff(at, await app.live.ask("takeOver", moment));
+  setToGoOn(true);
   forgetAfter(at);
   dropSent(now.sent - moment.sent);
   await backToNow();
@@ -166,18 +169,21 @@ export async function takeOverHere() {
  * @param {Frame} frame */
 export function showMode(frame) {
   const { on, isReplay, isTrue } = frame, [word, text] = isPast() ? pastMode(frame) : modeOf(frame);
-  write("run", isAhead() ? "Run to here" : on ? "Pause" : "Run");
+  write("run", isAhead() ? "Run to here" : on || isPlaying() ? "Pause" : isPast() ? "Play" : "Run");
   set("take-over", { hidden: !isReplay || isPast() });
   for (const name of ["take-here", "run-again"]) set(name, { hidden: !isPast() || isAhead() });
   set("back-now", { hidden: !isPast() });
+  set("save-cursor", { hidden: !isPast() || isAhead() });
   const name = app.work.generation ? app.work.name : "";
   write("name", name);
   set("name", { title: name });
   for (const name of ["make-checkpoint", "next"]) set(name, { disabled: isPast() });
+  set("make-checkpoint", { hidden: isPast() });
   write("state-word", word);
   set("state-word", { className: word.toLowerCase() });
   const claim = isTrue ? "" : " A claim that was passed is false: what comes after it is what the machine does.";
   write("mode-text", text + claim);
+  set("mode-text", { title: text + claim });
 }
 
 /** @param {Frame} frame */
@@ -191,13 +197,13 @@ function pastMode({ state }) {
 
 /** @param {Frame} frame */
 function modeOf({ state, on, isReplay, ahead, full, isAtLastCount }) {
-  const stop = field(state, AT.stop), left = ahead ? many(ahead, "input") : "Checkpoints";
+  const stop = field(state, AT.stop);
   const then = full?.isEnd ? "What comes after is not recorded." : "The machine takes no more.";
   if (full) return ["FULL", `at ${grouped(full.count)}: ${full.why}. ${then}`];
-  if (isReplay && !isAtLastCount) return ["REPLAY", `${left} of the file ${ahead === 1 ? "is" : "are"} still to come. Your own keys and mouse count once you take over.`];
+  if (isReplay && !isAtLastCount) return ["REPLAY", on ? "Playing the file. Take over to type." : "Run plays the file. Take over to type."];
   const never = ahead ? ` ${many(ahead, "input")} of the file at this count will never come.` : "";
   if (stop) return ["STOPPED", `${stopText(state)}. The machine does nothing more.${never}`];
   if (isAtLastCount) return ["FULL", `at ${grouped(countOf(state))}: no count comes after this one, so the machine does nothing more.${never}`];
   if (on) return ["LIVE", "What you type, click and send is recorded."];
-  return ["LIVE", "The machine is paused: keys and the mouse go to it while it runs."];
+  return ["PAUSED", isToGoOn ? "The machine goes on at the first key." : "Keys and the mouse go to the machine while it runs."];
 }

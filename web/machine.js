@@ -422,6 +422,17 @@ export class Machine extends Emulator {
     return { bytes: this.recorder.bytes, count: this.marks.at(-1) ?? 0 };
   }
 
+  /** Returns the recording up to a moment of the past, with a last checkpoint there, which is not in the recording in progress.
+   * @param {Start} moment */
+  recordedTo({ at, state, words, sent }) {
+    const recorder = new Recorder(this.library), { bytes, sent: since } = this.recorder;
+    recorder.resume(bytes, joined(since));
+    recorder.cut(at, sent);
+    this.put(this.other, { state, words });
+    recorder.extend(this.other, at, this.inputs.bytes.subarray(0, INPUT_BYTES * this.inputs.from(at)));
+    return recorder.bytes;
+  }
+
   /** Returns the session up to here, with the checkpoints of the recording, the last one at this count; or, if there is no room for
    * one, up to its last checkpoint: what comes after that could not be recorded from the session either. */
   session() {

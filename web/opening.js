@@ -5,12 +5,14 @@ import { branches, keepLeft, NO_BRANCHES, setBranches, showBranches } from "./br
 import { closeCard } from "./card.js";
 import { falseClaim, showClaim, showFalse, showOf } from "./claims.js";
 import { forgetBreaks } from "./code.js";
-import { attempt, el, grouped, named, notice, plainName, set, write } from "./elements.js";
+import { attempt, closeMenus, el, grouped, named, notice, plainName, set, write } from "./elements.js";
 import { beginShowing } from "./frames.js";
 import { followWork, inTurn, keep, leave } from "./kept.js";
+import { isPast, nowCount } from "./look.js";
 import { Refusal } from "./requests.js";
 import { setRun } from "./running.js";
 import { beginGame, isSnake } from "./snake.js";
+import { endPreview, preview } from "./screen.js";
 import { MEMORY_BYTES } from "./states.js";
 import { drawLanes } from "./timeline.js";
 import { verdicts } from "./verdicts.js";
@@ -66,7 +68,7 @@ export function showRefusal(name, line) {
   write("refused-how", app.latest ? `${app.work.name} is still open.` : "");
 }
 
-function clearRefusal() {
+export function clearRefusal() {
   notice();
   for (const part of ["refused-name", "refused", "refused-how"]) write(part, "");
 }
@@ -104,6 +106,7 @@ export const isAnyUnkept = () => [app.work, ...branches.list].some(({ isUnkept }
 async function openRecording(name, bytes) {
   if (!(await replaced(name, "openRecording", { bytes, checkpoint: 0 }))) return;
   nameFile(name, bytes);
+  await attempt(previewLast);
   await attempt(checkFile);
 }
 
@@ -115,9 +118,19 @@ async function openSession(name, bytes) {
   await replaced(name, "openSession", { bytes });
 }
 
+/** Shows the screen that the last checkpoint of the file claims, with a button that plays it. */
+async function previewLast() {
+  const { file, work: { generation } } = app, shown = file && (await app.live.ask("claimed", { number: file.checkpoints, of: generation }));
+  if (shown && generation === app.work.generation && isAtStart()) preview(shown.dots);
+}
+
+/** Whether the file that was opened was not run yet, and now is looked at. */
+const isAtStart = () => Boolean(app.latest && !app.latest.on && !nowCount() && !isPast());
+
 /** Has the file that is open checked, and shows the checkpoint that its line is about. */
 async function checkFile() {
   const { file } = app;
+  set("show-false", { hidden: true });
   await showClaim(0);
   if (!file || file !== app.file) return;
   const answer = await verdicts.file.check(file.name, file.bytes);
@@ -130,6 +143,7 @@ async function checkFile() {
 export async function showVerdict(file, answer) {
   file.verdict = answer;
   if (file !== app.file) return;
+  set("show-false", { hidden: !answer.wrong });
   showOf(file);
   attempt(showFalse);
   drawLanes();
@@ -142,6 +156,7 @@ export async function showVerdict(file, answer) {
  * @param {Bytes} bytes
  */
 function offerImage(name, bytes) {
+  if (!bytes.length) throw new Refusal("an empty file has nothing to open");
   if (bytes.length > MEMORY_BYTES)
     throw new Refusal(`${grouped(bytes.length)} bytes are not a recording, not a session and not an image of memory`);
   setImage({ name, bytes });
@@ -204,11 +219,13 @@ export function showOpened({ claims, version, inputs, checkpoints, left }, work,
   closeCard();
   verdicts.file.clear();
   verdicts.own.clear();
+  set("show-false", { hidden: true });
   clearRefusal();
   for (const name of ["claim", "passed"]) el(name).textContent = "";
+  endPreview();
   el("out").textContent = work.sent;
   el("image").hidden = true;
-  el("kept").open = false;
+  closeMenus();
   el("claims").hidden = !claims;
   el("pad").hidden = !isSnake();
   beginGame();

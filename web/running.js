@@ -13,9 +13,18 @@ export const isFast = () => el("speed").value === "fast";
 
 export const everySeconds = () => Math.max(0, Math.min(3600, Math.floor(Number(el("each").value)) || 0));
 
+// Whether a machine that was taken over goes on at the first key.
+export let isToGoOn = false;
+
+/** @param {boolean} is */
+export function setToGoOn(is) {
+  isToGoOn = is;
+}
+
 /** @param {boolean} isOn */
 export async function setRun(isOn) {
   notice();
+  isToGoOn = false;
   forgetFinding();
   setGoal(-1);
   await app.live.ask("setRun", { on: isOn, fast: isFast(), seconds: everySeconds() });
@@ -33,6 +42,7 @@ export async function mark() {
 /** Ends a replay where it is. What is kept already stays as it is, as a branch. */
 export async function takeOver() {
   notice();
+  isToGoOn = !app.latest?.on;
   const answer = await app.live.ask("takeOver");
   if (app.work.id !== null) branchOff(nowCount(), answer);
   else await followWork(Object.assign(app.work, { fork: answer.fork, journals: [] }));

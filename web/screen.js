@@ -7,7 +7,7 @@ import { isNarrow } from "./timeline.js";
 
 export const LINE_BYTES = 128, LINES = 768, DOTS_WIDE = 1024;
 // In a wide window the screen leaves room for the tabs beside it, and is so high at least, in CSS pixels.
-const SIDE_ROOM = 420, LEAST_HEIGHT = 340, MARGIN = 24, WHOLE_SHARE = 0.7;
+const SIDE_ROOM = 420, LEAST_HEIGHT = 340, MARGIN = 8, WHOLE_SHARE = 0.7;
 /** A canvas, and the dots that it shows.
  * @typedef {{ image: ImageData, dots: Bytes | null }} Painted
  * @type {{ dots: Bytes, isDue: boolean, images: WeakMap<HTMLCanvasElement, Painted> }} */
@@ -44,6 +44,20 @@ function isSameLine(some, others, from) {
   return true;
 }
 
+/** Shows what the end of a file claims, until the machine is run or looked at.
+ * @param {Bytes} dots */
+export function preview(dots) {
+  drawSoon(dots);
+  el("big-run").hidden = false;
+}
+
+/** Shows what the machine has, in place of what a file claims. */
+export function endPreview() {
+  if (el("big-run").hidden) return;
+  el("big-run").hidden = true;
+  if (app.dots) drawSoon(app.dots);
+}
+
 /** Draws dots on the screen with the browser's next frame.
  * @param {Bytes} dots */
 export function drawSoon(dots) {
@@ -59,7 +73,7 @@ export function drawSoon(dots) {
 /** Returns the room for the screen: its width, and its height so that the timeline below it is in the window, too. */
 function roomForScreen() {
   if (document.fullscreenElement === el("stage")) return [innerWidth, innerHeight];
-  const isWide = matchMedia("(min-width: 60rem)").matches, all = el("desk").parentElement?.clientWidth ?? innerWidth;
+  const isWide = matchMedia("(min-width: 64rem)").matches, all = el("desk").parentElement?.clientWidth ?? innerWidth;
   if (isNarrow()) return [all, Infinity];
   const above = el("stage").getBoundingClientRect().top + scrollY;
   const below = el("desk").offsetHeight - el("stage").offsetHeight + el("stay").offsetHeight;
@@ -70,13 +84,30 @@ function roomForScreen() {
 export function fitScreen() {
   const [wide, high] = roomForScreen(), most = Math.min(wide, high * 4 / 3);
   const whole = Math.floor(most * devicePixelRatio / DOTS_WIDE) * DOTS_WIDE / devicePixelRatio, isWhole = whole > WHOLE_SHARE * most;
-  document.getElementById("galluspa")?.style.setProperty("--screen", `${isWhole ? whole : most}px`);
+  const { style } = /** @type {HTMLElement} */ (document.getElementById("galluspa"));
+  style.setProperty("--screen", `${isWhole ? whole : most}px`);
+  style.setProperty("--stay", `${el("stay").offsetHeight}px`);
   el("screen").style.imageRendering = isWhole ? "pixelated" : "auto";
 }
 
 export async function showFull() {
   if (document.fullscreenElement) await document.exitFullscreen();
   else await el("stage").requestFullscreen();
+}
+
+const SMALL_WIDE = 128, SMALL_HIGH = 96, INK = 10;
+/** Returns a small picture of dots: a pixel for 8 by 8 of them.
+ * @param {Bytes} dots */
+export function smallPicture(dots) {
+  const canvas = Object.assign(document.createElement("canvas"), { width: SMALL_WIDE, height: SMALL_HIGH, role: "img", ariaLabel: "Its screen" });
+  const image = new ImageData(SMALL_WIDE, SMALL_HIGH), pixels = new Uint32Array(image.data.buffer);
+  for (let at = 0; at < pixels.length; at++) {
+    let dark = 0;
+    for (let line = 0; line < 8; line++) for (let bits = dots[LINE_BYTES * (LINES - 1 - 8 * Math.floor(at / SMALL_WIDE) - line) + at % SMALL_WIDE]; bits; bits &= bits - 1) dark += INK;
+    pixels[at] = 0xff000000 + 0x010101 * Math.max(0, 255 - dark);
+  }
+  canvas.getContext("2d")?.putImageData(image, 0, 0);
+  return canvas;
 }
 
 /** Saves the screen that is shown as a PNG. */

@@ -9,8 +9,10 @@ import { apart, isAhead, isPast, lookAt, nowCount, secondsOf, shownCount } from 
 import { LINES } from "./screen.js";
 import { countOf, hex, PER_SECOND } from "./states.js";
 
-const LANES = ["claims", "keys", "mouse", "serial", "screen", "marks", "film"];
-const ROW = 17, AXIS = 17, MERGED = 28, LEAST_SPAN = 16, GLYPH_WIDTH = 6, HATCH = 6, FINGER_MOVE = 6, LISTED = 40;
+const LANES = ["checkpoints", "keys", "mouse", "serial", "screen", "hits", "keyframes"];
+// So many lanes have room, also if fewer have something: the screen does not change its size for each one.
+const LEAST_LANES = 4;
+const ROW = 16, AXIS = 16, MERGED = 28, LEAST_SPAN = 16, GLYPH_WIDTH = 6, HATCH = 6, FINGER_MOVE = 6, LISTED = 40;
 // The span has about so many cells.
 const CELLS = 100;
 export const FRESH_MS = 200, FOLLOW_MS = 2000, FILM_MS = 2000, TICK_WIDTH = 76, ZOOM = 1.6;
@@ -23,8 +25,9 @@ export const FRESH_MS = 200, FOLLOW_MS = 2000, FILM_MS = 2000, TICK_WIDTH = 76, 
 // counts of the keyframes. It is replaced whole when another machine is opened.
 /** @type {Lanes} */
 const NOTHING_FOUND = { keys: [], mouse: new Uint8Array(), serial: new Uint8Array(), listed: { keys: [], mouse: [], serial: [] }, marks: [], planned: [], end: 0 };
-/** @returns {{ end: number, found: Lanes, cells: Cell[], passed: Map<number, string>, film: number[] }} */
-const newLanes = () => ({ end: 0, found: NOTHING_FOUND, cells: [], passed: new Map(), film: [] });
+// `rows` are the lanes that have something, or had.
+/** @returns {{ end: number, found: Lanes, cells: Cell[], passed: Map<number, string>, film: number[], rows: string[] }} */
+const newLanes = () => ({ end: 0, found: NOTHING_FOUND, cells: [], passed: new Map(), film: [], rows: [LANES[LANES.length - 1]] });
 export let lanes = newLanes();
 // The span that is shown, and how it is used: `isAsked` while the worker is asked for its lanes, `isStale` if they are wanted again,
 // `asked` says what they depend on as they were asked last, and `pointers` are those on the track, with where they are. A finger looks
@@ -211,7 +214,8 @@ export const isNarrow = () => matchMedia("(max-width: 36rem)").matches;
 /** Draws all lanes, one below the other; or merged to one in a narrow window. */
 export function drawLanes() {
   timeline.drawn = performance.now();
-  const canvas = el("lanes"), width = columns(), height = AXIS + (isNarrow() ? MERGED : ROW * LANES.length);
+  findRows();
+  const canvas = el("lanes"), width = columns(), height = AXIS + (isNarrow() ? MERGED : ROW * Math.max(LEAST_LANES, lanes.rows.length));
   const [wide, high] = [width, height].map((points) => Math.round(points * devicePixelRatio));
   if (canvas.width !== wide || canvas.height !== high) Object.assign(canvas, { width: wide, height: high });
   canvas.style.height = `${height}px`;
@@ -225,16 +229,30 @@ export function drawLanes() {
   const to = { pen, colour, width };
   drawAxis(to);
   /** @type {{ [lane: string]: (place: Place) => void }} */
-  const drawings = { claims: drawClaims, keys: drawKeys, mouse: drawMouse, serial: drawSerial, screen: drawScreen, marks: drawMarks, film: drawFilm };
-  for (const lane of LANES) drawings[lane]({ ...to, ...placeOf(lane) });
+  const drawings = { checkpoints: drawClaims, keys: drawKeys, mouse: drawMouse, serial: drawSerial, screen: drawScreen, hits: drawMarks, keyframes: drawFilm };
+  for (const lane of lanes.rows) drawings[lane]({ ...to, ...placeOf(lane) });
   drawNow(to, height);
+}
+
+/** Finds the lanes that have something. One that had something stays. */
+function findRows() {
+  const { found, cells, rows } = lanes, { keys, mouse, serial } = found;
+  /** @type {{ [lane: string]: boolean }} */
+  const has = {
+    checkpoints: claimMarks().length > 0, keys: keys.length > 0, mouse: mouse.some(Boolean), serial: serial.some(Boolean) || cells.some(({ sent }) => sent),
+    screen: cells.some(({ lines }) => lines), hits: hitMarks().length > 0,
+  };
+  const now = LANES.filter((lane) => has[lane] || rows.includes(lane));
+  if (now.length === rows.length && el("names").childElementCount > now.length) return;
+  lanes = { ...lanes, rows: now };
+  el("names").replaceChildren(...["", ...now].map((name) => made("span", name)));
 }
 
 /** Returns where a lane is. Merged, the checkpoints and hits are above all others.
  * @param {string} lane */
 function placeOf(lane) {
-  if (!isNarrow()) return { y: AXIS + ROW * LANES.indexOf(lane), high: ROW };
-  return ["claims", "marks"].includes(lane) ? { y: AXIS, high: MERGED / 2 } : { y: AXIS + MERGED / 2, high: MERGED / 2 };
+  if (!isNarrow()) return { y: AXIS + ROW * lanes.rows.indexOf(lane), high: ROW };
+  return ["checkpoints", "hits"].includes(lane) ? { y: AXIS, high: MERGED / 2 } : { y: AXIS + MERGED / 2, high: MERGED / 2 };
 }
 
 /** @param {Omit<Place, "y" | "high">} place */
@@ -361,7 +379,7 @@ function drawMarks({ pen, colour, y, high }) {
   pen.textAlign = "start";
 }
 
-/** The film: a line as far as the machine has run, with a tick at each keyframe, and a dashed line for what is still to come.
+/** The keyframes: a line as far as the machine has run, with a tick at each keyframe, and a dashed line for what is still to come.
  * @param {Place} place */
 function drawFilm({ pen, colour, y, high }) {
   const middle = Math.round(y + high / 2), [begin, now, end] = [0, nowCount(), lanes.end].map(columnOf);
@@ -408,7 +426,7 @@ export function showCursor(isSettled) {
   if (!app.latest) return;
   write("count", `${grouped(at)} · ${secondsOf(at)}`);
   for (const name of ["begin-at", "back-run", "back"]) set(name, { disabled: at === 0 });
-  set("now", { disabled: !isPast() && !app.latest.isReplay });
+  for (const name of ["now", "next-run"]) set(name, { disabled: !isPast() && !app.latest.isReplay });
   if (!isSettled) return;
   cursor.setAttribute("aria-valuemax", `${lanes.end}`);
   cursor.setAttribute("aria-valuenow", `${at}`);
@@ -442,13 +460,13 @@ function listLanes() {
   const ofCells = (name, text) => lanes.cells.filter((cell) => cell[name]).slice(-LISTED).map((cell) => `${text(cell[name])} from ${grouped(cell.from)} to ${grouped(cell.end)}`);
   /** @type {{ [lane: string]: string[] }} */
   const lists = {
-    claims: latest(claimMarks()).map(([count, state]) => `${state} at ${grouped(count)}`),
+    checkpoints: latest(claimMarks()).map(([count, state]) => `${state} at ${grouped(count)}`),
     keys: inputs("keys"),
     mouse: inputs("mouse"),
     serial: [...inputs("serial"), ...ofCells("sent", (bytes) => `${many(bytes, "byte")} sent`), ...unknown],
     screen: [...ofCells("lines", (lines) => `${many(lines, "line")} changed`), ...unknown],
-    marks: latest(hitMarks()).map(([count, , what]) => `${what} at ${grouped(count)}`),
-    film: [`kept up to ${grouped(nowCount())}`],
+    hits: latest(hitMarks()).map(([count, , what]) => `${what} at ${grouped(count)}`),
+    keyframes: [`kept up to ${grouped(nowCount())}`],
   };
   el("lists").replaceChildren(...LANES.map((lane) => laneList(lane, lists[lane])));
 }
@@ -483,8 +501,8 @@ export function trackPressed(event) {
 /** Returns the count of the checkpoint or the hit whose glyph is under the pointer, if there is one.
  * @param {PointerEvent} event */
 function glyphNear(event) {
-  const lane = Math.floor((event.clientY - el("track").getBoundingClientRect().top - AXIS) / ROW), x = xOf(event);
-  const marks = isNarrow() || lane === 0 ? claimMarks() : lane === 5 ? hitMarks() : [];
+  const lane = lanes.rows[Math.floor((event.clientY - el("track").getBoundingClientRect().top - AXIS) / ROW)], x = xOf(event);
+  const marks = isNarrow() || lane === "checkpoints" ? claimMarks() : lane === "hits" ? hitMarks() : [];
   return marks.map(([count]) => count).find((count) => Math.abs(columnOf(count) - x) < GLYPH_WIDTH);
 }
 
@@ -516,10 +534,10 @@ export function trackReleased(event) {
   return lookAt(at);
 }
 
-/** The wheel zooms around the pointer, and with Shift, or sideways, it moves along.
+/** The wheel zooms around the pointer with Ctrl, and moves along with Shift, or sideways; else it scrolls the page.
  * @param {WheelEvent} event */
 export function wheeled(event) {
-  if (!app.latest) return;
+  if (!app.latest || !(event.ctrlKey || event.shiftKey || event.deltaX)) return;
   event.preventDefault();
   const across = event.shiftKey ? event.deltaY : event.deltaX, { from, to } = timeline;
   if (Math.abs(across) > Math.abs(event.shiftKey ? 0 : event.deltaY)) {
@@ -537,6 +555,5 @@ export function makeTimeline() {
   measureTrack();
   new ResizeObserver(() => (measureTrack(), drawLanes(), showCursor(false))).observe(el("track"));
   matchMedia("(prefers-color-scheme: dark)").addEventListener("change", drawLanes);
-  el("names").replaceChildren(...["", ...LANES].map((name) => made("span", name)));
   drawLanes();
 }

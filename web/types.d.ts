@@ -128,6 +128,7 @@ interface Summary {
   isReadable: boolean;
   name: string;
   text: string;
+  dots?: Bytes;
   family?: number;
   number?: number;
   parent?: number;
@@ -192,6 +193,7 @@ interface LiveNews extends Partial<Frame>, Failure {
 /** A machine that was opened, with what the browser is to keep of the one before. */
 interface Opened {
   kind: string;
+  program: number;
   claims: number[] | null;
   version?: number;
   inputs: number;
@@ -397,6 +399,7 @@ interface Requests {
   claimedOutput: [{ number: number; of: number }, Bytes | null];
   session: [{}, Made];
   recording: [{}, Made];
+  recordingTo: [Start, Made];
   kept: [{}, (Whole & { fork: number }) | null];
   begun: [{}, Begun & { fork: number }];
   lanes: [{ from: number; to: number; columns: number; of: number }, Lanes | null];

@@ -104,13 +104,15 @@ export class Work {
 
   /**
    * @param {string} name
-   * @param {{ generation?: number, fork?: number, sent?: string }} of
+   * @param {{ generation?: number, fork?: number, sent?: string, program?: number }} of
    */
-  constructor(name, { generation = 0, fork = 0, sent = "" } = {}) {
+  constructor(name, { generation = 0, fork = 0, sent = "", program = 0 } = {}) {
     this.name = name;
     this.generation = generation;
     this.fork = fork;
     this.sent = sent;
+    // What the memory was at first, as a number.
+    this.program = program;
   }
 
   /** Whether something came that is not kept. */

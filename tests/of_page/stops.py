@@ -12,12 +12,20 @@ from of_tools.samples import EXAMPLES, JUMP, claim, encoded, page_of, record, se
 
 COUNT, TRACE, STATUS = shown("count"), shown("trace"), shown("status")
 LAST = 1 << 40
+# The menus, with what is in them.
+MENUS = {"examples": ("snake", "draw", "face"), "kept": ("forget-all",), "more": ("find-before", "find-next", "next", "zoom-all")}
 
 
 def press_button(desk: Desk, name: str) -> None:
     """Clicks on the middle of a control with the mouse."""
     page, found = desk.page, f"el('{name}')"
+    menu = next((menu for menu, names in MENUS.items() if name in names), "")
+    if menu and not page.answer(f"el('{menu}').open"):
+        page.answer(f"el('{menu}').querySelector('summary').focus()")
+        page.press("Enter")
     page.wait(f"{found}.checkVisibility() && !{found}.disabled")
+    # What is above it may have grown in the frame before.
+    page.answer("new Promise((done) => requestAnimationFrame(() => requestAnimationFrame(() => done())))")
     page.answer(f"{found}.scrollIntoView({{ block: 'nearest' }})")
     x, y = page.answer(f"(({{ left, top, width, height }}) => [left + width / 2, top + height / 2])({found}.getBoundingClientRect())")
     for kind in ("mouseMoved", "mousePressed", "mouseReleased"):
@@ -88,7 +96,7 @@ def forget_what_was_said(desk: Desk) -> None:
     page.press("ArrowLeft")
     page.wait(f"{when}.startsWith('Registers, before instruction ') && {EXACT}")
     press_button(desk, "back-now")
-    page.wait(f"{WORD} === 'LIVE'")
+    page.wait(f"{WORD} === 'PAUSED'")
     expect("the heading of the registers now", page.answer(when), "Registers")
     for away in ("ArrowLeft", "w"):
         page.answer("el('search-range').value = '77777'")
