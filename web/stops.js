@@ -35,7 +35,7 @@ export function findStop() {
   stopped = { ...stopped, fork, at: null };
   attempt(async () => {
     const found = await app.past.who({ device: "stop", before: nowCount(), request: app.past.numbered() });
-    if (stopped.fork !== fork || found?.at === undefined) return;
+    if (app.work.fork !== fork || stopped.fork !== fork || found?.at === undefined) return;
     stopped.at = found.at;
     if (look.at === null && stopped.goal !== nowCount()) await lookAt(found.at);
     if (app.latest) showMode(app.latest), showStatus(app.latest);
